@@ -1,0 +1,39 @@
+//! A case: a script, and what the program must write for it.
+
+use std::process::Abort;
+use subcommands::schedule;
+
+// The script's run ends with this status, and writes this and no more.
+fn ends<R: Abort + AllocGlobal>(
+    rt: &R,
+    name: &str,
+    script: &[u8],
+    out: &str,
+    err: &str,
+    status: u8,
+) {
+    let mut script = script;
+    let mut printed = Vec::new(rt.alloc());
+    let mut said = Vec::new(rt.alloc());
+    let given = schedule(rt.alloc(), &mut script, &mut printed, &mut said);
+    let printed = std::str::from_utf8(&printed).unwrap_or("no text");
+    let said = std::str::from_utf8(&said).unwrap_or("no text");
+    assert_eq!(rt; said, err, "standard error: {name}");
+    assert_eq!(rt; printed, out, "standard output: {name}");
+    assert_eq!(rt; given, status, "status: {name}");
+}
+
+/// The script runs, and prints this.
+pub fn prints<R: Abort + AllocGlobal>(rt: &R, name: &str, script: &str, out: &str) {
+    ends(rt, name, script.as_bytes(), out, "", 0);
+}
+
+/// The script has a faulty line: this line alone goes to the standard error, and nothing is run.
+pub fn faults<R: Abort + AllocGlobal>(rt: &R, name: &str, script: &str, line: &str) {
+    faults_in_bytes(rt, name, script.as_bytes(), line);
+}
+
+/// The same for a script that may not be text.
+pub fn faults_in_bytes<R: Abort + AllocGlobal>(rt: &R, name: &str, script: &[u8], line: &str) {
+    ends(rt, name, script, "", line, 1);
+}

@@ -1,0 +1,398 @@
+//! Scripts that are not run, for the first line that has a fault.
+
+use crate::case::{faults, faults_in_bytes, prints};
+use std::alloc::AllocError;
+use std::process::Abort;
+use std::test::Fail;
+
+#[test]
+fn the_first_faulty_line_is_named(rt: HostRuntime) {
+    faults(
+        &rt,
+        "and nothing is run before it",
+        "frames 4\nfoo\n",
+        "line 2: unknown word\n",
+    );
+    faults(
+        &rt,
+        "though its lines would print",
+        "group /a\ncat /a memory.max\ncat /a\n",
+        "line 3: missing argument\n",
+    );
+    faults(
+        &rt,
+        "and no later one",
+        "group\nfoo\ngroup a\n",
+        "line 1: missing argument\n",
+    );
+    faults(
+        &rt,
+        "skipped lines are counted",
+        "# a comment\n\n \t\n\r\nfoo\n",
+        "line 5: unknown word\n",
+    );
+    faults(
+        &rt,
+        "the last line too, without a line feed",
+        "group /a\nfoo",
+        "line 2: unknown word\n",
+    );
+    faults(
+        &rt,
+        "between others",
+        "group /a\nbar\nframes 4",
+        "line 2: unknown word\n",
+    );
+    faults(
+        &rt,
+        "before one of an earlier cause",
+        "frames 4\nframes 5\nfoo",
+        "line 2: header twice\n",
+    );
+    faults_in_bytes(
+        &rt,
+        "before one that is not text",
+        b"group a\n\xff",
+        "line 1: bad name\n",
+    );
+    faults(
+        &rt,
+        "after an empty line",
+        "\n99999999999 read 0 0",
+        "line 2: bad number\n",
+    );
+}
+
+#[test]
+fn not_text(rt: HostRuntime) {
+    faults_in_bytes(
+        &rt,
+        "a byte that no character has",
+        b"group /a\n\xff\n",
+        "line 2: not text\n",
+    );
+    faults_in_bytes(&rt, "in a comment", b"# \xc3\x28\n", "line 1: not text\n");
+    faults_in_bytes(
+        &rt,
+        "a character that is cut off by the line's end",
+        b"# \xe4\xb8\n\xad\n",
+        "line 1: not text\n",
+    );
+    faults_in_bytes(
+        &rt,
+        "before the unknown word",
+        b"foo \xff\n",
+        "line 1: not text\n",
+    );
+    faults_in_bytes(
+        &rt,
+        "not for a later line, where an earlier one is faulty",
+        b"foo\n\xff\n",
+        "line 1: unknown word\n",
+    );
+    faults_in_bytes(
+        &rt,
+        "in a word",
+        b"\n\nfoo\xff frames\n",
+        "line 3: not text\n",
+    );
+    faults_in_bytes(
+        &rt,
+        "a character of two lines",
+        b"\xc3\n\xa9",
+        "line 1: not text\n",
+    );
+}
+
+#[test]
+fn unknown_word(rt: HostRuntime) {
+    let line = "line 1: unknown word\n";
+    faults(&rt, "no such word", "foo", line);
+    faults(&rt, "in capitals", "Group /a", line);
+    faults(&rt, "longer than a word that is known", "groups /a", line);
+    faults(&rt, "no such word of a task", "7 fly 0 0", line);
+    faults(&rt, "a task's word without the task", "read 0 0", line);
+    faults(&rt, "the shell's word behind a task", "7 group /a", line);
+    faults(&rt, "a sign before the task's number", "+7 read 0 0", line);
+    faults(&rt, "a letter in the task's number", "7x read 0 0", line);
+    faults(&rt, "a byte order mark", "\u{feff}group /a", line);
+    faults(&rt, "a carriage return alone", "\r", line);
+    faults(&rt, "before the task's bad number", "99999999999 foo", line);
+    faults(&rt, "before missing arguments", "7 foo", line);
+    faults(&rt, "a comment behind a task", "1 # 2", line);
+    faults(
+        &rt,
+        "two carriage returns before the line feed",
+        "\r\r\n",
+        line,
+    );
+    faults(
+        &rt,
+        "a vertical tab sets no words apart",
+        "group\u{b}/a",
+        line,
+    );
+}
+
+#[test]
+fn missing_argument(rt: HostRuntime) {
+    let line = "line 1: missing argument\n";
+    faults(&rt, "of frames", "frames", line);
+    faults(&rt, "of trace", "trace", line);
+    faults(&rt, "of group", "group", line);
+    faults(&rt, "of task", "task 1", line);
+    faults(&rt, "of set", "set /a memory.max", line);
+    faults(&rt, "of cat", "cat /a", line);
+    faults(&rt, "of write", "7 write 0 0", line);
+    faults(&rt, "of read", "7 read 0", line);
+    faults(&rt, "a task's number alone", "7", line);
+    faults(&rt, "before the task's bad number", "99999999999", line);
+    faults(&rt, "before a bad number", "task x", line);
+    faults(&rt, "before a bad name", "cat a", line);
+    faults(&rt, "both of read", "7 read", line);
+    faults(&rt, "the number of task", "task /a", line);
+    faults(
+        &rt,
+        "before the number of the task that acts",
+        "99999999999 read 0",
+        line,
+    );
+}
+
+#[test]
+fn extra_argument(rt: HostRuntime) {
+    let line = "line 1: extra argument\n";
+    faults(&rt, "of frames", "frames 4 4", line);
+    faults(&rt, "of trace", "trace 4 4", line);
+    faults(&rt, "of group", "group /a /b", line);
+    faults(&rt, "of task", "task 1 /a /b", line);
+    faults(&rt, "of set", "set /a memory.max 1 K", line);
+    faults(&rt, "of cat", "cat /a memory.max memory.max", line);
+    faults(&rt, "of write", "7 write 0 0 1 1", line);
+    faults(&rt, "of read", "7 read 0 0 0", line);
+    faults(&rt, "a comment behind a command", "group /a # why", line);
+    faults(&rt, "before a bad number", "frames x y", line);
+    faults(
+        &rt,
+        "before the task's bad number",
+        "99999999999 read 0 0 0",
+        line,
+    );
+    faults(&rt, "before a bad name", "group a b", line);
+    faults(&rt, "before a size out of its limit", "frames 0 0", line);
+    faults(&rt, "before a byte above 255", "1 write 0 0 256 1", line);
+}
+
+#[test]
+fn bad_number_of_a_size(rt: HostRuntime) {
+    let line = "line 1: bad number\n";
+    faults(&rt, "no frames", "frames 0", line);
+    faults(&rt, "too many frames", "frames 65537", line);
+    faults(&rt, "no trace", "trace 0", line);
+    faults(&rt, "too long a trace", "trace 1048577", line);
+    faults(&rt, "a suffix", "frames 4K", line);
+    faults(&rt, "a sign", "frames +4", line);
+    faults(&rt, "a point", "frames 4.0", line);
+    faults(&rt, "another base", "frames 0x4", line);
+    faults(&rt, "a number past 4294967295", "frames 4294967300", line);
+    faults(&rt, "digits that are not ASCII", "frames \u{0664}", line);
+    faults(
+        &rt,
+        "two carriage returns before the line feed",
+        "frames 4\r\r\n",
+        line,
+    );
+    faults(
+        &rt,
+        "a carriage return without a line feed",
+        "frames 4\r",
+        line,
+    );
+    faults(
+        &rt,
+        "a number past 2 to the 64",
+        "frames 18446744073709551617",
+        line,
+    );
+}
+
+#[test]
+fn bad_number_of_a_command(rt: HostRuntime) {
+    let line = "line 1: bad number\n";
+    faults(&rt, "a task's number that is none", "task x /a", line);
+    faults(
+        &rt,
+        "a task's number past 4294967295",
+        "task 4294967296 /a",
+        line,
+    );
+    faults(
+        &rt,
+        "the number of the task that acts",
+        "4294967296 read 0 0",
+        line,
+    );
+    faults(
+        &rt,
+        "a far larger one",
+        "99999999999999999999999 read 0 0",
+        line,
+    );
+    faults(&rt, "a page", "7 write x 0 1", line);
+    faults(&rt, "a page past 4294967295", "7 read 4294967296 0", line);
+    faults(&rt, "an offset", "7 read 0 -1", line);
+    faults(
+        &rt,
+        "an offset past 4294967295",
+        "7 read 0 4294967296",
+        line,
+    );
+    faults(&rt, "a byte above 255", "7 write 0 0 256", line);
+    faults(&rt, "a byte that is none", "7 write 0 0 a", line);
+    faults(&rt, "before a bad name", "task x a", line);
+    faults(&rt, "an offset with a sign", "1 read 0 +1", line);
+    faults(
+        &rt,
+        "before a bad name, too large",
+        "task 4294967296 a",
+        line,
+    );
+}
+
+#[test]
+fn bad_name(rt: HostRuntime) {
+    let line = "line 1: bad name\n";
+    faults(&rt, "no slash at the front", "group a", line);
+    faults(&rt, "a slash at the end", "group /a/", line);
+    faults(&rt, "two slashes", "group /a//b", line);
+    faults(&rt, "two slashes alone", "group //", line);
+    faults(&rt, "the group itself", "group /.", line);
+    faults(&rt, "the group above", "group /a/..", line);
+    faults(&rt, "a character that no name has", "group /a@b", line);
+    faults(&rt, "a letter that is not ASCII", "group /\u{e9}", line);
+    faults(
+        &rt,
+        "33 characters",
+        "group /abcdefghijklmnopqrstuvwxyz0123456",
+        line,
+    );
+    faults(
+        &rt,
+        "a carriage return without a line feed",
+        "group /a\r",
+        line,
+    );
+    faults(&rt, "two slashes at the front", "group //a", line);
+    faults(&rt, "the group itself in between", "group /./a", line);
+    faults(&rt, "the group above the root", "group /..", line);
+}
+
+#[test]
+fn bad_name_of_each_command(rt: HostRuntime) {
+    let line = "line 1: bad name\n";
+    faults(&rt, "of task", "task 1 a", line);
+    faults(&rt, "of set", "set a memory.max 1", line);
+    faults(&rt, "of cat", "cat a memory.max", line);
+    prints(
+        &rt,
+        "a file's name and a text may be any words",
+        "cat / \u{e9}@..\nset / // 12x\n",
+        "error ENOENT\nerror ENOENT\n",
+    );
+    faults(
+        &rt,
+        "the file in front of the path",
+        "cat memory.max /a",
+        line,
+    );
+}
+
+#[test]
+fn header_after_commands(rt: HostRuntime) {
+    let line = "line 2: header after commands\n";
+    faults(&rt, "frames", "group /a\nframes 4\n", line);
+    faults(&rt, "trace", "7 read 0 0\ntrace 4\n", line);
+    faults(
+        &rt,
+        "after any number of commands",
+        "frames 4\ngroup /a\ngroup /b\ntrace 4\n",
+        "line 4: header after commands\n",
+    );
+    faults(
+        &rt,
+        "before the header that stands twice",
+        "frames 4\ngroup /a\nframes 4\n",
+        "line 3: header after commands\n",
+    );
+    faults(
+        &rt,
+        "after the bad number",
+        "group /a\nframes 0\n",
+        "line 2: bad number\n",
+    );
+    faults(
+        &rt,
+        "with a comment between",
+        "1 read 0 0\n# x\ntrace 4",
+        "line 3: header after commands\n",
+    );
+}
+
+#[test]
+fn header_twice(rt: HostRuntime) {
+    let line = "line 2: header twice\n";
+    faults(&rt, "frames", "frames 4\nframes 4\n", line);
+    faults(&rt, "trace", "trace 4\ntrace 5\n", line);
+    faults(
+        &rt,
+        "with another between",
+        "frames 4\ntrace 4\n# a comment\nframes 5\n",
+        "line 4: header twice\n",
+    );
+    faults(
+        &rt,
+        "after the bad number",
+        "frames 4\nframes 0\n",
+        "line 2: bad number\n",
+    );
+    faults(
+        &rt,
+        "with the other between",
+        "trace 4\nframes 4\n\ntrace 4",
+        "line 4: header twice\n",
+    );
+    faults(
+        &rt,
+        "with the same size",
+        "frames 64\r\nframes 64\r\n",
+        line,
+    );
+}
+
+// What the script of this byte alone is refused for. A line feed, a space and a tab make no word, and
+// a `#` begins a comment.
+fn fault_of_byte(byte: u8) -> Option<&'static str> {
+    match byte {
+        b'\n' | b' ' | b'\t' | b'#' => None,
+        b'0'..=b'9' => Some("line 1: missing argument\n"),
+        0x80..=0xff => Some("line 1: not text\n"),
+        _ => Some("line 1: unknown word\n"),
+    }
+}
+
+fn runs_byte<R: Abort + AllocGlobal>(rt: &R, byte: u8) -> Result<(), AllocError> {
+    let name = format!(in rt.alloc(); "the byte {byte}")?;
+    match fault_of_byte(byte) {
+        Some(line) => faults_in_bytes(rt, &name, &[byte], line),
+        None => prints(rt, &name, std::str::from_utf8(&[byte]).unwrap_or("foo"), ""),
+    }
+    Ok(())
+}
+
+#[test]
+fn each_byte_alone_is_a_script(rt: HostRuntime) -> Result<(), Fail> {
+    for byte in 0..=255u8 {
+        runs_byte(&rt, byte)?;
+    }
+    Ok(())
+}

@@ -1,0 +1,112 @@
+//! What a script may look like.
+
+use crate::case::prints;
+
+#[test]
+fn a_script_may_ask_for_nothing(rt: HostRuntime) {
+    prints(&rt, "frames alone", "frames 4\n", "");
+    prints(&rt, "no byte at all", "", "");
+    prints(&rt, "one line feed", "\n", "");
+    prints(&rt, "a space", " ", "");
+    prints(
+        &rt,
+        "empty lines, spaces and tabs",
+        "\n \n\t\n \t \n\r\n",
+        "",
+    );
+    prints(
+        &rt,
+        "comments, each from its line's first word on",
+        "\
+# a comment
+#
+#group /a
+  # foo bar
+\t#
+",
+        "",
+    );
+    prints(&rt, "a comment without a line feed", "# a comment", "");
+    prints(
+        &rt,
+        "the greatest sizes",
+        "frames 0000000000065536\ntrace 1048576\n",
+        "",
+    );
+    prints(&rt, "the least sizes", "trace 1\nframes 1\n", "");
+}
+
+#[test]
+fn lines_and_words_are_set_apart(rt: HostRuntime) {
+    prints(
+        &rt,
+        "the last line may lack its line feed",
+        "group /a\ncat /a memory.max",
+        "max\n",
+    );
+    prints(
+        &rt,
+        "a carriage return before a line feed is dropped",
+        "frames 4\r\ngroup /a\r\n# a comment\r\n\r\ncat /a memory.max\r\n",
+        "max\n",
+    );
+    prints(
+        &rt,
+        "words are set apart by any number of spaces and tabs",
+        "  group\t /a  \n\tcat \t\t/a   memory.max\t\n",
+        "max\n",
+    );
+    prints(
+        &rt,
+        "comments and empty lines may stand between all others",
+        "\
+# sizes
+frames 4
+
+# and the trace
+trace 9
+group /a
+# in between
+cat /a memory.max
+",
+        "\
+max
+",
+    );
+    prints(
+        &rt,
+        "a comment need not be English",
+        "# \u{df}\u{4e2d}\u{1f600}\n",
+        "",
+    );
+    prints(
+        &rt,
+        "all of it at once",
+        "frames 16\ngroup /a\r\n\n# two\ntask 1 /a\n1 write 0 0 9\n1 read 0 0\r\ncat /a memory.current",
+        "1 9\n4096\n",
+    );
+    prints(
+        &rt,
+        "a `#` that does not begin a line is a word like others",
+        "set / # \u{e9}\ngroup\t/a/b.c/-_9\n",
+        "error ENOENT\nerror ENOENT\n",
+    );
+}
+
+#[test]
+fn numbers_may_begin_with_zeros(rt: HostRuntime) {
+    prints(
+        &rt,
+        "those of sizes, tasks, pages, offsets and bytes",
+        "\
+frames 0004
+trace 000000000000000000000000000009
+task 0007 /
+007 write 00 01 0255
+7 read 0 000000000000000000001
+",
+        "\
+7 255
+",
+    );
+}

@@ -1,0 +1,238 @@
+//! Runs as large as they may be, and larger.
+
+use crate::case::{faults, prints};
+use std::alloc::{AllocError, Global};
+use std::ops::RangeInclusive;
+use std::test::Fail;
+
+// A line for each number, with this before and this after it.
+fn numbered(
+    alloc: Global,
+    before: &str,
+    numbers: RangeInclusive<u32>,
+    after: &str,
+) -> Result<String, AllocError> {
+    let mut lines = String::new(alloc);
+    for number in numbers {
+        let line = format!(in alloc; "{before}{number}{after}\n")?;
+        lines.push_str(&line)?;
+    }
+    Ok(lines)
+}
+
+#[test]
+fn there_are_64_frames_where_a_script_does_not_say(rt: HostRuntime) -> Result<(), Fail> {
+    let alloc = rt.alloc();
+    let writes = numbered(alloc, "1 write ", 1..=64, " 0 1")?;
+    let script = format!(in alloc;
+        "\
+group /a
+task 1 /a
+task 2 /
+{writes}cat /a memory.current
+2 write 0 0 1
+cat /a memory.current
+"
+    )?;
+    prints(
+        &rt,
+        "the 65th page wants one",
+        &script,
+        "262144\nkilled 1\n0\n",
+    );
+    Ok(())
+}
+
+#[test]
+fn a_task_has_1024_pages(rt: HostRuntime) -> Result<(), Fail> {
+    let alloc = rt.alloc();
+    let writes = numbered(alloc, "1 write ", 0..=1023, " 4095 255")?;
+    let script = format!(in alloc;
+        "\
+frames 1024
+group /a
+task 1 /a
+{writes}cat /a memory.current
+1 write 1024 0 1
+1 read 1023 4095
+"
+    )?;
+    prints(&rt, "and no more", &script, "4194304\n1 BadPlace\n1 255\n");
+    Ok(())
+}
+
+#[test]
+fn there_are_256_groups_with_the_root(rt: HostRuntime) -> Result<(), Fail> {
+    let alloc = rt.alloc();
+    let groups = numbered(alloc, "group /g", 1..=255, "")?;
+    let script = format!(in alloc;
+        "{groups}group /h
+group /g1/h
+group /g1
+group /x/h
+cat /g255 memory.max
+"
+    )?;
+    let printed = "error ENOSPC\nerror ENOSPC\nerror EEXIST\nerror ENOENT\nmax\n";
+    prints(&rt, "and no more", &script, printed);
+    Ok(())
+}
+
+#[test]
+fn there_are_1024_live_tasks(rt: HostRuntime) -> Result<(), Fail> {
+    let alloc = rt.alloc();
+    let tasks = numbered(alloc, "task ", 1..=1023, " /")?;
+    let script = format!(in alloc;
+        "\
+group /a
+set /a memory.max 0
+{tasks}task 1024 /a
+task 1025 /
+task 1 /
+task 0 /
+1024 write 0 0 1
+task 1025 /
+1025 read 0 0
+task 1026 /
+"
+    )?;
+    let printed = "\
+error ENOSPC
+error NumberUsed
+error EINVAL
+killed 1024
+1024 killed
+1025 0
+error ENOSPC
+";
+    prints(
+        &rt,
+        "and a killed one makes place for another",
+        &script,
+        printed,
+    );
+    Ok(())
+}
+
+// Each kill takes two turns: the access is tried, and room is made.
+#[test]
+fn an_access_stops_after_1000_turns(rt: HostRuntime) -> Result<(), Fail> {
+    let alloc = rt.alloc();
+    let tasks = numbered(alloc, "task ", 1..=600, " /a")?;
+    let script = format!(in alloc;
+        "\
+group /a
+set /a memory.max 0
+{tasks}600 write 0 0 1
+600 read 0 0
+600 read 0 0
+"
+    )?;
+    let killed = numbered(alloc, "killed ", 1..=500, "")?;
+    let killed_later = numbered(alloc, "killed ", 501..=600, "")?;
+    let printed = format!(in alloc;
+        "{killed}600 turn limit\n600 Underway\n{killed_later}600 killed\n600 killed\n"
+    )?;
+    prints(&rt, "its next line goes on with it", &script, &printed);
+    Ok(())
+}
+
+// The limit is set in the first turn. Then each kill takes one, and so does finding that there is room.
+#[test]
+fn an_answer_in_the_last_turn_counts(rt: HostRuntime) -> Result<(), Fail> {
+    let alloc = rt.alloc();
+    let tasks = numbered(alloc, "task ", 1..=998, " /a")?;
+    let writes = numbered(alloc, "", 1..=998, " write 0 0 1")?;
+    let script = format!(in alloc;
+        "\
+frames 1000
+group /a
+{tasks}{writes}set /a memory.max 0
+cat /a memory.current
+"
+    )?;
+    let killed = numbered(alloc, "killed ", 1..=998, "")?;
+    let printed = format!(in alloc; "{killed}0\n")?;
+    prints(&rt, "998 kills and two turns more", &script, &printed);
+    Ok(())
+}
+
+#[test]
+fn a_limit_that_is_lowered_stops_after_1000_turns(rt: HostRuntime) -> Result<(), Fail> {
+    let alloc = rt.alloc();
+    let tasks = numbered(alloc, "task ", 1..=999, " /a")?;
+    let writes = numbered(alloc, "", 1..=999, " write 0 0 1")?;
+    let script = format!(in alloc;
+        "\
+frames 1000
+group /a
+{tasks}{writes}set /a memory.max 0
+cat /a memory.current
+cat /a memory.current
+"
+    )?;
+    let killed = numbered(alloc, "killed ", 1..=999, "")?;
+    let printed = format!(in alloc; "{killed}error turn limit\nerror Underway\n0\n")?;
+    prints(
+        &rt,
+        "the shell's next line goes on with it",
+        &script,
+        &printed,
+    );
+    Ok(())
+}
+
+#[test]
+fn a_script_may_have_many_lines(rt: HostRuntime) -> Result<(), Fail> {
+    let alloc = rt.alloc();
+    let reads = numbered(alloc, "1 read 0 ", 1..=4000, "")?;
+    let refused = numbered(alloc, "group /a/b/", 1..=6000, "")?;
+    let script = format!(in alloc; "task 1 /\n{reads}{refused}")?;
+    let bytes = "1 0\n".repeat(alloc, 4000)?;
+    let refusals = "error ENOENT\n".repeat(alloc, 6000)?;
+    let printed = format!(in alloc; "{bytes}{refusals}")?;
+    prints(&rt, "ten thousand, each with its answer", &script, &printed);
+    let faulty = format!(in alloc; "{script}foo\n")?;
+    faults(
+        &rt,
+        "and one more, which is faulty",
+        &faulty,
+        "line 10002: unknown word\n",
+    );
+    Ok(())
+}
+
+#[test]
+fn a_line_may_be_long(rt: HostRuntime) -> Result<(), Fail> {
+    let alloc = rt.alloc();
+    let digits = "1".repeat(alloc, 65_536)?;
+    let spaces = " ".repeat(alloc, 65_536)?;
+    let script = format!(in alloc; "# {digits}\n{spaces}\nfoo\n")?;
+    faults(
+        &rt,
+        "a comment, and a line of spaces",
+        &script,
+        "line 3: unknown word\n",
+    );
+    let script = format!(in alloc; "group /a\nset /a memory.max {digits}\ncat /a {digits}\n")?;
+    prints(
+        &rt,
+        "an amount, and a file's name",
+        &script,
+        "error EINVAL\nerror ENOENT\n",
+    );
+    let script = format!(in alloc; "group{spaces}/a\ncat{spaces}/a{spaces}memory.max\n")?;
+    prints(&rt, "spaces between words", &script, "max\n");
+    let script = format!(in alloc; "group /{digits}\n")?;
+    faults(&rt, "a path", &script, "line 1: bad name\n");
+    let script = format!(in alloc; "{digits} read 0 0\n")?;
+    faults(&rt, "a number", &script, "line 1: bad number\n");
+    let script = format!(in alloc; "x{digits}\n")?;
+    faults(
+        &rt,
+        "a word that is not known",
+        &script,
+        "line 1: unknown word\n",
+    );
+    Ok(())
+}

@@ -1,0 +1,199 @@
+//! Readers and writers that fail, that give and take little at a time, or that never end.
+
+use crate::case::prints;
+use std::io;
+use std::io::{Error, ErrorKind, Read, Write};
+use subcommands::{SCRIPT_BYTES, schedule};
+
+const OVER_LIMIT: &str = "\
+group /a
+set /a memory.max 4096
+task 1 /a
+1 write 0 0 1
+1 write 1 0 1
+cat /a memory.max
+";
+
+const PRINTED: &str = "\
+killed 1
+1 killed
+4096
+";
+
+// Fails after its bytes.
+struct Torn<'a> {
+    bytes: &'a [u8],
+}
+
+impl Read for Torn<'_> {
+    fn read(&mut self, buf: &mut [u8]) -> io::Result<usize> {
+        if self.bytes.is_empty() {
+            return Err(Error::from(ErrorKind::BrokenPipe));
+        }
+        self.bytes.read(buf)
+    }
+}
+
+// Gives one byte at a time.
+struct Trickle<'a> {
+    bytes: &'a [u8],
+}
+
+impl Read for Trickle<'_> {
+    fn read(&mut self, buf: &mut [u8]) -> io::Result<usize> {
+        let Some((first, rest)) = self.bytes.split_first() else {
+            return Ok(0);
+        };
+        let Some(place) = buf.first_mut() else {
+            return Ok(0);
+        };
+        *place = *first;
+        self.bytes = rest;
+        Ok(1)
+    }
+}
+
+// Takes some bytes and then fails.
+struct Full {
+    room: usize,
+}
+
+impl Write for Full {
+    fn write(&mut self, buf: &[u8]) -> io::Result<usize> {
+        if self.room == 0 {
+            return Err(Error::from(ErrorKind::StorageFull));
+        }
+        let taken = buf.len().min(self.room);
+        self.room -= taken;
+        Ok(taken)
+    }
+
+    fn flush(&mut self) -> io::Result<()> {
+        Ok(())
+    }
+}
+
+// Takes all, and fails to pass it on.
+struct Stuck;
+
+impl Write for Stuck {
+    fn write(&mut self, buf: &[u8]) -> io::Result<usize> {
+        Ok(buf.len())
+    }
+
+    fn flush(&mut self) -> io::Result<()> {
+        Err(Error::from(ErrorKind::StorageFull))
+    }
+}
+
+fn is_one_line(text: &[u8]) -> bool {
+    let line_feeds = text.iter().filter(|byte| **byte == b'\n').count();
+    line_feeds == 1 && text.last() == Some(&b'\n')
+}
+
+#[test]
+fn a_read_that_fails_runs_nothing(rt: HostRuntime) {
+    let alloc = rt.alloc();
+    for text in ["", "foo\n", OVER_LIMIT] {
+        let mut out = Vec::new(alloc);
+        let mut err = Vec::new(alloc);
+        let mut script = Torn {
+            bytes: text.as_bytes(),
+        };
+        assert_eq!(rt;
+            schedule(alloc, &mut script, &mut out, &mut err),
+            1,
+            "after {text}"
+        );
+        assert!(rt; out.is_empty(), "after {text}");
+        let err = std::str::from_utf8(&err).unwrap_or("no text");
+        assert_eq!(rt;
+            err,
+            "the script can't be read: broken pipe\n",
+            "after {text}"
+        );
+        let Torn { bytes: _ } = script;
+    }
+}
+
+#[test]
+fn a_script_may_come_in_pieces(rt: HostRuntime) {
+    let alloc = rt.alloc();
+    let mut out = Vec::new(alloc);
+    let mut err = Vec::new(alloc);
+    let mut script = Trickle {
+        bytes: OVER_LIMIT.as_bytes(),
+    };
+    assert_eq!(rt; schedule(alloc, &mut script, &mut out, &mut err), 0);
+    assert_eq!(rt; std::str::from_utf8(&out), Ok(PRINTED));
+    assert!(rt; err.is_empty());
+    let Trickle { bytes: _ } = script;
+}
+
+// The fault of the first line is found before the rest is read as a script, so that this is fast.
+#[test]
+fn a_script_has_at_most_64_mebibytes(rt: HostRuntime) {
+    let alloc = rt.alloc();
+    let too_long = "the script has more than 64 MiB\n";
+    let rows = [
+        (SCRIPT_BYTES, "line 1: unknown word\n"),
+        (SCRIPT_BYTES + 1, too_long),
+        (u64::MAX, too_long),
+    ];
+    for (bytes, line) in rows {
+        let mut out = Vec::new(alloc);
+        let mut err = Vec::new(alloc);
+        let endless = "foo\n".as_bytes().chain(io::repeat(b'#'));
+        let mut script = endless.take(bytes);
+        assert_eq!(rt;
+            schedule(alloc, &mut script, &mut out, &mut err),
+            1,
+            "{bytes} bytes"
+        );
+        assert!(rt; out.is_empty(), "{bytes} bytes");
+        assert_eq!(rt; std::str::from_utf8(&err), Ok(line), "{bytes} bytes");
+    }
+}
+
+#[test]
+fn a_write_that_fails_ends_with_status_1(rt: HostRuntime) {
+    let alloc = rt.alloc();
+    for room in 0..=PRINTED.len() {
+        let mut out = Full { room };
+        let mut err = Vec::new(alloc);
+        let mut script = OVER_LIMIT.as_bytes();
+        let fits = room == PRINTED.len();
+        let status = schedule(alloc, &mut script, &mut out, &mut err);
+        assert_eq!(rt; status, if fits { 0 } else { 1 }, "room for {room}");
+        assert_eq!(rt; is_one_line(&err), !fits, "room for {room}");
+        let Full { room: _ } = out;
+    }
+}
+
+#[test]
+fn a_flush_that_fails_ends_with_status_1(rt: HostRuntime) {
+    let alloc = rt.alloc();
+    let mut out = Stuck;
+    let mut err = Vec::new(alloc);
+    let mut script = OVER_LIMIT.as_bytes();
+    assert_eq!(rt; schedule(alloc, &mut script, &mut out, &mut err), 1);
+    assert!(rt; is_one_line(&err));
+    let Stuck = out;
+}
+
+#[test]
+fn the_status_holds_where_its_line_cannot_be_written(rt: HostRuntime) {
+    let alloc = rt.alloc();
+    let mut out = Vec::new(alloc);
+    let mut err = Full { room: 3 };
+    let mut script = "foo\n".as_bytes();
+    assert_eq!(rt; schedule(alloc, &mut script, &mut out, &mut err), 1);
+    assert!(rt; out.is_empty());
+    let Full { room: _ } = err;
+}
+
+#[test]
+fn a_script_is_run_anew_each_time(rt: HostRuntime) {
+    prints(&rt, "once", OVER_LIMIT, PRINTED);
+    prints(&rt, "and once more", OVER_LIMIT, PRINTED);
+}

@@ -1,0 +1,118 @@
+-- The joined parts at their opening, and what a refusal that does not come says.
+use Rattle.std.proofs.Common.{◌≡◌, inl, inr, ℕ, ◌<◌, ◌≤◌, ◌==◌, ◌&&◌, ◌++◌, ◌∷◌, not, Bool, true, false, List, [], Option, Some, None, refl, sym, ap, ◌∙◌, arith, length}
+use Rattle.std.specs.Prelude.{is_some, nat_le, IsSome, IfSome, option_map}
+use Rattle.machine.specs.declared.record.Life.{Life}
+use Rattle.machine.specs.declared.record.Life.TheVariants.{Live, Exited, Killed}
+use Rattle.machine.specs.declared.record.Task.{Task}
+use Rattle.machine.specs.declared.record.Mapping.{Mapping}
+use Rattle.machine.specs.declared.refusal.Refusal.{Refusal}
+use Rattle.machine.specs.declared.refusal.Refusal.TheVariants.{Invalid, NoEntry, Busy, NoSpace, NumberUsed}
+use Rattle.machine.specs.declared.id.FrameId.{FrameId}
+use Rattle.machine.specs.Slots.{Changes}
+use Rattle.machine.specs.Tree.{is_live}
+use Rattle.machine.specs.Pages.{Held, Page, Pages, page_at}
+use Rattle.machine.specs.Tasks.{Tasks, task_at, live_tasks, mapped_at, mappers, mapping}
+use Rattle.machine.specs.State.{State}
+use Rattle.machine.specs.Refusals.{first_cause, life_refusal, task_refusal, number_refusal, bars_tasks, spawn_refusal}
+use Rattle.machine.specs.Step.{new_page}
+use Rattle.machine.proofs.TreeLemmas.{eq_cases}
+use Rattle.machine.proofs.SlotLemmas.{one_if}
+use Rattle.machine.proofs.MappingLemmas.{mapped_at-mappers, mapped_at-push_other, mappers-push}
+use Rattle.pages.specs.PageTable.{IsHeldMemory}
+use Rattle.book.proofs.BalanceLemmas.{held_page}
+use Rattle.book.proofs.DropLemmas.{there_some}
+use Rattle.book.proofs.ServeLemmas.{same_true, true_same, false_other, both_true}
+use Rattle.book.specs.Pool.{FreeFrames, free_count}
+use Rattle.book.specs.Contents.{IsBalanced, AreMapped, there}
+
+pub balanced-open : (frames : ℕ) (pool : FreeFrames) (pages : Pages) → pages ≡ [] → ((n : ℕ) → n < frames → free_count pool.free n ≡ 1) → ((n : ℕ) → frames ≤ n → free_count pool.free n ≡ 0)
+    → length pool.free ≡ frames → IsBalanced frames pool pages
+balanced-open frames pool pages empty once beyond all =
+    rw empty
+    (record {
+      once = λ f lt. (let k = once f lt in omega (arith, k));
+      none_beyond = λ f le. (let k = beyond f le in omega (arith, k));
+      all = omega (arith, all);
+      room = omega arith;
+    })
+
+pub mapped-open : (pages : Pages) (tasks : Tasks) (mappings : List Mapping) → pages ≡ [] → mappings ≡ [] → AreMapped pages tasks mappings
+mapped-open pages tasks mappings no_pages no_mappings = rw (no_pages, no_mappings) (record { once = λ p. refl; owned = λ t v p e. cc })
+
+-- a live task's event is refused for its own cause
+pub task_refusal-live : (slot : Option Task) (task : Task) (others : Option Refusal) → slot ≡ Some task → task.life ≡ Live → others ≡ task_refusal slot others
+task_refusal-live slot task others is living = rw is (by_life task.life living)
+  where
+    by_life : (ending : Life) → ending ≡ Live → others ≡ life_refusal ending others
+    by_life Live e = refl
+    by_life Exited e = cc
+    by_life Killed e = cc
+
+-- a task's number that nothing refuses was never used
+pub unused : (tasks : Tasks) (t : ℕ) → number_refusal tasks t ≡ None → task_at tasks t ≡ None
+unused tasks t e = by_range (not (nat_le 1 t && nat_le t 65535)) e
+  where
+    by_slot : (slot : Option Task) → first_cause (is_some slot) NumberUsed (first_cause (nat_le 1024 (live_tasks tasks)) NoSpace None) ≡ None → slot ≡ None
+    by_slot None e = refl
+    by_slot (Some task) e = cc
+
+    by_range : (b : Bool) → first_cause b Invalid (first_cause (is_some (task_at tasks t)) NumberUsed (first_cause (nat_le 1024 (live_tasks tasks)) NoSpace None)) ≡ None → task_at tasks t ≡ None
+    by_range true e = cc
+    by_range false e = by_slot (task_at tasks t) e
+
+-- a spawn that nothing refuses is of a number that was never used
+pub spawn-unused : (s : State) (t g : ℕ) → spawn_refusal s t g ≡ None → task_at s.tasks t ≡ None
+spawn-unused s t g e = by_group (not (is_live s.tree g)) e
+  where
+    by_busy : (b : Bool) → first_cause b Busy (number_refusal s.tasks t) ≡ None → task_at s.tasks t ≡ None
+    by_busy true e = cc
+    by_busy false e = unused s.tasks t e
+
+    by_group : (b : Bool) → first_cause b NoEntry (first_cause (bars_tasks s.tree g) Busy (number_refusal s.tasks t)) ≡ None → task_at s.tasks t ≡ None
+    by_group true e = cc
+    by_group false e = by_busy (bars_tasks s.tree g) e
+
+-- what is mapped is there
+pub mapped_there : (pages : Pages) (tasks : Tasks) (mappings : List Mapping) → AreMapped pages tasks mappings → (t v p : ℕ) → mapped_at mappings t v ≡ Some p → IsSome (page_at pages p)
+mapped_there pages tasks mappings mapped t v p e = let some = mapped_at-mappers mappings t v p e in let once = mapped.once p in there_some (page_at pages p) (omega (arith, some, once))
+
+-- the frame of a page that is there
+pub hit_frame : (slot : Option Page) (r : Option FrameId) → IsSome slot → IfSome slot IsHeldMemory → option_map (λ (f : FrameId). Held f.0) r ≡ option_map (λ (page : Page). page.residence) slot
+    → (g : ℕ) × (f : ℕ) × (slot ≡ Some (new_page g f)) × (r ≡ Some (record { 0 = f }))
+hit_frame slot None there held is = absurd (none slot there is)
+  where
+    none : (slot : Option Page) → IsSome slot → None ≡ option_map (λ (page : Page). page.residence) slot → ⊥
+    none None there is = cc
+    none (Some page) there is = cc
+hit_frame slot (Some f) there held is = let page = held_page slot f.0 held is in (page.0, f.0, page.1, refl)
+
+-- one page more, mapped at one place of a task that is there
+pub mapped-push : (pages pages' : Pages) (tasks : Tasks) (mappings : List Mapping) (t v p : ℕ) (page : Page) → AreMapped pages tasks mappings → page_at pages p ≡ None → Changes pages pages' p (Some page)
+    → is_some (task_at tasks t) ≡ true → AreMapped pages' tasks (mappings ++ mapping t v p ∷ [])
+mapped-push pages pages' tasks mappings t v p page mapped free changes known = record { once = once; owned = owned }
+  where
+    once : (q : ℕ) → mappers (mappings ++ mapping t v p ∷ []) q ≡ there (page_at pages' q)
+    once q =
+        elim (eq_cases q p) [
+          | inl same ↦ (let more = mappers-push mappings t v p q in let hit : one_if (p == q) ≡ 1 = ap one_if (true_same p q (sym same)) in
+              let before = mapped.once q in let none : there (page_at pages q) ≡ 0 = ap (λ (x : ℕ). there (page_at pages x)) same ∙ ap there free in
+              let now : there (page_at pages' q) ≡ 1 = ap (λ (x : ℕ). there (page_at pages' x)) same ∙ ap there changes.changed in omega (arith, more, hit, before, none, now))
+          | inr other ↦ (let more = mappers-push mappings t v p q in let miss : one_if (p == q) ≡ 0 = ap one_if (false_other p q (λ e. other (sym e))) in
+              let before = mapped.once q in let kept = ap there (changes.others q other) in omega (arith, more, miss, before, kept))
+        ]
+
+    owned : (u w q : ℕ) → mapped_at (mappings ++ mapping t v p ∷ []) u w ≡ Some q → is_some (task_at tasks u) ≡ true
+    owned u w q e = by_test ((t == u) && (v == w)) refl
+      where
+        by_test : (b : Bool) → ((t == u) && (v == w)) ≡ b → is_some (task_at tasks u) ≡ true
+        by_test true hit = ap (λ (x : ℕ). is_some (task_at tasks x)) (sym (same_true t u (both_true (t == u) (v == w) hit).0)) ∙ known
+        by_test false miss = mapped.owned u w q (sym (mapped_at-push_other mappings t v p u w miss) ∙ e)
+
+-- the same, of tables that were made so
+pub mapped-pushed : (pages pages' : Pages) (tasks tasks' : Tasks) (mappings mappings' : List Mapping) (t v p : ℕ) (page : Page) → AreMapped pages tasks mappings → page_at pages p ≡ None → Changes pages pages' p (Some page)
+    → is_some (task_at tasks t) ≡ true → tasks' ≡ tasks → mappings' ≡ mappings ++ mapping t v p ∷ [] → AreMapped pages' tasks' mappings'
+mapped-pushed pages pages' tasks tasks' mappings mappings' t v p page mapped free changes known same_tasks pushed =
+    rw (same_tasks, pushed) (mapped-push pages pages' tasks mappings t v p page mapped free changes known)
+
+pub mapped-same : (pages pages' : Pages) (tasks tasks' : Tasks) (mappings mappings' : List Mapping) → AreMapped pages tasks mappings → pages' ≡ pages → tasks' ≡ tasks → mappings' ≡ mappings → AreMapped pages' tasks' mappings'
+mapped-same pages pages' tasks tasks' mappings mappings' mapped same_pages same_tasks same_mappings = rw (same_pages, same_tasks, same_mappings) mapped

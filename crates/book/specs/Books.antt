@@ -1,0 +1,15 @@
+-- What a book's fields mean, and what is always true of them.
+use Rattle.std.specs.Prelude.{◌≤◌, length, reverse, vec_capacity}
+use Rattle.machine.specs.Call.{Past}
+use Rattle.book.specs.declared.book.Book.TheInside.{Inside}
+use Rattle.book.specs.Told.{state_of, IsHistory}
+
+abbrev pub past_of : Inside → Past
+past_of b = record { state = state_of b.state (reverse b.entries.items); history = reverse b.entries.items; passes = length b.counts.items }
+
+pub record IsBook (b : Inside) : Type 0 where
+  pub told : IsHistory b.state (reverse b.entries.items) b.counts.items
+  pub within : length b.entries.items ≤ b.state.tables.opening.limit
+  -- the trace's room comes from the opening
+  pub room : b.state.tables.opening.limit ≤ vec_capacity b.entries
+  pub few : length b.counts.items ≤ 131072

@@ -1,0 +1,9 @@
+pub mod Pool
+pub mod Worst
+pub mod Contents
+pub mod Serves
+pub mod Drops
+pub mod Parts
+pub mod Told
+pub mod Passes
+pub mod Books

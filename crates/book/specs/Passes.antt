@@ -1,0 +1,5 @@
+-- What a contract sees of a pass.
+use Rattle.std.specs.Prelude.{ℕ}
+
+pub record PassOf : Type 0 where
+  pub worker : ℕ

@@ -1,0 +1,33 @@
+-- What a history tells of the tasks' groups and of the events counted, and what always holds of it.
+use Rattle.std.specs.Prelude.{◌≡◌, ℕ, true, List, [], ◌∷◌, length, slice_index}
+use Rattle.machine.specs.declared.entry.Entry.{Entry}
+use Rattle.machine.specs.Counts.{Counted}
+use Rattle.machine.specs.Tasks.{lives, group_of_task}
+use Rattle.machine.specs.State.{State}
+use Rattle.machine.specs.Legal.{Legal}
+use Rattle.machine.specs.History.{Right, InTask, last, entries_by, Numbered}
+use Rattle.book.specs.Contents.{Contents, counting, counted_after, group_after, byte_at}
+
+-- the group that a task was last put in
+abbrev pub group_in : List Entry → ℕ → ℕ
+group_in [] t = 0
+group_in (entry ∷ earlier) t = group_after entry.event entry.reply t (group_in earlier t)
+
+-- the events counted
+abbrev pub counted_in : List Entry → List Counted
+counted_in [] = []
+counted_in (entry ∷ earlier) = counted_after (group_in earlier) (counted_in earlier) entry.event entry.reply
+
+-- the tables, with the events that the history counts
+abbrev pub state_of : Contents → List Entry → State
+state_of c history = counting c.tables (counted_in history)
+
+-- the history leads to the tables, gave each read the last write, and is numbered by worker
+pub record IsHistory (c : Contents) (history : List Entry) (counts : List ℕ) : Type 0 where
+  pub legal : Legal c.tables.opening history (state_of c history)
+  pub right : Right history
+  pub numbered : Numbered history
+  -- the byte at each live task's place is the one last written there
+  pub bytes : (t v o : ℕ) → lives c.tables.tasks t ≡ true → byte_at c t v o ≡ last history (InTask t v o)
+  pub groups : (t : ℕ) → group_of_task c.tables.tasks t ≡ group_in history t
+  pub counted : (w : ℕ) → slice_index counts w ≡ length (entries_by w history)

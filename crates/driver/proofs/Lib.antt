@@ -1,0 +1,4 @@
+pub mod SeatLists
+pub mod Runs
+pub mod Legals
+pub mod LawLemmas

@@ -1,0 +1,59 @@
+-- Runs go on by one.
+use Rattle.std.proofs.Common.{◌≡◌, false, List, [], ◌∷◌, ◌++◌, refl, sym, ap, ◌∙◌, append_assoc, append-nil, subst}
+use Rattle.machine.specs.declared.command.Actor.{Actor}
+use Rattle.machine.specs.declared.command.Step.{Step}
+use Rattle.machine.specs.declared.command.Reply.{Reply}
+use Rattle.machine.specs.declared.turn.Outcome.{Outcome}
+use Rattle.std.specs.Prelude.{Ok, Err}
+use Rattle.machine.specs.declared.refusal.Refusal.{Refusal}
+use Rattle.machine.specs.declared.command.Command.{Command}
+use Rattle.machine.specs.declared.turn.Doing.{Doing}
+use Rattle.machine.specs.declared.turn.Activity.{Activity}
+use Rattle.machine.specs.declared.turn.Activity.TheVariants.{Rests, Begun, Does}
+use Rattle.machine.specs.Call.{Past}
+use Rattle.machine.specs.Turns.{judged, ends_refused}
+use Rattle.machine.specs.Schedule.{World, activity_of, with_activity, outcome_of, left_of, Asks, DoingTurn, Turn, Goings, is_end, said_at, all_said, Stepped, Runs}
+
+pub Goings-more : (old : World) (actor : Actor) (earlier : List Outcome) (mid new : World) (outcome : Outcome)
+    → Goings old actor earlier mid → Turn mid actor outcome new → is_end outcome ≡ false → Goings old actor (earlier ++ outcome ∷ []) new
+Goings-more old actor [] mid new outcome h turn goes =
+    let From : World → Type 0 = λ w. Turn w actor outcome new in (new, subst From h turn, goes, refl)
+Goings-more old actor (first ∷ earlier) mid new outcome h turn goes =
+    (h.0, h.1, h.2, Goings-more h.0 actor earlier mid new outcome h.3 turn goes)
+
+pub all_said-more : (actor : Actor) (earlier : List Outcome) (outcome : Outcome) → all_said actor (earlier ++ outcome ∷ []) ≡ all_said actor earlier ++ said_at actor outcome
+all_said-more actor [] outcome = append-nil (said_at actor outcome)
+all_said-more actor (first ∷ earlier) outcome =
+    ap (λ (rs : List Reply). said_at actor first ++ rs) (all_said-more actor earlier outcome) ∙ sym (append_assoc (said_at actor first) (all_said actor earlier) (said_at actor outcome))
+
+pub Runs-more : (old : World) (steps : List Step) (answers : List Reply) (mid new : World) (step : Step) (here : List Reply)
+    → Runs old steps answers mid → Stepped mid step here new → Runs old (steps ++ step ∷ []) (answers ++ here) new
+Runs-more old [] answers mid new step here h one =
+    let From : World → Type 0 = λ w. Stepped w step here new in
+    (here, [], new, subst From h.1 one, (refl, refl), ap (λ (rs : List Reply). rs ++ here) h.0 ∙ sym (append-nil here))
+Runs-more old (first ∷ steps) answers mid new step here h one =
+    (h.0, h.1 ++ here, h.2, h.3, Runs-more h.2 steps h.1 mid new step here h.4 one, ap (λ (rs : List Reply). rs ++ here) h.5 ∙ append_assoc h.0 h.1 here)
+
+-- ---- one turn
+
+-- a turn of a command that was taken from its seat
+pub turn_taken : (old mid new : World) (who : Actor) (doing : Doing) (outcome : Outcome) → mid.past ≡ old.past → ((what : Activity) → with_activity who what mid.seats ≡ with_activity who what old.seats)
+    → DoingTurn mid who doing outcome new → DoingTurn old who doing outcome new
+turn_taken old mid new who doing outcome same others turn =
+    record {
+      turned = turn.turned;
+      asks = subst (λ (p : Past). Asks p doing turn.turned new.past) same turn.asks;
+      shows = turn.shows;
+      leaves = turn.leaves ∙ others (left_of turn.turned);
+    }
+
+pub turn_does : (old new : World) (who : Actor) (doing : Doing) (outcome : Outcome) → activity_of who old.seats ≡ Does doing → DoingTurn old who doing outcome new → Turn old who outcome new
+turn_does old new who doing outcome is turn = rw is turn
+
+pub turn_begun : (old new : World) (who : Actor) (command : Command) (doing : Doing) (outcome : Outcome) → activity_of who old.seats ≡ Begun command → judged old.past.state.tree who command ≡ Ok doing → DoingTurn old who doing outcome new
+    → Turn old who outcome new
+turn_begun old new who command doing outcome is starts turn = rw is (rw starts turn)
+
+pub turn_refused : (old new : World) (who : Actor) (command : Command) (why : Refusal) → activity_of who old.seats ≡ Begun command → judged old.past.state.tree who command ≡ Err why
+    → new ≡ record { past = old.past; seats = with_activity who Rests old.seats } → Turn old who (outcome_of (ends_refused why)) new
+turn_refused old new who command why is wrong stays = rw is (rw wrong (refl, stays))

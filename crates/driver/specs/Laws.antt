@@ -1,0 +1,48 @@
+-- The headline in the words of its users: what holds of every step and of every run.
+use Rattle.std.specs.Prelude.{◌≡◌, ℕ, ◌<◌, true, false, List, ◌∷◌, ◌++◌}
+use Rattle.machine.specs.declared.config.Config.{Config}
+use Rattle.machine.specs.declared.entry.Entry.{Entry}
+use Rattle.machine.specs.declared.event.Cause.{Cause}
+use Rattle.machine.specs.declared.event.Op.{Op}
+use Rattle.machine.specs.declared.event.Place.{Place}
+use Rattle.machine.specs.declared.event.Query.TheVariants as query
+use Rattle.machine.specs.declared.event.Event.TheVariants as event
+use Rattle.machine.specs.declared.reply.Reply.{Reply}
+use Rattle.machine.specs.declared.reply.Reply.TheVariants as reply
+use Rattle.machine.specs.declared.reply.Shown.TheVariants as shown
+use Rattle.machine.specs.declared.command.Step.{Step as Line}
+use Rattle.machine.specs.declared.command.Reply.{Reply as Told_by}
+use Rattle.machine.specs.Amounts.{exceeds}
+use Rattle.machine.specs.Counts.{limits_at}
+use Rattle.machine.specs.State.{State, usage, opening_of}
+use Rattle.machine.specs.Reclaim.{is_idle, target_of}
+use Rattle.machine.specs.Victim.{is_candidate}
+use Rattle.machine.specs.Step.{Step}
+use Rattle.machine.specs.Legal.{Legal}
+use Rattle.machine.specs.History.{Right, IsRight}
+use Rattle.machine.specs.Schedule.{World, first_world, Runs}
+
+-- the history of every run leads from the opening to the run's state, one step of the machine an entry
+abbrev pub RunsAreLegal : Type 0
+RunsAreLegal = (config : Config) (steps : List Line) (answers : List Told_by) (end : World) → Runs (first_world config) steps answers end → Legal (opening_of config) end.past.history end.past.state
+
+-- memory.current counts the pages with frames at or under the group
+abbrev pub CurrentCountsPages : Type 0
+CurrentCountsPages =
+    (before after : State) (g n : ℕ) → Step before (event.Show (query.Current (record { 0 = g }))) (reply.Shown (shown.Pages n)) after → n ≡ usage before g
+
+-- an access that leaves more pages charged under a group leaves no more than the group's max
+abbrev pub ChargesStayWithinMax : Type 0
+ChargesStayWithinMax =
+    (before after : State) (t : ℕ) (place : Place) (op : Op) (answer : Reply) (a : ℕ) → Step before (event.Access (record { 0 = t }) place op) answer after
+    → usage before a < usage after a → exceeds (usage after a) (limits_at after.limits a).max ≡ false
+
+-- a task is killed only where nothing could be reclaimed under the limit group, and only a live one of a group at or under it
+abbrev pub KillsComeLast : Type 0
+KillsComeLast =
+    (before after : State) (why : Cause) (t : ℕ) → Step before (event.Relieve why) (reply.KilledTask (record { 0 = t })) after
+    → (is_idle before (target_of why) ≡ true) × (is_candidate before.tree before.tasks (target_of why) t ≡ true)
+
+-- each read in a right history gave the last write before it
+abbrev pub ReadsGiveLastWrites : Type 0
+ReadsGiveLastWrites = (later earlier : List Entry) (entry : Entry) → Right (later ++ entry ∷ earlier) → IsRight earlier entry.event entry.reply

@@ -1,0 +1,147 @@
+//! The first turn of a command: its paths are found, and a control file's name, mode and amount are
+//! judged.
+
+ghost use Rattle.std.specs.Prelude.{◌≡◌, ℕ, option_map};
+ghost use Rattle.machine.specs.Turns.{judged, task_judged, shell_judged, with_group, with_file, with_amount, reads_file, writes_file};
+ghost use Rattle.machine.specs.Tree.{find_group};
+ghost use Rattle.machine.specs.Control.{file_named, has_file};
+
+use crate::control_files::{file_named, parse_amount};
+use book::{Book, Pass};
+use machine::command::{Actor, Command};
+use machine::control::ControlFile;
+use machine::event::Query;
+use machine::id::{GroupId, TaskId};
+use machine::refusal::Refusal;
+use machine::turn::{Access, Doing};
+
+/// What becomes of a command in its first turn.
+pub fn judge(book: &Book, pass: &mut Pass, actor: Actor, command: Command) -> Result<Doing, Refusal>
+    ensures judged { result ≡ judged book.now.state.tree actor command }
+    ensures pass { pass.new.worker ≡ pass.old.worker }
+{
+    match actor {
+        Actor::Task(task) => judge_task(task, command),
+        Actor::Shell => judge_shell(book, pass, command),
+    }
+}
+
+fn judge_task(task: u32, command: Command) -> Result<Doing, Refusal>
+    ensures { result ≡ task_judged task command }
+{
+    match command {
+        Command::Access { place, op } => Ok(Doing::Try(Access {
+            task: TaskId(task),
+            place,
+            op,
+        })),
+        _ => Err(Refusal::Invalid),
+    }
+}
+
+fn judge_shell(book: &Book, pass: &mut Pass, command: Command) -> Result<Doing, Refusal>
+    ensures judged { result ≡ shell_judged book.now.state.tree command }
+    ensures pass { pass.new.worker ≡ pass.old.worker }
+{
+    match command {
+        Command::Access { .. } => Err(Refusal::Invalid),
+        Command::Group(path) => Ok(Doing::Mkdir(path)),
+        Command::Task { task, path } => judge_spawn(book.find(pass, path.as_str()), task),
+        Command::Set { path, file, text } => judge_set(
+            book.find(pass, path.as_str()),
+            file.as_str(),
+            text.as_str(),
+        ),
+        Command::Cat { path, file } => judge_cat(book.find(pass, path.as_str()), file.as_str()),
+    }
+}
+
+fn judge_spawn(group: Option<GroupId>, task: u32) -> Result<Doing, Refusal>
+    ensures { result ≡ with_group (option_map (λ g. g.0) group) (λ g. Ok (Doing.Spawn (record { 0 = task }) (record { 0 = g }))) }
+{
+    match group {
+        None => Err(Refusal::NoEntry),
+        Some(group) => Ok(Doing::Spawn {
+            task: TaskId(task),
+            group,
+        }),
+    }
+}
+
+/// Whether the group has the file: the root has none of them.
+fn has_file(group: GroupId, file: ControlFile) -> bool
+    ensures { result ≡ has_file group.0 file }
+{
+    match file {
+        ControlFile::Current | ControlFile::Max => group.0 != 0,
+    }
+}
+
+fn judge_set(group: Option<GroupId>, name: &str, text: &str) -> Result<Doing, Refusal>
+    ensures { result ≡ with_group (option_map (λ g. g.0) group) (λ g. with_file g (file_named name.now) (writes_file g text.now)) }
+{
+    match group {
+        None => Err(Refusal::NoEntry),
+        Some(group) => write_file(group, file_named(name), text),
+    }
+}
+
+fn write_file(group: GroupId, file: Option<ControlFile>, text: &str) -> Result<Doing, Refusal>
+    ensures { result ≡ with_file group.0 file (writes_file group.0 text.now) }
+{
+    match file {
+        None => Err(Refusal::NoEntry),
+        Some(file) => {
+            if has_file(group, file) {
+                write_named(group, file, text)
+            } else {
+                Err(Refusal::NoEntry)
+            }
+        }
+    }
+}
+
+fn write_named(group: GroupId, file: ControlFile, text: &str) -> Result<Doing, Refusal>
+    ensures { result ≡ writes_file group.0 text.now file }
+{
+    match file {
+        ControlFile::Current => Err(Refusal::Invalid),
+        ControlFile::Max => match parse_amount(text) {
+            None => Err(Refusal::Invalid),
+            Some(max) => Ok(Doing::SetMax { group, max }),
+        },
+    }
+}
+
+fn judge_cat(group: Option<GroupId>, name: &str) -> Result<Doing, Refusal>
+    ensures { result ≡ with_group (option_map (λ g. g.0) group) (λ g. with_file g (file_named name.now) (reads_file g)) }
+{
+    match group {
+        None => Err(Refusal::NoEntry),
+        Some(group) => read_file(group, file_named(name)),
+    }
+}
+
+fn read_file(group: GroupId, file: Option<ControlFile>) -> Result<Doing, Refusal>
+    ensures { result ≡ with_file group.0 file (reads_file group.0) }
+{
+    match file {
+        None => Err(Refusal::NoEntry),
+        Some(file) => {
+            if has_file(group, file) {
+                Ok(Doing::Show(query_of(group, file)))
+            } else {
+                Err(Refusal::NoEntry)
+            }
+        }
+    }
+}
+
+fn query_of(group: GroupId, file: ControlFile) -> Query
+    ensures { reads_file group.0 file ≡ Ok (Doing.Show result) }
+{
+    match file {
+        ControlFile::Current => Query::Current(group),
+        ControlFile::Max => Query::Max(group),
+    }
+}

@@ -1,0 +1,32 @@
+//! The headline in the words of its users: laws of every step and of every run. Each is the contract
+//! of a function that does nothing.
+
+ghost use Rattle.driver.specs.Laws.{RunsAreLegal, CurrentCountsPages, ChargesStayWithinMax, KillsComeLast, ReadsGiveLastWrites};
+
+/// The history of every run leads from the opening to the run's state, one step of the plain machine
+/// an entry.
+pub fn runs_are_legal()
+    ensures { RunsAreLegal }
+{}
+
+/// `memory.current` counts the pages with frames at or under the group.
+pub fn current_counts_pages()
+    ensures { CurrentCountsPages }
+{}
+
+/// No access that gives a page a frame passes the max of the group or of one above it. (A max that
+/// is lowered below the group's count admits no charge, but is passed by what was charged before.)
+pub fn charges_stay_within_max()
+    ensures { ChargesStayWithinMax }
+{}
+
+/// A task is killed only where nothing can be reclaimed under the limit group, and only a live task
+/// of a group at or under it.
+pub fn kills_come_last()
+    ensures { KillsComeLast }
+{}
+
+/// Each read that is done gives the byte last written.
+pub fn reads_give_last_writes()
+    ensures { ReadsGiveLastWrites }
+{}

@@ -1,0 +1,18 @@
+//! Schedules: one turn of one actor after another, over a book.
+//!
+//! [`run`] takes any list of steps, in any order of actors, and gives the answers of the plain
+//! machine to it, in order. A command goes through the states of the table of turns ([`automaton`]):
+//! what it asks of the book, and what it makes of the reply.
+#![tactic(auto)]
+
+pub use machine::command::{Actor, Answer, Command, Reply, Step, Word};
+pub use machine::config::Config;
+pub use schedule::run;
+
+pub mod automaton;
+mod control_files;
+mod desk;
+mod judge;
+pub mod laws;
+mod schedule;
+mod seats;

@@ -1,0 +1,7 @@
+pub mod TableLemmas
+pub mod TreeFacts
+pub mod PathLemmas
+pub mod WalkLemmas
+pub mod RoomLemmas
+pub mod PushLemmas
+pub mod PreorderLemmas

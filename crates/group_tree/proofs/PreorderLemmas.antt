@@ -1,0 +1,183 @@
+-- A walk over a group and those below it, step by step.
+use Rattle.std.proofs.Common.{inl, inr, ◌≡◌, ℕ, zero, suc, ◌+◌, ◌<◌, ◌≤◌, Bool, true, false, if◌then◌else◌, ◌&&◌, List, [], ◌∷◌, ◌++◌, length, drop, get_or, map, filter, Option, Some, None, refl, sym, ap, ◌∙◌, arith, append_assoc, append-nil, add-one, drop-cons, length-drop}
+use Rattle.std.specs.Prelude.{flat_map, nat_le}
+use Rattle.std.specs.List.{enumerate_from}
+use Rattle.std.specs.Option.{option_map_or}
+use Rattle.std.proofs.lemmas.Bool.{cases_lt, cases_Bool}
+use Rattle.std.proofs.lemmas.Bool.Decides.{nat_tests}
+use Rattle.machine.specs.Tree.{Node, no_node, node_at, is_child, is_parent, IsTree, children, preorder_to, preorder}
+use Rattle.group_tree.specs.Walk.{children_among, children_from, after_in, after, left}
+use Rattle.group_tree.proofs.PushLemmas.{within}
+
+nothing_left : (xs : List Node) → length xs ≡ 0 → xs ≡ []
+nothing_left [] h = refl
+nothing_left (x ∷ xs) h = absurd (omega arith)
+
+-- there is no child beyond the last group
+children_from-end : (tree : List Node) (p k : ℕ) → length tree ≤ k → children_from tree p k ≡ []
+children_from-end tree p k h =
+    ap (children_among p k) (nothing_left (drop k tree) (let len = length-drop k tree in omega (arith, len)))
+
+-- a group is a child, or it is not
+children_from-step : (tree : List Node) (p k : ℕ) → k < length tree
+    → children_from tree p k ≡ (if is_child p (node_at tree k) then k ∷ children_from tree p (k + 1) else children_from tree p (k + 1))
+children_from-step tree p k h =
+    ap (children_among p k) (drop-cons tree k no_node h)
+    ∙ ap (λ j. if is_child p (node_at tree k) then k ∷ children_among p (k + 1) (drop j tree) else children_among p (k + 1) (drop j tree)) (sym (add-one k))
+
+children_from-child : (tree : List Node) (p k : ℕ) → k < length tree → is_child p (node_at tree k) ≡ true → children_from tree p k ≡ k ∷ children_from tree p (k + 1)
+children_from-child tree p k h t =
+    children_from-step tree p k h ∙ ap (λ b. if b then k ∷ children_from tree p (k + 1) else children_from tree p (k + 1)) t
+
+children_from-other : (tree : List Node) (p k : ℕ) → k < length tree → is_child p (node_at tree k) ≡ false → children_from tree p k ≡ children_from tree p (k + 1)
+children_from-other tree p k h t =
+    children_from-step tree p k h ∙ ap (λ b. if b then k ∷ children_from tree p (k + 1) else children_from tree p (k + 1)) t
+
+-- the children of the definition are those from the first group on
+among_numbers : (at : ℕ → Node) (p k : ℕ) (xs : List Node) → ((i : ℕ) → i < length xs → at (k + i) ≡ get_or xs i no_node)
+    → filter (λ g. is_child p (at g)) (map (λ e. e.0) (enumerate_from k xs)) ≡ children_among p k xs
+among_numbers at p k [] h = refl
+among_numbers at p k (x ∷ xs) h =
+    let here : at k ≡ x = ap at (let same : k ≡ k + 0 = omega arith in same) ∙ h 0 (omega arith) in
+    let others = among_numbers at p (k + 1) xs (λ i lt. ap at (let same : k + 1 + i ≡ k + suc i = omega arith in same) ∙ h (suc i) (omega arith)) in
+    ap (λ node. if is_child p node then k ∷ filter (λ g. is_child p (at g)) (map (λ e. e.0) (enumerate_from (k + 1) xs)) else filter (λ g. is_child p (at g)) (map (λ e. e.0) (enumerate_from (k + 1) xs))) here
+    ∙ ap (λ rest. if is_child p x then k ∷ rest else rest) others
+
+children-from : (tree : List Node) (p : ℕ) → children tree p ≡ children_from tree p 0
+children-from tree p = among_numbers (node_at tree) p 0 tree (λ i lt. ap (node_at tree) (let same : 0 + i ≡ i = omega arith in same))
+
+is_parent-same : (at : Option ℕ) (p : ℕ) → is_parent at p ≡ true → at ≡ Some p
+is_parent-same None p e = absurd cc
+is_parent-same (Some q) p e = let same : q ≡ p = grind (arith, nat_tests, e) in ap Some same
+
+second : (a b : Bool) → (a && b) ≡ true → b ≡ true
+second true b e = e
+second false b e = absurd cc
+
+child_parent : (tree : List Node) (p g : ℕ) → is_child p (node_at tree g) ≡ true → (node_at tree g).parent ≡ Some p
+child_parent tree p g t = is_parent-same _ p (second (node_at tree g).live _ t)
+
+flat_map-child : (tree : List Node) (f h : ℕ → List ℕ) (p : ℕ) → ((c : ℕ) → (node_at tree c).parent ≡ Some p → f c ≡ h c) → (k : ℕ) → k < length tree
+    → flat_map f (children_from tree p (k + 1)) ≡ flat_map h (children_from tree p (k + 1)) → (b : Bool) → is_child p (node_at tree k) ≡ b
+    → flat_map f (children_from tree p k) ≡ flat_map h (children_from tree p k)
+flat_map-child tree f h p same k lt rest true t =
+    let step = children_from-child tree p k lt t in
+    ap (flat_map f) step ∙ ap (λ ys. ys ++ flat_map f (children_from tree p (k + 1))) (same k (child_parent tree p k t)) ∙ ap (λ ys. h k ++ ys) rest ∙ sym (ap (flat_map h) step)
+flat_map-child tree f h p same k lt rest false t =
+    let step = children_from-other tree p k lt t in
+    ap (flat_map f) step ∙ rest ∙ sym (ap (flat_map h) step)
+
+-- what agrees at each child of a group agrees over them all
+flat_map-children : (tree : List Node) (f h : ℕ → List ℕ) (p : ℕ) → ((c : ℕ) → (node_at tree c).parent ≡ Some p → f c ≡ h c) → (n k : ℕ) → length tree ≤ n + k
+    → flat_map f (children_from tree p k) ≡ flat_map h (children_from tree p k)
+flat_map-children tree f h p same zero k e = let none = children_from-end tree p k (omega arith) in ap (flat_map f) none ∙ sym (ap (flat_map h) none)
+flat_map-children tree f h p same (suc n) k e =
+    elim (cases_lt k (length tree)) [
+      | inl lt ↦ flat_map-child tree f h p same k lt (flat_map-children tree f h p same n (k + 1) (omega arith)) (is_child p (node_at tree k)) refl
+      | inr ge ↦ (let none = children_from-end tree p k ge in ap (flat_map f) none ∙ sym (ap (flat_map h) none))
+    ]
+
+-- at the start, nothing comes after
+pub after-start : (tree : List Node) (start g : ℕ) → g ≤ start → after tree start g ≡ []
+unfolding after after_in
+after-start tree start g h =
+    let t : nat_le g start ≡ true = grind (arith, nat_tests, h) in
+    ap (λ b. if b then [] else option_map_or (λ p. flat_map (preorder tree) (children_from tree p (g + 1)) ++ after_in g tree start p) (node_at tree g).parent []) t
+
+module _ (tree : List Node) (is : IsTree tree) where
+  no_child : (g k : ℕ) → k ≤ g → is_child g (node_at tree k) ≡ false
+  no_child g k h =
+      elim (cases_Bool (is_child g (node_at tree k))) [
+        | inl child ↦ absurd (let falls = is.falls k g (child_parent tree g k child) in omega (arith, falls, h))
+        | inr other ↦ other
+      ]
+
+  -- the children of a group are numbered above it
+  children_from-own : (g n k : ℕ) → g < length tree → k + n ≡ g + 1 → children_from tree g k ≡ children_from tree g (g + 1)
+  children_from-own g zero k lt h = let same : k ≡ g + 1 = omega arith in ap (children_from tree g) same
+  children_from-own g (suc n) k lt h =
+      let before : k ≤ g = omega arith in
+      children_from-other tree g k (omega arith) (no_child g k before) ∙ children_from-own g n (k + 1) lt (omega arith)
+
+  -- a greater depth changes nothing
+  preorder_to-steps : (n m g : ℕ) → g < length tree → length tree ≤ n + g → length tree ≤ m + g → preorder_to n tree g ≡ preorder_to m tree g
+  unfolding preorder_to
+  preorder_to-steps zero m g lt h k = absurd (omega arith)
+  preorder_to-steps (suc n) zero g lt h k = absurd (omega arith)
+  preorder_to-steps (suc n) (suc m) g lt h k =
+      let same = children-from tree g in
+      ap (λ cs. g ∷ flat_map (preorder_to n tree) cs) same
+      ∙ ap (λ rest. g ∷ rest)
+      (flat_map-children tree (preorder_to n tree) (preorder_to m tree) g
+      (λ c e. let falls = is.falls c g e in let inside = within tree c g e in preorder_to-steps n m c inside (omega (arith, falls, h)) (omega (arith, falls, k))) (length tree) 0 (omega arith))
+      ∙ sym (ap (λ cs. g ∷ flat_map (preorder_to m tree) cs) same)
+
+  preorder-step : (g : ℕ) → g < length tree → preorder tree g ≡ g ∷ flat_map (preorder tree) (children_from tree g (g + 1))
+  unfolding preorder_to
+  preorder-step g lt =
+      preorder_to-steps (length tree) (suc (length tree)) g lt (omega arith) (omega arith) ∙ ap (λ cs. g ∷ flat_map (preorder tree) cs) (children-from tree g ∙ children_from-own g (g + 1) 0 lt (omega arith))
+
+  -- what agrees at the parent, if there is one, agrees after the group
+  same_above : (g : ℕ) (f h : ℕ → List ℕ) → ((p : ℕ) → (node_at tree g).parent ≡ Some p → f p ≡ h p) → (at : Option ℕ) → (node_at tree g).parent ≡ at
+      → option_map_or (λ p. flat_map (preorder tree) (children_from tree p (g + 1)) ++ f p) at []
+      ≡ option_map_or (λ p. flat_map (preorder tree) (children_from tree p (g + 1)) ++ h p) at []
+  same_above g f h same None e = refl
+  same_above g f h same (Some p) e = ap (λ rest. flat_map (preorder tree) (children_from tree p (g + 1)) ++ rest) (same p e)
+
+  -- a greater height changes nothing
+  after_in-steps : (n m start g : ℕ) → g < n → g < m → after_in n tree start g ≡ after_in m tree start g
+  unfolding after_in
+  after_in-steps zero m start g h k = absurd (omega arith)
+  after_in-steps (suc n) zero start g h k = absurd (omega arith)
+  after_in-steps (suc n) (suc m) start g h k =
+      ap (λ rest. if nat_le g start then [] else rest)
+      (same_above g (after_in n tree start) (after_in m tree start)
+      (λ p e. let falls = is.falls g p e in after_in-steps n m start p (omega (arith, falls, h)) (omega (arith, falls, k))) (node_at tree g).parent refl)
+
+  pub after-top : (start g : ℕ) → (node_at tree g).parent ≡ None → after tree start g ≡ []
+  unfolding after after_in
+  after-top start g e =
+      ap (λ at. if nat_le g start then [] else option_map_or (λ p. flat_map (preorder tree) (children_from tree p (g + 1)) ++ after_in g tree start p) at []) e ∙ same_either (nat_le g start)
+    where
+      same_either : (b : Bool) → (if b then [] else []) ≡ (let none : List ℕ = [] in none)
+      same_either true = refl
+      same_either false = refl
+
+  pub after-below : (start g p : ℕ) → start < g → (node_at tree g).parent ≡ Some p → after tree start g ≡ flat_map (preorder tree) (children_from tree p (g + 1)) ++ after tree start p
+  unfolding after after_in
+  after-below start g p h e =
+      let t : nat_le g start ≡ false = grind (arith, nat_tests, h) in
+      let falls = is.falls g p e in
+      ap (λ b. if b then [] else option_map_or (λ q. flat_map (preorder tree) (children_from tree q (g + 1)) ++ after_in g tree start q) (node_at tree g).parent []) t
+      ∙ ap (λ at. option_map_or (λ q. flat_map (preorder tree) (children_from tree q (g + 1)) ++ after_in g tree start q) at []) e
+      ∙ ap (λ rest. flat_map (preorder tree) (children_from tree p (g + 1)) ++ rest) (after_in-steps g (suc p) start p (omega (arith, falls)) (omega arith))
+
+  -- from a group that has children to the first of them
+  pub left-child : (start g c : ℕ) → start ≤ g → g < length tree → (node_at tree c).parent ≡ Some g → children_from tree g (g + 1) ≡ c ∷ children_from tree g (c + 1)
+      → left tree start (Some g) ≡ g ∷ left tree start (Some c)
+  left-child start g c from lt e first =
+      let falls = is.falls c g e in
+      ap (λ xs. xs ++ after tree start g) (preorder-step g lt ∙ ap (λ cs. g ∷ flat_map (preorder tree) cs) first)
+      ∙ ap (λ xs. g ∷ xs)
+      (append_assoc (preorder tree c) (flat_map (preorder tree) (children_from tree g (c + 1))) (after tree start g)
+      ∙ ap (λ xs. preorder tree c ++ xs) (sym (after-below start c g (omega (arith, falls, from)) e)))
+
+  -- from a group that has none to what comes after it
+  pub left-leaf : (start g : ℕ) → g < length tree → children_from tree g (g + 1) ≡ [] → left tree start (Some g) ≡ g ∷ after tree start g
+  left-leaf start g lt none = ap (λ xs. xs ++ after tree start g) (preorder-step g lt ∙ ap (λ cs. g ∷ flat_map (preorder tree) cs) none)
+
+  -- after a group come the groups from its next sibling on
+  pub after-sibling : (start g p s : ℕ) → start < g → (node_at tree g).parent ≡ Some p → (node_at tree s).parent ≡ Some p → g < s
+      → children_from tree p (g + 1) ≡ s ∷ children_from tree p (s + 1) → after tree start g ≡ left tree start (Some s)
+  after-sibling start g p s from e f more next =
+      after-below start g p from e ∙ ap (λ cs. flat_map (preorder tree) cs ++ after tree start p) next
+      ∙ append_assoc (preorder tree s) (flat_map (preorder tree) (children_from tree p (s + 1))) (after tree start p)
+      ∙ ap (λ xs. preorder tree s ++ xs) (sym (after-below start s p (omega (arith, from, more)) f))
+
+  -- and after the last of its siblings what comes after the parent
+  pub after-last : (start g p : ℕ) → start < g → (node_at tree g).parent ≡ Some p → children_from tree p (g + 1) ≡ [] → after tree start g ≡ after tree start p
+  after-last start g p from e none = after-below start g p from e ∙ ap (λ cs. flat_map (preorder tree) cs ++ after tree start p) none
+
+-- a walk begins with all of it left
+pub left-start : (tree : List Node) (start : ℕ) → left tree start (Some start) ≡ preorder tree start
+left-start tree start = ap (λ xs. preorder tree start ++ xs) (after-start tree start start (omega arith)) ∙ append-nil (preorder tree start)

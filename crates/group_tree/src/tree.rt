@@ -1,0 +1,196 @@
+//! The groups, by number and by path.
+
+ghost use Rattle.std.specs.Prelude.{◌≡◌, ℕ, Bool, ◌++◌, ◌∷◌, [], false, length, map, IsTrue, IfSome, IfOk, IfErr, OnOk, OnErr};
+ghost use Rattle.std.specs.Option.{option_map};
+ghost use Rattle.machine.specs.Tree.{root, node_at, is_live, chain, under, has_children, find_group};
+ghost use Rattle.machine.specs.Names.{parent_path};
+ghost use Rattle.machine.specs.Refusals.{first_cause, space_refusal, mkdir_refusal};
+ghost use Rattle.machine.specs.Step.{new_node};
+ghost use Rattle.group_tree.specs.Groups.{IsGroupTree};
+
+use crate::path::parent_path;
+use arrayvec::ArrayVec;
+use indexmap::IndexMap;
+use machine::id::GroupId;
+use machine::refusal::Refusal;
+use std::alloc::{AllocError, Global};
+use std::marker::Model;
+use text_forms::name::is_path;
+
+/// How many groups there can be, the root counted.
+const MAX_GROUPS: usize = 256;
+
+/// How many groups a group can hang below, the root counted.
+const MAX_LEVELS: usize = 16;
+
+/// The tree of groups. Its first group is the root, at `/`.
+///
+/// A contract sees it as the list of its groups in order of making, so a group's number is its
+/// place there.
+#[derive(Drop)]
+pub struct Tree {
+    alloc: Global,
+    parents: Vec<Option<GroupId>>,
+    by_path: IndexMap<String, GroupId>,
+}
+
+impl Model for Tree {
+    ghost use Rattle.std.specs.Prelude.{List};
+    ghost use Rattle.machine.specs.Tree.{Node};
+    ghost use Rattle.group_tree.specs.Tables.{nodes, AreTables};
+
+    ghost Value = { List Node };
+
+    ghost view = { λ t. nodes t.parents.items t.by_path.entries };
+
+    ghost invariant = { λ t. AreTables t.parents.items t.by_path.entries };
+}
+
+impl Tree {
+    /// The tree of the root alone. `AllocError` where there is no memory for it.
+    pub fn open(alloc: Global) -> Result<Self, AllocError>
+        ensures { IfOk result (λ tree. tree ≡ root ∷ []) }
+    {
+        let mut parents = Vec::with_capacity(alloc, 1)?;
+        let mut by_path = IndexMap::new(alloc);
+        by_path.insert(String::from_str(alloc, "/")?, GroupId::ROOT)?;
+        parents.push_reserved(None);
+        Ok(Tree {
+            alloc,
+            parents,
+            by_path,
+        })
+    }
+
+    /// Makes a group of this path, below the group of the path without its last name (kernel:
+    /// mem_cgroup_css_alloc).
+    ///
+    /// The caller has seen that nothing refuses it (`parent_for`, `space_refusal`). `AllocError`
+    /// where there is no memory for it, and then nothing changes.
+    pub fn mkdir(&mut self, path: &str) -> Result<GroupId, AllocError>
+        requires { mkdir_refusal self.old (λ g. false) path.now ≡ None }
+        ensures id { IfOk result (λ g. g.0 ≡ length self.old) }
+        ensures ok { OnOk result (self.new ≡ self.old ++ new_node self.old path.now ∷ []) }
+        ensures err { OnErr result (self.new ≡ self.old) }
+    {
+        let id = self.next_id();
+        let parent = self.find(parent_path(path));
+        let path = String::from_str(self.alloc, path)?;
+        self.parents.reserve(1)?;
+        self.by_path.insert(path, id)?;
+        self.parents.push_reserved(parent);
+        Ok(id)
+    }
+
+    /// Nothing is done: what holds of every tree of groups.
+    pub fn groups_form_a_tree(&self)
+        ensures { IsGroupTree self.now }
+    {
+        let _ = &self.parents;
+    }
+
+    /// What the group that is made next is numbered.
+    pub fn next_id(&self) -> GroupId
+        ensures { result.0 ≡ length self.now }
+    {
+        GroupId(self.parents.len() as u32)
+    }
+
+    /// Whether there is such a group.
+    pub fn is_live(&self, group: GroupId) -> bool
+        ensures { result ≡ is_live self.now group.0 }
+    {
+        (group.0 as usize) < self.parents.len()
+    }
+
+    /// The group of a path.
+    pub fn find(&self, path: &str) -> Option<GroupId>
+        ensures group { option_map (λ g. g.0) result ≡ find_group self.now path.now }
+        ensures live { IfSome result (λ g. IsTrue (is_live self.now g.0)) }
+    {
+        self.by_path.get(path).copied()
+    }
+
+    /// What a group hangs below (kernel: parent_mem_cgroup). Nothing for the root, and for a number
+    /// that is no group's.
+    pub fn parent(&self, group: GroupId) -> Option<GroupId>
+        ensures parent { option_map (λ g. g.0) result ≡ (node_at self.now group.0).parent }
+        ensures tree { IsGroupTree self.now }
+    {
+        self.parents.get(group.0 as usize).copied().flatten()
+    }
+
+    /// Whether one group is another or above it (kernel: mem_cgroup_is_descendant).
+    pub fn is_under(&self, above: GroupId, group: GroupId) -> bool
+        ensures { result ≡ under self.now above.0 group.0 }
+    {
+        let mut at = Some(group);
+        while let Some(here) = at {
+            if here == above {
+                return true;
+            }
+            at = self.parent(here);
+        }
+        false
+    }
+
+    /// Whether a live group hangs below this one.
+    pub fn has_children(&self, group: GroupId) -> bool
+        ensures { result ≡ has_children self.now group.0 }
+    {
+        self.parents.contains(&Some(group))
+    }
+
+    /// The group, what it hangs below, and so on up to the root. No group has more than 16 above it.
+    pub fn ancestors(&self, group: GroupId) -> ArrayVec<GroupId, 17>
+        requires { IsTrue (is_live self.now group.0) }
+        ensures { map (λ g. g.0) result.items ≡ chain self.now (Some group.0) }
+    {
+        let mut chain = ArrayVec::new();
+        let mut at = Some(group);
+        while let Some(here) = at {
+            at = self.parent(here);
+            chain.push(here);
+        }
+        chain
+    }
+
+    /// The group below which a group of this path would be made.
+    ///
+    /// `Invalid` where the text is no path, `NoEntry` where the group above it is not there, and
+    /// `Exists` where the path is taken: the first of these that applies. Whether the group may
+    /// have children (`Busy`) and whether there is room (`space_refusal`) come after.
+    pub fn parent_for(&self, path: &str) -> Result<GroupId, Refusal>
+        ensures parent { IfOk result (λ p. find_group self.now (parent_path path.now) ≡ Some p.0) }
+        ensures live { IfOk result (λ p. IsTrue (is_live self.now p.0)) }
+        ensures ok { IfOk result (λ p. (barred : ℕ → Bool) →
+            mkdir_refusal self.now barred path.now
+            ≡ first_cause (barred p.0) Refusal.Busy (space_refusal self.now p.0)) }
+        ensures err { IfErr result (λ cause. (barred : ℕ → Bool) →
+            mkdir_refusal self.now barred path.now ≡ Some cause) }
+    {
+        if !is_path(path) {
+            return Err(Refusal::Invalid);
+        }
+        let Some(parent) = self.find(parent_path(path)) else {
+            return Err(Refusal::NoEntry);
+        };
+        if self.find(path).is_some() {
+            return Err(Refusal::Exists);
+        }
+        Ok(parent)
+    }
+
+    /// Why no group can be made below this one for want of room: `NoSpace` where there are 256
+    /// groups, or where it lies 16 levels below the root.
+    pub fn space_refusal(&self, parent: GroupId) -> Option<Refusal>
+        requires { IsTrue (is_live self.now parent.0) }
+        ensures { result ≡ space_refusal self.now parent.0 }
+    {
+        if self.parents.len() >= MAX_GROUPS || self.ancestors(parent).len() > MAX_LEVELS {
+            Some(Refusal::NoSpace)
+        } else {
+            None
+        }
+    }
+}

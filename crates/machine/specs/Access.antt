@@ -1,0 +1,73 @@
+-- What an access meets (mm/memory.c: handle_mm_fault).
+use Rattle.std.specs.Prelude.{ℕ, ◌&&◌, nat_lt, Bool, true, false, if◌then◌else◌, List, Option, Some, None}
+use Rattle.machine.specs.declared.event.Place.{Place}
+use Rattle.machine.specs.declared.event.Place.TheVariants.{Virtual}
+use Rattle.machine.specs.declared.event.Op.{Op}
+use Rattle.machine.specs.declared.event.Op.TheVariants.{Read, Write}
+use Rattle.machine.specs.declared.record.Mapping.{Mapping}
+use Rattle.machine.specs.Pages.{Residence, Held, Coming, Going, Away, Page, page_at}
+use Rattle.machine.specs.Tasks.{mapped_at, mappers}
+use Rattle.machine.specs.State.{Opening, State}
+
+-- bytes in a page, and virtual pages of a task
+abbrev pub page_size : ℕ
+page_size = 4096
+
+abbrev pub task_pages : ℕ
+task_pages = 1024
+
+-- the place is there
+abbrev pub is_place : Opening → Place → Bool
+is_place opening (Virtual v offset) = nat_lt v task_pages && nat_lt offset page_size
+
+-- what an access meets: one case for each row of the rules of access
+pub data Meeting : Type 0 where
+  -- a read where nothing is mapped
+  Unmapped : Meeting
+  -- a page in a frame that the access may use as it is: its number, the page, the frame
+  Hits : ℕ → Page → ℕ → Meeting
+  -- a page that is being read in or written out
+  Transferring : Meeting
+  -- a write where nothing is mapped: a page of zeros has to be made
+  NeedsPage : Meeting
+  -- a write to a page that others map too: a copy has to be made
+  NeedsCopy : Meeting
+  -- a page on its swap block: its number, the page, the block
+  NeedsSwapIn : ℕ → Page → ℕ → Meeting
+
+-- a write in place would change what the others see. (Excludes a shared page written in place.)
+abbrev pub is_shared_write : List Mapping → ℕ → Op → Bool
+is_shared_write mappings p Read = false
+is_shared_write mappings p (Write b) = nat_lt 1 (mappers mappings p)
+
+abbrev pub meets_residence : State → ℕ → Page → Residence → Op → Meeting
+meets_residence s p page (Held frame) op = if is_shared_write s.mappings p op then NeedsCopy else Hits p page frame
+meets_residence s p page (Coming frame block ticket) op = Transferring
+meets_residence s p page (Going frame block ticket) op = Transferring
+meets_residence s p page (Away block) op = NeedsSwapIn p page block
+
+-- a mapping always shows a page that is there, so that None is never met
+abbrev pub meets_slot : State → ℕ → Option Page → Op → Meeting
+meets_slot s p None op = Unmapped
+meets_slot s p (Some page) op = meets_residence s p page page.residence op
+
+abbrev pub meets_mapped : State → Option ℕ → Op → Meeting
+meets_mapped s None Read = Unmapped
+meets_mapped s None (Write b) = NeedsPage
+meets_mapped s (Some p) op = meets_slot s p (page_at s.pages p) op
+
+-- what an access of a live task meets
+abbrev pub meets : State → ℕ → Place → Op → Meeting
+meets s t (Virtual v offset) op = meets_mapped s (mapped_at s.mappings t v) op
+
+-- the group that an access would charge: the page's own for a swap-in, else the accessor's; None where it needs no charge
+abbrev pub charges : Meeting → ℕ → Option ℕ
+charges (NeedsSwapIn p page block) own = Some page.group
+charges NeedsPage own = Some own
+charges NeedsCopy own = Some own
+charges meeting own = None
+
+-- it would begin a transfer
+abbrev pub is_fetch : Meeting → Bool
+is_fetch (NeedsSwapIn p page block) = true
+is_fetch meeting = false

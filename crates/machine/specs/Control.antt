@@ -1,0 +1,76 @@
+-- Control files: their names, who has them, amounts and texts (admin-guide/cgroup-v2, "Memory Interface Files", "Conventions").
+use Rattle.std.specs.Prelude.{ℕ, ◌*◌, ◌/◌, ◌-◌, ◌^◌, ◌==◌, ◌&&◌, ◌||◌, nat_lt, not, Bool, if◌then◌else◌, List, [], ◌∷◌, ◌++◌, length, take, slice_index, codes, decimal, Option, Some, None}
+use Rattle.std.specs.Str.{bytes_eq}
+use Rattle.std.specs.Str.Parse.{digits_value}
+use Rattle.machine.specs.declared.amount.Amount.{Amount}
+use Rattle.machine.specs.declared.amount.Amount.TheVariants.{Max, Pages}
+use Rattle.machine.specs.declared.control.ControlFile.{ControlFile}
+use Rattle.machine.specs.declared.control.ControlFile.TheVariants as file
+use Rattle.machine.specs.declared.reply.Shown.{Shown}
+use Rattle.machine.specs.declared.reply.Shown.TheVariants as shown
+use Rattle.machine.specs.Numbers.{is_numeral}
+use Rattle.machine.specs.Access.{page_size}
+
+-- ---- amounts
+
+-- what a letter at the end multiplies by, and 1 of another character
+abbrev pub unit_of : ℕ → ℕ
+unit_of c =
+    if c == 75 || c == 107 then 1024
+    else if c == 77 || c == 109 then 1048576
+    else if c == 71 || c == 103 then 1073741824
+    else if c == 84 || c == 116 then 1099511627776
+    else 1
+
+abbrev pub last_unit : List ℕ → ℕ
+last_unit text = unit_of (slice_index text (length text - 1))
+
+-- the text without the letter at its end
+abbrev pub digits_part : List ℕ → List ℕ
+digits_part text = if last_unit text == 1 then text else take (length text - 1) text
+
+-- decimal digits without a zero in front of others. (Excludes a machine that reads 010 as ten or as eight.)
+abbrev pub is_plain : List ℕ → Bool
+is_plain digits = is_numeral digits && (length digits == 1 || nat_lt 48 (slice_index digits 0))
+
+-- the bytes that a text asks for
+abbrev pub product : List ℕ → ℕ
+product text = digits_value 10 (digits_part text) * last_unit text
+
+-- `max`, or a number of bytes with at most one of the suffixes K, M, G, T, below 2^64, rounded down to whole pages
+abbrev pub amount_of : List ℕ → Option Amount
+amount_of text =
+    if bytes_eq text (codes "max") then Some Max
+    else if is_plain (digits_part text) && nat_lt (product text) (2 ^ 64) then Some (Pages (product text / page_size))
+    else None
+
+-- ---- texts
+
+abbrev pub line : List ℕ → List ℕ
+line text = text ++ 10 ∷ []
+
+abbrev pub bytes_text : ℕ → List ℕ
+bytes_text pages = decimal (pages * page_size)
+
+abbrev pub amount_text : Amount → List ℕ
+amount_text Max = codes "max"
+amount_text (Pages n) = bytes_text n
+
+-- what a control file says: bytes, or `max`
+abbrev pub text_of : Shown → List ℕ
+text_of (shown.Pages n) = line (bytes_text n)
+text_of (shown.Amount amount) = line (amount_text amount)
+
+-- ---- files
+
+-- the file of a name
+abbrev pub file_named : List ℕ → Option ControlFile
+file_named name =
+    if bytes_eq name (codes "memory.current") then Some file.Current
+    else if bytes_eq name (codes "memory.max") then Some file.Max
+    else None
+
+-- the root has none of these
+abbrev pub has_file : ℕ → ControlFile → Bool
+has_file g file.Current = not (g == 0)
+has_file g file.Max = not (g == 0)

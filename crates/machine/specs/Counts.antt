@@ -1,0 +1,48 @@
+-- Limits, charges against them (mm/page_counter.c: page_counter_try_charge), and event counts (admin-guide/cgroup-v2, memory.events).
+use Rattle.std.specs.Prelude.{ℕ, ◌+◌, ◌==◌, ◌&&◌, Bool, true, false, List, count_by, find, Option, Some, slice_index_or}
+use Rattle.machine.specs.declared.amount.Amount.TheVariants as amount
+use Rattle.machine.specs.declared.record.Limits.{Limits}
+use Rattle.machine.specs.declared.record.Key.{Key}
+use Rattle.machine.specs.declared.record.Key.TheVariants.{Low, High, Max, Oom, OomKill, OomGroupKill}
+use Rattle.machine.specs.Tree.{Node, chain, under}
+use Rattle.machine.specs.Amounts.{exceeds}
+
+-- a new group's, and those of a number that is no group's: no limit and no protection
+abbrev pub no_limits : Limits
+no_limits = record { max = amount.Max; min = amount.Pages 0 }
+
+abbrev pub limits_at : List Limits → ℕ → Limits
+limits_at limits g = slice_index_or limits g no_limits
+
+-- one page more would pass the max of a, by these counts
+abbrev pub is_full : List Limits → (ℕ → ℕ) → ℕ → Bool
+is_full limits count a = exceeds (count a + 1) (limits_at limits a).max
+
+-- the lowest group from here up at which one page more would pass the max. (Excludes a charge that names the highest such group.)
+unfoldable pub over_at : List Node → List Limits → (ℕ → ℕ) → Option ℕ → Option ℕ
+over_at tree limits count at = find (is_full limits count) (chain tree at)
+
+abbrev pub over : List Node → List Limits → (ℕ → ℕ) → ℕ → Option ℕ
+over tree limits count g = over_at tree limits count (Some g)
+
+-- a key was counted at a group
+pub record Counted : Type 0 where
+  pub group : ℕ
+  pub key : Key
+
+abbrev pub is_key : Key → Key → Bool
+is_key Low Low = true
+is_key High High = true
+is_key Max Max = true
+is_key Oom Oom = true
+is_key OomKill OomKill = true
+is_key OomGroupKill OomGroupKill = true
+is_key key other = false
+
+-- how often it was counted at the group itself (memory.events.local)
+abbrev pub local : List Counted → ℕ → Key → ℕ
+local counted g key = count_by (λ c. (c.group == g) && is_key c.key key) counted
+
+-- and how often at the group or anywhere below it, removed groups too (memory.events)
+abbrev pub total : List Node → List Counted → ℕ → Key → ℕ
+total tree counted a key = count_by (λ c. under tree a c.group && is_key c.key key) counted

@@ -1,0 +1,118 @@
+-- Pages and where they stand (kernel: mm/memcontrol.c, mm/swap_state.c, mm/vmscan.c).
+use Rattle.std.specs.Prelude.{ℕ, ◌+◌, ◌==◌, ◌&&◌, Bool, true, false, List, sum, take, Option, Some, None}
+use Rattle.machine.specs.Slots.{at, count_there, any_there}
+use Rattle.machine.specs.Tree.{Node, under}
+
+-- what a page holds: memory of tasks, or a page of a file
+pub data Content : Type 0 where
+  Memory : Content
+  OfFile : ℕ → ℕ → Content
+
+-- where a page stands: in a frame; being read from a block into a frame; being written from a frame to a block; on its block alone.
+-- The last number of a transfer is its ticket's
+pub data Residence : Type 0 where
+  Held : ℕ → Residence
+  Coming : ℕ → ℕ → ℕ → Residence
+  Going : ℕ → ℕ → ℕ → Residence
+  Away : ℕ → Residence
+
+-- a page: its group is the one that is charged for it while it has a frame
+pub record Page : Type 0 where
+  pub content : Content
+  pub group : ℕ
+  pub dirty : Bool
+  pub residence : Residence
+
+abbrev pub Pages : Type 0
+Pages = List (Option Page)
+
+abbrev pub is_anon : Content → Bool
+is_anon Memory = true
+is_anon (OfFile file page) = false
+
+abbrev pub is_held_at : Residence → Bool
+is_held_at (Held frame) = true
+is_held_at residence = false
+
+abbrev pub in_transfer_at : Residence → Bool
+in_transfer_at (Coming frame block ticket) = true
+in_transfer_at (Going frame block ticket) = true
+in_transfer_at residence = false
+
+-- the frame, block and ticket of a page that has one
+abbrev pub frame_at : Residence → Option ℕ
+frame_at (Held frame) = Some frame
+frame_at (Coming frame block ticket) = Some frame
+frame_at (Going frame block ticket) = Some frame
+frame_at (Away block) = None
+
+abbrev pub block_at : Residence → Option ℕ
+block_at (Held frame) = None
+block_at (Coming frame block ticket) = Some block
+block_at (Going frame block ticket) = Some block
+block_at (Away block) = Some block
+
+abbrev pub ticket_at : Residence → Option ℕ
+ticket_at (Coming frame block ticket) = Some ticket
+ticket_at (Going frame block ticket) = Some ticket
+ticket_at residence = None
+
+abbrev pub is_number : Option ℕ → ℕ → Bool
+is_number None n = false
+is_number (Some m) n = m == n
+
+abbrev pub is_some_number : Option ℕ → Bool
+is_some_number None = false
+is_some_number (Some n) = true
+
+-- the page of a number, if it is there
+abbrev pub page_at : Pages → ℕ → Option Page
+page_at pages p = at pages p
+
+-- the page has a frame, and so is charged: pages in transfer are. (Excludes a machine that uncharges when write-out begins.)
+abbrev pub has_frame : Page → Bool
+has_frame page = is_some_number (frame_at page.residence)
+
+abbrev pub is_held : Page → Bool
+is_held page = is_held_at page.residence
+
+abbrev pub is_in_transfer : Page → Bool
+is_in_transfer page = in_transfer_at page.residence
+
+-- the page is charged to a or below it
+abbrev pub is_charged : List Node → ℕ → Page → Bool
+is_charged tree a page = has_frame page && under tree a page.group
+
+-- how many pages have a frame and a group at or under a (memory.current; mm/page_counter.c)
+abbrev pub charged : List Node → Pages → ℕ → ℕ
+charged tree pages a = count_there (is_charged tree a) pages
+
+-- how many frames, and how many swap blocks, are in use. A file page's block is its home and no swap block
+abbrev pub used_frames : Pages → ℕ
+used_frames pages = count_there has_frame pages
+
+abbrev pub has_swap : Page → Bool
+has_swap page = is_anon page.content && is_some_number (block_at page.residence)
+
+abbrev pub used_swap : Pages → ℕ
+used_swap pages = count_there has_swap pages
+
+abbrev pub in_transfer : Pages → ℕ
+in_transfer pages = count_there is_in_transfer pages
+
+-- a page has this frame; an anonymous page this block; a transfer this ticket
+abbrev pub has_this_frame : ℕ → Page → Bool
+has_this_frame f page = is_number (frame_at page.residence) f
+
+abbrev pub is_frame_taken : Pages → ℕ → Bool
+is_frame_taken pages f = any_there (has_this_frame f) pages
+
+abbrev pub is_swap_taken : Pages → ℕ → Bool
+is_swap_taken pages b = any_there (λ page. is_anon page.content && is_number (block_at page.residence) b) pages
+
+abbrev pub is_ticket_taken : Pages → ℕ → Bool
+is_ticket_taken pages n = any_there (λ page. is_number (ticket_at page.residence) n) pages
+
+-- the home block of a file's page: home blocks follow the swap blocks, in the files' order
+abbrev pub home_block : ℕ → List ℕ → ℕ → ℕ → ℕ
+home_block swap sizes file page = swap + sum (take file sizes) + page

@@ -1,0 +1,54 @@
+-- Effective protection (admin-guide/cgroup-v2, memory.min; mm/page_counter.c: effective_protection).
+--   1. The reclaim's target has no protection of its own from itself: only groups below it have.
+--   2. A child of the target has its setting as it stands.
+--   3. Below that, a group asks for what it uses, at most its setting.
+--   4. Where the children of one parent ask for more than the parent's effective value, each has its part of that value in proportion to what it asks.
+--   5. With recursive protection, what the children leave of the parent's value goes to them in proportion to what they use beyond what they ask.
+-- `setting` is the memory.min of a group; for memory.low the same words take the low.
+use Rattle.std.specs.Prelude.{ℕ, ◌+◌, ◌-◌, ◌*◌, ◌/◌, ◌&&◌, nat_lt, Bool, true, false, if◌then◌else◌, List, [], ◌∷◌, sum_by}
+use Rattle.machine.specs.declared.amount.Amount.{Amount}
+use Rattle.machine.specs.declared.amount.Amount.TheVariants.{Max, Pages}
+use Rattle.machine.specs.Tree.{Node, children, chain_below}
+use Rattle.machine.specs.Amounts.{exceeds, at_most}
+use Rattle.machine.specs.declared.record.Limits.{Limits}
+use Rattle.machine.specs.Counts.{limits_at}
+
+-- what a group asks for: its use, at most its setting
+abbrev pub asked : (ℕ → Amount) → (ℕ → ℕ) → ℕ → ℕ
+asked setting usage g = at_most (usage g) (setting g)
+
+-- what the live children of a group ask for together
+abbrev pub asked_below : List Node → (ℕ → Amount) → (ℕ → ℕ) → ℕ → ℕ
+asked_below tree setting usage p = sum_by (asked setting usage) (children tree p)
+
+-- rule 5: what comes on top of the asked part, where the parent's value and its use are more than what its children ask, and the group uses more than it asks
+abbrev pub with_rest : Amount → ℕ → ℕ → ℕ → ℕ → Amount
+with_rest Max siblings parent_usage own_usage own = if nat_lt siblings parent_usage && nat_lt own own_usage then Max else Pages own
+with_rest (Pages e) siblings parent_usage own_usage own =
+    if nat_lt siblings e && (nat_lt siblings parent_usage && nat_lt own own_usage)
+    then Pages (own + (e - siblings) * (own_usage - own) / (parent_usage - siblings))
+    else Pages own
+
+-- rules 3 and 4: the part of a parent's value, floor division. (Excludes taking the setting itself below an overcommitted parent.)
+abbrev pub part_of : Amount → ℕ → ℕ → Amount
+part_of Max siblings own = Pages own
+part_of (Pages e) siblings own = if nat_lt e siblings then Pages (own * e / siblings) else Pages own
+
+-- where the switch of rule 5 is on, the rest too. Rules 4 and 5 never both apply
+abbrev pub below_parent : Bool → Amount → ℕ → ℕ → ℕ → ℕ → Amount
+below_parent false e siblings parent_usage own_usage own = part_of e siblings own
+below_parent true e siblings parent_usage own_usage own = if exceeds siblings e then part_of e siblings own else with_rest e siblings parent_usage own_usage own
+
+-- along a chain from the group up to the target's child. The target's own chain is empty, and it has no protection. Asked only of groups below the target
+unfoldable pub effective_along : Bool → List Node → (ℕ → Amount) → (ℕ → ℕ) → List ℕ → Amount
+effective_along recursive tree setting usage [] = Pages 0
+effective_along recursive tree setting usage (g ∷ []) = setting g
+effective_along recursive tree setting usage (g ∷ p ∷ above) =
+    below_parent recursive (effective_along recursive tree setting usage (p ∷ above)) (asked_below tree setting usage p) (usage p) (usage g) (asked setting usage g)
+
+-- the effective value of a group for a reclaim of the target
+abbrev pub effective : Bool → List Node → (ℕ → Amount) → (ℕ → ℕ) → ℕ → ℕ → Amount
+effective recursive tree setting usage target g = effective_along recursive tree setting usage (chain_below tree target g)
+
+abbrev pub min_of : List Limits → ℕ → Amount
+min_of limits g = (limits_at limits g).min

@@ -1,0 +1,55 @@
+-- The state of the plain machine: what the opening fixed, and its tables. Nothing in it is counted, linked or kept twice.
+use Rattle.std.specs.Prelude.{ℕ, nat_lt, Bool, false, List, [], ◌∷◌, Option}
+use Rattle.machine.specs.declared.amount.Amount.{Amount}
+use Rattle.machine.specs.declared.record.Mapping.{Mapping}
+use Rattle.machine.specs.declared.config.Config.{Config}
+use Rattle.machine.specs.Tree.{Node, root}
+use Rattle.machine.specs.Pages.{Pages, charged, used_frames, used_swap}
+use Rattle.machine.specs.Tasks.{Tasks}
+use Rattle.machine.specs.declared.record.Limits.{Limits}
+use Rattle.machine.specs.Counts.{no_limits, Counted, over}
+use Rattle.machine.specs.Protection.{effective, min_of}
+
+-- what the opening fixes: frames, swap blocks, the sizes of the files in pages, the trace's limit, and whether protection is recursive
+pub record Opening : Type 0 where
+  pub frames : ℕ
+  pub swap : ℕ
+  pub files : List ℕ
+  pub limit : ℕ
+  pub recursive : Bool
+
+-- the opening that a configuration asks for
+abbrev pub opening_of : Config → Opening
+opening_of config = record { frames = config.frames; swap = 0; files = []; limit = config.trace; recursive = false }
+
+-- the groups, their settings, the pages, the tasks, what the tasks' virtual pages show, and the events that were counted
+pub record State : Type 0 where
+  pub opening : Opening
+  pub tree : List Node
+  pub limits : List Limits
+  pub pages : Pages
+  pub tasks : Tasks
+  pub mappings : List Mapping
+  pub counted : List Counted
+
+-- the root alone
+abbrev pub first_state : Opening → State
+first_state opening = record { opening = opening; tree = root ∷ []; limits = no_limits ∷ []; pages = []; tasks = []; mappings = []; counted = [] }
+
+-- how many pages with a frame are at or under a group
+abbrev pub usage : State → ℕ → ℕ
+usage s a = charged s.tree s.pages a
+
+-- the lowest group from g up with no room for one page more
+abbrev pub over_in : State → ℕ → Option ℕ
+over_in s g = over s.tree s.limits (usage s) g
+
+abbrev pub is_frame_free : State → Bool
+is_frame_free s = nat_lt (used_frames s.pages) s.opening.frames
+
+abbrev pub is_swap_free : State → Bool
+is_swap_free s = nat_lt (used_swap s.pages) s.opening.swap
+
+-- the effective min of a group for a reclaim of the target
+abbrev pub effective_min : State → ℕ → ℕ → Amount
+effective_min s target g = effective s.opening.recursive s.tree (min_of s.limits) (usage s) target g

@@ -1,0 +1,232 @@
+-- What an event that is not refused may answer, and the state after it. By cases on the event, then on the state, then on the reply.
+-- Free are only: which takeable page is taken, and which free frame, swap block, page number and ticket number is used.
+use Rattle.std.specs.Prelude.{◌≡◌, ℕ, ◌<◌, ◌==◌, ◌&&◌, ◌||◌, not, Bool, true, false, MatchBool, if◌then◌else◌, List, [], ◌∷◌, ◌++◌, slice_set, Option, Some, None}
+use Rattle.machine.specs.declared.record.Key.{Key}
+use Rattle.machine.specs.declared.record.Key.TheVariants as key
+use Rattle.machine.specs.declared.record.Life.{Life}
+use Rattle.machine.specs.declared.record.Life.TheVariants.{Live, Exited, Killed}
+use Rattle.machine.specs.declared.record.Task.{Task}
+use Rattle.machine.specs.declared.record.Mapping.{Mapping}
+use Rattle.machine.specs.declared.event.Place.{Place}
+use Rattle.machine.specs.declared.event.Place.TheVariants.{Virtual}
+use Rattle.machine.specs.declared.event.Op.{Op}
+use Rattle.machine.specs.declared.event.Op.TheVariants.{Read, Write}
+use Rattle.machine.specs.declared.event.Cause.{Cause}
+use Rattle.machine.specs.declared.event.Setting.{Setting}
+use Rattle.machine.specs.declared.event.Setting.TheVariants as setting
+use Rattle.machine.specs.declared.event.Query.{Query}
+use Rattle.machine.specs.declared.event.Query.TheVariants as query
+use Rattle.machine.specs.declared.event.Event.{Event}
+use Rattle.machine.specs.declared.event.Event.TheVariants as event
+use Rattle.machine.specs.declared.reply.Shown.{Shown}
+use Rattle.machine.specs.declared.reply.Shown.TheVariants as shown
+use Rattle.machine.specs.declared.reply.Reply.{Reply}
+use Rattle.machine.specs.declared.reply.Reply.TheVariants as reply
+use Rattle.machine.specs.Slots.{Changes}
+use Rattle.machine.specs.Names.{parent_path}
+use Rattle.machine.specs.Tree.{Node, find_group}
+use Rattle.machine.specs.Pages.{Content, Memory, OfFile, Residence, Held, Coming, Going, Page, is_anon, in_transfer_at, page_at, home_block, is_frame_taken, is_swap_taken, is_ticket_taken}
+use Rattle.machine.specs.declared.record.Limits.{Limits}
+use Rattle.machine.specs.Counts.{no_limits, limits_at, Counted}
+use Rattle.machine.specs.Tasks.{task_at, SetsTask, group_of_task, mapping, mappers, without_task, without_place}
+use Rattle.machine.specs.State.{State, usage, over_in, is_frame_free}
+use Rattle.machine.specs.Access.{Meeting, Unmapped, Hits, Transferring, NeedsPage, NeedsCopy, NeedsSwapIn, meets}
+use Rattle.machine.specs.Reclaim.{is_takeable, has_takeable, has_transfer, stands, target_of}
+use Rattle.machine.specs.Victim.{IsVictim}
+
+-- the reply, and nothing changes
+abbrev pub Only : State → Reply → Reply → State → Type 0
+Only old expected answer new = (answer ≡ expected) × (new ≡ old)
+
+abbrev pub count_of : ℕ → Key → Counted
+count_of g what = record { group = g; key = what }
+
+-- ---- charges
+
+-- a charge to a group: refused at the lowest group without room, where `max` is counted; else wanting a frame, which counts nothing; else granted.
+-- (Excludes a NoFrame that hides an Over, and an Over that counts elsewhere.)
+abbrev pub ChargeStep : State → Option ℕ → Bool → Type 0 → Reply → State → Type 0
+ChargeStep old (Some a) free Granted answer new = (answer ≡ reply.Over (record { 0 = a })) × (new ≡ record old { counted = old.counted ++ count_of a key.Max ∷ [] })
+ChargeStep old None free Granted answer new = MatchBool free Granted (Only old reply.NoFrame answer new)
+
+abbrev pub Charges : State → ℕ → Type 0 → Reply → State → Type 0
+Charges old g Granted answer new = ChargeStep old (over_in old g) (is_frame_free old) Granted answer new
+
+-- a frame that no page has
+pub record IsFreeFrame (s : State) (frame : ℕ) : Type 0 where
+  pub in_range : frame < s.opening.frames
+  pub unused : is_frame_taken s.pages frame ≡ false
+
+-- a swap block that no page has
+pub record IsFreeBlock (s : State) (block : ℕ) : Type 0 where
+  pub in_range : block < s.opening.swap
+  pub unused : is_swap_taken s.pages block ≡ false
+
+abbrev pub written : Op → ℕ
+written Read = 0
+written (Write b) = b
+
+-- a new page of memory in a frame, charged to a group
+abbrev pub new_page : ℕ → ℕ → Page
+new_page g frame = record { content = Memory; group = g; dirty = false; residence = Held frame }
+
+-- a new page stands at a virtual page of a task, charged to the task's group: zeros, or a copy, with the byte written. What the place showed before goes on without it
+pub record MakesPage (old : State) (t v g : ℕ) (op : Op) (others : List Mapping) (answer : Reply) (new : State) : Type 0 where
+  pub page : ℕ
+  pub frame : ℕ
+  pub slot_free : page_at old.pages page ≡ None
+  pub frame_free : IsFreeFrame old frame
+  pub placed : Changes old.pages new.pages page (Some (new_page g frame))
+  pub answers : answer ≡ reply.Done (written op) None
+  pub state : new ≡ record old { pages = new.pages; mappings = others ++ mapping t v page ∷ [] }
+
+-- a transfer begins: the page comes from the block into a free frame
+pub record StartsFetch (old : State) (p g : ℕ) (content : Content) (block : ℕ) (answer : Reply) (new : State) : Type 0 where
+  pub frame : ℕ
+  pub ticket : ℕ
+  pub frame_free : IsFreeFrame old frame
+  pub ticket_free : is_ticket_taken old.pages ticket ≡ false
+  pub placed : Changes old.pages new.pages p (Some (record { content = content; group = g; dirty = false; residence = Coming frame block ticket }))
+  pub answers : answer ≡ reply.Fetch (record { 0 = ticket })
+  pub state : new ≡ record old { pages = new.pages }
+
+-- ---- access
+
+-- a write to a file's page makes it dirty; a page of memory stays as it is
+abbrev pub touched : Page → Op → Page
+touched page Read = page
+touched page (Write b) = record page { dirty = not (is_anon page.content) || page.dirty }
+
+-- a hit gives the frame; a write gives its byte, and what a read gives is the history's to say
+abbrev pub HitStep : State → ℕ → Page → ℕ → Op → Reply → State → Type 0
+HitStep old p page frame Read (reply.Done byte hit) new = (hit ≡ Some (record { 0 = frame })) × (new ≡ old)
+HitStep old p page frame (Write b) (reply.Done byte hit) new =
+    (byte ≡ b) × (hit ≡ Some (record { 0 = frame })) × Changes old.pages new.pages p (Some (touched page (Write b))) × (new ≡ record old { pages = new.pages })
+HitStep old p page frame op answer new = ⊥
+
+abbrev pub UnmappedStep : State → Reply → State → Type 0
+UnmappedStep old (reply.Done byte hit) new = (hit ≡ None) × (new ≡ old)
+UnmappedStep old answer new = ⊥
+
+-- the virtual page of a place
+abbrev pub virtual_page : Place → ℕ
+virtual_page (Virtual v offset) = v
+
+abbrev pub MeetStep : State → ℕ → ℕ → Place → Op → Meeting → Reply → State → Type 0
+MeetStep old t g place op Unmapped answer new = UnmappedStep old answer new
+MeetStep old t g place op (Hits p page frame) answer new = HitStep old p page frame op answer new
+MeetStep old t g place op Transferring answer new = Only old reply.Busy answer new
+MeetStep old t g place op NeedsPage answer new = Charges old g (MakesPage old t (virtual_page place) g op old.mappings answer new) answer new
+MeetStep old t g place op NeedsCopy answer new =
+    Charges old g (MakesPage old t (virtual_page place) g op (without_place old.mappings t (virtual_page place)) answer new) answer new
+MeetStep old t g place op (NeedsSwapIn p page block) answer new = Charges old page.group (StartsFetch old p page.group page.content block answer new) answer new
+
+-- an event of a task: a killed one is told so
+abbrev pub LifeStep : State → Life → Type 0 → Reply → State → Type 0
+LifeStep old Live Live_step answer new = Live_step
+LifeStep old Killed Live_step answer new = Only old reply.Killed answer new
+LifeStep old Exited Live_step answer new = ⊥
+
+abbrev pub TaskStep : State → Option Task → (Task → Type 0) → Reply → State → Type 0
+TaskStep old None Live_step answer new = ⊥
+TaskStep old (Some task) Live_step answer new = LifeStep old task.life (Live_step task) answer new
+
+-- ---- reclaim
+
+-- write-out begins: the page goes from its frame to the block, charged still. `counted` is what stands counted then
+pub record StartsLeave (old : State) (p : ℕ) (page : Page) (frame block : ℕ) (counted : List Counted) (answer : Reply) (new : State) : Type 0 where
+  pub ticket : ℕ
+  pub ticket_free : is_ticket_taken old.pages ticket ≡ false
+  pub placed : Changes old.pages new.pages p (Some (record page { residence = Going frame block ticket }))
+  pub answers : answer ≡ reply.Out (record { 0 = ticket })
+  pub state : new ≡ record old { pages = new.pages; counted = counted }
+
+-- the same to a swap block that was free
+pub record StartsSwap (old : State) (p : ℕ) (page : Page) (frame : ℕ) (counted : List Counted) (answer : Reply) (new : State) : Type 0 where
+  pub block : ℕ
+  pub block_free : IsFreeBlock old block
+  pub leave : StartsLeave old p page frame block counted answer new
+
+-- a clean file page is gone at once
+pub record Drops (old : State) (p : ℕ) (counted : List Counted) (answer : Reply) (new : State) : Type 0 where
+  pub answers : answer ≡ reply.Dropped
+  pub gone : Changes old.pages new.pages p None
+  pub state : new ≡ record old { pages = new.pages; counted = counted }
+
+abbrev pub LeavesBy : State → ℕ → Page → Content → ℕ → List Counted → Reply → State → Type 0
+LeavesBy old p page Memory frame counted answer new = StartsSwap old p page frame counted answer new
+LeavesBy old p page (OfFile file q) frame counted answer new =
+    MatchBool page.dirty (StartsLeave old p page frame (home_block old.opening.swap old.opening.files file q) counted answer new) (Drops old p counted answer new)
+
+abbrev pub LeavesFrom : State → ℕ → Page → Residence → List Counted → Reply → State → Type 0
+LeavesFrom old p page (Held frame) counted answer new = LeavesBy old p page page.content frame counted answer new
+LeavesFrom old p page residence counted answer new = ⊥
+
+-- some takeable page is taken: a clean file page is dropped, any other written out. Nothing is counted for it
+pub record Takes (old : State) (target : ℕ) (answer : Reply) (new : State) : Type 0 where
+  pub p : ℕ
+  pub page : Page
+  pub there : page_at old.pages p ≡ Some page
+  pub takeable : is_takeable old target page ≡ true
+  pub leaves : LeavesFrom old p page page.residence old.counted answer new
+
+-- a page is taken; or one under the target is in transfer and may come free; or nothing is to be found. (Excludes a relief that always waits.)
+abbrev pub ReclaimStep : State → ℕ → Type 0 → Reply → State → Type 0
+ReclaimStep old target Idle answer new =
+    MatchBool (has_takeable old target) (Takes old target answer new) (MatchBool (has_transfer old target) (Only old reply.Wait answer new) Idle)
+
+-- ---- ends of tasks
+
+-- a page after mappings went: an anonymous one that nothing maps is gone, unless it is in transfer, whose end decides
+abbrev pub still : List Mapping → ℕ → Option Page → Option Page
+still mappings p None = None
+still mappings p (Some page) = if is_anon page.content && ((mappers mappings p == 0) && not (in_transfer_at page.residence)) then None else Some page
+
+abbrev pub Unmaps : State → List Mapping → State → Type 0
+Unmaps old mappings new = (p : ℕ) → page_at new.pages p ≡ still mappings p (page_at old.pages p)
+
+-- the task ends, and its mappings go. `counted` is what stands counted then
+pub record EndsTask (old : State) (t : ℕ) (life : Life) (counted : List Counted) (new : State) : Type 0 where
+  pub unmaps : Unmaps old (without_task old.mappings t) new
+  pub ends : SetsTask old.tasks t (group_of_task old.tasks t) life new.tasks
+  pub state : new ≡ record old { pages = new.pages; tasks = new.tasks; mappings = without_task old.mappings t; counted = counted }
+
+-- nothing can be reclaimed under the limit: its worst task is killed, or there is none. (Excludes a kill at the first refused charge: Takes and Wait come before.)
+abbrev pub KillStep : State → ℕ → Reply → State → Type 0
+KillStep old limit (reply.KilledTask t) new =
+    IsVictim old.tree old.tasks old.mappings limit (Some t.0)
+    × EndsTask old t.0 Killed (old.counted ++ (count_of limit key.Oom ∷ count_of (group_of_task old.tasks t.0) key.OomKill ∷ [])) new
+KillStep old limit reply.NoVictim new =
+    IsVictim old.tree old.tasks old.mappings limit None × (new ≡ record old { counted = old.counted ++ count_of limit key.Oom ∷ [] })
+KillStep old limit answer new = ⊥
+
+abbrev pub RelieveStep : State → Cause → Reply → State → Type 0
+RelieveStep old cause answer new =
+    MatchBool (stands old cause) (ReclaimStep old (target_of cause) (KillStep old (target_of cause) answer new) answer new) (Only old reply.Room answer new)
+
+-- ---- groups
+
+abbrev pub new_node : List Node → List ℕ → Node
+new_node tree path = record { parent = find_group tree (parent_path path); path = path; live = true }
+
+abbrev pub with_setting : Limits → Setting → Limits
+with_setting limits (setting.Max amount) = record limits { max = amount }
+
+-- ---- what is shown
+
+abbrev pub shown_of : State → Query → Shown
+shown_of s (query.Current g) = shown.Pages (usage s g.0)
+shown_of s (query.Max g) = shown.Amount (limits_at s.limits g.0).max
+
+-- ---- the step
+
+abbrev pub Step : State → Event → Reply → State → Type 0
+Step old (event.Access t place op) answer new =
+    TaskStep old (task_at old.tasks t.0) (λ task. MeetStep old t.0 task.group.0 place op (meets old t.0 place op) answer new) answer new
+Step old (event.Relieve cause) answer new = RelieveStep old cause answer new
+Step old (event.Spawn t g) reply.Ok new = SetsTask old.tasks t.0 g.0 Live new.tasks × (new ≡ record old { tasks = new.tasks })
+Step old (event.Mkdir path) reply.Ok new = new ≡ record old { tree = old.tree ++ new_node old.tree path ∷ []; limits = old.limits ++ no_limits ∷ [] }
+Step old (event.Set g what) reply.Ok new = new ≡ record old { limits = slice_set old.limits g.0 (with_setting (limits_at old.limits g.0) what) }
+Step old (event.Show what) (reply.Shown numbers) new = (numbers ≡ shown_of old what) × (new ≡ old)
+-- no other reply is given
+Step old event answer new = ⊥

@@ -1,0 +1,106 @@
+//! What an actor is told to do, and what comes of it.
+
+ghost use Rattle.std.specs.Prelude.{◌≡◌, IfOk};
+
+use crate::event::{Op, Place};
+use crate::id::TaskId;
+use crate::refusal::Refusal;
+use crate::text::Text;
+use std::alloc::{AllocError, Global};
+
+/// Who does something.
+#[derive(Clone, Copy, Debug, PartialEq, Eq)]
+pub enum Actor {
+    /// The task of this number, whether it is there or not.
+    Task(u32),
+    /// Who makes groups and tasks, and reads and writes control files.
+    Shell,
+}
+
+/// What an actor is told to do: `Access` is for a task, all others are for the shell.
+#[derive(Debug, Drop)]
+pub enum Command {
+    Access { place: Place, op: Op },
+    /// Makes the group of a path.
+    Group(Text),
+    /// Starts a task in the group of a path.
+    Task { task: u32, path: Text },
+    /// Writes a text to a control file of the group of a path.
+    Set { path: Text, file: Text, text: Text },
+    /// Prints a control file of the group of a path.
+    Cat { path: Text, file: Text },
+}
+
+impl Command {
+    /// A copy. It fails only where memory is wanted and refused.
+    pub fn copy(&self, alloc: Global) -> Result<Command, AllocError>
+        ensures { IfOk result (λ c. c ≡ self.now) }
+    {
+        match self {
+            Command::Access { place, op } => Ok(Command::Access {
+                place: *place,
+                op: *op,
+            }),
+            Command::Group(path) => Ok(Command::Group(path.copy(alloc)?)),
+            Command::Task { task, path } => Ok(Command::Task {
+                task: *task,
+                path: path.copy(alloc)?,
+            }),
+            Command::Set { path, file, text } => Ok(Command::Set {
+                path: path.copy(alloc)?,
+                file: file.copy(alloc)?,
+                text: text.copy(alloc)?,
+            }),
+            Command::Cat { path, file } => Ok(Command::Cat {
+                path: path.copy(alloc)?,
+                file: file.copy(alloc)?,
+            }),
+        }
+    }
+}
+
+/// A line of a schedule.
+#[derive(Debug, Drop)]
+pub enum Step {
+    /// The actor's command is this from now on, unless its last one is not answered yet.
+    Begin(Actor, Command),
+    /// Turns of the actor's command until it is answered, at most 1,000.
+    Finish(Actor),
+}
+
+/// The words that an answer can be.
+#[derive(Clone, Copy, Debug, PartialEq, Eq)]
+pub enum Word {
+    /// The task was killed before.
+    Killed,
+    /// The actor has no command.
+    Idle,
+    /// `ENOMEM`: nothing can be reclaimed and there is nobody to kill.
+    OutOfMemory,
+    /// 1,000 turns brought no answer. The command stays under way.
+    TurnLimit,
+    /// The actor's command is not answered yet.
+    Underway,
+    Refused(Refusal),
+}
+
+/// One answer: what a turn shows, or why a step of the schedule showed nothing.
+#[derive(Debug, Drop)]
+pub enum Answer {
+    /// The byte that was read.
+    Byte(u8),
+    /// What a control file says.
+    Text(Text),
+    /// The command is done, and prints nothing.
+    Done,
+    /// A kill, at the moment it is made. The command goes on.
+    Kill(TaskId),
+    Word(Word),
+}
+
+/// An answer, with the actor whose command it comes of.
+#[derive(Debug, Drop)]
+pub struct Reply {
+    pub actor: Actor,
+    pub answer: Answer,
+}

@@ -1,0 +1,10 @@
+//! What the opening of a run fixes.
+
+/// How large the machine is.
+#[derive(Clone, Copy, Debug, PartialEq, Eq)]
+pub struct Config {
+    /// Page frames, 1 to 65,536.
+    pub frames: u32,
+    /// The trace's limit, 1 to 1,048,576 entries.
+    pub trace: u32,
+}

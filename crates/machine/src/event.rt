@@ -1,0 +1,63 @@
+//! What is asked of the machine, as it stands in a history.
+
+use crate::amount::Amount;
+use crate::id::{GroupId, TaskId};
+use crate::text::Text;
+
+/// Where an access goes.
+#[derive(Clone, Copy, Debug, PartialEq, Eq)]
+pub enum Place {
+    /// A byte of a virtual page of the task.
+    Virtual { page: u32, offset: u32 },
+}
+
+/// What an access does to its byte.
+#[derive(Clone, Copy, Debug, PartialEq, Eq)]
+pub enum Op {
+    Read,
+    Write(u8),
+}
+
+/// Why room is wanted.
+#[derive(Clone, Copy, Debug, PartialEq, Eq)]
+pub enum Cause {
+    /// A charge was refused at the group.
+    Charge(GroupId),
+    /// The group's max was set, and what it holds may be more.
+    Lower(GroupId),
+    /// No frame was free.
+    Frame,
+}
+
+/// A new value for a setting of a group.
+#[derive(Clone, Copy, Debug, PartialEq, Eq)]
+pub enum Setting {
+    /// `memory.max`
+    Max(Amount),
+}
+
+/// Whose numbers are asked for: those of one control file of one group.
+#[derive(Clone, Copy, Debug, PartialEq, Eq)]
+pub enum Query {
+    /// `memory.current`
+    Current(GroupId),
+    /// `memory.max`
+    Max(GroupId),
+}
+
+/// One event of the machine.
+#[derive(Debug, Drop)]
+pub enum Event {
+    /// A task reads or writes a byte (kernel: `handle_mm_fault` and the access that is tried again).
+    Access { task: TaskId, place: Place, op: Op },
+    /// Room is wanted (kernel: a turn of `try_to_free_mem_cgroup_pages`, or `mem_cgroup_out_of_memory`).
+    Relieve(Cause),
+    /// A new task of a group.
+    Spawn { task: TaskId, group: GroupId },
+    /// A new group, by its path.
+    Mkdir(Text),
+    /// A control file is written.
+    Set { group: GroupId, setting: Setting },
+    /// A control file's numbers are asked for.
+    Show(Query),
+}

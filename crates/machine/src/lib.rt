@@ -1,0 +1,20 @@
+//! The plain machine of memory control groups: the words of its history, and in `specs/` what it may do.
+//!
+//! Nothing here runs a group. The types are what events, replies and histories are made of, as plain
+//! data; the definitions say which histories are right, over whole lists and with no counter, list
+//! link or page byte. Every crate above cites them and adds none of its own.
+#![tactic(auto)]
+
+pub mod amount;
+pub mod command;
+pub mod config;
+pub mod control;
+pub mod entry;
+pub mod event;
+pub mod id;
+pub mod print;
+pub mod record;
+pub mod refusal;
+pub mod reply;
+pub mod text;
+pub mod turn;

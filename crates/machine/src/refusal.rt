@@ -1,0 +1,44 @@
+//! Why an event, a command, an opening or a pass was refused. What is refused changed nothing.
+
+#[derive(Clone, Copy, Debug, PartialEq, Eq)]
+pub enum Refusal {
+    /// `EEXIST`: the group is there.
+    Exists,
+    /// `ENOENT`: there is no such group or file.
+    NoEntry,
+    /// `EBUSY`: a group other than the root keeps tasks or child groups, not both.
+    Busy,
+    /// `ENOSPC`: as many groups, levels, tasks or passes as there can be.
+    NoSpace,
+    /// `ESRCH`: no such live task, and it was not killed.
+    NoTask,
+    /// The task's number was used before.
+    NumberUsed,
+    /// The trace has no room for the entries that the reply needs.
+    TraceFull,
+    /// Memory was wanted and refused.
+    NoMemory,
+    /// There is no such virtual page, or no such offset in it.
+    BadPlace,
+    /// `EINVAL`: a path that is none, a task's number out of range, an amount, a file's mode, a
+    /// configuration out of its limits, or a command that is none of its actor's.
+    Invalid,
+}
+
+impl Refusal {
+    /// The name that is printed.
+    pub fn name(self) -> &'static str {
+        match self {
+            Refusal::Exists => "EEXIST",
+            Refusal::NoEntry => "ENOENT",
+            Refusal::Busy => "EBUSY",
+            Refusal::NoSpace => "ENOSPC",
+            Refusal::NoTask => "ESRCH",
+            Refusal::NumberUsed => "NumberUsed",
+            Refusal::TraceFull => "TraceFull",
+            Refusal::NoMemory => "NoMemory",
+            Refusal::BadPlace => "BadPlace",
+            Refusal::Invalid => "EINVAL",
+        }
+    }
+}

@@ -1,0 +1,46 @@
+//! What the machine answers, as it stands in a history.
+
+use crate::amount::Amount;
+use crate::id::{FrameId, GroupId, TaskId, TicketId};
+use crate::refusal::Refusal;
+
+/// What a control file shows, in pages.
+#[derive(Clone, Copy, Debug, PartialEq, Eq)]
+pub enum Shown {
+    Pages(u64),
+    Amount(Amount),
+}
+
+/// The answer to one event. Without swap no page can be taken or be in transfer, and no event is
+/// answered by `Fetch`, `Busy`, `Dropped`, `Out` or `Wait`.
+#[derive(Clone, Copy, Debug, PartialEq, Eq)]
+pub enum Reply {
+    /// The byte read or written, and the frame that was hit.
+    Done { byte: u8, hit: Option<FrameId> },
+    /// The page is being read in.
+    Fetch(TicketId),
+    /// No charge: this is the lowest group without room.
+    Over(GroupId),
+    /// No charge: no frame is free.
+    NoFrame,
+    /// The page is in transfer.
+    Busy,
+    /// The task itself was killed before.
+    Killed,
+    Ok,
+    /// There is room.
+    Room,
+    /// A clean file page was let go.
+    Dropped,
+    /// A page is being written out.
+    Out(TicketId),
+    /// A page is in transfer, and may come free.
+    Wait,
+    /// Relief killed this task.
+    KilledTask(TaskId),
+    /// Relief found nobody to kill.
+    NoVictim,
+    Shown(Shown),
+    /// Nothing was done, for this cause.
+    Refused(Refusal),
+}

@@ -1,0 +1,2 @@
+pub mod PageTable
+pub mod Records

@@ -1,0 +1,3 @@
+pub mod Splits
+pub mod LineCuts
+pub mod Loop

@@ -1,0 +1,122 @@
+-- Reading lines one after the other, as a loop does.
+use Rattle.std.proofs.Common.{◌≡◌, ℕ, ◌+◌, ◌-◌, ◌<◌, ◌≤◌, Bool, true, false, ◌||◌, List, [], ◌∷◌, ◌++◌, length, take, drop, get_or, Some, None, refl, sym, ap, ◌∙◌, subst, arith, inl, inr}
+use Rattle.std.specs.List.{list_any, filter_map, flat_map}
+use Rattle.std.specs.Str.Lines.{lines}
+use Rattle.std.proofs.lemmas.Bool.{cases_lt}
+use Rattle.std.proofs.lemmas.List.{append-nil, drop_more, take_more, map_push, length-drop, nil_from_length}
+use Rattle.std.proofs.lemmas.List.Elements.{filter_map-append}
+use Rattle.std.proofs.lemmas.List.Concat.{flat_map-append}
+use Rattle.std.proofs.lemmas.List.Sums.{fold_push}
+use Rattle.std.proofs.lemmas.List.Folds.{list_any-append}
+use Rattle.std.proofs.lemmas.Grind.{common_steps}
+use Rattle.machine.specs.declared.command.Step.{Step}
+use Rattle.scripts.specs.declared.forms.Word.{Word}
+use Rattle.scripts.specs.declared.fault.Cause.{Cause}
+use Rattle.scripts.specs.declared.meaning.Item.{Item}
+use Rattle.scripts.specs.declared.meaning.Item.TheVariants as item
+use Rattle.scripts.specs.Words.{words_of}
+use Rattle.scripts.specs.Faults.{fault}
+use Rattle.scripts.specs.Meaning.{meaning}
+use Rattle.scripts.specs.Script.{items_of, config_after, default_config, config_of, steps_of_item, steps_of, is_command, header_word, before_of, fault_at, IsFaultless, IsFirstFault}
+use Rattle.scripts.specs.Reading.{Known, known, at_start, after, option_list}
+
+-- the first n of the lines are read and faultless, and these are left
+pub record SoFar (ls left : List (List ℕ)) (n : ℕ) (k : Known) : Type 0 where
+  pub left_is : left ≡ drop n ls
+  pub within : n ≤ length ls
+  pub known_is : k ≡ known (items_of (take n ls))
+  pub clean : (i : ℕ) → i < n → fault_at ls i ≡ None
+
+header_one : (i : Item) → filter_map header_word (i ∷ []) ≡ option_list (header_word i)
+header_one item.Nothing = refl
+header_one (item.Frames n) = refl
+header_one (item.Trace n) = refl
+header_one (item.Does actor what) = refl
+
+headers_push : (is : List Item) (i : Item) → filter_map header_word (is ++ i ∷ []) ≡ filter_map header_word is ++ option_list (header_word i)
+headers_push is i = filter_map-append header_word is (i ∷ []) ∙ ap (λ (ws : List Word). filter_map header_word is ++ ws) (header_one i)
+
+or_false : (b c : Bool) → (b || (c || false)) ≡ (b || c)
+or_false true c = refl
+or_false false true = refl
+or_false false false = refl
+
+commands_push : (is : List Item) (i : Item) → list_any is_command (is ++ i ∷ []) ≡ (list_any is_command is || is_command i)
+commands_push is i = list_any-append is_command is (i ∷ []) ∙ or_false (list_any is_command is) (is_command i)
+
+steps_push : (is : List Item) (i : Item) → steps_of (is ++ i ∷ []) ≡ steps_of is ++ steps_of_item i
+steps_push is i = flat_map-append steps_of_item is (i ∷ []) ∙ ap (λ (ss : List Step). flat_map steps_of_item is ++ ss) (append-nil (steps_of_item i))
+
+-- one more line of known meaning
+known_push : (is : List Item) (i : Item) → known (is ++ i ∷ []) ≡ after (known is) i
+known_push is i = rw (commands_push is i, headers_push is i, fold_push config_after default_config is i, steps_push is i) refl
+
+-- before the first line
+pub starts : (ls : List (List ℕ)) → SoFar ls ls 0 at_start
+starts ls = record { left_is = refl; within = omega arith; known_is = refl; clean = λ i h. absurd (omega arith) }
+
+-- the line at a place, and those after it
+record IsNext (ls : List (List ℕ)) (n : ℕ) (line : List ℕ) (more : List (List ℕ)) : Type 0 where
+  there : n < length ls
+  line_is : get_or ls n [] ≡ line
+  more_is : drop (n + 1) ls ≡ more
+
+-- the first of what is left is the line at this place
+by_place : (ls : List (List ℕ)) (n : ℕ) (line : List ℕ) (more : List (List ℕ)) → drop n ls ≡ line ∷ more → IsNext ls n line more
+by_place ls n line more h =
+    elim (cases_lt n (length ls)) [
+      | inl lt ↦ (let e : get_or ls n [] ∷ drop (n + 1) ls ≡ line ∷ more = sym (drop_more ls n [] lt) ∙ h in record { there = lt; line_is = cc; more_is = cc })
+      | inr le ↦ absurd (omega (arith, length-drop n ls, ap length h))
+    ]
+
+-- the fault of the next line, by what is known
+fault_is : (ls : List (List ℕ)) (n : ℕ) (k : Known) (line : List ℕ) → k ≡ known (items_of (take n ls)) → get_or ls n [] ≡ line → fault_at ls n ≡ fault k.before line
+fault_is ls n k line e f = ap (λ (x : List ℕ). fault (before_of (items_of (take n ls))) x) f ∙ ap (λ (x : Known). fault x.before line) (sym e)
+
+-- a faultless line is taken up
+pub goes_on : (ls left : List (List ℕ)) (n : ℕ) (k k' : Known) (line : List ℕ) (more : List (List ℕ)) → SoFar ls left n k → left ≡ line ∷ more
+    → fault k.before line ≡ None → k' ≡ after k (meaning (words_of line)) → SoFar ls more (n + 1) k'
+goes_on ls left n k k' line more so_far e fine added =
+    let next = by_place ls n line more (sym so_far.left_is ∙ e) in
+    let here : fault_at ls n ≡ None = fault_is ls n k line so_far.known_is next.line_is ∙ fine in
+    let items : items_of (take (n + 1) ls) ≡ items_of (take n ls) ++ meaning (words_of line) ∷ [] =
+    ap items_of (take_more ls n [] next.there) ∙ map_push (λ (l : List ℕ). meaning (words_of l)) (take n ls) (get_or ls n []) ∙ ap (λ (l : List ℕ). items_of (take n ls) ++ meaning (words_of l) ∷ []) next.line_is in
+    record {
+      left_is = sym next.more_is;
+      within = omega (arith, next.there);
+      known_is = added ∙ ap (λ (x : Known). after x (meaning (words_of line))) so_far.known_is ∙ sym (known_push (items_of (take n ls)) (meaning (words_of line))) ∙ ap known (sym items);
+      clean = λ i h. elim (cases_lt i n) [ inl lt ↦ so_far.clean i lt | inr le ↦ (let same : i ≡ n = omega arith in subst (λ (j : ℕ). fault_at ls j ≡ None) (sym same) here) ];
+    }
+
+-- a faulty line is the first one
+pub faults : (ls left : List (List ℕ)) (n : ℕ) (k : Known) (line : List ℕ) (more : List (List ℕ)) (cause : Cause) → SoFar ls left n k → left ≡ line ∷ more
+    → fault k.before line ≡ Some cause → IsFirstFault ls (n + 1) cause
+faults ls left n k line more cause so_far e faulty =
+    let next = by_place ls n line more (sym so_far.left_is ∙ e) in
+    let here : fault_at ls n ≡ Some cause = fault_is ls n k line so_far.known_is next.line_is ∙ faulty in
+    let same : (n + 1) - 1 ≡ n = omega arith in
+    record {
+      within = (omega arith, omega (arith, next.there));
+      faulty = subst (λ (j : ℕ). fault_at ls j ≡ Some cause) (sym same) here;
+      first = λ i h. so_far.clean i (omega arith);
+    }
+
+-- all lines are read
+pub record IsRead (ls : List (List ℕ)) (k : Known) : Type 0 where
+  pub faultless : IsFaultless ls
+  pub config : k.config ≡ config_of (items_of ls)
+  pub steps : k.steps ≡ steps_of (items_of ls)
+
+-- where nothing is left, all is read
+pub ends : (ls : List (List ℕ)) (rest : List ℕ) (n : ℕ) (k : Known) → SoFar ls (lines rest) n k → length rest ≡ 0 → IsRead ls k
+ends ls rest n k so_far e =
+    let empty : lines rest ≡ [] = ap lines (nil_from_length rest e) in
+    let none : length (drop n ls) ≡ 0 = ap length (sym so_far.left_is) ∙ ap length empty in
+    let all : n ≡ length ls = omega (arith, length-drop n ls, none, so_far.within) in
+    let whole : take n ls ≡ ls = grind (arith, common_steps) in
+    let known_all : k ≡ known (items_of ls) = so_far.known_is ∙ ap (λ (l : List (List ℕ)). known (items_of l)) whole in
+    record {
+      faultless = λ i h. so_far.clean i (omega (arith, all, h));
+      config = ap (λ (x : Known). x.config) known_all;
+      steps = ap (λ (x : Known). x.steps) known_all;
+    }

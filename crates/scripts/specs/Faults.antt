@@ -1,0 +1,84 @@
+-- The faults of a line.
+use Rattle.std.specs.Prelude.{ℕ, Bool, true, false, ◌&&◌, ◌||◌, not, List, [], ◌∷◌, ◌^◌, length, Option, Some, None, is_some, nat_lt, nat_le, slice_index, ◌==◌, if◌then◌else◌}
+use Rattle.std.specs.List.{list_all, list_any, zip}
+use Rattle.std.specs.Str.{is_utf8}
+use denote.Ref.{Bor}
+use Rattle.machine.specs.Names.{is_path}
+use Rattle.machine.specs.Numbers.{is_numeral, number_below}
+use Rattle.scripts.specs.declared.fault.Cause.{Cause}
+use Rattle.scripts.specs.declared.fault.Cause.TheVariants.{NotText, UnknownWord, MissingArgument, ExtraArgument, BadNumber, BadName, HeaderAfterCommands, HeaderTwice}
+use Rattle.scripts.specs.declared.forms.Word.{Word}
+use Rattle.scripts.specs.declared.forms.Speaker.TheVariants as speaker
+use Rattle.scripts.specs.declared.forms.Kind.{Kind}
+use Rattle.scripts.specs.declared.forms.Kind.TheVariants.{Number, Path, Any}
+use Rattle.scripts.specs.Forms.{form_of, word_named, same_word}
+use Rattle.scripts.specs.Context.{Before}
+use Rattle.scripts.specs.Words.{words_of}
+
+-- what a reference to a word points to
+abbrev pub now : Bor (List ℕ) → List ℕ
+now x = x.now
+
+abbrev pub is_within : ℕ → ℕ → Option ℕ → Bool
+is_within least most None = false
+is_within least most (Some n) = nat_le least n && nat_le n most
+
+-- an argument is a number as its place asks for, where its place asks for one
+abbrev pub number_fits : Kind → List ℕ → Bool
+number_fits (Number least most) word = is_within least most (number_below (2 ^ 32) word)
+number_fits Path word = true
+number_fits Any word = true
+
+-- an argument is a path, where its place asks for one
+abbrev pub name_fits : Kind → List ℕ → Bool
+name_fits (Number least most) word = true
+name_fits Path word = is_path word
+name_fits Any word = true
+
+abbrev pub task_fits : Option (List ℕ) → Bool
+task_fits None = true
+task_fits (Some word) = is_some (number_below (2 ^ 32) word)
+
+abbrev pub all_fit : (Kind → List ℕ → Bool) → List Kind → List (List ℕ) → Bool
+all_fit fits kinds words = list_all (λ p. fits p.0 p.1) (zip kinds words)
+
+-- the cause of the first test that holds
+abbrev pub first_of : List (Bool × Cause) → Option Cause
+first_of [] = None
+first_of (c ∷ cs) = if c.0 then Some c.1 else first_of cs
+
+-- of a line with a known word, behind a task's number where there is one
+abbrev pub word_faults : Before → Option (List ℕ) → Word → List (List ℕ) → List (Bool × Cause)
+word_faults before task word arguments =
+    let form = form_of word in
+    (nat_lt (length arguments) (length form.arguments), MissingArgument)
+    ∷ (nat_lt (length form.arguments) (length arguments), ExtraArgument)
+    ∷ (not (task_fits task) || not (all_fit number_fits form.arguments arguments), BadNumber)
+    ∷ (not (all_fit name_fits form.arguments arguments), BadName)
+    ∷ (form.header && before.commands, HeaderAfterCommands)
+    ∷ (form.once && list_any (same_word word) before.given, HeaderTwice)
+    ∷ []
+
+abbrev pub named_faults : Before → Option (List ℕ) → Option Word → List (List ℕ) → List (Bool × Cause)
+named_faults before task None arguments = (true, UnknownWord) ∷ []
+named_faults before task (Some word) arguments = word_faults before task word arguments
+
+-- of a line that begins with a task's number
+abbrev pub task_faults : Before → List ℕ → List (List ℕ) → List (Bool × Cause)
+task_faults before task [] = (true, MissingArgument) ∷ []
+task_faults before task (word ∷ arguments) = named_faults before (Some task) (word_named speaker.Task word) arguments
+
+-- the word begins with '#'
+abbrev pub is_comment : List ℕ → Bool
+is_comment word = slice_index word 0 == 35
+
+abbrev pub line_faults : Before → List (List ℕ) → List (Bool × Cause)
+line_faults before [] = []
+line_faults before (first ∷ more) =
+    if is_comment first then []
+    else if is_numeral first then task_faults before first more
+    else named_faults before None (word_named speaker.Shell first) more
+
+-- why a line is faulty, if it is
+abbrev pub fault : Before → List ℕ → Option Cause
+fault before line = first_of ((not (is_utf8 line), NotText) ∷ line_faults before (words_of line))

@@ -1,0 +1,63 @@
+-- What a line says.
+use Rattle.std.specs.Prelude.{ℕ, ◌^◌, List, [], ◌∷◌, Option, Some, None, unwrap_or, slice_index_or, if◌then◌else◌}
+use Rattle.machine.specs.declared.command.Actor.{Actor}
+use Rattle.machine.specs.declared.command.Actor.TheVariants as actor
+use Rattle.machine.specs.declared.command.Command.TheVariants as command
+use Rattle.machine.specs.declared.event.Place.{Place}
+use Rattle.machine.specs.declared.event.Place.TheVariants.{Virtual}
+use Rattle.machine.specs.declared.event.Op.TheVariants as op
+use Rattle.machine.specs.Numbers.{is_numeral, number_below}
+use Rattle.scripts.specs.declared.meaning.Item.{Item}
+use Rattle.scripts.specs.declared.meaning.Item.TheVariants as item
+use Rattle.scripts.specs.declared.forms.Word.{Word}
+use Rattle.scripts.specs.declared.forms.Word.TheVariants as word
+use Rattle.scripts.specs.declared.forms.Speaker.TheVariants as speaker
+use Rattle.scripts.specs.Forms.{word_named}
+use Rattle.scripts.specs.Faults.{is_comment}
+
+-- the number that a word writes, below a limit; 0 of a word that writes none, which a faultless line has not
+abbrev pub value : ℕ → List ℕ → ℕ
+value limit word = unwrap_or (number_below limit word) 0
+
+abbrev pub number_value : List ℕ → ℕ
+number_value word = value (2 ^ 32) word
+
+abbrev pub byte_value : List ℕ → ℕ
+byte_value word = value 256 word
+
+abbrev pub at : List (List ℕ) → ℕ → List ℕ
+at arguments i = slice_index_or arguments i []
+
+abbrev pub actor_of : Option (List ℕ) → Actor
+actor_of None = actor.Shell
+actor_of (Some task) = actor.Task (number_value task)
+
+abbrev pub place_of : List ℕ → List ℕ → Place
+place_of page offset = Virtual (number_value page) (number_value offset)
+
+-- of a line with this word and these arguments, behind a task's number where there is one
+abbrev pub word_means : Option (List ℕ) → Word → List (List ℕ) → Item
+word_means task word.Frames a = item.Frames (number_value (at a 0))
+word_means task word.Trace a = item.Trace (number_value (at a 0))
+word_means task word.Group a = item.Does (actor_of task) (command.Group (at a 0))
+word_means task word.Task a = item.Does (actor_of task) (command.Task (number_value (at a 0)) (at a 1))
+word_means task word.Set a = item.Does (actor_of task) (command.Set (at a 0) (at a 1) (at a 2))
+word_means task word.Cat a = item.Does (actor_of task) (command.Cat (at a 0) (at a 1))
+word_means task word.Write a = item.Does (actor_of task) (command.Access (place_of (at a 0) (at a 1)) (op.Write (byte_value (at a 2))))
+word_means task word.Read a = item.Does (actor_of task) (command.Access (place_of (at a 0) (at a 1)) op.Read)
+
+abbrev pub named_means : Option (List ℕ) → Option Word → List (List ℕ) → Item
+named_means task None a = item.Nothing
+named_means task (Some word) a = word_means task word a
+
+abbrev pub task_means : List ℕ → List (List ℕ) → Item
+task_means task [] = item.Nothing
+task_means task (word ∷ a) = named_means (Some task) (word_named speaker.Task word) a
+
+-- what the words of a faultless line say
+abbrev pub meaning : List (List ℕ) → Item
+meaning [] = item.Nothing
+meaning (first ∷ more) =
+    if is_comment first then item.Nothing
+    else if is_numeral first then task_means first more
+    else named_means None (word_named speaker.Shell first) more

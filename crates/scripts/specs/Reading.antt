@@ -1,0 +1,37 @@
+-- What has been read of a script, line by line. No public clause cites it.
+use Rattle.std.specs.Prelude.{◌||◌, List, [], ◌∷◌, ◌++◌, Option, Some, None}
+use Rattle.machine.specs.declared.command.Step.{Step}
+use Rattle.machine.specs.declared.config.Config.{Config}
+use Rattle.scripts.specs.declared.meaning.Item.{Item}
+use Rattle.scripts.specs.declared.forms.Word.{Word}
+use Rattle.scripts.specs.declared.script.Reading.{Reading}
+use Rattle.scripts.specs.Context.{Before, before}
+use Rattle.scripts.specs.Script.{config_after, config_of, steps_of_item, steps_of, is_command, header_word, before_of}
+
+-- what the lines read so far leave to be known: for the faults of the next line, and for the script
+pub record Known : Type 0 where
+  pub before : Before
+  pub config : Config
+  pub steps : List Step
+
+abbrev pub known_by : Reading → Known
+known_by r = record { before = before r.context; config = r.script.config; steps = r.script.steps.items }
+
+-- what lines that say this leave known
+abbrev pub known : List Item → Known
+known is = record { before = before_of is; config = config_of is; steps = steps_of is }
+
+abbrev pub at_start : Known
+at_start = known []
+
+abbrev pub option_list : Option Word → List Word
+option_list None = []
+option_list (Some w) = w ∷ []
+
+-- one more item
+abbrev pub after : Known → Item → Known
+after k i = record {
+  before = record { commands = k.before.commands || is_command i; given = k.before.given ++ option_list (header_word i) };
+  config = config_after k.config i;
+  steps = k.steps ++ steps_of_item i;
+}

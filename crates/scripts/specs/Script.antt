@@ -1,0 +1,81 @@
+-- What a script says, and its first faulty line.
+use Rattle.std.specs.Prelude.{◌≡◌, ℕ, ◌+◌, ◌-◌, ◌<◌, ◌≤◌, Bool, true, false, List, [], ◌∷◌, length, map, take, fold, Option, Some, None, slice_index_or}
+use Rattle.std.specs.List.{list_any, filter_map, flat_map}
+use Rattle.machine.specs.declared.command.Step.{Step}
+use Rattle.machine.specs.declared.command.Step.TheVariants as step
+use Rattle.machine.specs.declared.config.Config.{Config}
+use Rattle.scripts.specs.declared.meaning.Item.{Item}
+use Rattle.scripts.specs.declared.meaning.Item.TheVariants as item
+use Rattle.scripts.specs.declared.forms.Word.{Word}
+use Rattle.scripts.specs.declared.forms.Word.TheVariants as word
+use Rattle.scripts.specs.declared.fault.Cause.{Cause}
+use Rattle.scripts.specs.declared.fault.ScriptFault.{ScriptFault}
+use Rattle.scripts.specs.declared.fault.ScriptFault.TheVariants as script_fault
+use Rattle.scripts.specs.Words.{words_of}
+use Rattle.scripts.specs.Context.{Before}
+use Rattle.scripts.specs.Faults.{fault}
+use Rattle.scripts.specs.Meaning.{meaning}
+
+-- ---- what a script says
+
+-- what each of these lines says
+abbrev pub items_of : List (List ℕ) → List Item
+items_of ls = map (λ l. meaning (words_of l)) ls
+
+-- what holds where the header says nothing
+abbrev pub default_config : Config
+default_config = record { frames = 64; trace = 65536 }
+
+abbrev pub config_after : Config → Item → Config
+config_after c (item.Frames n) = record c { frames = n }
+config_after c (item.Trace n) = record c { trace = n }
+config_after c item.Nothing = c
+config_after c (item.Does actor what) = c
+
+abbrev pub config_of : List Item → Config
+config_of is = fold config_after default_config is
+
+-- what is done is begun and finished
+abbrev pub steps_of_item : Item → List Step
+steps_of_item (item.Does actor what) = step.Begin actor what ∷ step.Finish actor ∷ []
+steps_of_item item.Nothing = []
+steps_of_item (item.Frames n) = []
+steps_of_item (item.Trace n) = []
+
+abbrev pub steps_of : List Item → List Step
+steps_of is = flat_map steps_of_item is
+
+-- ---- the first faulty line
+
+abbrev pub is_command : Item → Bool
+is_command (item.Does actor what) = true
+is_command item.Nothing = false
+is_command (item.Frames n) = false
+is_command (item.Trace n) = false
+
+abbrev pub header_word : Item → Option Word
+header_word (item.Frames n) = Some word.Frames
+header_word (item.Trace n) = Some word.Trace
+header_word item.Nothing = None
+header_word (item.Does actor what) = None
+
+-- what stands before a line, where the lines before it say this
+abbrev pub before_of : List Item → Before
+before_of is = record { commands = list_any is_command is; given = filter_map header_word is }
+
+-- why a line is faulty behind those before it, if it is; by its place, from 0
+abbrev pub fault_at : List (List ℕ) → ℕ → Option Cause
+fault_at ls k = fault (before_of (items_of (take k ls))) (slice_index_or ls k [])
+
+abbrev pub IsFaultless : List (List ℕ) → Type 0
+IsFaultless ls = (k : ℕ) → k < length ls → fault_at ls k ≡ None
+
+-- the line of this number, from 1 on, is the first faulty one, and this is why
+pub record IsFirstFault (ls : List (List ℕ)) (number : ℕ) (cause : Cause) : Type 0 where
+  pub within : (0 < number) × (number ≤ length ls)
+  pub faulty : fault_at ls (number - 1) ≡ Some cause
+  pub first : (k : ℕ) → k + 1 < number → fault_at ls k ≡ None
+
+abbrev pub NamesFirstFault : ScriptFault → List (List ℕ) → Type 0
+NamesFirstFault script_fault.Memory ls = Unit {0}
+NamesFirstFault (script_fault.At line cause) ls = IsFirstFault ls line cause

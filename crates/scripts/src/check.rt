@@ -1,0 +1,94 @@
+//! Which fault a line with a known word has.
+
+ghost use Rattle.std.specs.Prelude.{◌≡◌, map, length, IfNone};
+ghost use Rattle.std.specs.List.{list_all, zip};
+ghost use Rattle.std.specs.Option.{option_map};
+ghost use Rattle.scripts.specs.Forms.{form_of};
+ghost use Rattle.scripts.specs.Context.{before};
+ghost use Rattle.scripts.specs.Faults.{number_fits, name_fits, task_fits, first_of, word_faults, now};
+
+use crate::context::Context;
+use crate::fault::Cause;
+use crate::forms::{Kind, Word};
+use text_forms::name::is_path;
+use text_forms::number::number_of;
+
+fn number_fits(kind: Kind, word: &str) -> bool
+    ensures { result ≡ number_fits kind word.now }
+{
+    match kind {
+        Kind::Number { least, most } => match number_of(word) {
+            Some(number) => least <= number && number <= most,
+            None => false,
+        },
+        Kind::Path | Kind::Any => true,
+    }
+}
+
+fn name_fits(kind: Kind, word: &str) -> bool
+    ensures { result ≡ name_fits kind word.now }
+{
+    match kind {
+        Kind::Path => is_path(word),
+        Kind::Number { .. } | Kind::Any => true,
+    }
+}
+
+fn task_fits(task: Option<&str>) -> bool
+    ensures { result ≡ task_fits (option_map now task.entry) }
+{
+    match task {
+        Some(word) => number_of(word).is_some(),
+        None => true,
+    }
+}
+
+fn numbers_fit(kinds: &[Kind], words: &[&str]) -> bool
+    ensures { result ≡ list_all (λ p. number_fits p.0 p.1.now) (zip kinds.now words.now) }
+{
+    kinds
+        .iter()
+        .zip(words)
+        .all(|(kind, word)| number_fits(*kind, word))
+}
+
+fn names_fit(kinds: &[Kind], words: &[&str]) -> bool
+    ensures { result ≡ list_all (λ p. name_fits p.0 p.1.now) (zip kinds.now words.now) }
+{
+    kinds
+        .iter()
+        .zip(words)
+        .all(|(kind, word)| name_fits(*kind, word))
+}
+
+/// The first fault of a line with this word, which stands behind a task's number where there is one.
+pub fn fault_of_word(
+    context: &Context,
+    task: Option<&str>,
+    word: Word,
+    arguments: &[&str],
+) -> Option<Cause>
+    ensures fault { result ≡ first_of (word_faults (before context.now) (option_map now task.entry) word (map now arguments.now)) }
+    ensures count { IfNone result (length arguments.now ≡ length (form_of word).arguments) }
+{
+    let kinds = word.form().arguments;
+    if arguments.len() < kinds.len() {
+        return Some(Cause::MissingArgument);
+    }
+    if arguments.len() > kinds.len() {
+        return Some(Cause::ExtraArgument);
+    }
+    if !task_fits(task) || !numbers_fit(kinds, arguments) {
+        return Some(Cause::BadNumber);
+    }
+    if !names_fit(kinds, arguments) {
+        return Some(Cause::BadName);
+    }
+    if context.is_late(word) {
+        return Some(Cause::HeaderAfterCommands);
+    }
+    if context.is_repeated(word) {
+        return Some(Cause::HeaderTwice);
+    }
+    None
+}

@@ -1,0 +1,33 @@
+//! What a line has to know of the lines before it.
+
+ghost use Rattle.std.specs.Prelude.{◌≡◌, ◌&&◌};
+ghost use Rattle.std.specs.List.{list_any};
+ghost use Rattle.scripts.specs.Forms.{form_of, same_word};
+ghost use Rattle.scripts.specs.Context.{before};
+
+use crate::forms::Word;
+
+/// What stands before a line.
+#[derive(Debug, Drop)]
+pub struct Context {
+    /// A line that is not of the header.
+    pub commands: bool,
+    /// The words of the header's lines.
+    pub given: Vec<Word>,
+}
+
+impl Context {
+    /// Whether a line with the word is of the header and comes too late.
+    pub fn is_late(&self, word: Word) -> bool
+        ensures { result ≡ ((form_of word).header && (before self.now).commands) }
+    {
+        word.form().header && self.commands
+    }
+
+    /// Whether the word comes at most once and came before.
+    pub fn is_repeated(&self, word: Word) -> bool
+        ensures { result ≡ ((form_of word).once && list_any (same_word word) (before self.now).given) }
+    {
+        word.form().once && self.given.contains(&word)
+    }
+}

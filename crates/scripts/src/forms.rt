@@ -1,0 +1,163 @@
+//! The words that lines begin with, and what follows each.
+
+ghost use Rattle.std.specs.Prelude.{◌≡◌};
+ghost use Rattle.std.specs.Option.{option_copied};
+ghost use Rattle.scripts.specs.declared.forms.Word.{Word};
+ghost use Rattle.scripts.specs.Forms.{row, header, shell, task, form_of, is_named, word_named};
+
+/// Who says a word.
+#[derive(Clone, Copy, Debug, PartialEq, Eq)]
+pub enum Speaker {
+    /// The shell: the word stands first.
+    Shell,
+    /// A task: the word stands behind the task's number.
+    Task,
+}
+
+/// What an argument has to be.
+#[derive(Clone, Copy, Debug, PartialEq, Eq)]
+pub enum Kind {
+    /// A number from `least` to `most`, both included.
+    Number { least: u32, most: u32 },
+    /// A path of a group.
+    Path,
+    /// Any word.
+    Any,
+}
+
+/// A word that says what a line does.
+#[derive(Clone, Copy, Debug, PartialEq, Eq)]
+pub enum Word {
+    Frames,
+    Trace,
+    Group,
+    Task,
+    Set,
+    Cat,
+    Write,
+    Read,
+}
+
+/// How a line with a word is written: one row of the table of words.
+#[derive(Clone, Copy, Debug)]
+pub struct Form {
+    /// The word as it is written.
+    pub name: &'static str,
+    pub speaker: Speaker,
+    /// What follows the word.
+    pub arguments: &'static [Kind],
+    /// The line stands before all that are not of the header.
+    pub header: bool,
+    /// The word comes at most once in a script.
+    pub once: bool,
+}
+
+const FRAMES: Kind = Kind::Number {
+    least: 1,
+    most: 65_536,
+};
+
+const ENTRIES: Kind = Kind::Number {
+    least: 1,
+    most: 1_048_576,
+};
+
+const NUMBER: Kind = Kind::Number {
+    least: 0,
+    most: u32::MAX,
+};
+
+const BYTE: Kind = Kind::Number {
+    least: 0,
+    most: 255,
+};
+
+const WORDS: [Word; 8] = [
+    Word::Frames,
+    Word::Trace,
+    Word::Group,
+    Word::Task,
+    Word::Set,
+    Word::Cat,
+    Word::Write,
+    Word::Read,
+];
+
+fn header(name: &'static str, arguments: &'static [Kind]) -> Form
+    ensures { row result ≡ header name.now arguments.now }
+{
+    Form {
+        name,
+        speaker: Speaker::Shell,
+        arguments,
+        header: true,
+        once: true,
+    }
+}
+
+fn shell(name: &'static str, arguments: &'static [Kind]) -> Form
+    ensures { row result ≡ shell name.now arguments.now }
+{
+    Form {
+        name,
+        speaker: Speaker::Shell,
+        arguments,
+        header: false,
+        once: false,
+    }
+}
+
+fn task(name: &'static str, arguments: &'static [Kind]) -> Form
+    ensures { row result ≡ task name.now arguments.now }
+{
+    Form {
+        name,
+        speaker: Speaker::Task,
+        arguments,
+        header: false,
+        once: false,
+    }
+}
+
+impl Word {
+    /// How a line with this word is written. This is the table of words.
+    pub fn form(self) -> Form
+        ensures { row result ≡ form_of self }
+    {
+        match self {
+            Word::Frames => header("frames", &[FRAMES]),
+            Word::Trace => header("trace", &[ENTRIES]),
+            Word::Group => shell("group", &[Kind::Path]),
+            Word::Task => shell("task", &[NUMBER, Kind::Path]),
+            Word::Set => shell("set", &[Kind::Path, Kind::Any, Kind::Any]),
+            Word::Cat => shell("cat", &[Kind::Path, Kind::Any]),
+            Word::Write => task("write", &[NUMBER, NUMBER, BYTE]),
+            Word::Read => task("read", &[NUMBER, NUMBER]),
+        }
+    }
+
+    fn is_named(self, speaker: Speaker, text: &str) -> bool
+        ensures { result ≡ is_named speaker text.now self }
+    {
+        let form = self.form();
+        form.speaker == speaker && form.name == text
+    }
+}
+
+fn find_word(speaker: Speaker, text: &str) -> Option<&'static Word>
+    ensures { option_copied result ≡ word_named speaker text.now }
+{
+    WORDS.iter().find(|word| word.is_named(speaker, text))
+}
+
+/// The word of this name that the speaker has.
+pub fn word_named(speaker: Speaker, text: &str) -> Option<Word>
+    ensures { result ≡ word_named speaker text.now }
+{
+    find_word(speaker, text).copied()
+}
+
+/// A law: each word is found by its name, and so no two words of one speaker have one name.
+pub fn each_word_is_found()
+    ensures { (w : Word) → word_named (form_of w).speaker (form_of w).name ≡ Some w }
+{}

@@ -1,0 +1,20 @@
+//! The language of scripts: what the lines of a script mean, and which line is the first faulty one.
+//!
+//! A script is read whole before anything is run. Each line is judged by itself, but for two things
+//! that it needs to know of the lines before it: whether a command stood, and which words the header
+//! had. What a line means takes no heed of faults, and is spoken of for faultless lines alone.
+#![tactic(auto)]
+
+mod check;
+mod context;
+mod fault;
+mod forms;
+mod line;
+mod lines;
+mod meaning;
+mod script;
+mod words;
+
+pub use fault::{Cause, ScriptFault};
+pub use forms::{Form, Kind, Speaker, Word, each_word_is_found};
+pub use script::{Mode, Script, one_answer, read};

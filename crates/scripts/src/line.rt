@@ -1,0 +1,82 @@
+//! What a line says, or its first fault.
+
+ghost use Rattle.std.specs.Prelude.{◌≡◌, map};
+ghost use Rattle.std.specs.Option.{option_map};
+ghost use Rattle.scripts.specs.Words.{words_of};
+ghost use Rattle.scripts.specs.Context.{before};
+ghost use Rattle.scripts.specs.Faults.{now, first_of, named_faults, line_faults, fault};
+ghost use Rattle.scripts.specs.Meaning.{named_means, meaning};
+ghost use Rattle.scripts.specs.Lines.{Reads};
+
+use crate::check::fault_of_word;
+use crate::context::Context;
+use crate::fault::{Cause, LineError};
+use crate::forms::{Speaker, Word, word_named};
+use crate::meaning::{Item, item_of_word};
+use crate::words::words_of;
+use std::alloc::Global;
+use std::str;
+use text_forms::number::is_digits;
+
+fn read_named(
+    alloc: Global,
+    context: &Context,
+    task: Option<&str>,
+    word: Option<Word>,
+    arguments: &[&str],
+) -> Result<Item, LineError>
+    ensures { Reads result
+        (first_of (named_faults (before context.now) (option_map now task.entry) word (map now arguments.now)))
+        (named_means (option_map now task.entry) word (map now arguments.now)) }
+{
+    let Some(word) = word else {
+        return Err(LineError::Fault(Cause::UnknownWord));
+    };
+    if let Some(cause) = fault_of_word(context, task, word, arguments) {
+        return Err(LineError::Fault(cause));
+    }
+    Ok(item_of_word(alloc, task, word, arguments)?)
+}
+
+fn read_words(alloc: Global, context: &Context, words: &[&str]) -> Result<Item, LineError>
+    ensures { Reads result
+        (first_of (line_faults (before context.now) (map now words.now)))
+        (meaning (map now words.now)) }
+{
+    let Some((first, more)) = words.split_first() else {
+        return Ok(Item::Nothing);
+    };
+    if first.starts_with('#') {
+        return Ok(Item::Nothing);
+    }
+    if !is_digits(first) {
+        return read_named(
+            alloc,
+            context,
+            None,
+            word_named(Speaker::Shell, first),
+            more,
+        );
+    }
+    let Some((word, arguments)) = more.split_first() else {
+        return Err(LineError::Fault(Cause::MissingArgument));
+    };
+    read_named(
+        alloc,
+        context,
+        Some(first),
+        word_named(Speaker::Task, word),
+        arguments,
+    )
+}
+
+/// What a line says behind those that the context is of.
+pub fn read_line(alloc: Global, context: &Context, line: &[u8]) -> Result<Item, LineError>
+    ensures { Reads result (fault (before context.now) line.now) (meaning (words_of line.now)) }
+{
+    let Ok(text) = str::from_utf8(line) else {
+        return Err(LineError::Fault(Cause::NotText));
+    };
+    let words = words_of(alloc, text)?;
+    read_words(alloc, context, words.as_slice())
+}

@@ -1,0 +1,105 @@
+//! What the words of a line say.
+
+ghost use Rattle.std.specs.Prelude.{◌≡◌, map, length, IfOk};
+ghost use Rattle.std.specs.Option.{option_map};
+ghost use Rattle.scripts.specs.Forms.{form_of};
+ghost use Rattle.scripts.specs.Faults.{now};
+ghost use Rattle.scripts.specs.Meaning.{number_value, byte_value, actor_of, place_of, word_means};
+
+use crate::forms::Word;
+use machine::command::{Actor, Command};
+use machine::event::{Op, Place};
+use machine::text::Text;
+use std::alloc::{AllocError, Global};
+use text_forms::number::number_of;
+
+/// What a line says.
+#[derive(Debug, Drop)]
+pub enum Item {
+    /// Nothing: the line is skipped.
+    Nothing,
+    /// So many page frames.
+    Frames(u32),
+    /// So many entries of the trace.
+    Trace(u32),
+    /// The actor does this.
+    Does(Actor, Command),
+}
+
+fn number_value(word: &str) -> u32
+    ensures { result ≡ number_value word.now }
+{
+    number_of(word).unwrap_or(0)
+}
+
+fn byte_value(word: &str) -> u8
+    ensures { result ≡ byte_value word.now }
+{
+    match number_of(word) {
+        Some(number) if number < 256 => number as u8,
+        _ => 0,
+    }
+}
+
+fn text_of(alloc: Global, word: &str) -> Result<Text, AllocError>
+    ensures { IfOk result (λ text. text ≡ word.now) }
+{
+    Ok(Text::new(String::from_str(alloc, word)?))
+}
+
+fn actor_of(task: Option<&str>) -> Actor
+    ensures { result ≡ actor_of (option_map now task.entry) }
+{
+    match task {
+        Some(number) => Actor::Task(number_value(number)),
+        None => Actor::Shell,
+    }
+}
+
+fn place_of(page: &str, offset: &str) -> Place
+    ensures { result ≡ place_of page.now offset.now }
+{
+    Place::Virtual {
+        page: number_value(page),
+        offset: number_value(offset),
+    }
+}
+
+/// What a line with this word says, which stands behind a task's number where there is one.
+pub fn item_of_word(
+    alloc: Global,
+    task: Option<&str>,
+    word: Word,
+    arguments: &[&str],
+) -> Result<Item, AllocError>
+    requires { length arguments.now ≡ length (form_of word).arguments }
+    ensures { IfOk result (λ item. item ≡ word_means (option_map now task.entry) word (map now arguments.now)) }
+{
+    let command = match word {
+        Word::Frames => return Ok(Item::Frames(number_value(arguments[0]))),
+        Word::Trace => return Ok(Item::Trace(number_value(arguments[0]))),
+        Word::Group => Command::Group(text_of(alloc, arguments[0])?),
+        Word::Task => Command::Task {
+            task: number_value(arguments[0]),
+            path: text_of(alloc, arguments[1])?,
+        },
+        Word::Set => Command::Set {
+            path: text_of(alloc, arguments[0])?,
+            file: text_of(alloc, arguments[1])?,
+            text: text_of(alloc, arguments[2])?,
+        },
+        Word::Cat => Command::Cat {
+            path: text_of(alloc, arguments[0])?,
+            file: text_of(alloc, arguments[1])?,
+        },
+        Word::Write => Command::Access {
+            place: place_of(arguments[0], arguments[1]),
+            op: Op::Write(byte_value(arguments[2])),
+        },
+        Word::Read => Command::Access {
+            place: place_of(arguments[0], arguments[1]),
+            op: Op::Read,
+        },
+    };
+    Ok(Item::Does(actor_of(task), command))
+}

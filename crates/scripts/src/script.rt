@@ -1,0 +1,143 @@
+//! Scripts.
+
+ghost use Rattle.std.specs.Prelude.{◌≡◌, ◌⊎◌, ℕ, List, IfOk, IfErr, OnOk};
+ghost use Rattle.std.specs.Str.Lines.{lines};
+ghost use Rattle.scripts.specs.declared.fault.Cause.{Cause};
+ghost use Rattle.scripts.specs.Words.{words_of};
+ghost use Rattle.scripts.specs.Faults.{fault};
+ghost use Rattle.scripts.specs.Meaning.{meaning};
+ghost use Rattle.scripts.specs.Lines.{Adds};
+ghost use Rattle.scripts.specs.Script.{items_of, config_of, steps_of, IsFaultless, IsFirstFault, NamesFirstFault};
+ghost use Rattle.scripts.specs.Reading.{known_by, at_start, after};
+
+use crate::context::Context;
+use crate::fault::{LineError, ScriptFault};
+use crate::forms::Word;
+use crate::line::read_line;
+use crate::lines::first_line;
+use crate::meaning::Item;
+use machine::command::Step;
+use machine::config::Config;
+use std::alloc::{AllocError, Global};
+
+const DEFAULT_CONFIG: Config = Config {
+    frames: 64,
+    trace: 65_536,
+};
+
+/// What a script is read for.
+#[derive(Clone, Copy, Debug, PartialEq, Eq)]
+pub enum Mode {
+    /// To be run one turn after the other, in the order of its lines.
+    Schedule,
+}
+
+/// What a script says.
+#[derive(Debug, Drop)]
+pub struct Script {
+    /// What the header fixes.
+    pub config: Config,
+    /// What the other lines ask for, in their order.
+    pub steps: Vec<Step>,
+}
+
+/// What has been read of a script.
+#[derive(Debug, Drop)]
+struct Reading {
+    context: Context,
+    script: Script,
+}
+
+impl Reading {
+    fn new(alloc: Global) -> Reading
+        ensures { known_by result ≡ at_start }
+    {
+        Reading {
+            context: Context {
+                commands: false,
+                given: Vec::new(alloc),
+            },
+            script: Script {
+                config: DEFAULT_CONFIG,
+                steps: Vec::new(alloc),
+            },
+        }
+    }
+
+    fn add(&mut self, item: Item) -> Result<(), AllocError>
+        ensures { OnOk result (known_by self.new ≡ after (known_by self.old) item) }
+    {
+        match item {
+            Item::Nothing => {}
+            Item::Frames(frames) => {
+                self.context.given.push(Word::Frames)?;
+                self.script.config.frames = frames;
+            }
+            Item::Trace(trace) => {
+                self.context.given.push(Word::Trace)?;
+                self.script.config.trace = trace;
+            }
+            Item::Does(actor, command) => {
+                self.context.commands = true;
+                self.script.steps.push(Step::Begin(actor, command))?;
+                self.script.steps.push(Step::Finish(actor))?;
+            }
+        }
+        Ok(())
+    }
+
+    fn add_line(&mut self, alloc: Global, line: &[u8]) -> Result<(), LineError>
+        ensures { Adds result
+            (fault (known_by self.old).before line.now)
+            (known_by self.new ≡ after (known_by self.old) (meaning (words_of line.now))) }
+    {
+        let item = read_line(alloc, &self.context, line)?;
+        self.add(item)?;
+        Ok(())
+    }
+}
+
+fn read_schedule(alloc: Global, text: &[u8]) -> Result<Script, ScriptFault>
+    ensures faultless { IfOk result (λ _. IsFaultless (lines text.now)) }
+    ensures config { IfOk result (λ s. s.config ≡ config_of (items_of (lines text.now))) }
+    ensures steps { IfOk result (λ s. s.steps.items ≡ steps_of (items_of (lines text.now))) }
+    ensures fault { IfErr result (λ e. NamesFirstFault e (lines text.now)) }
+{
+    let mut reading = Reading::new(alloc);
+    let mut rest = text;
+    let mut number = 0;
+    while !rest.is_empty() {
+        let (line, after) = first_line(rest);
+        number += 1;
+        match reading.add_line(alloc, line) {
+            Ok(()) => rest = after,
+            Err(LineError::Memory) => return Err(ScriptFault::Memory),
+            Err(LineError::Fault(cause)) => return Err(ScriptFault::At {
+                line: number,
+                cause,
+            }),
+        }
+    }
+    Ok(reading.script)
+}
+
+/// What a script says, or its first faulty line and the first of that line's causes.
+///
+/// `Ok` comes exactly for a text without a faulty line, but that memory may run out.
+pub fn read(alloc: Global, text: &[u8], mode: Mode) -> Result<Script, ScriptFault>
+    ensures faultless { IfOk result (λ _. IsFaultless (lines text.now)) }
+    ensures config { IfOk result (λ s. s.config ≡ config_of (items_of (lines text.now))) }
+    ensures steps { IfOk result (λ s. s.steps.items ≡ steps_of (items_of (lines text.now))) }
+    ensures fault { IfErr result (λ e. NamesFirstFault e (lines text.now)) }
+{
+    match mode {
+        Mode::Schedule => read_schedule(alloc, text),
+    }
+}
+
+/// A law: a script is faultless or has a first fault, not both, and it has one first fault only.
+pub fn one_answer()
+    ensures some { (ls : List (List ℕ)) → IsFaultless ls ⊎ ((n : ℕ) × (c : Cause) × IsFirstFault ls n c) }
+    ensures not_both { (ls : List (List ℕ)) (n : ℕ) (c : Cause) → IsFirstFault ls n c → IsFaultless ls → ⊥ }
+    ensures one { (ls : List (List ℕ)) (m n : ℕ) (c d : Cause) → IsFirstFault ls m c → IsFirstFault ls n d → (m ≡ n) × (c ≡ d) }
+{}

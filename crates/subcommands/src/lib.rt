@@ -1,0 +1,77 @@
+//! The subcommands of the program, over any reader and any two writers. Each answers the exit status.
+#![tactic(auto)]
+
+mod fault;
+
+ghost use Rattle.std.specs.Prelude.{◌≤◌};
+
+use fault::Fault;
+use machine::command::Reply;
+use scripts::Mode;
+use std::alloc::Global;
+use std::io::{BufWriter, Read, Write};
+
+/// The most bytes that a script may have. A reader that never ends is refused here, and takes no
+/// more memory than this.
+pub const SCRIPT_BYTES: u64 = 1 << 26;
+
+const FAILED: u8 = 1;
+
+fn read_bytes<R: Read>(alloc: Global, script: &mut R) -> Result<Vec<u8>, Fault> {
+    let mut bytes = Vec::new(alloc);
+    // One byte more is asked for, so that a script that is too long is never cut off and run.
+    let read = script
+        .take(SCRIPT_BYTES + 1)
+        .read_to_end(&mut bytes)
+        .map_err(Fault::Unreadable)?;
+    if read as u64 > SCRIPT_BYTES {
+        return Err(Fault::TooLong);
+    }
+    Ok(bytes)
+}
+
+fn answers<R: Read>(alloc: Global, script: &mut R) -> Result<Vec<Reply>, Fault> {
+    let bytes = read_bytes(alloc, script)?;
+    let script = scripts::read(alloc, &bytes, Mode::Schedule).map_err(Fault::Script)?;
+    driver::run(alloc, script.config, &script.steps).map_err(Fault::Run)
+}
+
+fn print_all<W: Write>(alloc: Global, answers: &[Reply], out: &mut W) -> Result<(), Fault> {
+    let mut lines = BufWriter::new(alloc, out).map_err(Fault::Unwritable)?;
+    for answer in answers {
+        answer.print(&mut lines).map_err(Fault::Unwritable)?;
+    }
+    // Dropping the buffer writes what is left too, but says nothing of a write that fails.
+    lines.flush().map_err(Fault::Unwritable)
+}
+
+fn schedule_or_fault<R: Read, O: Write>(
+    alloc: Global,
+    script: &mut R,
+    out: &mut O,
+) -> Result<(), Fault> {
+    let answers = answers(alloc, script)?;
+    print_all(alloc, &answers, out)
+}
+
+/// Runs a script, one turn after another, and writes the line of each answer to `out`.
+///
+/// The exit status is 0, or 1 where the run fails: the script can't be read or has more than
+/// [`SCRIPT_BYTES`], a line of it is faulty, the run wants memory, or an answer can't be written.
+/// Then `err` gets one line, which for a faulty line is `line L: CAUSE`. Nothing is run, and `out`
+/// gets nothing, unless the script as a whole is sound.
+pub fn schedule<R: Read, O: Write, E: Write>(
+    alloc: Global,
+    script: &mut R,
+    out: &mut O,
+    err: &mut E,
+) -> u8
+    ensures success_or_failure { result ≤ 1 }
+{
+    let Err(fault) = schedule_or_fault(alloc, script, out) else {
+        return 0;
+    };
+    // The status tells of the failure even where its line can't be written.
+    let _ = writeln!(err, "{fault}");
+    FAILED
+}

@@ -1,0 +1,6 @@
+use Rattle.std.proofs.Common.{◌∙◌, sym}
+use Rattle.text_forms.proofs.Numerals.{parsed}
+use Rattle.text_forms.proofs.number.number_of.Goals as goal
+
+pub returns : goal.returns
+returns c = c.ok.ensures.value ∙ parsed 32 c.args.word.now c.parse.result (sym c.is_digits.ensures ∙ c.if-not-is_digits.false) c.parse.ensures.value.0

@@ -1,0 +1,7 @@
+//! Forms of words: names of groups and files, paths, and numbers in decimal.
+//!
+//! The script reader, the tree of groups and the control files read words by these alone.
+#![tactic(auto)]
+
+pub mod name;
+pub mod number;

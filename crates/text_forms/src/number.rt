@@ -1,0 +1,39 @@
+//! Numbers in decimal.
+
+ghost use Rattle.std.specs.Prelude.{◌≡◌, ◌^◌};
+ghost use Rattle.std.specs.List.{list_all};
+ghost use Rattle.std.specs.Char.{is_ascii_digit};
+ghost use Rattle.machine.specs.Numbers.{is_numeral, number_below};
+
+fn all_digits(word: &str) -> bool
+    ensures { result ≡ list_all is_ascii_digit word.now }
+{
+    word.bytes().all(|byte| byte.is_ascii_digit())
+}
+
+/// Whether a word is decimal digits alone, one or more.
+pub fn is_digits(word: &str) -> bool
+    ensures { result ≡ is_numeral word.now }
+{
+    !word.is_empty() && all_digits(word)
+}
+
+/// The number that a word of digits alone writes, leading zeros and all, where it is below 2^32.
+pub fn number_of(word: &str) -> Option<u32>
+    ensures { result ≡ number_below (2 ^ 32) word.now }
+{
+    if !is_digits(word) {
+        return None;
+    }
+    word.parse::<u32>().ok()
+}
+
+/// The number that a word of digits alone writes, leading zeros and all, where it is below 2^64.
+pub fn long_number_of(word: &str) -> Option<u64>
+    ensures { result ≡ number_below (2 ^ 64) word.now }
+{
+    if !is_digits(word) {
+        return None;
+    }
+    word.parse::<u64>().ok()
+}
