@@ -1,7 +1,7 @@
 //! The automaton of a command: what it asks of the book in a state, and what it makes of the reply.
 //! It knows no book and no loop, so whoever runs commands runs this one.
 
-ghost use Rattle.std.specs.Prelude.{◌≡◌, IfOk};
+ghost use Rattle.std.specs.Prelude.{◌≡◌, IfOk, IfErr};
 ghost use Rattle.machine.specs.declared.reply.Reply.{Reply};
 ghost use Rattle.machine.specs.Call.{Replies, IsAccessReply, IsReliefReply, IsOkReply, IsShownReply};
 ghost use Rattle.machine.specs.Turns.{access_event, asks, asked_of, ends_with, ends_refused, byte_answer, Tried, MadeRoom, MaxSet, Lowered, Made, WasShown, Told, Awaits};
@@ -61,7 +61,8 @@ fn access_event(access: Access) -> Event
 /// file's text and refused.
 pub fn told(alloc: Global, asked: Asked, reply: Reply) -> Result<Turned, AllocError>
     requires { Awaits asked reply }
-    ensures { IfOk result (λ turned. Told asked reply turned) }
+    ensures told { IfOk result (λ turned. Told asked reply turned) }
+    ensures err { IfErr result (λ e. asked ≡ Asked.Show) }
 {
     match asked {
         Asked::Try(access) => Ok(tried(access, reply)),
