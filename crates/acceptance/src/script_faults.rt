@@ -1,7 +1,7 @@
 //! Scripts that are not run, for the first line that has a fault.
 
 use crate::case::{faults, faults_in_bytes, prints};
-use std::alloc::AllocError;
+use std::alloc::{AllocError, Global};
 use std::process::Abort;
 use std::test::Fail;
 
@@ -112,7 +112,9 @@ fn unknown_word(rt: HostRuntime) {
     faults(&rt, "longer than a word that is known", "groups /a", line);
     faults(&rt, "no such word of a task", "7 fly 0 0", line);
     faults(&rt, "a task's word without the task", "read 0 0", line);
+    faults(&rt, "and with three arguments", "write 0 0 1", line);
     faults(&rt, "the shell's word behind a task", "7 group /a", line);
+    faults(&rt, "the header's word behind a task", "7 frames 4", line);
     faults(&rt, "a sign before the task's number", "+7 read 0 0", line);
     faults(&rt, "a letter in the task's number", "7x read 0 0", line);
     faults(&rt, "a byte order mark", "\u{feff}group /a", line);
@@ -260,6 +262,26 @@ fn bad_number_of_a_command(rt: HostRuntime) {
 }
 
 #[test]
+fn bad_number_in_each_place(rt: HostRuntime) {
+    let line = "line 1: bad number\n";
+    faults(&rt, "of frames", "frames x", line);
+    faults(&rt, "of trace", "trace x", line);
+    faults(&rt, "of task", "task 1x /a", line);
+    faults(&rt, "the page of write", "7 write 4294967296 0 1", line);
+    faults(&rt, "the offset of write", "7 write 0 4294967296 1", line);
+    faults(&rt, "the byte of write", "7 write 0 0 4294967296", line);
+    faults(&rt, "the page of read", "7 read x 0", line);
+    faults(&rt, "the offset of read", "7 read 0 x", line);
+    faults(
+        &rt,
+        "of the task that writes",
+        "4294967296 write 0 0 1",
+        line,
+    );
+    faults(&rt, "of the task that reads", "4294967296 read 0 0", line);
+}
+
+#[test]
 fn bad_name(rt: HostRuntime) {
     let line = "line 1: bad name\n";
     faults(&rt, "no slash at the front", "group a", line);
@@ -393,6 +415,66 @@ fn runs_byte<R: Abort + AllocGlobal>(rt: &R, byte: u8) -> Result<(), AllocError>
 fn each_byte_alone_is_a_script(rt: HostRuntime) -> Result<(), Fail> {
     for byte in 0..=255u8 {
         runs_byte(&rt, byte)?;
+    }
+    Ok(())
+}
+
+// Lines of each kind, and what the script of them all is refused for where this one is not text.
+const LINES: [(&str, &str); 6] = [
+    ("frames 4", "line 1: not text\n"),
+    ("group /a", "line 2: not text\n"),
+    ("task 1 /a", "line 3: not text\n"),
+    ("# a comment", "line 4: not text\n"),
+    ("1 write 0 0 7", "line 5: not text\n"),
+    ("1 read 0 0", "line 6: not text\n"),
+];
+
+fn put_byte(bytes: &mut [u8], at: usize, byte: u8) {
+    if let Some(place) = bytes.get_mut(at) {
+        *place = byte;
+    }
+}
+
+// The script of the lines, with another byte at this place of this line.
+fn with_byte(alloc: Global, changed: &str, at: usize, byte: u8) -> Result<Vec<u8>, AllocError> {
+    let mut script = Vec::new(alloc);
+    for (line, _) in LINES {
+        let mut bytes = line.as_bytes().to_vec(alloc)?;
+        if line == changed {
+            put_byte(&mut bytes, at, byte);
+        }
+        script.extend_from_slice(&bytes)?;
+        script.push(b'\n')?;
+    }
+    Ok(script)
+}
+
+// A byte that only goes on with a character, one that only begins one, and one that no character has.
+fn replaces_each_byte<R: Abort + AllocGlobal>(
+    rt: &R,
+    line: &str,
+    fault: &str,
+) -> Result<(), AllocError> {
+    for byte in [0x80, 0xc3, 0xff] {
+        for at in 0..line.len() {
+            let name = format!(in rt.alloc(); "the byte {byte} at {at} of `{line}`")?;
+            let script = with_byte(rt.alloc(), line, at, byte)?;
+            faults_in_bytes(rt, &name, &script, fault);
+        }
+    }
+    Ok(())
+}
+
+#[test]
+fn each_byte_of_a_line_is_of_its_text(rt: HostRuntime) -> Result<(), Fail> {
+    prints(
+        &rt,
+        "all of it is text",
+        "frames 4\ngroup /a\ntask 1 /a\n# a comment\n1 write 0 0 7\n1 read 0 0\n",
+        "1 7\n",
+    );
+    for (line, fault) in LINES {
+        replaces_each_byte(&rt, line, fault)?;
     }
     Ok(())
 }

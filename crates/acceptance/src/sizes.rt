@@ -185,19 +185,24 @@ cat /a memory.current
 #[test]
 fn a_script_may_have_many_lines(rt: HostRuntime) -> Result<(), Fail> {
     let alloc = rt.alloc();
-    let reads = numbered(alloc, "1 read 0 ", 1..=4000, "")?;
+    let reads = numbered(alloc, "1 read 0 ", 1..=3999, "")?;
     let refused = numbered(alloc, "group /a/b/", 1..=6000, "")?;
     let script = format!(in alloc; "task 1 /\n{reads}{refused}")?;
-    let bytes = "1 0\n".repeat(alloc, 4000)?;
+    let bytes = "1 0\n".repeat(alloc, 3999)?;
     let refusals = "error ENOENT\n".repeat(alloc, 6000)?;
     let printed = format!(in alloc; "{bytes}{refusals}")?;
-    prints(&rt, "ten thousand, each with its answer", &script, &printed);
+    prints(
+        &rt,
+        "ten thousand, the first without an answer",
+        &script,
+        &printed,
+    );
     let faulty = format!(in alloc; "{script}foo\n")?;
     faults(
         &rt,
         "and one more, which is faulty",
         &faulty,
-        "line 10002: unknown word\n",
+        "line 10001: unknown word\n",
     );
     Ok(())
 }
