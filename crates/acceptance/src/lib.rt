@@ -13,7 +13,13 @@ mod case;
 #[cfg(test)]
 mod control_files;
 #[cfg(test)]
+mod events;
+#[cfg(test)]
+mod exits;
+#[cfg(test)]
 mod groups;
+#[cfg(test)]
+mod interleavings;
 #[cfg(test)]
 mod limits;
 #[cfg(test)]
@@ -28,5 +34,7 @@ mod streams;
 mod tasks;
 #[cfg(test)]
 mod trace;
+#[cfg(test)]
+mod turns;
 #[cfg(test)]
 mod victims;

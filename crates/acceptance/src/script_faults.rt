@@ -134,6 +134,75 @@ fn unknown_word(rt: HostRuntime) {
         "group\u{b}/a",
         line,
     );
+    faults(&rt, "an exit without the task", "exit", line);
+    faults(&rt, "and with its number behind it", "exit 1", line);
+}
+
+#[test]
+fn unknown_word_behind_begin(rt: HostRuntime) {
+    let line = "line 1: unknown word\n";
+    faults(&rt, "no such word", "begin foo", line);
+    faults(&rt, "no such word of a task", "begin 7 fly", line);
+    faults(&rt, "a line of the header", "begin frames 4", line);
+    faults(&rt, "the other line of the header", "begin trace", line);
+    faults(&rt, "a line that begins one", "begin begin group /a", line);
+    faults(&rt, "a line that begins nothing", "begin begin", line);
+    faults(&rt, "a step", "begin step 1", line);
+    faults(&rt, "a finish", "begin finish 1", line);
+    faults(&rt, "a comment", "begin #", line);
+    faults(&rt, "a comment of several words", "begin # group /a", line);
+    faults(
+        &rt,
+        "a shell's line behind a task",
+        "begin 7 group /a",
+        line,
+    );
+    faults(&rt, "a begin behind a task", "begin 7 begin group /a", line);
+    faults(&rt, "a task's line without the task", "begin exit", line);
+    faults(&rt, "an actor for a line", "begin control", line);
+    faults(&rt, "in capitals", "begin Group /a", line);
+    faults(
+        &rt,
+        "before the task's bad number",
+        "begin 99999999999 foo",
+        line,
+    );
+    faults(
+        &rt,
+        "before the task's bad number, a shell's word",
+        "begin 4294967296 group /a",
+        line,
+    );
+}
+
+#[test]
+fn unknown_word_for_an_actor(rt: HostRuntime) {
+    let line = "line 1: unknown word\n";
+    faults(&rt, "none of that name", "step x", line);
+    faults(&rt, "before an extra argument", "step x y", line);
+    faults(&rt, "of finish", "finish x", line);
+    faults(
+        &rt,
+        "of finish, before an extra argument",
+        "finish x 1",
+        line,
+    );
+    faults(&rt, "one that is still to come", "step daemon", line);
+    faults(&rt, "and to finish", "finish daemon", line);
+    faults(&rt, "in capitals", "step Shell", line);
+    faults(&rt, "longer than one that is known", "step shells", line);
+    faults(&rt, "shorter than one that is known", "finish contro", line);
+    faults(&rt, "a sign before the number", "step +1", line);
+    faults(&rt, "a letter in the number", "finish 1x", line);
+    faults(&rt, "a comment", "step # 1", line);
+    faults(&rt, "a line", "finish group /a", line);
+    faults(&rt, "digits that are not ASCII", "step \u{0664}", line);
+    faults(&rt, "the word behind a task", "7 step 1", line);
+    faults(&rt, "the other word behind a task", "7 finish", line);
+    faults(&rt, "begin behind a task", "7 begin group /a", line);
+    faults(&rt, "begin alone behind a task", "7 begin", line);
+    faults(&rt, "longer than the word that is known", "steps 1", line);
+    faults(&rt, "and for the line itself", "beginn group /a", line);
 }
 
 #[test]
@@ -157,6 +226,25 @@ fn missing_argument(rt: HostRuntime) {
         &rt,
         "before the number of the task that acts",
         "99999999999 read 0",
+        line,
+    );
+    faults(&rt, "the line of begin", "begin", line);
+    faults(&rt, "the actor of step", "step", line);
+    faults(&rt, "the actor of finish", "finish", line);
+    faults(&rt, "of a task's number behind begin", "begin 7", line);
+    faults(
+        &rt,
+        "of a number behind begin that is too large",
+        "begin 99999999999",
+        line,
+    );
+    faults(&rt, "of group behind begin", "begin group", line);
+    faults(&rt, "of set behind begin", "begin set /a memory.max", line);
+    faults(&rt, "of write behind begin", "begin 7 write 0 0", line);
+    faults(
+        &rt,
+        "of read behind begin, before the task's bad number",
+        "begin 99999999999 read 0",
         line,
     );
 }
@@ -183,6 +271,43 @@ fn extra_argument(rt: HostRuntime) {
     faults(&rt, "before a bad name", "group a b", line);
     faults(&rt, "before a size out of its limit", "frames 0 0", line);
     faults(&rt, "before a byte above 255", "1 write 0 0 256 1", line);
+    faults(&rt, "of exit", "1 exit 2", line);
+    faults(
+        &rt,
+        "of exit, before the task's bad number",
+        "99999999999 exit 1",
+        line,
+    );
+    faults(&rt, "of step", "step 1 2", line);
+    faults(&rt, "of step, a word", "step control foo", line);
+    faults(&rt, "of finish", "finish shell shell", line);
+    faults(&rt, "a comment behind an actor", "step 1 # why", line);
+    faults(
+        &rt,
+        "before an actor's bad number",
+        "step 4294967296 1",
+        line,
+    );
+}
+
+#[test]
+fn extra_argument_behind_begin(rt: HostRuntime) {
+    let line = "line 1: extra argument\n";
+    faults(&rt, "of group", "begin group /a /b", line);
+    faults(&rt, "of task", "begin task 1 /a /b", line);
+    faults(&rt, "of set", "begin set /a memory.max 1 K", line);
+    faults(&rt, "of cat", "begin cat /a memory.max 1", line);
+    faults(&rt, "of write", "begin 7 write 0 0 1 1", line);
+    faults(&rt, "of read", "begin 7 read 0 0 0", line);
+    faults(&rt, "of exit", "begin 7 exit 7", line);
+    faults(&rt, "before a bad number", "begin task x /a 1", line);
+    faults(&rt, "before a bad name", "begin group a b", line);
+    faults(
+        &rt,
+        "before the task's bad number",
+        "begin 99999999999 exit 1",
+        line,
+    );
 }
 
 #[test]
@@ -279,6 +404,37 @@ fn bad_number_in_each_place(rt: HostRuntime) {
         line,
     );
     faults(&rt, "of the task that reads", "4294967296 read 0 0", line);
+    faults(&rt, "of the task that exits", "99999999999 exit", line);
+    faults(&rt, "of step", "step 4294967296", line);
+    faults(&rt, "of finish", "finish 99999999999", line);
+    faults(
+        &rt,
+        "of step, past 2 to the 64",
+        "step 18446744073709551617",
+        line,
+    );
+}
+
+#[test]
+fn bad_number_behind_begin(rt: HostRuntime) {
+    let line = "line 1: bad number\n";
+    faults(
+        &rt,
+        "of the task that exits",
+        "begin 99999999999 exit",
+        line,
+    );
+    faults(
+        &rt,
+        "of the task that reads",
+        "begin 4294967296 read 0 0",
+        line,
+    );
+    faults(&rt, "of task", "begin task x /a", line);
+    faults(&rt, "the page of write", "begin 7 write x 0 1", line);
+    faults(&rt, "a byte above 255", "begin 7 write 0 0 256", line);
+    faults(&rt, "the offset of read", "begin 7 read 0 -1", line);
+    faults(&rt, "before a bad name", "begin task x a", line);
 }
 
 #[test]
@@ -327,6 +483,15 @@ fn bad_name_of_each_command(rt: HostRuntime) {
         "cat memory.max /a",
         line,
     );
+    faults(&rt, "of group behind begin", "begin group a", line);
+    faults(&rt, "of task behind begin", "begin task 1 a", line);
+    faults(
+        &rt,
+        "of set behind begin",
+        "begin set /a/ memory.max 1",
+        line,
+    );
+    faults(&rt, "of cat behind begin", "begin cat a memory.max", line);
 }
 
 #[test]
@@ -358,6 +523,15 @@ fn header_after_commands(rt: HostRuntime) {
         "1 read 0 0\n# x\ntrace 4",
         "line 3: header after commands\n",
     );
+    faults(
+        &rt,
+        "after one that is begun",
+        "begin group /a\nframes 4\n",
+        line,
+    );
+    faults(&rt, "after a step", "step 1\ntrace 4\n", line);
+    faults(&rt, "after a finish", "finish shell\nframes 4\n", line);
+    faults(&rt, "after an exit", "1 exit\nframes 4\n", line);
 }
 
 #[test]

@@ -58,6 +58,12 @@ fn lines_and_words_are_set_apart(rt: HostRuntime) {
     );
     prints(
         &rt,
+        "so are those of a line that is begun, and of its turns",
+        "begin\t group   /a\r\n \tstep  control \nbegin cat /a\tmemory.max\n finish\tcontrol",
+        "max\n",
+    );
+    prints(
+        &rt,
         "comments and empty lines may stand between all others",
         "\
 # sizes

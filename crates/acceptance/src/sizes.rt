@@ -55,9 +55,21 @@ task 1 /a
 {writes}cat /a memory.current
 1 write 1024 0 1
 1 read 1023 4095
+1 exit
+cat /a memory.current
+task 2 /a
+2 read 1023 4095
+2 write 1023 4095 3
+cat /a memory.current
 "
     )?;
-    prints(&rt, "and no more", &script, "4194304\n1 BadPlace\n1 255\n");
+    let printed = "4194304\n1 BadPlace\n1 255\n0\n2 0\n4096\n";
+    prints(
+        &rt,
+        "and no more, and its exit frees them all",
+        &script,
+        printed,
+    );
     Ok(())
 }
 
@@ -94,6 +106,11 @@ task 0 /
 task 1025 /
 1025 read 0 0
 task 1026 /
+500 exit
+task 1026 /
+1026 read 0 0
+task 1027 /
+task 500 /
 "
     )?;
     let printed = "\
@@ -104,13 +121,41 @@ killed 1024
 1024 killed
 1025 0
 error ENOSPC
+1026 0
+error ENOSPC
+error NumberUsed
 ";
     prints(
         &rt,
-        "and a killed one makes place for another",
+        "and one that is killed or exits makes place for another",
         &script,
         printed,
     );
+    Ok(())
+}
+
+#[test]
+fn many_commands_may_be_under_way(rt: HostRuntime) -> Result<(), Fail> {
+    let alloc = rt.alloc();
+    let tasks = numbered(alloc, "task ", 1..=200, " /a")?;
+    let begins = numbered(alloc, "begin ", 1..=200, " write 0 0 7")?;
+    let steps = numbered(alloc, "step ", 1..=200, "")?;
+    let idle = numbered(alloc, "", 1..=200, " idle")?;
+    let script = format!(in alloc;
+        "\
+frames 200
+group /a
+{tasks}{begins}begin cat /a memory.current
+begin 1 exit
+step 200
+begin 200 read 0 0
+cat /a memory.current
+{steps}{steps}finish control
+cat /a memory.current
+"
+    )?;
+    let printed = format!(in alloc; "1 Underway\n4096\n200 7\n{idle}819200\n819200\n")?;
+    prints(&rt, "one of each of 200 tasks", &script, &printed);
     Ok(())
 }
 
@@ -137,6 +182,51 @@ set /a memory.max 0
     Ok(())
 }
 
+// After the first step the charge is refused. Of the next thousand turns the first kills, then every
+// second one.
+#[test]
+fn to_finish_a_command_takes_at_most_1000_turns(rt: HostRuntime) -> Result<(), Fail> {
+    let alloc = rt.alloc();
+    let tasks = numbered(alloc, "task ", 1..=503, " /a")?;
+    let script = format!(in alloc;
+        "\
+group /a
+set /a memory.max 0
+{tasks}begin 503 write 0 0 1
+step 503
+finish 503
+begin 503 exit
+step 503
+step 503
+cat /a memory.max
+finish 503
+finish 503
+503 exit
+"
+    )?;
+    let killed = numbered(alloc, "killed ", 1..=500, "")?;
+    let printed = format!(in alloc;
+        "\
+{killed}503 turn limit
+503 Underway
+killed 501
+0
+killed 502
+killed 503
+503 killed
+503 idle
+503 killed
+"
+    )?;
+    prints(
+        &rt,
+        "it stays under way, and its next turns go on with it",
+        &script,
+        &printed,
+    );
+    Ok(())
+}
+
 // The limit is set in the first turn. Then each kill takes one, and so does finding that there is room.
 #[test]
 fn an_answer_in_the_last_turn_counts(rt: HostRuntime) -> Result<(), Fail> {
@@ -160,22 +250,27 @@ cat /a memory.current
 #[test]
 fn a_limit_that_is_lowered_stops_after_1000_turns(rt: HostRuntime) -> Result<(), Fail> {
     let alloc = rt.alloc();
-    let tasks = numbered(alloc, "task ", 1..=999, " /a")?;
-    let writes = numbered(alloc, "", 1..=999, " write 0 0 1")?;
+    let tasks = numbered(alloc, "task ", 1..=1000, " /a")?;
+    let writes = numbered(alloc, "", 1..=1000, " write 0 0 1")?;
     let script = format!(in alloc;
         "\
 frames 1000
 group /a
 {tasks}{writes}set /a memory.max 0
+begin cat /a memory.max
+finish control
+step shell
 cat /a memory.current
 cat /a memory.current
 "
     )?;
     let killed = numbered(alloc, "killed ", 1..=999, "")?;
-    let printed = format!(in alloc; "{killed}error turn limit\nerror Underway\n0\n")?;
+    let printed = format!(in alloc;
+        "{killed}error turn limit\n0\nkilled 1000\nerror Underway\n0\n"
+    )?;
     prints(
         &rt,
-        "the shell's next line goes on with it",
+        "it stays the shell's command, whose next turns go on with it",
         &script,
         &printed,
     );

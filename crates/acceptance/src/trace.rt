@@ -183,6 +183,258 @@ killed 3
 }
 
 #[test]
+fn an_exit_is_one_entry(rt: HostRuntime) {
+    prints(
+        &rt,
+        "a task and its exit take two",
+        "\
+trace 3
+task 1 /
+1 exit
+task 2 /
+task 3 /
+",
+        "\
+error TraceFull
+",
+    );
+    prints(
+        &rt,
+        "however many pages come free",
+        "\
+trace 6
+task 1 /
+1 write 0 0 1
+1 write 1 0 1
+1 write 2 0 1
+1 exit
+task 2 /
+2 read 0 0
+",
+        "\
+2 TraceFull
+",
+    );
+    prints(
+        &rt,
+        "where it has no room the task lives on",
+        "\
+trace 3
+group /a
+task 1 /a
+1 write 0 0 1
+1 exit
+group /a/b
+1 exit
+",
+        "\
+1 TraceFull
+error EBUSY
+1 TraceFull
+",
+    );
+    prints(
+        &rt,
+        "a refused one takes none",
+        "\
+trace 3
+task 1 /
+9 exit
+0 exit
+65536 exit
+1 exit
+1 exit
+1 exit
+task 2 /
+task 3 /
+1 exit
+",
+        "\
+9 ESRCH
+0 ESRCH
+65536 ESRCH
+1 ESRCH
+1 ESRCH
+error TraceFull
+1 ESRCH
+",
+    );
+    // A group, its limit and its relief, a task, and three for the kill: seven.
+    prints(
+        &rt,
+        "of a killed task it takes one, as its other lines do",
+        "\
+trace 8
+group /a
+set /a memory.max 0
+task 1 /a
+1 write 0 0 1
+1 exit
+1 exit
+9 exit
+",
+        "\
+killed 1
+1 killed
+1 killed
+1 TraceFull
+9 ESRCH
+",
+    );
+}
+
+#[test]
+fn an_events_file_that_is_shown_is_one_entry(rt: HostRuntime) {
+    prints(
+        &rt,
+        "each of the two, and a refused one takes none",
+        "\
+trace 3
+group /a
+cat / memory.events
+cat /b memory.events
+set /a memory.events 0
+cat /a memory.events.local
+cat /a memory.events
+cat /a memory.events
+cat / memory.events
+set /a memory.events 0
+",
+        "\
+error ENOENT
+error ENOENT
+error EINVAL
+low 0
+high 0
+max 0
+oom 0
+oom_kill 0
+oom_group_kill 0
+low 0
+high 0
+max 0
+oom 0
+oom_kill 0
+oom_group_kill 0
+error TraceFull
+error ENOENT
+error EINVAL
+",
+    );
+}
+
+#[test]
+fn entries_are_taken_turn_by_turn(rt: HostRuntime) {
+    prints(
+        &rt,
+        "to begin takes none, nor do an idle turn and a line that is not begun",
+        "\
+trace 3
+task 1 /
+begin 1 write 0 0 7
+begin 1 read 0 0
+step 2
+step control
+finish shell
+step 1
+step 1
+1 read 0 0
+1 read 0 0
+",
+        "\
+1 Underway
+2 idle
+error idle
+error idle
+1 idle
+1 7
+1 TraceFull
+",
+    );
+    prints(
+        &rt,
+        "another actor may take the last one between two turns of a limit",
+        "\
+trace 3
+group /a
+begin set /a memory.max 4096
+step control
+cat /a memory.max
+step control
+step control
+",
+        "\
+4096
+error TraceFull
+error idle
+",
+    );
+    // A group, its limit and its relief, a task, and the refused charge: five.
+    prints(
+        &rt,
+        "or between two turns of a write, and then nobody is killed",
+        "\
+trace 6
+group /a
+set /a memory.max 0
+task 1 /a
+begin 1 write 0 0 1
+step 1
+cat /a memory.max
+step 1
+step 1
+",
+        "\
+0
+1 TraceFull
+1 idle
+",
+    );
+    prints(
+        &rt,
+        "or between the kill and the write that is tried again",
+        "\
+trace 7
+group /a
+set /a memory.max 0
+task 1 /a
+begin 1 write 0 0 1
+step 1
+step 1
+cat /a memory.current
+step 1
+step 1
+",
+        "\
+killed 1
+0
+1 TraceFull
+1 idle
+",
+    );
+    prints(
+        &rt,
+        "to find room in the relief takes one too",
+        "\
+trace 6
+group /a
+set /a memory.max 0
+task 1 /a
+begin 1 write 0 0 1
+step 1
+set /a memory.max 8192
+step 1
+step 1
+",
+        "\
+error TraceFull
+1 TraceFull
+1 idle
+",
+    );
+}
+
+#[test]
 fn a_refused_line_takes_no_entry(rt: HostRuntime) {
     prints(
         &rt,

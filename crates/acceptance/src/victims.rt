@@ -238,8 +238,8 @@ killed 1
 
 #[test]
 fn want_of_a_frame_is_relieved_in_the_whole_tree(rt: HostRuntime) {
-    // The task whose access wants the frame is live and below the root, so there is always
-    // somebody to kill, and no access ends with ENOMEM.
+    // Where no frame is free some live task has pages, so there is always somebody to kill, and no
+    // access ends with ENOMEM for want of a frame.
     prints(
         &rt,
         "a task of the root that is alone is killed itself",

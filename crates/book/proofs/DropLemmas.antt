@@ -12,7 +12,8 @@ use Rattle.machine.specs.Step.{still}
 use Rattle.machine.proofs.TreeLemmas.{eq_cases}
 use Rattle.machine.proofs.SlotLemmas.{one_if}
 use Rattle.machine.proofs.MappingLemmas.{mapped_at-mappers, mapped_at-without_task}
-use Rattle.pages.specs.PageTable.{PageTable, byte_in, IsHeldMemory, AreHeld}
+use Rattle.pages.specs.PageTable.{byte_in, IsHeldMemory, AreHeld}
+use Rattle.book.specs.Holdings.{Stored}
 use Rattle.book.specs.Contents.{there, AreMapped, byte_shown}
 use Rattle.book.specs.Drops.{shows_to, is_gone, DropsPages}
 
@@ -95,7 +96,7 @@ there_one None = omega arith
 there_one (Some page) = omega arith
 
 -- the page of the task's next mapping is still there
-pub next_there : (t : ℕ) (old now : PageTable) (ms : List Mapping) (i : ℕ) (d : Mapping) → i < length ms → ((p : ℕ) → mappers ms p ≡ there (page_at old.pages p))
+pub next_there : (t : ℕ) (old now : Stored) (ms : List Mapping) (i : ℕ) (d : Mapping) → i < length ms → ((p : ℕ) → mappers ms p ≡ there (page_at old.pages p))
     → DropsPages old now (is_gone t (take i ms)) → is_of t (get_or ms i d) ≡ true → IsSome (page_at now.pages (get_or ms i d).page.0)
 next_there t old now ms i d lt once drops is =
     let p : ℕ = (get_or ms i d).page.0 in
@@ -107,7 +108,7 @@ next_there t old now ms i d lt once drops is =
     subst IsSome (sym (drops.pages p ∙ ap (λ b. cond b None (page_at old.pages p)) waits)) (there_some (page_at old.pages p) (omega (arith, one, some)))
 
 -- one mapping more
-pub drops_next : (t : ℕ) (old now next : PageTable) (ms : List Mapping) (i : ℕ) (d : Mapping) → i < length ms → DropsPages old now (is_gone t (take i ms))
+pub drops_next : (t : ℕ) (old now next : Stored) (ms : List Mapping) (i : ℕ) (d : Mapping) → i < length ms → DropsPages old now (is_gone t (take i ms))
     → DropsPages now next (λ q. shows_to t q (get_or ms i d)) → DropsPages old next (is_gone t (take (i + 1) ms))
 drops_next t old now next ms i d lt before here =
     record {
@@ -125,7 +126,7 @@ drops_next t old now next ms i d lt before here =
 
 -- ---- after all of them
 
-module _ (t : ℕ) (old new : PageTable) (tasks : Tasks) (ms : List Mapping) (mapped : AreMapped old.pages tasks ms) (held : AreHeld old.pages) (drops : DropsPages old new (is_gone t ms)) where
+module _ (t : ℕ) (old new : Stored) (tasks : Tasks) (ms : List Mapping) (mapped : AreMapped old.pages tasks ms) (held : AreHeld old.pages) (drops : DropsPages old new (is_gone t ms)) where
   gone_is : (q : ℕ) (b : Bool) → is_gone t ms q ≡ b → page_at new.pages q ≡ cond b None (page_at old.pages q)
   gone_is q b e = drops.pages q ∙ ap (λ b. cond b None (page_at old.pages q)) e
 

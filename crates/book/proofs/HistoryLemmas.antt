@@ -1,5 +1,5 @@
 -- One entry more: what a history tells goes on to hold.
-use Rattle.std.proofs.Common.{◌≡◌, inl, inr, ℕ, ◌+◌, ◌<◌, ◌≤◌, ◌==◌, ◌&&◌, ◌||◌, Bool, true, false, cond, List, [], ◌∷◌, ◌++◌, Option, Some, None, refl, sym, ap, ◌∙◌, subst, arith, length, add-one}
+use Rattle.std.proofs.Common.{◌≡◌, inl, inr, ℕ, ◌+◌, ◌<◌, ◌≤◌, ◌==◌, ◌&&◌, ◌||◌, Bool, true, false, cond, List, [], ◌∷◌, ◌++◌, Option, Some, None, refl, sym, ap, ◌∙◌, subst, arith, length, length-append, add-one}
 use Rattle.std.specs.Prelude.{slice_index, slice_set, reverse, nat_le, IfSome, nat_lt}
 use Rattle.std.proofs.lemmas.List.{get_or-set_same, get_or-set_other, reverse-append, length-set}
 use Rattle.std.proofs.lemmas.List.Sums.{length-filter, count_by-le-length}
@@ -36,6 +36,7 @@ use Rattle.machine.specs.Call.{is_full_for, Past, need, meeting_need, meeting_gr
 use Rattle.machine.proofs.TreeLemmas.{eq_cases}
 use Rattle.machine.proofs.SlotLemmas.{count_there-none}
 use Rattle.pages.specs.PageTable.{IsHeldMemory, AreHeld, frame_of}
+use Rattle.events.specs.Tallies.{Tells}
 use Rattle.book.specs.Contents.{Contents, counting, counted_after, group_after, byte_at, byte_at_spot, ReadsByte}
 use Rattle.book.specs.Serves.{Serves, starts, is_refused}
 use Rattle.book.specs.Told.{group_in, counted_in, state_of, IsHistory}
@@ -82,25 +83,26 @@ or_true true b e never = absurd (never refl)
 or_true false b e never = e
 
 -- the step that an entry more records
-pub steps_on : (old new : Contents) (history : List Entry) (worker : ℕ) (what : Event) (answer : Reply) → ((t : ℕ) → group_of_task old.tables.tasks t ≡ group_in history t) → Serves old what answer new
+pub steps_on : (old new : Contents) (history : List Entry) (worker : ℕ) (what : Event) (answer : Reply) → ((t : ℕ) → group_of_task old.tables.tasks t ≡ group_in history t) → Tells old.tallies (counted_in history) → Serves old what answer new
     → Step (state_of old history) what answer (state_of new (entry_of worker history what answer ∷ history))
-steps_on old new history worker what answer groups serves =
+steps_on old new history worker what answer groups tells serves =
     subst (λ (c : List Counted). Step (state_of old history) what answer (counting new.tables c)) (counted-same (group_of_task old.tables.tasks) (group_in history) groups (counted_in history) what answer)
-    (serves.steps (counted_in history))
+    (serves.steps (counted_in history) tells)
 
 -- one entry more
 pub extends : (old new : Contents) (history : List Entry) (counts : List ℕ) (worker : ℕ) (what : Event) (answer : Reply) → worker < length counts → IsHistory old history counts → refusal (state_of old history) what ≡ None
     → is_full_for (state_of old history) history what ≡ false → Serves old what answer new → IsHistory new (entry_of worker history what answer ∷ history) (slice_set counts worker (slice_index counts worker + 1))
 extends old new history counts worker what answer known told none room serves =
     record {
-      legal = (state_of old history, subst (λ opening. Legal opening history (state_of old history)) (sym serves.opening) told.legal, record { unrefused = none; room = room; steps = steps_on old new history worker what answer told.groups serves });
-      right = (told.right, read_right old history what answer _ (counted_in history) told.bytes (serves.steps (counted_in history)) serves.reads);
+      legal = (state_of old history, subst (λ opening. Legal opening history (state_of old history)) (sym serves.opening) told.legal, record { unrefused = none; room = room; steps = steps_on old new history worker what answer told.groups told.tallied serves });
+      right = (told.right, read_right old history what answer _ (counted_in history) told.bytes (serves.steps (counted_in history) told.tallied) serves.reads);
       numbered = (told.numbered, refl);
       bytes = λ t v o alive.
           serves.bytes t v o alive
           ∙ follow-same (says what answer (InTask t v o)) (byte_at_spot old) (last history) (InTask t v o)
           (λ quiet. told.bytes t v o (or_true (starts what answer t) (lives old.tables.tasks t) (serves.living t alive) (λ first. starts-says what answer t v o first quiet)));
       groups = λ t. serves.groups t ∙ ap (group_after what answer t) (told.groups t);
+      tallied = subst (λ (c : List Counted). Tells new.tallies c) (counted-same (group_of_task old.tables.tasks) (group_in history) told.groups (counted_in history) what answer) (serves.tallied (counted_in history) told.tallied);
       counted = counted;
     }
   where
@@ -165,6 +167,7 @@ need_one s (event.Relieve why) no_swap held = ap (λ b. two_if (stands s why && 
     none true = refl
     none false = refl
 need_one s (event.Spawn t g) no_swap held = refl
+need_one s (event.Exit t) no_swap held = refl
 need_one s (event.Mkdir path) no_swap held = refl
 need_one s (event.Set g what) no_swap held = refl
 need_one s (event.Show what) no_swap held = refl
@@ -220,10 +223,13 @@ pub refusal-counting : (s : State) (c : List Counted) (what : Event) → refusal
 refusal-counting s c (event.Access t place op) = refl
 refusal-counting s c (event.Relieve why) = refl
 refusal-counting s c (event.Spawn t g) = refl
+refusal-counting s c (event.Exit t) = refl
 refusal-counting s c (event.Mkdir path) = refl
 refusal-counting s c (event.Set g what) = refl
 refusal-counting s c (event.Show (query.Current g)) = refl
 refusal-counting s c (event.Show (query.Max g)) = refl
+refusal-counting s c (event.Show (query.Events g)) = refl
+refusal-counting s c (event.Show (query.EventsLocal g)) = refl
 
 abbrev pub past : Contents → List Entry → List ℕ → Past
 past c entries counts = record { state = state_of c (reverse entries); history = reverse entries; passes = length counts }
@@ -242,7 +248,7 @@ module _ (old new : Contents) (entries entries' : List Entry) (counts counts' : 
   pub answers_more : Answers (past old entries counts) w.0 what answer (past new entries' counts')
   answers_more =
       record {
-        steps = subst (λ (h : List Entry). Step (state_of old (reverse entries)) what answer (state_of new h)) (sym history_is) (steps_on old new (reverse entries) w.0 what answer told.groups serves);
+        steps = subst (λ (h : List Entry). Step (state_of old (reverse entries)) what answer (state_of new h)) (sym history_is) (steps_on old new (reverse entries) w.0 what answer told.groups told.tallied serves);
         history = history_is;
         passes = ap length changed ∙ length-set counts w.0 (slice_index counts w.0 + 1);
       }
@@ -255,3 +261,23 @@ room_left p what no_swap held room =
   where
     not_le : (a b : ℕ) → nat_le a b ≡ false → b < a
     not_le a b e = grind (arith, nat_tests, e)
+
+-- each entry counts at most two events
+pub few-counted : (history : List Entry) → length (counted_in history) ≤ length history + length history
+few-counted [] = omega arith
+few-counted (entry ∷ earlier) = by_entry (group_in earlier) (counted_in earlier) entry.event entry.reply (few-counted earlier)
+  where
+    longer : length (entry ∷ earlier) ≡ length earlier + 1
+    longer = sym (add-one (length earlier))
+
+    none : (c : List Counted) → length c ≤ length earlier + length earlier → length c ≤ length (entry ∷ earlier) + length (entry ∷ earlier)
+    none c le = omega (arith, le, longer)
+
+    some : (c d : List Counted) → length d ≤ 2 → length c ≤ length earlier + length earlier → length (c ++ d) ≤ length (entry ∷ earlier) + length (entry ∷ earlier)
+    some c d two le = let both = length-append c d in omega (arith, both, two, le, longer)
+
+    by_entry : (group_of : ℕ → ℕ) (c : List Counted) (what : Event) (answer : Reply) → length c ≤ length earlier + length earlier → length (counted_after group_of c what answer) ≤ length (entry ∷ earlier) + length (entry ∷ earlier)
+    by_entry group_of c (event.Access t place op) (reply.Over g) le = some c _ (omega arith) le
+    by_entry group_of c (event.Relieve cause) (reply.KilledTask t) le = some c _ (omega arith) le
+    by_entry group_of c (event.Relieve cause) reply.NoVictim le = some c _ (omega arith) le
+    by_entry group_of c what answer le = none c le

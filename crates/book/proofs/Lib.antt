@@ -1,8 +1,9 @@
-pub mod PoolLemmas
 pub mod WorstLemmas
 pub mod ServeLemmas
 pub mod BalanceLemmas
+pub mod HoldingLemmas
+pub mod KinLemmas
+pub mod TallyLemmas
 pub mod DropLemmas
-pub mod OverLemmas
 pub mod StateLemmas
 pub mod HistoryLemmas

@@ -1,5 +1,5 @@
 -- What each change of the parts is to the plain machine.
-use Rattle.std.proofs.Common.{◌≡◌, ◌≢◌, inl, inr, ℕ, ◌≤◌, ◌==◌, ◌&&◌, ◌||◌, not, Bool, true, false, cond, if◌then◌else◌, List, [], ◌∷◌, ◌++◌, Option, Some, None, refl, sym, ap, ◌∙◌, arith}
+use Rattle.std.proofs.Common.{◌≡◌, ◌≢◌, inl, inr, ℕ, ◌≤◌, ◌==◌, ◌&&◌, ◌||◌, not, Bool, true, false, cond, if◌then◌else◌, List, [], ◌∷◌, ◌++◌, Option, Some, None, refl, sym, ap, subst, ◌∙◌, arith}
 use Rattle.std.specs.Prelude.{nat_lt, IfSome, is_some, slice_set}
 use Rattle.std.proofs.lemmas.Bool.Decides.{nat_tests}
 use Rattle.machine.specs.declared.record.Key.TheVariants as key
@@ -16,7 +16,7 @@ use Rattle.machine.specs.declared.event.Cause.{Cause}
 use Rattle.machine.specs.declared.event.Cause.TheVariants as cause
 use Rattle.machine.specs.declared.event.Setting.{Setting}
 use Rattle.machine.specs.declared.event.Query.{Query}
-use Rattle.machine.specs.declared.event.Query.TheVariants as query
+use Rattle.machine.specs.declared.reply.Shown.{Shown}
 use Rattle.machine.specs.declared.event.Event.TheVariants as event
 use Rattle.machine.specs.declared.reply.Reply.{Reply}
 use Rattle.machine.specs.declared.reply.Reply.TheVariants as reply
@@ -24,17 +24,18 @@ use Rattle.machine.specs.Slots.{at, Changes, there_and}
 use Rattle.machine.specs.Tree.{under}
 use Rattle.machine.specs.Pages.{Page, Pages, page_at, is_held, used_swap}
 use Rattle.machine.specs.Counts.{no_limits, limits_at, Counted}
-use Rattle.machine.specs.Tasks.{Tasks, task_at, is_live_task, lives, SetsTask, group_of, group_of_task, mapped_at, mappers, mapping, without_task}
+use Rattle.machine.specs.Tasks.{Tasks, task_at, is_live_life, is_live_task, lives, SetsTask, group_of, group_of_task, mapped_at, mappers, mapping, without_task}
 use Rattle.machine.specs.State.{State, over_in, is_frame_free, is_swap_free}
 use Rattle.machine.specs.Access.{meets}
 use Rattle.machine.specs.Reclaim.{stands, target_of, is_open, is_takeable, has_takeable, is_transfer_under, has_transfer}
 use Rattle.machine.specs.Victim.{IsVictim}
-use Rattle.machine.specs.Step.{ChargeStep, IsFreeFrame, MakesPage, MeetStep, TaskStep, LifeStep, RelieveStep, KillStep, Unmaps, count_of, new_page, new_node, with_setting, shown_of}
+use Rattle.machine.specs.Step.{Step, ChargeStep, IsFreeFrame, MakesPage, MeetStep, TaskStep, LifeStep, RelieveStep, KillStep, Unmaps, count_of, new_page, new_node, with_setting, shown_of}
 use Rattle.machine.specs.History.{Spot, InTask, follow, says_if, Byte}
 use Rattle.machine.proofs.TreeLemmas.{eq_cases}
 use Rattle.machine.proofs.MappingLemmas.{mapped_at-without_task, mapped_at-mappers, mapped_at-one, mapped_at-push, mapped_at-push_other}
 use Rattle.machine.proofs.SlotLemmas.{any_there-none, count_there-none}
 use Rattle.pages.specs.PageTable.{byte_in, IsHeldMemory, AreHeld}
+use Rattle.events.specs.Tallies.{Tells}
 use Rattle.book.specs.Contents.{Contents, counting, byte_shown, byte_at, byte_at_spot, AreMapped, there}
 use Rattle.book.specs.Serves.{Serves}
 
@@ -104,11 +105,12 @@ frameless_step s over free Granted none is = rw none (rw is (refl, refl))
 -- ---- groups
 
 pub serves-mkdir : (old new : Contents) (path : List ℕ)
-    → new.tables ≡ record old.tables { tree = old.tables.tree ++ new_node old.tables.tree path ∷ []; limits = old.tables.limits ++ no_limits ∷ [] } → new.bytes ≡ old.bytes
+    → new.tables ≡ record old.tables { tree = old.tables.tree ++ new_node old.tables.tree path ∷ []; limits = old.tables.limits ++ no_limits ∷ [] } → new.bytes ≡ old.bytes → ((c : List Counted) → Tells old.tallies c → Tells new.tallies c)
     → Serves old (event.Mkdir path) reply.Ok new
-serves-mkdir old new path tables bytes =
+serves-mkdir old new path tables bytes tells =
     record {
-      steps = λ c. ap (λ (s : State). counting s c) tables;
+      steps = λ c told. ap (λ (s : State). counting s c) tables;
+      tallied = tells;
       groups = λ t. ap (λ (s : State). group_of_task s.tasks t) tables;
       reads = tt;
       bytes = λ t v o alive. ap (λ (s : State). byte_shown new.bytes (mapped_at s.mappings t v) o) tables ∙ ap (λ bs. byte_shown bs (mapped_at old.tables.mappings t v) o) bytes;
@@ -119,11 +121,12 @@ serves-mkdir old new path tables bytes =
     }
 
 pub serves-set : (old new : Contents) (g : ℕ) (setting : Setting)
-    → new.tables ≡ record old.tables { limits = slice_set old.tables.limits g (with_setting (limits_at old.tables.limits g) setting) } → new.bytes ≡ old.bytes
+    → new.tables ≡ record old.tables { limits = slice_set old.tables.limits g (with_setting (limits_at old.tables.limits g) setting) } → new.bytes ≡ old.bytes → ((c : List Counted) → Tells old.tallies c → Tells new.tallies c)
     → Serves old (event.Set (record { 0 = g }) setting) reply.Ok new
-serves-set old new g setting tables bytes =
+serves-set old new g setting tables bytes tells =
     record {
-      steps = λ c. ap (λ (s : State). counting s c) tables;
+      steps = λ c told. ap (λ (s : State). counting s c) tables;
+      tallied = tells;
       groups = λ t. ap (λ (s : State). group_of_task s.tasks t) tables;
       reads = tt;
       bytes = λ t v o alive. ap (λ (s : State). byte_shown new.bytes (mapped_at s.mappings t v) o) tables ∙ ap (λ bs. byte_shown bs (mapped_at old.tables.mappings t v) o) bytes;
@@ -133,9 +136,9 @@ serves-set old new g setting tables bytes =
       opening = ap (λ (s : State). s.opening) tables;
     }
 
-pub serves-show : (s : Contents) (what : Query) → Serves s (event.Show what) (reply.Shown (shown_of s.tables what)) s
-serves-show s (query.Current g) = record { steps = λ c. (refl, refl); groups = λ t. refl; reads = tt; bytes = λ t v o alive. refl; living = λ t h. h; replies = tt; given = refl; opening = refl }
-serves-show s (query.Max g) = record { steps = λ c. (refl, refl); groups = λ t. refl; reads = tt; bytes = λ t v o alive. refl; living = λ t h. h; replies = tt; given = refl; opening = refl }
+-- what is shown is told for whatever events the tallies tell
+pub serves-show : (s : Contents) (what : Query) (numbers : Shown) → ((c : List Counted) → Tells s.tallies c → numbers ≡ shown_of (counting s.tables c) what) → Serves s (event.Show what) (reply.Shown numbers) s
+serves-show s what numbers is = record { steps = λ c told. (is c told, refl); tallied = λ c told. told; groups = λ t. refl; reads = tt; bytes = λ t v o alive. refl; living = λ t h. h; replies = tt; given = refl; opening = refl }
 
 -- ---- tasks
 
@@ -147,11 +150,12 @@ unmapped_of pages tasks mappings mapped t v none = at (mapped_at mappings t v) r
     at (Some p) is = absurd (let owned = mapped.owned t v p is in let unowned : is_some (task_at tasks t) ≡ false = ap is_some none in cc)
 
 pub serves-spawn : (old new : Contents) (t g : ℕ) → AreMapped old.tables.pages old.tables.tasks old.tables.mappings → task_at old.tables.tasks t ≡ None
-    → SetsTask old.tables.tasks t g Live new.tables.tasks → new.tables ≡ record old.tables { tasks = new.tables.tasks } → new.bytes ≡ old.bytes
+    → SetsTask old.tables.tasks t g Live new.tables.tasks → new.tables ≡ record old.tables { tasks = new.tables.tasks } → new.bytes ≡ old.bytes → ((c : List Counted) → Tells old.tallies c → Tells new.tallies c)
     → Serves old (event.Spawn (record { 0 = t }) (record { 0 = g })) reply.Ok new
-serves-spawn old new t g mapped none sets tables bytes =
+serves-spawn old new t g mapped none sets tables bytes tells =
     record {
-      steps = λ c. (sets, ap (λ (s : State). counting s c) tables);
+      steps = λ c told. (sets, ap (λ (s : State). counting s c) tables);
+      tallied = tells;
       groups = λ u.
           elim (eq_cases t u) [
             | inl same ↦ (let hit : (t == u) ≡ true = grind (arith, nat_tests, same) in ap group_of (ap (at new.tables.tasks) (sym same) ∙ sets.changed) ∙ ap (λ b. cond b g (group_of_task old.tables.tasks u)) (sym hit))
@@ -185,15 +189,16 @@ serves-spawn old new t g mapped none sets tables bytes =
 pub serves-killed : (s : Contents) (t : ℕ) (place : Place) (op : Op) (task : Task) → task_at s.tables.tasks t ≡ Some task → task.life ≡ Killed
     → Serves s (event.Access (record { 0 = t }) place op) reply.Killed s
 serves-killed s t place Read task is killed =
-    record { steps = λ c. killed_step (counting s.tables c) _ task _ is killed; groups = λ t. refl; reads = tt; bytes = λ t v o alive. refl; living = λ t h. h; replies = tt; given = refl; opening = refl }
+    record { steps = λ c told. killed_step (counting s.tables c) _ task _ is killed; tallied = λ c told. told; groups = λ t. refl; reads = tt; bytes = λ t v o alive. refl; living = λ t h. h; replies = tt; given = refl; opening = refl }
 serves-killed s t place (Write b) task is killed =
-    record { steps = λ c. killed_step (counting s.tables c) _ task _ is killed; groups = λ t. refl; reads = tt; bytes = λ t v o alive. refl; living = λ t h. h; replies = tt; given = refl; opening = refl }
+    record { steps = λ c told. killed_step (counting s.tables c) _ task _ is killed; tallied = λ c told. told; groups = λ t. refl; reads = tt; bytes = λ t v o alive. refl; living = λ t h. h; replies = tt; given = refl; opening = refl }
 
 pub serves-unmapped : (s : Contents) (t v o : ℕ) (task : Task) → task_at s.tables.tasks t ≡ Some task → task.life ≡ Live → mapped_at s.tables.mappings t v ≡ None
     → Serves s (event.Access (record { 0 = t }) (Virtual v o) Read) (reply.Done 0 None) s
 serves-unmapped s t v o task is living none =
     record {
-      steps = λ c. live_step (counting s.tables c) _ task _ _ _ is living (rw none (refl, refl));
+      steps = λ c told. live_step (counting s.tables c) _ task _ _ _ is living (rw none (refl, refl));
+      tallied = λ c told. told;
       groups = λ t. refl;
       reads = sym (ap (λ m. byte_shown s.bytes m o) none);
       bytes = λ t v o alive. refl;
@@ -208,7 +213,8 @@ pub serves-hit_read : (s : Contents) (t v o p g f : ℕ) (task : Task) → task_
     → Serves s (event.Access (record { 0 = t }) (Virtual v o) Read) (reply.Done (byte_in s.bytes p o) (Some (record { 0 = f }))) s
 serves-hit_read s t v o p g f task is living shown page =
     record {
-      steps = λ c. live_step (counting s.tables c) _ task _ _ _ is living (rw shown (rw page (refl, refl)));
+      steps = λ c told. live_step (counting s.tables c) _ task _ _ _ is living (rw shown (rw page (refl, refl)));
+      tallied = λ c told. told;
       groups = λ t. refl;
       reads = sym (ap (λ m. byte_shown s.bytes m o) shown);
       bytes = λ t v o alive. refl;
@@ -220,11 +226,12 @@ serves-hit_read s t v o p g f task is living shown page =
 
 pub serves-hit_write : (old new : Contents) (t v o b p g f : ℕ) (task : Task) → AreMapped old.tables.pages old.tables.tasks old.tables.mappings
     → task_at old.tables.tasks t ≡ Some task → task.life ≡ Live → mapped_at old.tables.mappings t v ≡ Some p → page_at old.tables.pages p ≡ Some (new_page g f)
-    → new.tables ≡ old.tables → ((q k : ℕ) → byte_in new.bytes q k ≡ (if (q == p) && (o == k) then b else byte_in old.bytes q k))
+    → new.tables ≡ old.tables → ((q k : ℕ) → byte_in new.bytes q k ≡ (if (q == p) && (o == k) then b else byte_in old.bytes q k)) → ((c : List Counted) → Tells old.tallies c → Tells new.tallies c)
     → Serves old (event.Access (record { 0 = t }) (Virtual v o) (Write b)) (reply.Done b (Some (record { 0 = f }))) new
-serves-hit_write old new t v o b p g f task mapped is living shown page tables bytes =
+serves-hit_write old new t v o b p g f task mapped is living shown page tables bytes tells =
     record {
-      steps = λ c. live_step (counting old.tables c) _ task _ _ _ is living (meets_page c);
+      steps = λ c told. live_step (counting old.tables c) _ task _ _ _ is living (meets_page c);
+      tallied = tells;
       groups = λ u. ap (λ (s : State). group_of_task s.tasks u) tables;
       reads = tt;
       bytes = λ u w k alive. ap (λ (s : State). byte_shown new.bytes (mapped_at s.mappings u w) k) tables ∙ at_place u w k (mapped_at old.tables.mappings u w) refl;
@@ -275,11 +282,12 @@ pub serves-made : (old new : Contents) (t v o b p f : ℕ) (task : Task) → Are
     → over_in old.tables task.group.0 ≡ None → is_frame_free old.tables ≡ true → IsFreeFrame old.tables f → page_at old.tables.pages p ≡ None
     → Changes old.tables.pages new.tables.pages p (Some (new_page task.group.0 f))
     → new.tables ≡ record old.tables { pages = new.tables.pages; mappings = old.tables.mappings ++ mapping t v p ∷ [] }
-    → ((q k : ℕ) → byte_in new.bytes q k ≡ (if q == p then (if o == k then b else 0) else byte_in old.bytes q k))
+    → ((q k : ℕ) → byte_in new.bytes q k ≡ (if q == p then (if o == k then b else 0) else byte_in old.bytes q k)) → ((c : List Counted) → Tells old.tallies c → Tells new.tallies c)
     → Serves old (event.Access (record { 0 = t }) (Virtual v o) (Write b)) (reply.Done b None) new
-serves-made old new t v o b p f task mapped is living none under free frame slot placed tables bytes =
+serves-made old new t v o b p f task mapped is living none under free frame slot placed tables bytes tells =
     record {
-      steps = λ c. live_step (counting old.tables c) _ task _ _ _ is living (makes c);
+      steps = λ c told. live_step (counting old.tables c) _ task _ _ _ is living (makes c);
+      tallied = tells;
       groups = λ u. ap (λ (s : State). group_of_task s.tasks u) tables;
       reads = tt;
       bytes = λ u w k alive. ap (λ (s : State). byte_shown new.bytes (mapped_at s.mappings u w) k) tables ∙ at_place u w k ((t == u) && (v == w)) refl;
@@ -320,39 +328,45 @@ serves-made old new t v o b p f task mapped is living none under free frame slot
         ap (λ m. byte_shown new.bytes m k) (mapped_at-push_other old.tables.mappings t v p u w miss) ∙ at_old u w k (mapped_at old.tables.mappings u w) refl
         ∙ unwritten (t == u) (v == w) (o == k) b (byte_at_spot old) (InTask u w k) _ (λ hit. let wrong : true ≡ false = sym hit ∙ miss in cc) refl
 
-pub serves-over : (s : Contents) (t v o b a : ℕ) (task : Task) → task_at s.tables.tasks t ≡ Some task → task.life ≡ Live → mapped_at s.tables.mappings t v ≡ None
-    → over_in s.tables task.group.0 ≡ Some a → Serves s (event.Access (record { 0 = t }) (Virtual v o) (Write b)) (reply.Over (record { 0 = a })) s
-serves-over s t v o b a task is living none full =
+pub serves-over : (old new : Contents) (t v o b a : ℕ) (task : Task) → task_at old.tables.tasks t ≡ Some task → task.life ≡ Live → mapped_at old.tables.mappings t v ≡ None
+    → over_in old.tables task.group.0 ≡ Some a → new.tables ≡ old.tables → new.bytes ≡ old.bytes → ((c : List Counted) → Tells old.tallies c → Tells new.tallies (c ++ count_of a key.Max ∷ []))
+    → Serves old (event.Access (record { 0 = t }) (Virtual v o) (Write b)) (reply.Over (record { 0 = a })) new
+serves-over old new t v o b a task is living none full tables bytes tells =
     record {
-      steps = λ c. live_step (counting s.tables c) _ task _ _ _ is living (rw none (over_step (counting s.tables c) _ _ _ a full));
-      groups = λ t. refl;
+      steps = λ c told. subst (λ (s : State). Step (counting old.tables c) (event.Access (record { 0 = t }) (Virtual v o) (Write b)) (reply.Over (record { 0 = a })) (counting s (c ++ count_of a key.Max ∷ []))) (sym tables)
+          (live_step (counting old.tables c) _ task _ _ _ is living (rw none (over_step (counting old.tables c) _ _ _ a full)));
+      tallied = tells;
+      groups = λ t. ap (λ (s : State). group_of_task s.tasks t) tables;
       reads = tt;
-      bytes = λ t v o alive. refl;
-      living = λ t h. h;
+      bytes = λ t v o alive. ap (λ (s : State). byte_shown new.bytes (mapped_at s.mappings t v) o) tables ∙ ap (λ bs. byte_shown bs (mapped_at old.tables.mappings t v) o) bytes;
+      living = λ u h. sym (ap (λ (s : State). lives s.tasks u) tables) ∙ h;
       replies = tt;
       given = refl;
-      opening = refl;
+      opening = ap (λ (s : State). s.opening) tables;
     }
 
-pub serves-no_frame : (s : Contents) (t v o b : ℕ) (task : Task) → task_at s.tables.tasks t ≡ Some task → task.life ≡ Live → mapped_at s.tables.mappings t v ≡ None
-    → over_in s.tables task.group.0 ≡ None → is_frame_free s.tables ≡ false → Serves s (event.Access (record { 0 = t }) (Virtual v o) (Write b)) reply.NoFrame s
-serves-no_frame s t v o b task is living none under taken =
+pub serves-no_frame : (old new : Contents) (t v o b : ℕ) (task : Task) → task_at old.tables.tasks t ≡ Some task → task.life ≡ Live → mapped_at old.tables.mappings t v ≡ None
+    → over_in old.tables task.group.0 ≡ None → is_frame_free old.tables ≡ false → new.tables ≡ old.tables → new.bytes ≡ old.bytes → ((c : List Counted) → Tells old.tallies c → Tells new.tallies c)
+    → Serves old (event.Access (record { 0 = t }) (Virtual v o) (Write b)) reply.NoFrame new
+serves-no_frame old new t v o b task is living none under taken tables bytes tells =
     record {
-      steps = λ c. live_step (counting s.tables c) _ task _ _ _ is living (rw none (frameless_step (counting s.tables c) _ _ _ under taken));
-      groups = λ t. refl;
+      steps = λ c told. subst (λ (s : State). Step (counting old.tables c) (event.Access (record { 0 = t }) (Virtual v o) (Write b)) reply.NoFrame (counting s c)) (sym tables)
+          (live_step (counting old.tables c) _ task _ _ _ is living (rw none (frameless_step (counting old.tables c) _ _ _ under taken)));
+      tallied = tells;
+      groups = λ t. ap (λ (s : State). group_of_task s.tasks t) tables;
       reads = tt;
-      bytes = λ t v o alive. refl;
-      living = λ t h. h;
+      bytes = λ t v o alive. ap (λ (s : State). byte_shown new.bytes (mapped_at s.mappings t v) o) tables ∙ ap (λ bs. byte_shown bs (mapped_at old.tables.mappings t v) o) bytes;
+      living = λ u h. sym (ap (λ (s : State). lives s.tasks u) tables) ∙ h;
       replies = tt;
       given = refl;
-      opening = refl;
+      opening = ap (λ (s : State). s.opening) tables;
     }
 
 -- ---- relief
 
 pub serves-room : (s : Contents) (why : Cause) → stands s.tables why ≡ false → Serves s (event.Relieve why) reply.Room s
 serves-room s why met =
-    record { steps = λ c. room c why met; groups = λ t. refl; reads = tt; bytes = λ t v o alive. refl; living = λ t h. h; replies = tt; given = refl; opening = refl }
+    record { steps = λ c told. room c why met; tallied = λ c told. told; groups = λ t. refl; reads = tt; bytes = λ t v o alive. refl; living = λ t h. h; replies = tt; given = refl; opening = refl }
   where
     room : (c : List Counted) (why : Cause) → stands s.tables why ≡ false → RelieveStep (counting s.tables c) why reply.Room (counting s.tables c)
     room c (cause.Charge g) met = rw met (refl, refl)
@@ -394,19 +408,54 @@ stands_counting s c (cause.Charge g) = refl
 stands_counting s c (cause.Lower g) = refl
 stands_counting s c cause.Frame = refl
 
-pub serves-no_victim : (s : Contents) (why : Cause) → s.tables.opening.swap ≡ 0 → AreHeld s.tables.pages → stands s.tables why ≡ true
-    → IsVictim s.tables.tree s.tables.tasks s.tables.mappings (target_of why) None → Serves s (event.Relieve why) reply.NoVictim s
-serves-no_victim s why no_swap held wants nobody =
+pub serves-no_victim : (old new : Contents) (why : Cause) → old.tables.opening.swap ≡ 0 → AreHeld old.tables.pages → stands old.tables why ≡ true
+    → IsVictim old.tables.tree old.tables.tasks old.tables.mappings (target_of why) None → new.tables ≡ old.tables → new.bytes ≡ old.bytes
+    → ((c : List Counted) → Tells old.tallies c → Tells new.tallies (c ++ count_of (target_of why) key.Oom ∷ [])) → Serves old (event.Relieve why) reply.NoVictim new
+serves-no_victim old new why no_swap held wants nobody tables bytes tells =
     record {
-      steps = λ c. relieve_step (counting s.tables c) why reply.NoVictim _ no_swap held (stands_counting s.tables c why ∙ wants) (nobody, refl);
-      groups = λ t. refl;
+      steps = λ c told. relieve_step (counting old.tables c) why reply.NoVictim _ no_swap held (stands_counting old.tables c why ∙ wants)
+          (nobody, ap (λ (s : State). counting s (c ++ count_of (target_of why) key.Oom ∷ [])) tables);
+      tallied = tells;
+      groups = λ t. ap (λ (s : State). group_of_task s.tasks t) tables;
       reads = tt;
-      bytes = λ t v o alive. refl;
-      living = λ t h. h;
+      bytes = λ t v o alive. ap (λ (s : State). byte_shown new.bytes (mapped_at s.mappings t v) o) tables ∙ ap (λ bs. byte_shown bs (mapped_at old.tables.mappings t v) o) bytes;
+      living = λ u h. sym (ap (λ (s : State). lives s.tasks u) tables) ∙ h;
       replies = tt;
       given = refl;
-      opening = refl;
+      opening = ap (λ (s : State). s.opening) tables;
     }
+
+-- ---- ends of tasks
+
+-- what a task's end does to the tasks' groups and bytes, and who lives after it
+module _ (old new : Contents) (t : ℕ) (life : Life) (dead : is_live_life life ≡ false) (ends : SetsTask old.tables.tasks t (group_of_task old.tables.tasks t) life new.tables.tasks) where
+  unlike : (b : Bool) → b ≡ true → b ≡ false → ⊥
+  unlike b e f = cc
+
+  -- the task itself is no live one
+  ended : (u : ℕ) → u ≡ t → lives new.tables.tasks u ≡ false
+  ended u same = ap (λ (x : ℕ). lives new.tables.tasks x) same ∙ ap (there_and is_live_task) ends.changed ∙ dead
+
+  other_of : (u : ℕ) → lives new.tables.tasks u ≡ true → u ≢ t
+  other_of u alive same = unlike (lives new.tables.tasks u) alive (ended u same)
+
+  groups_kept : (u : ℕ) → group_of_task new.tables.tasks u ≡ group_of_task old.tables.tasks u
+  groups_kept u = elim (eq_cases u t) [
+    | inl same ↦ ap group_of (ap (at new.tables.tasks) same ∙ ends.changed) ∙ ap (group_of_task old.tables.tasks) (sym same)
+    | inr other ↦ ap group_of (ends.others u other)
+  ]
+
+  lived_before : (u : ℕ) → lives new.tables.tasks u ≡ true → lives old.tables.tasks u ≡ true
+  lived_before u h = sym (ap (there_and is_live_task) (ends.others u (other_of u h))) ∙ h
+
+  bytes_kept : new.tables ≡ record old.tables { pages = new.tables.pages; tasks = new.tables.tasks; mappings = without_task old.tables.mappings t }
+      → ((u v k : ℕ) → u ≢ t → byte_shown new.bytes (mapped_at old.tables.mappings u v) k ≡ byte_shown old.bytes (mapped_at old.tables.mappings u v) k)
+      → (u v o : ℕ) → lives new.tables.tasks u ≡ true → byte_at new u v o ≡ byte_at old u v o
+  bytes_kept tables bytes u v o alive =
+      let other = other_of u alive in
+      ap (λ (s : State). byte_shown new.bytes (mapped_at s.mappings u v) o) tables
+      ∙ ap (λ m. byte_shown new.bytes m o) (mapped_at-without_task old.tables.mappings t u v (λ same. other (sym same)))
+      ∙ bytes u v o other
 
 pub serves-kill : (old new : Contents) (why : Cause) (t : ℕ) → old.tables.opening.swap ≡ 0 → AreHeld old.tables.pages → stands old.tables why ≡ true
     → IsVictim old.tables.tree old.tables.tasks old.tables.mappings (target_of why) (Some t)
@@ -414,37 +463,48 @@ pub serves-kill : (old new : Contents) (why : Cause) (t : ℕ) → old.tables.op
     → SetsTask old.tables.tasks t (group_of_task old.tables.tasks t) Killed new.tables.tasks
     → new.tables ≡ record old.tables { pages = new.tables.pages; tasks = new.tables.tasks; mappings = without_task old.tables.mappings t }
     → ((u v k : ℕ) → u ≢ t → byte_shown new.bytes (mapped_at old.tables.mappings u v) k ≡ byte_shown old.bytes (mapped_at old.tables.mappings u v) k)
+    → ((c : List Counted) → Tells old.tallies c → Tells new.tallies (c ++ (count_of (target_of why) key.Oom ∷ count_of (group_of_task old.tables.tasks t) key.OomKill ∷ [])))
     → Serves old (event.Relieve why) (reply.KilledTask (record { 0 = t })) new
-serves-kill old new why t no_swap held wants victim unmaps ends tables bytes =
+serves-kill old new why t no_swap held wants victim unmaps ends tables bytes tells =
     record {
-      steps = λ c. relieve_step (counting old.tables c) why _ _ no_swap held (stands_counting old.tables c why ∙ wants)
+      steps = λ c told. relieve_step (counting old.tables c) why _ _ no_swap held (stands_counting old.tables c why ∙ wants)
           (victim, record { unmaps = unmaps; ends = ends; state = ap (λ (s : State). counting s (c ++ (count_of (target_of why) key.Oom ∷ count_of (group_of_task old.tables.tasks t) key.OomKill ∷ []))) tables });
-      groups = λ u. elim (eq_cases u t) [
-        | inl same ↦ ap group_of (ap (at new.tables.tasks) same ∙ ends.changed) ∙ ap (group_of_task old.tables.tasks) (sym same)
-        | inr other ↦ ap group_of (ends.others u other)
-      ];
+      tallied = tells;
+      groups = groups_kept old new t Killed refl ends;
       reads = tt;
-      bytes = λ u v o alive.
-          (let other : u ≢ t = λ same. dead (lives new.tables.tasks u) alive (ap (λ (x : ℕ). lives new.tables.tasks x) same ∙ ap (there_and is_live_task) ends.changed) in
-          ap (λ (s : State). byte_shown new.bytes (mapped_at s.mappings u v) o) tables
-          ∙ ap (λ m. byte_shown new.bytes m o) (mapped_at-without_task old.tables.mappings t u v (λ same. other (sym same)))
-          ∙ bytes u v o other);
-      living = λ u h.
-          elim (eq_cases u t) [
-            | inl same ↦ absurd (dead (lives new.tables.tasks u) h (ap (λ (x : ℕ). lives new.tables.tasks x) same ∙ ap (there_and is_live_task) ends.changed))
-            | inr other ↦ sym (ap (there_and is_live_task) (ends.others u other)) ∙ h
-          ];
+      bytes = bytes_kept old new t Killed refl ends tables bytes;
+      living = λ u h. lived_before old new t Killed refl ends u h;
       replies = tt;
       given = refl;
       opening = ap (λ (s : State). s.opening) tables;
     }
-  where
-    dead : (b : Bool) → b ≡ true → b ≡ false → ⊥
-    dead b e f = cc
+
+pub serves-exit_killed : (s : Contents) (t : ℕ) (task : Task) → task_at s.tables.tasks t ≡ Some task → task.life ≡ Killed → Serves s (event.Exit (record { 0 = t })) reply.Killed s
+serves-exit_killed s t task is killed =
+    record { steps = λ c told. killed_step (counting s.tables c) _ task _ is killed; tallied = λ c told. told; groups = λ t. refl; reads = tt; bytes = λ t v o alive. refl; living = λ t h. h; replies = tt; given = refl; opening = refl }
+
+pub serves-exit : (old new : Contents) (t : ℕ) (task : Task) → task_at old.tables.tasks t ≡ Some task → task.life ≡ Live
+    → Unmaps old.tables (without_task old.tables.mappings t) new.tables
+    → SetsTask old.tables.tasks t (group_of_task old.tables.tasks t) Exited new.tables.tasks
+    → new.tables ≡ record old.tables { pages = new.tables.pages; tasks = new.tables.tasks; mappings = without_task old.tables.mappings t }
+    → ((u v k : ℕ) → u ≢ t → byte_shown new.bytes (mapped_at old.tables.mappings u v) k ≡ byte_shown old.bytes (mapped_at old.tables.mappings u v) k) → ((c : List Counted) → Tells old.tallies c → Tells new.tallies c)
+    → Serves old (event.Exit (record { 0 = t })) reply.Ok new
+serves-exit old new t task is living unmaps ends tables bytes tells =
+    record {
+      steps = λ c told. live_step (counting old.tables c) _ task _ _ _ is living (refl, record { unmaps = unmaps; ends = ends; state = ap (λ (s : State). counting s c) tables });
+      tallied = tells;
+      groups = groups_kept old new t Exited refl ends;
+      reads = tt;
+      bytes = bytes_kept old new t Exited refl ends tables bytes;
+      living = λ u h. lived_before old new t Exited refl ends u h;
+      replies = tt;
+      given = refl;
+      opening = ap (λ (s : State). s.opening) tables;
+    }
 
 pub serves-hit_written : (old new : Contents) (t v o b p g f : ℕ) (task : Task) (op : Op) (hit : Option FrameId) → op ≡ Write b → hit ≡ Some (record { 0 = f }) → AreMapped old.tables.pages old.tables.tasks old.tables.mappings
     → task_at old.tables.tasks t ≡ Some task → task.life ≡ Live → mapped_at old.tables.mappings t v ≡ Some p → page_at old.tables.pages p ≡ Some (new_page g f)
-    → new.tables ≡ old.tables → ((q k : ℕ) → byte_in new.bytes q k ≡ (if (q == p) && (o == k) then b else byte_in old.bytes q k))
+    → new.tables ≡ old.tables → ((q k : ℕ) → byte_in new.bytes q k ≡ (if (q == p) && (o == k) then b else byte_in old.bytes q k)) → ((c : List Counted) → Tells old.tallies c → Tells new.tallies c)
     → Serves old (event.Access (record { 0 = t }) (Virtual v o) op) (reply.Done b hit) new
-serves-hit_written old new t v o b p g f task op hit writes hits mapped is living shown page tables bytes =
-    rw (writes, hits) (serves-hit_write old new t v o b p g f task mapped is living shown page tables bytes)
+serves-hit_written old new t v o b p g f task op hit writes hits mapped is living shown page tables bytes tells =
+    rw (writes, hits) (serves-hit_write old new t v o b p g f task mapped is living shown page tables bytes tells)

@@ -1,6 +1,6 @@
 -- The joined parts at their opening, and what a refusal that does not come says.
-use Rattle.std.proofs.Common.{◌≡◌, inl, inr, ℕ, ◌<◌, ◌≤◌, ◌==◌, ◌&&◌, ◌++◌, ◌∷◌, not, Bool, true, false, List, [], Option, Some, None, refl, sym, ap, ◌∙◌, arith, length}
-use Rattle.std.specs.Prelude.{is_some, nat_le, IsSome, IfSome, option_map}
+use Rattle.std.proofs.Common.{◌≡◌, inl, inr, ℕ, ◌+◌, ◌<◌, ◌==◌, ◌&&◌, ◌++◌, ◌∷◌, not, Bool, true, false, List, [], Option, Some, None, refl, sym, ap, ◌∙◌, arith}
+use Rattle.std.specs.Prelude.{is_some, nat_le, nat_lt, IsSome, IfSome, option_map, Result, Ok, Err, OnErr}
 use Rattle.machine.specs.declared.record.Life.{Life}
 use Rattle.machine.specs.declared.record.Life.TheVariants.{Live, Exited, Killed}
 use Rattle.machine.specs.declared.record.Task.{Task}
@@ -8,13 +8,25 @@ use Rattle.machine.specs.declared.record.Mapping.{Mapping}
 use Rattle.machine.specs.declared.refusal.Refusal.{Refusal}
 use Rattle.machine.specs.declared.refusal.Refusal.TheVariants.{Invalid, NoEntry, Busy, NoSpace, NumberUsed}
 use Rattle.machine.specs.declared.id.FrameId.{FrameId}
-use Rattle.machine.specs.Slots.{Changes}
-use Rattle.machine.specs.Tree.{is_live}
+use Rattle.machine.specs.Slots.{Changes, there_and}
+use Rattle.machine.specs.Tree.{Node, is_live}
 use Rattle.machine.specs.Pages.{Held, Page, Pages, page_at}
-use Rattle.machine.specs.Tasks.{Tasks, task_at, live_tasks, mapped_at, mappers, mapping}
-use Rattle.machine.specs.State.{State}
+use Rattle.machine.specs.Tasks.{Tasks, task_at, live_tasks, is_live_life, is_live_task, lives, group_of, group_of_task, SetsTask, mapped_at, mappers, mapping}
+use Rattle.machine.specs.State.{State, over_in, is_frame_free}
+use Rattle.machine.specs.declared.amount.Amount.{Amount}
+use Rattle.machine.specs.declared.amount.Amount.TheVariants.{Pages as PagesOf}
+use Rattle.machine.specs.declared.event.Place.TheVariants.{Virtual}
+use Rattle.machine.specs.declared.event.Op.TheVariants.{Write}
+use Rattle.machine.specs.declared.event.Cause.{Cause}
+use Rattle.machine.specs.declared.event.Cause.TheVariants as cause
+use Rattle.machine.specs.declared.event.Event.TheVariants as event
+use Rattle.machine.specs.Amounts.{exceeds}
+use Rattle.machine.specs.Call.{grows}
+use Rattle.machine.specs.Reclaim.{stands, target_of}
+use Rattle.machine.specs.Victim.{is_candidate, is_live_under}
 use Rattle.machine.specs.Refusals.{first_cause, life_refusal, task_refusal, number_refusal, bars_tasks, spawn_refusal}
 use Rattle.machine.specs.Step.{new_page}
+use Rattle.std.proofs.lemmas.Bool.Decides.{nat_tests}
 use Rattle.machine.proofs.TreeLemmas.{eq_cases}
 use Rattle.machine.proofs.SlotLemmas.{one_if}
 use Rattle.machine.proofs.MappingLemmas.{mapped_at-mappers, mapped_at-push_other, mappers-push}
@@ -22,19 +34,7 @@ use Rattle.pages.specs.PageTable.{IsHeldMemory}
 use Rattle.book.proofs.BalanceLemmas.{held_page}
 use Rattle.book.proofs.DropLemmas.{there_some}
 use Rattle.book.proofs.ServeLemmas.{same_true, true_same, false_other, both_true}
-use Rattle.book.specs.Pool.{FreeFrames, free_count}
-use Rattle.book.specs.Contents.{IsBalanced, AreMapped, there}
-
-pub balanced-open : (frames : ℕ) (pool : FreeFrames) (pages : Pages) → pages ≡ [] → ((n : ℕ) → n < frames → free_count pool.free n ≡ 1) → ((n : ℕ) → frames ≤ n → free_count pool.free n ≡ 0)
-    → length pool.free ≡ frames → IsBalanced frames pool pages
-balanced-open frames pool pages empty once beyond all =
-    rw empty
-    (record {
-      once = λ f lt. (let k = once f lt in omega (arith, k));
-      none_beyond = λ f le. (let k = beyond f le in omega (arith, k));
-      all = omega (arith, all);
-      room = omega arith;
-    })
+use Rattle.book.specs.Contents.{AreMapped, there}
 
 pub mapped-open : (pages : Pages) (tasks : Tasks) (mappings : List Mapping) → pages ≡ [] → mappings ≡ [] → AreMapped pages tasks mappings
 mapped-open pages tasks mappings no_pages no_mappings = rw (no_pages, no_mappings) (record { once = λ p. refl; owned = λ t v p e. cc })
@@ -116,3 +116,93 @@ mapped-pushed pages pages' tasks tasks' mappings mappings' t v p page mapped fre
 
 pub mapped-same : (pages pages' : Pages) (tasks tasks' : Tasks) (mappings mappings' : List Mapping) → AreMapped pages tasks mappings → pages' ≡ pages → tasks' ≡ tasks → mappings' ≡ mappings → AreMapped pages' tasks' mappings'
 mapped-same pages pages' tasks tasks' mappings mappings' mapped same_pages same_tasks same_mappings = rw (same_pages, same_tasks, same_mappings) mapped
+
+-- a max is reached, and passed
+pub reaches : (max count : ℕ) (a : Amount) → a ≡ PagesOf max → nat_le max count ≡ exceeds (count + 1) a
+reaches max count a is = rw is (test max count)
+  where
+    test : (m n : ℕ) → nat_le m n ≡ nat_lt m (n + 1)
+    test m n = grind (arith, nat_tests)
+
+pub passes : (max count : ℕ) (a : Amount) → a ≡ PagesOf max → nat_lt max count ≡ exceeds count a
+passes max count a is = rw is refl
+
+-- a write where nothing is mapped grows where its charge is granted
+pub write-grows : (s : State) (t v o b : ℕ) (task : Task) → task_at s.tasks t ≡ Some task → task.life ≡ Live → mapped_at s.mappings t v ≡ None → over_in s task.group.0 ≡ None → is_frame_free s ≡ true
+    → grows s (event.Access (record { 0 = t }) (Virtual v o) (Write b)) ≡ true
+write-grows s t v o b task known live none over free = rw known (rw live (rw none (rw over (rw free refl))))
+
+-- homes of live tasks that are still there
+pub homes-ended : (tree : List Node) (old new : Tasks) (t g : ℕ) (ended : Life) → is_live_life ended ≡ false → SetsTask old t g ended new → ((u : ℕ) → lives old u ≡ true → is_live tree (group_of_task old u) ≡ true)
+    → (u : ℕ) → lives new u ≡ true → is_live tree (group_of_task new u) ≡ true
+homes-ended tree old new t g ended dead sets homes u alive =
+    elim (eq_cases u t) [
+      | inl same ↦ absurd (unlike (lives new u) alive (ap (λ (x : ℕ). lives new x) same ∙ ap (there_and is_live_task) sets.changed ∙ dead))
+      | inr other ↦ ap (λ (slot : Option Task). is_live tree (group_of slot)) (sets.others u other) ∙ homes u (sym (ap (there_and is_live_task) (sets.others u other)) ∙ alive)
+    ]
+  where
+    unlike : (b : Bool) → b ≡ true → b ≡ false → ⊥
+    unlike b e f = cc
+
+pub homes-spawned : (tree : List Node) (old new : Tasks) (t g : ℕ) → is_live tree g ≡ true → SetsTask old t g Live new → ((u : ℕ) → lives old u ≡ true → is_live tree (group_of_task old u) ≡ true)
+    → (u : ℕ) → lives new u ≡ true → is_live tree (group_of_task new u) ≡ true
+homes-spawned tree old new t g live sets homes u alive =
+    elim (eq_cases u t) [
+      | inl same ↦ ap (λ (slot : Option Task). is_live tree (group_of slot)) (ap (task_at new) same ∙ sets.changed) ∙ live
+      | inr other ↦ ap (λ (slot : Option Task). is_live tree (group_of slot)) (sets.others u other) ∙ homes u (sym (ap (there_and is_live_task) (sets.others u other)) ∙ alive)
+    ]
+
+-- a task that is known and lives is a live one
+pub known-lives : (tasks : Tasks) (t : ℕ) (task : Task) → task_at tasks t ≡ Some task → task.life ≡ Live → lives tasks t ≡ true
+known-lives tasks t task known live = ap (there_and is_live_task) known ∙ ap is_live_life live
+
+pub known-home : (tasks : Tasks) (t : ℕ) (task : Task) → task_at tasks t ≡ Some task → group_of_task tasks t ≡ task.group.0
+known-home tasks t task known = ap group_of known
+
+-- a spawn that nothing refuses is into a group that is there
+pub spawn-live : (s : State) (t g : ℕ) → spawn_refusal s t g ≡ None → is_live s.tree g ≡ true
+spawn-live s t g e = by_live (is_live s.tree g) refl e
+  where
+    by_live : (b : Bool) → is_live s.tree g ≡ b → first_cause (not b) NoEntry (first_cause (bars_tasks s.tree g) Busy (number_refusal s.tasks t)) ≡ None → is_live s.tree g ≡ true
+    by_live true is h = is
+    by_live false is h = cc
+
+-- the group for which relief is wanted is there
+pub target-live : (s : State) (why : Cause) → is_live s.tree 0 ≡ true → stands s why ≡ true → is_live s.tree (target_of why) ≡ true
+target-live s (cause.Charge g) root e = (both_true (is_live s.tree g.0) _ e).0
+target-live s (cause.Lower g) root e = (both_true (is_live s.tree g.0) _ e).0
+target-live s cause.Frame root e = root
+
+-- a victim is a live task of a group that is there
+pub victim-lives : (tree : List Node) (tasks : Tasks) (limit t : ℕ) → is_candidate tree tasks limit t ≡ true → lives tasks t ≡ true
+victim-lives tree tasks limit t e = by_slot (task_at tasks t) e
+  where
+    by_slot : (slot : Option Task) → there_and (is_live_under tree limit) slot ≡ true → there_and is_live_task slot ≡ true
+    by_slot None h = cc
+    by_slot (Some task) h = (both_true (is_live_task task) _ h).0
+
+pub homes-open : (tree : List Node) (tasks : Tasks) → tasks ≡ [] → (t : ℕ) → lives tasks t ≡ true → is_live tree (group_of_task tasks t) ≡ true
+homes-open tree tasks none t alive = absurd (let dead : lives tasks t ≡ false = ap (λ (ts : Tasks). lives ts t) none in cc)
+
+-- a task more maps nothing yet
+pub mapped-spawned : (pages : Pages) (tasks tasks' : Tasks) (mappings mappings' : List Mapping) (t g : ℕ) → AreMapped pages tasks mappings → SetsTask tasks t g Live tasks' → mappings' ≡ mappings → AreMapped pages tasks' mappings'
+mapped-spawned pages tasks tasks' mappings mappings' t g mapped sets same =
+    rw same
+    (record {
+      once = mapped.once;
+      owned = λ u v p e.
+          elim (eq_cases u t) [
+            | inl is ↦ ap is_some (ap (task_at tasks') is ∙ sets.changed)
+            | inr other ↦ ap is_some (sets.others u other) ∙ mapped.owned u v p e
+          ];
+    })
+
+pub free-true : (used frames config : ℕ) → used < frames → frames ≡ config → nat_lt used config ≡ true
+free-true used frames config lt same = grind (arith, nat_tests, lt, same)
+
+pub free-false : (used frames config : ℕ) → used ≡ frames → frames ≡ config → nat_lt used config ≡ false
+free-false used frames config full same = grind (arith, nat_tests, full, same)
+
+pub on-err : {T E : Type 0} (r : Result T E) (P : Type 0) → P → OnErr r P
+on-err (Ok x) P p = tt
+on-err (Err e) P p = p

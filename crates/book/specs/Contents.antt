@@ -1,5 +1,6 @@
 -- What the parts of a book hold: the machine's tables, and the bytes of the pages.
-use Rattle.std.specs.Prelude.{◌≡◌, ℕ, ◌+◌, ◌<◌, ◌≤◌, ◌==◌, true, List, [], ◌∷◌, ◌++◌, length, is_some, Option, Some, None, if◌then◌else◌}
+use Rattle.std.specs.Prelude.{◌≡◌, ℕ, ◌<◌, ◌==◌, true, List, [], ◌∷◌, ◌++◌, is_some, Option, Some, None, if◌then◌else◌}
+use Rattle.machine.specs.declared.record.Key.{Key}
 use Rattle.machine.specs.declared.record.Key.TheVariants as key
 use Rattle.machine.specs.declared.record.Mapping.{Mapping}
 use Rattle.machine.specs.declared.event.Op.TheVariants.{Read}
@@ -7,8 +8,7 @@ use Rattle.machine.specs.declared.event.Event.{Event}
 use Rattle.machine.specs.declared.event.Event.TheVariants as event
 use Rattle.machine.specs.declared.reply.Reply.{Reply}
 use Rattle.machine.specs.declared.reply.Reply.TheVariants as reply
-use Rattle.machine.specs.Slots.{count_there}
-use Rattle.machine.specs.Pages.{Page, Pages, page_at, has_this_frame, used_frames}
+use Rattle.machine.specs.Pages.{Page, Pages, page_at}
 use Rattle.machine.specs.Counts.{Counted}
 use Rattle.machine.specs.Tasks.{Tasks, task_at, lives, group_of_task, mapped_at, mappers}
 use Rattle.machine.specs.State.{State}
@@ -16,12 +16,13 @@ use Rattle.machine.specs.Reclaim.{target_of}
 use Rattle.machine.specs.Step.{Step, count_of}
 use Rattle.machine.specs.History.{Spot, InTask, spot_of, says, follow}
 use Rattle.pages.specs.PageTable.{byte_in}
-use Rattle.book.specs.Pool.{FreeFrames, free_count}
+use Rattle.events.specs.Tallies.{Tallies, Tells, total_of}
 
--- the tables, without the events counted so far, which the history tells; and by page number the bytes
+-- the tables, without the events counted so far, which the history tells; by page number the bytes; and how often events were counted
 pub record Contents : Type 0 where
   pub tables : State
   pub bytes : List (Option (List ℕ))
+  pub tallies : Tallies
 
 -- ---- events counted
 
@@ -36,10 +37,18 @@ counted_after group_of counted (event.Relieve cause) (reply.KilledTask t) = coun
 counted_after group_of counted (event.Relieve cause) reply.NoVictim = counted ++ count_of (target_of cause) key.Oom ∷ []
 counted_after group_of counted what answer = counted
 
--- the machine's step, whatever was counted before
+-- the machine's step, whatever was counted before that the tallies tell
 abbrev pub Steps : Contents → Event → Reply → Contents → Type 0
 Steps old what answer new =
-    (counted : List Counted) → Step (counting old.tables counted) what answer (counting new.tables (counted_after (group_of_task old.tables.tasks) counted what answer))
+    (counted : List Counted) → Tells old.tallies counted → Step (counting old.tables counted) what answer (counting new.tables (counted_after (group_of_task old.tables.tasks) counted what answer))
+
+-- the tallies go on to tell what is counted
+abbrev pub Tallied : Contents → Event → Reply → Contents → Type 0
+Tallied old what answer new = (counted : List Counted) → Tells old.tallies counted → Tells new.tallies (counted_after (group_of_task old.tables.tasks) counted what answer)
+
+-- each key was counted less often than a number of 64 bits holds
+abbrev pub AreFew : Tallies → Type 0
+AreFew t = (k : Key) → total_of t 0 k < 18446744073709551615
 
 -- ---- groups of tasks
 
@@ -76,13 +85,6 @@ ChangesBytes old what answer new =
     (t v o : ℕ) → lives new.tables.tasks t ≡ true → byte_at new t v o ≡ follow (says what answer (InTask t v o)) (byte_at_spot old) (InTask t v o)
 
 -- ---- the parts agree
-
--- each frame is free or a page's, once; and a free frame's place in the pool is kept for it
-pub record IsBalanced (frames : ℕ) (pool : FreeFrames) (pages : Pages) : Type 0 where
-  pub once : (f : ℕ) → f < frames → free_count pool.free f + count_there (has_this_frame f) pages ≡ 1
-  pub none_beyond : (f : ℕ) → frames ≤ f → free_count pool.free f + count_there (has_this_frame f) pages ≡ 0
-  pub all : length pool.free + used_frames pages ≡ frames
-  pub room : used_frames pages ≤ pool.room
 
 abbrev pub there : Option Page → ℕ
 there None = 0

@@ -1,4 +1,5 @@
-pub mod Pool
+pub mod Holdings
+pub mod Keeping
 pub mod Worst
 pub mod Contents
 pub mod Serves

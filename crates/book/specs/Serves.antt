@@ -6,7 +6,7 @@ use Rattle.machine.specs.declared.reply.Reply.{Reply}
 use Rattle.machine.specs.declared.reply.Reply.TheVariants as reply
 use Rattle.machine.specs.Tasks.{lives}
 use Rattle.machine.specs.Call.{Replies}
-use Rattle.book.specs.Contents.{Contents, Steps, ChangesGroups, ReadsByte, ChangesBytes}
+use Rattle.book.specs.Contents.{Contents, Steps, Tallied, ChangesGroups, ReadsByte, ChangesBytes}
 
 -- the event is the task's first
 abbrev pub starts : Event → Reply → ℕ → Bool
@@ -20,6 +20,7 @@ is_refused answer = false
 -- the machine's step with this reply; a read gives the byte that stood there; and tasks' groups and bytes change as the event says
 pub record Serves (old : Contents) (what : Event) (answer : Reply) (new : Contents) : Type 0 where
   pub steps : Steps old what answer new
+  pub tallied : Tallied old what answer new
   pub groups : ChangesGroups old what answer new
   pub reads : ReadsByte old what answer
   pub bytes : ChangesBytes old what answer new

@@ -6,6 +6,7 @@ use Rattle.machine.specs.Tasks.{lives, group_of_task}
 use Rattle.machine.specs.State.{State}
 use Rattle.machine.specs.Legal.{Legal}
 use Rattle.machine.specs.History.{Right, InTask, last, entries_by, Numbered}
+use Rattle.events.specs.Tallies.{Tells}
 use Rattle.book.specs.Contents.{Contents, counting, counted_after, group_after, byte_at}
 
 -- the group that a task was last put in
@@ -30,4 +31,5 @@ pub record IsHistory (c : Contents) (history : List Entry) (counts : List ℕ) :
   -- the byte at each live task's place is the one last written there
   pub bytes : (t v o : ℕ) → lives c.tables.tasks t ≡ true → byte_at c t v o ≡ last history (InTask t v o)
   pub groups : (t : ℕ) → group_of_task c.tables.tasks t ≡ group_in history t
+  pub tallied : Tells c.tallies (counted_in history)
   pub counted : (w : ℕ) → slice_index counts w ≡ length (entries_by w history)

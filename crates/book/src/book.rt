@@ -183,10 +183,11 @@ impl Book {
         ensures { reverse result.entries.items ≡ self.history }
     {
         let Book {
-            state: _,
+            state,
             entries,
             counts: _,
         } = self;
+        state.close();
         Trace { entries }
     }
 }

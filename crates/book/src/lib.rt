@@ -2,17 +2,16 @@
 //! answered.
 //!
 //! [`Book::call`] is the one place where a machine changes. Below it stand the parts, each seen as
-//! the machine's table that it keeps: the groups, their settings, the pages with their bytes, the
-//! tasks with what they map, and the frames that are free.
+//! the machine's table that it keeps: the groups, their settings and counts, the pages with their
+//! bytes, the tasks with what they map, the frames that are free, and the events counted.
 #![tactic(auto)]
 
 pub use book::{Book, Trace};
 pub use pass::Pass;
 
 mod book;
-mod frames;
+mod holdings;
 mod oom;
-mod page_counter;
 mod page_state;
 mod pass;
 mod unmap;

@@ -1,34 +1,38 @@
 //! The parts of a book joined: one change of the machine's tables a call, in all parts at once.
 
-ghost use Rattle.std.specs.Prelude.{◌≡◌, ◌≢◌, ℕ, ◌+◌, ◌<◌, ◌≤◌, ◌==◌, ◌&&◌, ◌++◌, ◌∷◌, [], not, Bool, None, Some, true, false, length, slice_set, IsSome, IfOk, OnOk, OnErr};
-ghost use Rattle.machine.specs.State.{Opening, first_state, opening_of, over_in, is_frame_free};
-ghost use Rattle.machine.specs.Tree.{is_live, has_children};
+ghost use Rattle.std.specs.Prelude.{◌≡◌, ◌≢◌, ℕ, ◌+◌, ◌<◌, ◌≤◌, ◌==◌, ◌&&◌, ◌++◌, ◌∷◌, [], List, not, Bool, None, Some, true, false, length, slice_set, IsSome, IfOk, OnOk, OnErr};
+ghost use Rattle.machine.specs.State.{Opening, first_state, opening_of, usage, over_in, is_frame_free};
+ghost use Rattle.machine.specs.Tree.{is_live, has_children, find_group};
+ghost use Rattle.machine.specs.Names.{parent_path};
 ghost use Rattle.machine.specs.Tasks.{task_at, group_of_task, mapped_at, without_task, is_live_life, SetsTask};
 ghost use Rattle.machine.specs.Schedule.{is_config};
 ghost use Rattle.machine.specs.Refusals.{refusal, first_cause, task_refusal, mkdir_refusal, bars_children, bars_tasks, spawn_refusal, file_refusal, show_refusal};
 ghost use Rattle.machine.specs.Reclaim.{stands, target_of};
 ghost use Rattle.machine.specs.Access.{is_place};
-ghost use Rattle.machine.specs.Counts.{limits_at};
+ghost use Rattle.machine.specs.Amounts.{exceeds};
+ghost use Rattle.machine.specs.Counts.{limits_at, Counted};
 ghost use Rattle.machine.specs.Step.{Unmaps, with_setting, shown_of};
 ghost use Rattle.machine.specs.Victim.{IsVictim};
 ghost use Rattle.machine.specs.Pages.{used_frames};
 ghost use Rattle.pages.specs.PageTable.{AreHeld};
 ghost use Rattle.machine.specs.Call.{grows};
-ghost use Rattle.book.specs.Contents.{byte_at, byte_shown};
+ghost use Rattle.group_tree.specs.Lineages.{IsLineage};
+ghost use Rattle.events.specs.Tallies.{Tells};
+ghost use Rattle.book.specs.Contents.{counting, byte_at, byte_shown, AreFew};
 ghost use Rattle.book.specs.Serves.{Serves};
 
-use crate::frames::Pool;
+use crate::holdings::{Grant, Holdings};
 use crate::oom::victim;
-use crate::page_counter;
 use crate::unmap::drop_pages;
+use events::Events;
 use group_tree::Tree;
+use machine::amount::Amount;
 use machine::config::Config;
 use machine::event::{Cause, Event, Op, Place, Query, Setting};
 use machine::id::{GroupId, PageId, TaskId};
-use machine::record::{Life, Limits, Task};
+use machine::record::{Key, Life, Task};
 use machine::refusal::Refusal;
 use machine::reply::{Reply, Shown};
-use pages::Pages;
 use spaces::Spaces;
 use std::alloc::{AllocError, Global};
 use std::marker::Model;
@@ -39,15 +43,14 @@ const TASK_PAGES: u32 = 1024;
 /// Bytes of a page.
 const PAGE_BYTES: u32 = 4096;
 
-/// The groups with their settings, the pages, the tasks with what they map, and the free frames.
-#[derive(Drop)]
+/// The groups with their settings, the pages with what they own, the tasks with what they map, and
+/// the counts of events. It must be spent, by [`State::close`].
 pub struct State {
     config: Config,
     tree: Tree,
-    limits: Vec<Limits>,
-    pages: Pages,
+    holdings: Holdings,
+    events: Events,
     spaces: Spaces,
-    pool: Pool,
 }
 
 impl Model for State {
@@ -68,19 +71,30 @@ impl State {
         requires { is_config config ≡ true }
         ensures tables { IfOk result (λ s. s.tables ≡ first_state (opening_of config)) }
         ensures bytes { IfOk result (λ s. (t v o : ℕ) → byte_at s t v o ≡ 0) }
+        ensures told { IfOk result (λ s. Tells s.tallies []) }
     {
         let tree = Tree::open(alloc)?;
-        let mut limits = Vec::new(alloc);
-        limits.push(Limits::NONE)?;
-        let pool = Pool::open(alloc, config.frames)?;
+        let events = Events::new(alloc)?;
+        let holdings = Holdings::open(alloc, config.frames)?;
         Ok(State {
             config,
             tree,
-            limits,
-            pages: Pages::new(alloc),
+            holdings,
+            events,
             spaces: Spaces::new(alloc),
-            pool,
         })
+    }
+
+    /// Spends it: each frame and each charge goes back.
+    pub fn close(self) {
+        let State {
+            config: _,
+            tree: _,
+            holdings,
+            events: _,
+            spaces: _,
+        } = self;
+        holdings.close();
     }
 
     /// The groups.
@@ -94,7 +108,7 @@ impl State {
     pub fn free_frames(&self) -> u32
         ensures { result + used_frames self.now.tables.pages ≡ self.now.tables.opening.frames }
     {
-        self.pool.free() as u32
+        self.holdings.free()
     }
 
     /// The trace's limit, in entries.
@@ -104,14 +118,16 @@ impl State {
         self.config.trace as usize
     }
 
-    /// Nothing is done: there is no swap, so no page is in transfer, and what the opening fixed is
-    /// within its limits.
+    /// Nothing is done: there is no swap, so no page is in transfer, what the opening fixed is within
+    /// its limits, and the groups whose events are counted hang together.
     pub fn has_no_swap(&self)
         ensures swap { self.now.tables.opening.swap ≡ 0 }
         ensures held { AreHeld self.now.tables.pages }
         ensures limit { self.now.tables.opening.limit ≤ 1048576 }
+        ensures lineage { IsLineage self.now.tallies.tree }
     {
-        self.pages.are_held();
+        self.events.are_told();
+        self.holdings.pages().are_held();
     }
 }
 
@@ -125,6 +141,7 @@ impl State {
             Event::Access { task, place, op: _ } => self.access_refusal(*task, *place),
             Event::Relieve(_) => None,
             Event::Spawn { task, group } => self.spawn_refusal(*task, *group),
+            Event::Exit(task) => self.exit_refusal(*task),
             Event::Mkdir(path) => self.mkdir_refusal(path.as_str()),
             Event::Set { group, setting: _ } => self.file_refusal(*group),
             Event::Show(query) => self.show_refusal(*query),
@@ -154,6 +171,18 @@ impl State {
             return Some(Refusal::Busy);
         }
         self.spaces.number_refusal(task)
+    }
+
+    fn exit_refusal(&self, task: TaskId) -> Option<Refusal>
+        ensures { result ≡ task_refusal (task_at self.now.tables.tasks task.0) None }
+    {
+        match self.spaces.task(task) {
+            None => Some(Refusal::NoTask),
+            Some(known) => match known.life {
+                Life::Live | Life::Killed => None,
+                Life::Exited => Some(Refusal::NoTask),
+            },
+        }
     }
 
     fn mkdir_refusal(&self, path: &str) -> Option<Refusal>
@@ -186,6 +215,8 @@ impl State {
         match query {
             Query::Current(group) => self.file_refusal(group),
             Query::Max(group) => self.file_refusal(group),
+            Query::Events(group) => self.file_refusal(group),
+            Query::EventsLocal(group) => self.file_refusal(group),
         }
     }
 
@@ -222,9 +253,28 @@ impl State {
         ensures serves { IfOk result (λ reply. Serves self.old (Event.Mkdir path.now) reply self.new) }
         ensures err { OnErr result (self.new ≡ self.old) }
     {
-        self.limits.reserve(1)?;
-        self.tree.mkdir(path)?;
-        self.limits.push_reserved(Limits::NONE);
+        match self.tree.parent_for(path) {
+            Err(_) => unreachable!(),
+            Ok(parent) => {
+                let reply = self.mkdir_below(parent, path)?;
+                Ok(reply)
+            }
+        }
+    }
+
+    /// A group below one that is there. Memory is asked for before anything changes.
+    fn mkdir_below(&mut self, parent: GroupId, path: &str) -> Result<Reply, AllocError>
+        requires none { mkdir_refusal self.old.tables.tree (bars_children self.old.tables.tasks) path.now ≡ None }
+        requires parent { find_group self.old.tables.tree (parent_path path.now) ≡ Some parent.0 }
+        requires live { is_live self.old.tables.tree parent.0 ≡ true }
+        ensures serves { IfOk result (λ reply. Serves self.old (Event.Mkdir path.now) reply self.new) }
+        ensures err { OnErr result (self.new ≡ self.old) }
+    {
+        self.holdings.reserve_group()?;
+        self.events.reserve()?;
+        let group = self.tree.mkdir(path)?;
+        self.holdings.add_group(group, parent);
+        self.events.add_reserved(group, parent);
         Ok(Reply::Ok)
     }
 
@@ -233,24 +283,26 @@ impl State {
         ensures { Serves self.old (Event.Set group setting) result self.new }
     {
         let Setting::Max(max) = setting;
-        self.limits[group.0 as usize].max = max;
+        self.holdings.set_max(group, max);
         Reply::Ok
     }
 
     fn show(&self, query: Query) -> Reply
+        requires { show_refusal self.now.tables query ≡ None }
         ensures { Serves self.now (Event.Show query) result self.now }
     {
         Reply::Shown(self.shown(query))
     }
 
     fn shown(&self, query: Query) -> Shown
-        ensures { result ≡ shown_of self.now.tables query }
+        requires { show_refusal self.now.tables query ≡ None }
+        ensures { (counted : List Counted) → Tells self.now.tallies counted → result ≡ shown_of (counting self.now.tables counted) query }
     {
         match query {
-            Query::Current(group) => {
-                Shown::Pages(page_counter::charged(&self.tree, &self.pages, group))
-            }
-            Query::Max(group) => Shown::Amount(page_counter::limits_of(&self.limits, group).max),
+            Query::Current(group) => Shown::Pages(self.holdings.usage(group)),
+            Query::Max(group) => Shown::Amount(self.holdings.max(group)),
+            Query::Events(group) => Shown::Events(self.events.totals(group)),
+            Query::EventsLocal(group) => Shown::Events(self.events.locals(group)),
         }
     }
 
@@ -267,7 +319,8 @@ impl State {
 /// Accesses.
 impl State {
     fn access(&mut self, task: TaskId, at: u32, offset: u32, op: Op) -> Result<Reply, AllocError>
-        requires { refusal self.old.tables (Event.Access task (Place.Virtual at offset) op) ≡ None }
+        requires few { AreFew self.old.tallies }
+        requires none { refusal self.old.tables (Event.Access task (Place.Virtual at offset) op) ≡ None }
         ensures serves { IfOk result (λ reply. Serves self.old (Event.Access task (Place.Virtual at offset) op) reply self.new) }
         ensures err { OnErr result (self.new ≡ self.old) }
         ensures grows { OnErr result (grows self.old.tables (Event.Access task (Place.Virtual at offset) op) ≡ true) }
@@ -290,6 +343,7 @@ impl State {
         offset: u32,
         op: Op,
     ) -> Result<Reply, AllocError>
+        requires few { AreFew self.old.tallies }
         requires known { task_at self.old.tables.tasks task.0 ≡ Some known }
         requires live { known.life ≡ Life.Live }
         requires place { offset < 4096 }
@@ -322,21 +376,21 @@ impl State {
         requires place { offset < 4096 }
         ensures { Serves self.old (Event.Access task (Place.Virtual at offset) op) result self.new }
     {
-        self.pages.are_held();
-        let hit = self.pages.frame(page);
+        self.holdings.pages().are_held();
+        let hit = self.holdings.pages().frame(page);
         match op {
             Op::Read => Reply::Done {
-                byte: self.pages.read(page, offset as usize),
+                byte: self.holdings.pages().read(page, offset as usize),
                 hit,
             },
             Op::Write(byte) => {
-                self.pages.write(page, offset as usize, byte);
+                self.holdings.write(page, offset as usize, byte);
                 Reply::Done { byte, hit }
             }
         }
     }
 
-    /// A write where nothing is mapped.
+    /// A write where nothing is mapped. Memory is asked for before anything changes.
     fn write_new(
         &mut self,
         task: TaskId,
@@ -345,6 +399,7 @@ impl State {
         offset: u32,
         byte: u8,
     ) -> Result<Reply, AllocError>
+        requires few { AreFew self.old.tallies }
         requires known { task_at self.old.tables.tasks task.0 ≡ Some known }
         requires live { known.life ≡ Life.Live }
         requires unmapped { mapped_at self.old.tables.mappings task.0 at ≡ None }
@@ -353,47 +408,19 @@ impl State {
         ensures err { OnErr result (self.new ≡ self.old) }
         ensures grows { OnErr result (grows self.old.tables (Event.Access task (Place.Virtual at offset) (Op.Write byte)) ≡ true) }
     {
-        let above = page_counter::over(&self.tree, &self.limits, &self.pages, known.group);
-        if let Some(limit) = above {
-            return Ok(Reply::Over(limit));
-        }
-        if self.pool.free() == 0 {
-            return Ok(Reply::NoFrame);
-        }
-        self.make_page(task, known, at, offset, byte)
-    }
-
-    /// A new page, its charge being granted. Memory is asked for before anything changes.
-    fn make_page(
-        &mut self,
-        task: TaskId,
-        known: Task,
-        at: u32,
-        offset: u32,
-        byte: u8,
-    ) -> Result<Reply, AllocError>
-        requires known { task_at self.old.tables.tasks task.0 ≡ Some known }
-        requires live { known.life ≡ Life.Live }
-        requires unmapped { mapped_at self.old.tables.mappings task.0 at ≡ None }
-        requires place { offset < 4096 }
-        requires under { over_in self.old.tables known.group.0 ≡ None }
-        requires free { is_frame_free self.old.tables ≡ true }
-        ensures serves { IfOk result (λ reply. Serves self.old (Event.Access task (Place.Virtual at offset) (Op.Write byte)) reply self.new) }
-        ensures err { OnErr result (self.new ≡ self.old) }
-    {
-        self.spaces.reserve()?;
-        let Some(frame) = self.pool.take() else {
-            unreachable!()
-        };
-        let held = self.pages.hold(known.group, frame, offset as usize, byte);
-        match held {
-            Ok(page) => {
+        self.holdings.are_counted();
+        let granted = self
+            .holdings
+            .hold(&mut self.spaces, known.group, offset as usize, byte)?;
+        match granted {
+            Grant::Over(limit) => {
+                self.events.count(limit, Key::Max);
+                Ok(Reply::Over(limit))
+            }
+            Grant::NoFrame => Ok(Reply::NoFrame),
+            Grant::Page(page) => {
                 self.spaces.map(task, at, page);
                 Ok(Reply::Done { byte, hit: None })
-            }
-            Err(error) => {
-                self.pool.give(frame);
-                Err(error)
             }
         }
     }
@@ -402,6 +429,7 @@ impl State {
 /// Relief.
 impl State {
     fn relieve(&mut self, cause: Cause) -> Reply
+        requires { AreFew self.old.tallies }
         ensures { Serves self.old (Event.Relieve cause) result self.new }
     {
         if !self.stands(cause) {
@@ -418,41 +446,104 @@ impl State {
         ensures { result ≡ stands self.now.tables cause }
     {
         match cause {
-            Cause::Charge(group) => {
-                page_counter::wants_room(&self.tree, &self.limits, &self.pages, group)
-            }
-            Cause::Lower(group) => {
-                page_counter::is_over_max(&self.tree, &self.limits, &self.pages, group)
-            }
-            Cause::Frame => self.pool.free() == 0,
+            Cause::Charge(group) => self.wants_room(group),
+            Cause::Lower(group) => self.is_over_max(group),
+            Cause::Frame => self.holdings.free() == 0,
+        }
+    }
+
+    /// Whether one page more would pass the group's max, the group being there.
+    fn wants_room(&self, group: GroupId) -> bool
+        ensures { result ≡ stands self.now.tables (Cause.Charge group) }
+    {
+        self.tree.is_live(group) && self.is_full(group)
+    }
+
+    fn is_full(&self, group: GroupId) -> bool
+        requires { is_live self.now.tables.tree group.0 ≡ true }
+        ensures { result ≡ exceeds (usage self.now.tables group.0 + 1) (limits_at self.now.tables.limits group.0).max }
+    {
+        match self.holdings.max(group) {
+            Amount::Max => false,
+            Amount::Pages(max) => max <= self.holdings.usage(group),
+        }
+    }
+
+    /// Whether the group's count passes its max, the group being there.
+    fn is_over_max(&self, group: GroupId) -> bool
+        ensures { result ≡ stands self.now.tables (Cause.Lower group) }
+    {
+        self.tree.is_live(group) && self.passes_max(group)
+    }
+
+    fn passes_max(&self, group: GroupId) -> bool
+        requires { is_live self.now.tables.tree group.0 ≡ true }
+        ensures { result ≡ exceeds (usage self.now.tables group.0) (limits_at self.now.tables.limits group.0).max }
+    {
+        match self.holdings.max(group) {
+            Amount::Max => false,
+            Amount::Pages(max) => max < self.holdings.usage(group),
         }
     }
 
     /// Room is wanted, and there is nobody to kill.
-    fn spare(&self, cause: Cause) -> Reply
-        requires wanted { stands self.now.tables cause ≡ true }
-        requires nobody { IsVictim self.now.tables.tree self.now.tables.tasks self.now.tables.mappings (target_of cause) None }
-        ensures { Serves self.now (Event.Relieve cause) result self.now }
+    fn spare(&mut self, cause: Cause) -> Reply
+        requires few { AreFew self.old.tallies }
+        requires wanted { stands self.old.tables cause ≡ true }
+        requires nobody { IsVictim self.old.tables.tree self.old.tables.tasks self.old.tables.mappings (target_of cause) None }
+        ensures { Serves self.old (Event.Relieve cause) result self.new }
     {
-        self.pages.are_held();
+        self.holdings.pages().are_held();
+        self.events.are_told();
+        self.events.count(target(cause), Key::Oom);
         Reply::NoVictim
     }
 
     /// Room is wanted, and the task is killed for it: its mappings and their pages go.
     fn kill(&mut self, cause: Cause, task: TaskId) -> Reply
+        requires few { AreFew self.old.tallies }
         requires wanted { stands self.old.tables cause ≡ true }
         requires worst { IsVictim self.old.tables.tree self.old.tables.tasks self.old.tables.mappings (target_of cause) (Some task.0) }
         ensures { Serves self.old (Event.Relieve cause) result self.new }
     {
-        self.pages.are_held();
-        drop_pages(
-            &mut self.pages,
-            &mut self.pool,
-            self.spaces.mappings(),
-            task,
-        );
+        let Some(known) = self.spaces.task(task) else {
+            unreachable!()
+        };
+        self.holdings.pages().are_held();
+        self.events.are_told();
+        self.events.count(target(cause), Key::Oom);
+        self.events.count(known.group, Key::OomKill);
+        drop_pages(&mut self.holdings, self.spaces.mappings(), task);
         self.spaces.exit(task, Life::Killed);
         Reply::KilledTask(task)
+    }
+}
+
+/// Ends of tasks.
+impl State {
+    fn exit(&mut self, task: TaskId) -> Reply
+        requires { task_refusal (task_at self.old.tables.tasks task.0) None ≡ None }
+        ensures { Serves self.old (Event.Exit task) result self.new }
+    {
+        let Some(known) = self.spaces.task(task) else {
+            unreachable!()
+        };
+        match known.life {
+            Life::Live => self.exit_live(task, known),
+            Life::Exited | Life::Killed => Reply::Killed,
+        }
+    }
+
+    /// A live task ends by itself: its mappings and their pages go.
+    fn exit_live(&mut self, task: TaskId, known: Task) -> Reply
+        requires known { task_at self.old.tables.tasks task.0 ≡ Some known }
+        requires live { known.life ≡ Life.Live }
+        ensures { Serves self.old (Event.Exit task) result self.new }
+    {
+        self.holdings.pages().are_held();
+        drop_pages(&mut self.holdings, self.spaces.mappings(), task);
+        self.spaces.exit(task, Life::Exited);
+        Reply::Ok
     }
 }
 
@@ -470,7 +561,8 @@ impl State {
     /// One event that nothing refuses. `AllocError` where memory was wanted and refused, and then
     /// nothing changed.
     pub fn step(&mut self, event: &Event) -> Result<Reply, AllocError>
-        requires { refusal self.old.tables event.now ≡ None }
+        requires few { AreFew self.old.tallies }
+        requires none { refusal self.old.tables event.now ≡ None }
         ensures serves { IfOk result (λ reply. Serves self.old event.now reply self.new) }
         ensures err { OnErr result (self.new ≡ self.old) }
         ensures grows { OnErr result (grows self.old.tables event.now ≡ true) }
@@ -482,6 +574,7 @@ impl State {
             }
             Event::Relieve(cause) => Ok(self.relieve(*cause)),
             Event::Spawn { task, group } => self.spawn(*task, *group),
+            Event::Exit(task) => Ok(self.exit(*task)),
             Event::Mkdir(path) => self.mkdir(path.as_str()),
             Event::Set { group, setting } => Ok(self.set(*group, *setting)),
             Event::Show(query) => Ok(self.show(*query)),

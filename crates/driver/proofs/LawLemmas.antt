@@ -7,6 +7,9 @@ use Rattle.machine.specs.declared.record.Life.{Life}
 use Rattle.machine.specs.declared.record.Life.TheVariants.{Live, Exited, Killed}
 use Rattle.machine.specs.declared.record.Task.{Task}
 use Rattle.machine.specs.declared.record.Mapping.{Mapping}
+use Rattle.machine.specs.declared.record.EventCounts.{EventCounts}
+use Rattle.machine.specs.declared.record.Key.{Key}
+use Rattle.machine.specs.declared.record.Key.TheVariants.{Low, High, Max, Oom, OomKill, OomGroupKill}
 use Rattle.machine.specs.declared.id.TaskId.{TaskId}
 use Rattle.machine.specs.declared.event.Place.{Place}
 use Rattle.machine.specs.declared.event.Place.TheVariants.{Virtual}
@@ -14,11 +17,12 @@ use Rattle.machine.specs.declared.event.Op.{Op}
 use Rattle.machine.specs.declared.event.Op.TheVariants.{Read, Write}
 use Rattle.machine.specs.declared.reply.Reply.{Reply}
 use Rattle.machine.specs.declared.reply.Reply.TheVariants as reply
+use Rattle.machine.specs.declared.reply.Shown.TheVariants as shown
 use Rattle.machine.specs.declared.record.Limits.{Limits}
 use Rattle.machine.specs.Slots.{at, Changes, there_and, count_there}
 use Rattle.machine.specs.Tree.{Node, chain, under_at, under}
 use Rattle.machine.specs.Amounts.{exceeds}
-use Rattle.machine.specs.Counts.{limits_at, is_full, over_at, Counted}
+use Rattle.machine.specs.Counts.{limits_at, is_full, over_at, Counted, local, total, counts_by}
 use Rattle.machine.specs.Pages.{Content, Memory, OfFile, Residence, Held, Coming, Going, Away, Page, page_at, has_frame, is_charged, charged}
 use Rattle.machine.specs.Tasks.{task_at, mapped_at}
 use Rattle.machine.specs.State.{State, usage, over_in, is_frame_free}
@@ -26,12 +30,31 @@ use Rattle.machine.specs.Access.{Meeting, Unmapped, Hits, Transferring, NeedsPag
 use Rattle.machine.specs.Reclaim.{has_takeable, has_transfer, stands, target_of}
 use Rattle.machine.specs.Step.{Only, Takes, LeavesFrom, LeavesBy, ChargeStep, MakesPage, StartsFetch, HitStep, UnmappedStep, MeetStep, LifeStep, TaskStep, new_page, touched}
 use Rattle.machine.proofs.SlotLemmas.{one_if, count_there-changes}
-use Rattle.driver.specs.Laws.{CurrentCountsPages, ChargesStayWithinMax, KillsComeLast, ReadsGiveLastWrites}
+use Rattle.driver.specs.Laws.{CurrentCountsPages, EventsAreThoseCounted, count_for, ChargesStayWithinMax, KillsComeLast, ReadsGiveLastWrites}
 
 -- ---- memory.current
 
 pub current_counts_pages : CurrentCountsPages
 current_counts_pages before after g n step = let e = step.0 in cc
+
+-- ---- memory.events and memory.events.local
+
+-- counts that are made of each key's count say that count of it
+count_for-counts_by : (count : Key → ℕ) (key : Key) → count_for (counts_by count) key ≡ count key
+count_for-counts_by count Low = refl
+count_for-counts_by count High = refl
+count_for-counts_by count Max = refl
+count_for-counts_by count Oom = refl
+count_for-counts_by count OomKill = refl
+count_for-counts_by count OomGroupKill = refl
+
+shows_counts : (counts : EventCounts) (count : Key → ℕ) (key : Key) → shown.Events counts ≡ shown.Events (counts_by count) → count_for counts key ≡ count key
+shows_counts counts count key shows =
+    let same : counts ≡ counts_by count = cc in ap (λ (c : EventCounts). count_for c key) same ∙ count_for-counts_by count key
+
+pub events_are_those_counted : EventsAreThoseCounted
+events_are_those_counted before after g counts key =
+    (λ step. shows_counts counts (total before.tree before.counted g) key step.0, λ step. shows_counts counts (local before.counted g) key step.0)
 
 -- ---- reads
 

@@ -9,7 +9,7 @@ use Rattle.machine.specs.declared.reply.Reply.TheVariants as reply
 use Rattle.machine.specs.declared.command.Actor.{Actor}
 use Rattle.machine.specs.declared.command.Command.{Command}
 use Rattle.machine.specs.declared.command.Step.{Step as Line}
-use Rattle.machine.specs.declared.command.Step.TheVariants.{Begin, Finish}
+use Rattle.machine.specs.declared.command.Step.TheVariants.{Begin, Advance, Finish}
 use Rattle.machine.specs.declared.command.Reply.{Reply as Told_by}
 use Rattle.machine.specs.declared.turn.Doing.{Doing}
 use Rattle.machine.specs.declared.turn.Outcome.{Outcome}
@@ -75,6 +75,7 @@ module _ (opening : Opening) where
 
   legal-step : (old new : World) (line : Line) (answers : List Told_by) → Stepped old line answers new → IsLegal old.past → IsLegal new.past
   legal-step old new (Begin who what) answers h legal = legal-begin old new who what (activity_of who old.seats) answers h legal
+  legal-step old new (Advance who) answers h legal = legal-turn old new who (activity_of who old.seats) h.0 h.1 legal
   legal-step old new (Finish who) answers h legal = legal-finish h.1 new who h.0 answers h.3 (legal-goings old h.1 who h.0 h.2 legal)
 
   legal-runs : (old new : World) (lines : List Line) (answers : List Told_by) → Runs old lines answers new → IsLegal old.past → IsLegal new.past

@@ -7,13 +7,16 @@ use Rattle.machine.specs.declared.event.Op.{Op}
 use Rattle.machine.specs.declared.event.Place.{Place}
 use Rattle.machine.specs.declared.event.Query.TheVariants as query
 use Rattle.machine.specs.declared.event.Event.TheVariants as event
+use Rattle.machine.specs.declared.record.EventCounts.{EventCounts}
+use Rattle.machine.specs.declared.record.Key.{Key}
+use Rattle.machine.specs.declared.record.Key.TheVariants.{Low, High, Max, Oom, OomKill, OomGroupKill}
 use Rattle.machine.specs.declared.reply.Reply.{Reply}
 use Rattle.machine.specs.declared.reply.Reply.TheVariants as reply
 use Rattle.machine.specs.declared.reply.Shown.TheVariants as shown
 use Rattle.machine.specs.declared.command.Step.{Step as Line}
 use Rattle.machine.specs.declared.command.Reply.{Reply as Told_by}
 use Rattle.machine.specs.Amounts.{exceeds}
-use Rattle.machine.specs.Counts.{limits_at}
+use Rattle.machine.specs.Counts.{limits_at, local, total}
 use Rattle.machine.specs.State.{State, usage, opening_of}
 use Rattle.machine.specs.Reclaim.{is_idle, target_of}
 use Rattle.machine.specs.Victim.{is_candidate}
@@ -30,6 +33,22 @@ RunsAreLegal = (config : Config) (steps : List Line) (answers : List Told_by) (e
 abbrev pub CurrentCountsPages : Type 0
 CurrentCountsPages =
     (before after : State) (g n : ℕ) → Step before (event.Show (query.Current (record { 0 = g }))) (reply.Shown (shown.Pages n)) after → n ≡ usage before g
+
+-- how often these counts say that a key was counted
+abbrev pub count_for : EventCounts → Key → ℕ
+count_for counts Low = counts.low
+count_for counts High = counts.high
+count_for counts Max = counts.max
+count_for counts Oom = counts.oom
+count_for counts OomKill = counts.oom_kill
+count_for counts OomGroupKill = counts.oom_group_kill
+
+-- of each key memory.events shows how often it was counted at or under the group, and memory.events.local how often at the group itself
+abbrev pub EventsAreThoseCounted : Type 0
+EventsAreThoseCounted =
+    (before after : State) (g : ℕ) (counts : EventCounts) (key : Key)
+    → (Step before (event.Show (query.Events (record { 0 = g }))) (reply.Shown (shown.Events counts)) after → count_for counts key ≡ total before.tree before.counted g key)
+    × (Step before (event.Show (query.EventsLocal (record { 0 = g }))) (reply.Shown (shown.Events counts)) after → count_for counts key ≡ local before.counted g key)
 
 -- an access that leaves more pages charged under a group leaves no more than the group's max
 abbrev pub ChargesStayWithinMax : Type 0

@@ -3,8 +3,8 @@
 
 ghost use Rattle.std.specs.Prelude.{◌≡◌, IfOk, IfErr};
 ghost use Rattle.machine.specs.declared.reply.Reply.{Reply};
-ghost use Rattle.machine.specs.Call.{Replies, IsAccessReply, IsReliefReply, IsOkReply, IsShownReply};
-ghost use Rattle.machine.specs.Turns.{access_event, asks, asked_of, ends_with, ends_refused, byte_answer, Tried, MadeRoom, MaxSet, Lowered, Made, WasShown, Told, Awaits};
+ghost use Rattle.machine.specs.Call.{Replies, IsAccessReply, IsReliefReply, IsOkReply, IsExitReply, IsShownReply};
+ghost use Rattle.machine.specs.Turns.{access_event, asks, asked_of, ends_with, ends_refused, byte_answer, Tried, MadeRoom, MaxSet, Lowered, Made, Left, WasShown, Told, Awaits};
 
 use crate::control_files::show_text;
 use machine::command::{Answer, Word};
@@ -35,6 +35,7 @@ pub fn ask(doing: Doing) -> Question
         ),
         Doing::Lower(group) => question(Asked::Lower(group), Event::Relieve(Cause::Lower(group))),
         Doing::Spawn { task, group } => question(Asked::Make, Event::Spawn { task, group }),
+        Doing::Exit(task) => question(Asked::Exit, Event::Exit(task)),
         Doing::Mkdir(path) => question(Asked::Make, Event::Mkdir(path)),
         Doing::Show(query) => question(Asked::Show, Event::Show(query)),
     }
@@ -70,6 +71,7 @@ pub fn told(alloc: Global, asked: Asked, reply: Reply) -> Result<Turned, AllocEr
         Asked::SetMax(group) => Ok(max_set(group, reply)),
         Asked::Lower(group) => Ok(lowered(group, reply)),
         Asked::Make => Ok(made(reply)),
+        Asked::Exit => Ok(left(reply)),
         Asked::Show => shown(alloc, reply),
     }
 }
@@ -157,6 +159,18 @@ fn made(reply: Reply) -> Turned
 {
     match reply {
         Reply::Ok => Turned::Ends(Answer::Done),
+        Reply::Refused(cause) => refused(cause),
+        _ => never(),
+    }
+}
+
+fn left(reply: Reply) -> Turned
+    requires { IsExitReply reply }
+    ensures { Left reply result }
+{
+    match reply {
+        Reply::Ok => Turned::Ends(Answer::Done),
+        Reply::Killed => word(Word::Killed),
         Reply::Refused(cause) => refused(cause),
         _ => never(),
     }

@@ -1,11 +1,12 @@
 //! Control files: their names, the amounts that are written to them, and what they say.
 
 ghost use Rattle.std.specs.Prelude.{◌≡◌, IfOk};
-ghost use Rattle.machine.specs.Control.{unit_of, last_unit, digits_part, is_plain, amount_of, text_of, bytes_text, line, file_named};
+ghost use Rattle.machine.specs.Control.{unit_of, last_unit, digits_part, is_plain, amount_of, text_of, bytes_text, line, key_line, events_text, file_named};
 ghost use Rattle.std.specs.String.{string_bytes};
 
 use machine::amount::Amount;
 use machine::control::ControlFile;
+use machine::record::EventCounts;
 use machine::reply::Shown;
 use machine::text::Text;
 use std::alloc::{AllocError, Global};
@@ -21,6 +22,8 @@ pub fn file_named(name: &str) -> Option<ControlFile>
     match name {
         "memory.current" => Some(ControlFile::Current),
         "memory.max" => Some(ControlFile::Max),
+        "memory.events" => Some(ControlFile::Events),
+        "memory.events.local" => Some(ControlFile::EventsLocal),
         _ => None,
     }
 }
@@ -88,14 +91,35 @@ fn pages_line(alloc: Global, pages: u64) -> Result<String, AllocError>
     format!(in alloc; "{bytes}\n")
 }
 
-/// What a control file says of these numbers, in bytes. It fails only where memory is wanted and
-/// refused.
+/// The line of a key: its name, and how often it was counted.
+fn key_line(alloc: Global, name: &str, count: u64) -> Result<String, AllocError>
+    ensures { IfOk result (λ s. string_bytes s ≡ key_line name.now count) }
+{
+    format!(in alloc; "{name} {count}\n")
+}
+
+/// How often each of the six keys was counted, a line a key.
+fn events_lines(alloc: Global, counts: EventCounts) -> Result<String, AllocError>
+    ensures { IfOk result (λ s. string_bytes s ≡ events_text counts) }
+{
+    let mut lines = key_line(alloc, "low", counts.low)?;
+    lines.push_str(key_line(alloc, "high", counts.high)?.as_str())?;
+    lines.push_str(key_line(alloc, "max", counts.max)?.as_str())?;
+    lines.push_str(key_line(alloc, "oom", counts.oom)?.as_str())?;
+    lines.push_str(key_line(alloc, "oom_kill", counts.oom_kill)?.as_str())?;
+    lines.push_str(key_line(alloc, "oom_group_kill", counts.oom_group_kill)?.as_str())?;
+    Ok(lines)
+}
+
+/// What a control file says of these numbers: pages in bytes, events by key. It fails only where
+/// memory is wanted and refused.
 pub fn show_text(alloc: Global, numbers: Shown) -> Result<Text, AllocError>
     ensures { IfOk result (λ text. text ≡ text_of numbers) }
 {
     let string = match numbers {
         Shown::Pages(pages) | Shown::Amount(Amount::Pages(pages)) => pages_line(alloc, pages)?,
         Shown::Amount(Amount::Max) => String::from_str(alloc, "max\n")?,
+        Shown::Events(counts) => events_lines(alloc, counts)?,
     };
     Ok(Text::new(string))
 }

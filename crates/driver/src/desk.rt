@@ -2,7 +2,7 @@
 
 ghost use Rattle.std.specs.Prelude.{◌≡◌, ◌<◌, ◌++◌, [], List, length, OnOk, IfOk};
 ghost use Rattle.machine.specs.declared.command.Reply.{Reply as Told_by};
-ghost use Rattle.machine.specs.Schedule.{Asks, Turn, DoingTurn, Finishes, Begins, Stepped, Runs, activity_of};
+ghost use Rattle.machine.specs.Schedule.{Asks, Turn, DoingTurn, Advances, Finishes, Begins, Stepped, Runs, activity_of};
 ghost use Rattle.driver.specs.Desks.{world};
 ghost use Rattle.driver.specs.Seats.{place_of};
 
@@ -91,6 +91,16 @@ impl Desk {
         Ok(())
     }
 
+    /// One turn, whatever comes of it: `idle` where the actor has no command.
+    fn advance(&mut self, actor: Actor, answers: &mut Vec<Reply>) -> Result<(), AllocError>
+        requires { AsksFirst self.old }
+        ensures advances { OnOk result ((added : List Told_by) × (answers.new.items ≡ answers.old.items ++ added) × Advances (world self.old) actor added (world self.new)) }
+        ensures first { AsksFirst self.new }
+    {
+        let shown = self.turn(actor)?;
+        seats::say(answers, actor, shown)
+    }
+
     /// Turns until an answer, at most 1,000.
     fn finish(&mut self, actor: Actor, answers: &mut Vec<Reply>) -> Result<(), AllocError>
         requires { AsksFirst self.old }
@@ -117,6 +127,7 @@ impl Desk {
     {
         match step {
             Step::Begin(actor, command) => self.begin(*actor, command, answers),
+            Step::Advance(actor) => self.advance(*actor, answers),
             Step::Finish(actor) => self.finish(*actor, answers),
         }
     }

@@ -22,7 +22,7 @@ pub fn judge(book: &Book, pass: &mut Pass, actor: Actor, command: Command) -> Re
 {
     match actor {
         Actor::Task(task) => judge_task(task, command),
-        Actor::Shell => judge_shell(book, pass, command),
+        Actor::Shell | Actor::Control => judge_shell(book, pass, command),
     }
 }
 
@@ -35,6 +35,7 @@ fn judge_task(task: u32, command: Command) -> Result<Doing, Refusal>
             place,
             op,
         })),
+        Command::Exit => Ok(Doing::Exit(TaskId(task))),
         _ => Err(Refusal::Invalid),
     }
 }
@@ -44,7 +45,7 @@ fn judge_shell(book: &Book, pass: &mut Pass, command: Command) -> Result<Doing, 
     ensures pass { pass.new.worker ≡ pass.old.worker }
 {
     match command {
-        Command::Access { .. } => Err(Refusal::Invalid),
+        Command::Access { .. } | Command::Exit => Err(Refusal::Invalid),
         Command::Group(path) => Ok(Doing::Mkdir(path)),
         Command::Task { task, path } => judge_spawn(book.find(pass, path.as_str()), task),
         Command::Set { path, file, text } => judge_set(
@@ -73,7 +74,8 @@ fn has_file(group: GroupId, file: ControlFile) -> bool
     ensures { result ≡ has_file group.0 file }
 {
     match file {
-        ControlFile::Current | ControlFile::Max => group.0 != 0,
+        ControlFile::Current | ControlFile::Max | ControlFile::Events | ControlFile::EventsLocal =>
+            group.0 != 0,
     }
 }
 
@@ -105,7 +107,9 @@ fn write_named(group: GroupId, file: ControlFile, text: &str) -> Result<Doing, R
     ensures { result ≡ writes_file group.0 text.now file }
 {
     match file {
-        ControlFile::Current => Err(Refusal::Invalid),
+        ControlFile::Current | ControlFile::Events | ControlFile::EventsLocal => {
+            Err(Refusal::Invalid)
+        }
         ControlFile::Max => match parse_amount(text) {
             None => Err(Refusal::Invalid),
             Some(max) => Ok(Doing::SetMax { group, max }),
@@ -143,5 +147,7 @@ fn query_of(group: GroupId, file: ControlFile) -> Query
     match file {
         ControlFile::Current => Query::Current(group),
         ControlFile::Max => Query::Max(group),
+        ControlFile::Events => Query::Events(group),
+        ControlFile::EventsLocal => Query::EventsLocal(group),
     }
 }

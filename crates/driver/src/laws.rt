@@ -1,7 +1,7 @@
 //! The headline in the words of its users: laws of every step and of every run. Each is the contract
 //! of a function that does nothing.
 
-ghost use Rattle.driver.specs.Laws.{RunsAreLegal, CurrentCountsPages, ChargesStayWithinMax, KillsComeLast, ReadsGiveLastWrites};
+ghost use Rattle.driver.specs.Laws.{RunsAreLegal, CurrentCountsPages, EventsAreThoseCounted, ChargesStayWithinMax, KillsComeLast, ReadsGiveLastWrites};
 
 /// The history of every run leads from the opening to the run's state, one step of the plain machine
 /// an entry.
@@ -12,6 +12,12 @@ pub fn runs_are_legal()
 /// `memory.current` counts the pages with frames at or under the group.
 pub fn current_counts_pages()
     ensures { CurrentCountsPages }
+{}
+
+/// Of each key `memory.events` shows how often it was counted at or under the group, and
+/// `memory.events.local` how often at the group itself.
+pub fn event_files_show_what_was_counted()
+    ensures { EventsAreThoseCounted }
 {}
 
 /// No access that gives a page a frame passes the max of the group or of one above it. (A max that

@@ -15,6 +15,7 @@ fn number_of(actor: Actor) -> u64
 {
     match actor {
         Actor::Shell => 0,
+        Actor::Control => 1,
         Actor::Task(task) => u64::from(task) + 3,
     }
 }

@@ -5,3 +5,4 @@ pub mod WalkLemmas
 pub mod RoomLemmas
 pub mod PushLemmas
 pub mod PreorderLemmas
+pub mod LineageLemmas

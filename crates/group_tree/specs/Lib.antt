@@ -1,3 +1,4 @@
 pub mod Groups
 pub mod Tables
 pub mod Walk
+pub mod Lineages

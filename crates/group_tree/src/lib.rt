@@ -4,9 +4,11 @@
 //! every walk up ends, and no walk takes memory.
 #![tactic(auto)]
 
+pub use lineage::Lineage;
 pub use preorder::Preorder;
 pub use tree::Tree;
 
+mod lineage;
 mod path;
 mod preorder;
 mod tree;

@@ -137,6 +137,12 @@ IsOkReply reply.Ok = Unit {0}
 IsOkReply (reply.Refused why) = Unit {0}
 IsOkReply said = ⊥
 
+abbrev pub IsExitReply : Reply → Type 0
+IsExitReply reply.Ok = Unit {0}
+IsExitReply reply.Killed = Unit {0}
+IsExitReply (reply.Refused why) = Unit {0}
+IsExitReply said = ⊥
+
 abbrev pub IsShownReply : Reply → Type 0
 IsShownReply (reply.Shown numbers) = Unit {0}
 IsShownReply (reply.Refused why) = Unit {0}
@@ -146,6 +152,7 @@ abbrev pub Replies : Event → Reply → Type 0
 Replies (event.Access t place op) said = IsAccessReply said
 Replies (event.Relieve cause) said = IsReliefReply said
 Replies (event.Spawn t g) said = IsOkReply said
+Replies (event.Exit t) said = IsExitReply said
 Replies (event.Mkdir path) said = IsOkReply said
 Replies (event.Set g what) said = IsOkReply said
 Replies (event.Show what) said = IsShownReply said

@@ -6,6 +6,7 @@ use Rattle.machine.specs.declared.amount.Amount.{Amount}
 use Rattle.machine.specs.declared.amount.Amount.TheVariants.{Max, Pages}
 use Rattle.machine.specs.declared.control.ControlFile.{ControlFile}
 use Rattle.machine.specs.declared.control.ControlFile.TheVariants as file
+use Rattle.machine.specs.declared.record.EventCounts.{EventCounts}
 use Rattle.machine.specs.declared.reply.Shown.{Shown}
 use Rattle.machine.specs.declared.reply.Shown.TheVariants as shown
 use Rattle.machine.specs.Numbers.{is_numeral}
@@ -56,10 +57,25 @@ abbrev pub amount_text : Amount → List ℕ
 amount_text Max = codes "max"
 amount_text (Pages n) = bytes_text n
 
--- what a control file says: bytes, or `max`
+-- a line of a key: its name, a space, and how often it was counted
+abbrev pub key_line : List ℕ → ℕ → List ℕ
+key_line name n = line (name ++ 32 ∷ decimal n)
+
+-- the six keys in order
+abbrev pub events_text : EventCounts → List ℕ
+events_text counts =
+    key_line (codes "low") counts.low
+    ++ (key_line (codes "high") counts.high
+    ++ (key_line (codes "max") counts.max
+    ++ (key_line (codes "oom") counts.oom
+    ++ (key_line (codes "oom_kill") counts.oom_kill
+    ++ key_line (codes "oom_group_kill") counts.oom_group_kill))))
+
+-- what a control file says: bytes, or `max`, or a line for each key
 abbrev pub text_of : Shown → List ℕ
 text_of (shown.Pages n) = line (bytes_text n)
 text_of (shown.Amount amount) = line (amount_text amount)
+text_of (shown.Events counts) = events_text counts
 
 -- ---- files
 
@@ -68,9 +84,13 @@ abbrev pub file_named : List ℕ → Option ControlFile
 file_named name =
     if bytes_eq name (codes "memory.current") then Some file.Current
     else if bytes_eq name (codes "memory.max") then Some file.Max
+    else if bytes_eq name (codes "memory.events") then Some file.Events
+    else if bytes_eq name (codes "memory.events.local") then Some file.EventsLocal
     else None
 
 -- the root has none of these
 abbrev pub has_file : ℕ → ControlFile → Bool
 has_file g file.Current = not (g == 0)
 has_file g file.Max = not (g == 0)
+has_file g file.Events = not (g == 0)
+has_file g file.EventsLocal = not (g == 0)

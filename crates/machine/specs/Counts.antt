@@ -2,6 +2,7 @@
 use Rattle.std.specs.Prelude.{ℕ, ◌+◌, ◌==◌, ◌&&◌, Bool, true, false, List, count_by, find, Option, Some, slice_index_or}
 use Rattle.machine.specs.declared.amount.Amount.TheVariants as amount
 use Rattle.machine.specs.declared.record.Limits.{Limits}
+use Rattle.machine.specs.declared.record.EventCounts.{EventCounts}
 use Rattle.machine.specs.declared.record.Key.{Key}
 use Rattle.machine.specs.declared.record.Key.TheVariants.{Low, High, Max, Oom, OomKill, OomGroupKill}
 use Rattle.machine.specs.Tree.{Node, chain, under}
@@ -46,3 +47,7 @@ local counted g key = count_by (λ c. (c.group == g) && is_key c.key key) counte
 -- and how often at the group or anywhere below it, removed groups too (memory.events)
 abbrev pub total : List Node → List Counted → ℕ → Key → ℕ
 total tree counted a key = count_by (λ c. under tree a c.group && is_key c.key key) counted
+
+-- the counts of all six keys
+abbrev pub counts_by : (Key → ℕ) → EventCounts
+counts_by count = record { low = count Low; high = count High; max = count Max; oom = count Oom; oom_kill = count OomKill; oom_group_kill = count OomGroupKill }

@@ -67,6 +67,8 @@ file_refusal tree g = first_cause (not (is_live tree g) || (g == 0)) NoEntry Non
 abbrev pub show_refusal : State → Query → Option Refusal
 show_refusal s (query.Current g) = file_refusal s.tree g.0
 show_refusal s (query.Max g) = file_refusal s.tree g.0
+show_refusal s (query.Events g) = file_refusal s.tree g.0
+show_refusal s (query.EventsLocal g) = file_refusal s.tree g.0
 
 abbrev pub spawn_refusal : State → ℕ → ℕ → Option Refusal
 spawn_refusal s t g = group_refusal s.tree g (first_cause (bars_tasks s.tree g) Busy (number_refusal s.tasks t))
@@ -75,6 +77,7 @@ abbrev pub refusal : State → Event → Option Refusal
 refusal s (event.Access t place op) = task_refusal (task_at s.tasks t.0) (first_cause (not (is_place s.opening place)) BadPlace None)
 refusal s (event.Relieve cause) = None
 refusal s (event.Spawn t g) = spawn_refusal s t.0 g.0
+refusal s (event.Exit t) = task_refusal (task_at s.tasks t.0) None
 refusal s (event.Mkdir path) = mkdir_refusal s.tree (bars_children s.tasks) path
 refusal s (event.Set g setting) = file_refusal s.tree g.0
 refusal s (event.Show what) = show_refusal s what

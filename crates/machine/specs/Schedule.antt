@@ -33,6 +33,7 @@ is_config config = (nat_le 1 config.frames && nat_le config.frames 65536) && (na
 -- different actors have different numbers; those below 3 are for actors that are no task
 abbrev pub number_of : Actor → ℕ
 number_of actor.Shell = 0
+number_of actor.Control = 1
 number_of (actor.Task n) = n + 3
 
 abbrev pub is_of : Actor → Seat → Bool
@@ -152,8 +153,13 @@ abbrev pub Begins : World → Actor → Command → Activity → List Told_by �
 Begins old who what Rests answers new = (answers ≡ []) × (new ≡ begun old who what)
 Begins old who what under_way answers new = (answers ≡ answer_by who (answer.Word word.Underway)) × (new ≡ old)
 
+-- one turn, whatever comes of it
+abbrev pub Advances : World → Actor → List Told_by → World → Type 0
+Advances old who answers new = (outcome : Outcome) × Turn old who outcome new × (answers ≡ said_at who outcome)
+
 abbrev pub Stepped : World → Step → List Told_by → World → Type 0
 Stepped old (step.Begin who what) answers new = Begins old who what (activity_of who old.seats) answers new
+Stepped old (step.Advance who) answers new = Advances old who answers new
 Stepped old (step.Finish who) answers new = Finishes old who answers new
 
 -- ---- runs

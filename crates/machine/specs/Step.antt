@@ -27,7 +27,7 @@ use Rattle.machine.specs.Names.{parent_path}
 use Rattle.machine.specs.Tree.{Node, find_group}
 use Rattle.machine.specs.Pages.{Content, Memory, OfFile, Residence, Held, Coming, Going, Page, is_anon, in_transfer_at, page_at, home_block, is_frame_taken, is_swap_taken, is_ticket_taken}
 use Rattle.machine.specs.declared.record.Limits.{Limits}
-use Rattle.machine.specs.Counts.{no_limits, limits_at, Counted}
+use Rattle.machine.specs.Counts.{no_limits, limits_at, Counted, local, total, counts_by}
 use Rattle.machine.specs.Tasks.{task_at, SetsTask, group_of_task, mapping, mappers, without_task, without_place}
 use Rattle.machine.specs.State.{State, usage, over_in, is_frame_free}
 use Rattle.machine.specs.Access.{Meeting, Unmapped, Hits, Transferring, NeedsPage, NeedsCopy, NeedsSwapIn, meets}
@@ -191,6 +191,10 @@ pub record EndsTask (old : State) (t : ℕ) (life : Life) (counted : List Counte
   pub ends : SetsTask old.tasks t (group_of_task old.tasks t) life new.tasks
   pub state : new ≡ record old { pages = new.pages; tasks = new.tasks; mappings = without_task old.mappings t; counted = counted }
 
+-- a task ends by itself, and nothing is counted for it
+abbrev pub Exits : State → ℕ → Reply → State → Type 0
+Exits old t answer new = (answer ≡ reply.Ok) × EndsTask old t Exited old.counted new
+
 -- nothing can be reclaimed under the limit: its worst task is killed, or there is none. (Excludes a kill at the first refused charge: Takes and Wait come before.)
 abbrev pub KillStep : State → ℕ → Reply → State → Type 0
 KillStep old limit (reply.KilledTask t) new =
@@ -217,6 +221,8 @@ with_setting limits (setting.Max amount) = record limits { max = amount }
 abbrev pub shown_of : State → Query → Shown
 shown_of s (query.Current g) = shown.Pages (usage s g.0)
 shown_of s (query.Max g) = shown.Amount (limits_at s.limits g.0).max
+shown_of s (query.Events g) = shown.Events (counts_by (total s.tree s.counted g.0))
+shown_of s (query.EventsLocal g) = shown.Events (counts_by (local s.counted g.0))
 
 -- ---- the step
 
@@ -225,6 +231,7 @@ Step old (event.Access t place op) answer new =
     TaskStep old (task_at old.tasks t.0) (λ task. MeetStep old t.0 task.group.0 place op (meets old t.0 place op) answer new) answer new
 Step old (event.Relieve cause) answer new = RelieveStep old cause answer new
 Step old (event.Spawn t g) reply.Ok new = SetsTask old.tasks t.0 g.0 Live new.tasks × (new ≡ record old { tasks = new.tasks })
+Step old (event.Exit t) answer new = TaskStep old (task_at old.tasks t.0) (λ task. Exits old t.0 answer new) answer new
 Step old (event.Mkdir path) reply.Ok new = new ≡ record old { tree = old.tree ++ new_node old.tree path ∷ []; limits = old.limits ++ no_limits ∷ [] }
 Step old (event.Set g what) reply.Ok new = new ≡ record old { limits = slice_set old.limits g.0 (with_setting (limits_at old.limits g.0) what) }
 Step old (event.Show what) (reply.Shown numbers) new = (numbers ≡ shown_of old what) × (new ≡ old)

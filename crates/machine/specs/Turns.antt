@@ -30,7 +30,7 @@ use Rattle.machine.specs.declared.turn.Asked.TheVariants as asked
 use Rattle.machine.specs.declared.turn.Turned.{Turned}
 use Rattle.machine.specs.declared.turn.Turned.TheVariants.{Goes, Kills, Ends}
 use Rattle.machine.specs.Tree.{Node, find_group}
-use Rattle.machine.specs.Call.{IsAccessReply, IsReliefReply, IsOkReply, IsShownReply}
+use Rattle.machine.specs.Call.{IsAccessReply, IsReliefReply, IsOkReply, IsExitReply, IsShownReply}
 use Rattle.machine.specs.Control.{file_named, has_file, amount_of, text_of}
 
 -- ---- what a turn asks
@@ -45,6 +45,7 @@ asks (doing.MakeRoom access why) = event.Relieve why
 asks (doing.SetMax g max) = event.Set g (setting.Max max)
 asks (doing.Lower g) = event.Relieve (cause.Lower g)
 asks (doing.Spawn t g) = event.Spawn t g
+asks (doing.Exit t) = event.Exit t
 asks (doing.Mkdir path) = event.Mkdir path
 asks (doing.Show what) = event.Show what
 
@@ -55,6 +56,7 @@ asked_of (doing.MakeRoom access why) = asked.MakeRoom access
 asked_of (doing.SetMax g max) = asked.SetMax g
 asked_of (doing.Lower g) = asked.Lower g
 asked_of (doing.Spawn t g) = asked.Make
+asked_of (doing.Exit t) = asked.Exit
 asked_of (doing.Mkdir path) = asked.Make
 asked_of (doing.Show what) = asked.Show
 
@@ -107,6 +109,13 @@ Made reply.Ok turned = turned ≡ Ends answer.Done
 Made (reply.Refused why) turned = turned ≡ ends_refused why
 Made said turned = ⊥
 
+-- a task has ended, or was killed before
+abbrev pub Left : Reply → Turned → Type 0
+Left reply.Ok turned = turned ≡ Ends answer.Done
+Left reply.Killed turned = turned ≡ ends_with word.Killed
+Left (reply.Refused why) turned = turned ≡ ends_refused why
+Left said turned = ⊥
+
 abbrev pub WasShown : Reply → Turned → Type 0
 WasShown (reply.Shown numbers) turned = turned ≡ Ends (answer.Text (text_of numbers))
 WasShown (reply.Refused why) turned = turned ≡ ends_refused why
@@ -118,6 +127,7 @@ Told (asked.MakeRoom access) said turned = MadeRoom access said turned
 Told (asked.SetMax g) said turned = MaxSet g.0 said turned
 Told (asked.Lower g) said turned = Lowered g.0 said turned
 Told asked.Make said turned = Made said turned
+Told asked.Exit said turned = Left said turned
 Told asked.Show said turned = WasShown said turned
 
 -- ---- the first turn: paths are found, and a control file's name, mode and amount are judged
@@ -142,18 +152,24 @@ with_amount (Some amount) next = next amount
 abbrev pub reads_file : ℕ → ControlFile → Judged
 reads_file g file.Current = Ok (doing.Show (query.Current (record { 0 = g })))
 reads_file g file.Max = Ok (doing.Show (query.Max (record { 0 = g })))
+reads_file g file.Events = Ok (doing.Show (query.Events (record { 0 = g })))
+reads_file g file.EventsLocal = Ok (doing.Show (query.EventsLocal (record { 0 = g })))
 
 -- the mode is judged before the amount
 abbrev pub writes_file : ℕ → List ℕ → ControlFile → Judged
 writes_file g text file.Current = Err Invalid
+writes_file g text file.Events = Err Invalid
+writes_file g text file.EventsLocal = Err Invalid
 writes_file g text file.Max = with_amount (amount_of text) (λ max. Ok (doing.SetMax (record { 0 = g }) max))
 
 abbrev pub task_judged : ℕ → Command → Judged
 task_judged t (command.Access place op) = Ok (doing.Try (record { task = record { 0 = t }; place = place; op = op }))
+task_judged t command.Exit = Ok (doing.Exit (record { 0 = t }))
 task_judged t others = Err Invalid
 
 abbrev pub shell_judged : List Node → Command → Judged
 shell_judged tree (command.Access place op) = Err Invalid
+shell_judged tree command.Exit = Err Invalid
 shell_judged tree (command.Group path) = Ok (doing.Mkdir path)
 shell_judged tree (command.Task t path) = with_group (find_group tree path) (λ g. Ok (doing.Spawn (record { 0 = t }) (record { 0 = g })))
 shell_judged tree (command.Set path name text) = with_group (find_group tree path) (λ g. with_file g (file_named name) (writes_file g text))
@@ -163,6 +179,7 @@ shell_judged tree (command.Cat path name) = with_group (find_group tree path) (�
 abbrev pub judged : List Node → Actor → Command → Judged
 judged tree (actor.Task t) what = task_judged t what
 judged tree actor.Shell what = shell_judged tree what
+judged tree actor.Control what = shell_judged tree what
 
 -- the replies that can come
 abbrev pub Awaits : Asked → Reply → Type 0
@@ -171,4 +188,5 @@ Awaits (asked.MakeRoom access) said = IsReliefReply said
 Awaits (asked.SetMax g) said = IsOkReply said
 Awaits (asked.Lower g) said = IsReliefReply said
 Awaits asked.Make said = IsOkReply said
+Awaits asked.Exit said = IsExitReply said
 Awaits asked.Show said = IsShownReply said

@@ -15,12 +15,17 @@ pub enum Actor {
     Task(u32),
     /// Who makes groups and tasks, and reads and writes control files.
     Shell,
+    /// Does what the shell does, beside it.
+    Control,
 }
 
-/// What an actor is told to do: `Access` is for a task, all others are for the shell.
+/// What an actor is told to do: `Access` and `Exit` are for a task, all others for the shell and for
+/// control.
 #[derive(Debug, Drop)]
 pub enum Command {
     Access { place: Place, op: Op },
+    /// The task ends.
+    Exit,
     /// Makes the group of a path.
     Group(Text),
     /// Starts a task in the group of a path.
@@ -41,6 +46,7 @@ impl Command {
                 place: *place,
                 op: *op,
             }),
+            Command::Exit => Ok(Command::Exit),
             Command::Group(path) => Ok(Command::Group(path.copy(alloc)?)),
             Command::Task { task, path } => Ok(Command::Task {
                 task: *task,
@@ -64,6 +70,8 @@ impl Command {
 pub enum Step {
     /// The actor's command is this from now on, unless its last one is not answered yet.
     Begin(Actor, Command),
+    /// One turn of the actor's command.
+    Advance(Actor),
     /// Turns of the actor's command until it is answered, at most 1,000.
     Finish(Actor),
 }

@@ -43,6 +43,10 @@ pub enum Query {
     Current(GroupId),
     /// `memory.max`
     Max(GroupId),
+    /// `memory.events`
+    Events(GroupId),
+    /// `memory.events.local`
+    EventsLocal(GroupId),
 }
 
 /// One event of the machine.
@@ -54,6 +58,8 @@ pub enum Event {
     Relieve(Cause),
     /// A new task of a group.
     Spawn { task: TaskId, group: GroupId },
+    /// A task ends by itself (kernel: `do_exit`, `exit_mmap`).
+    Exit(TaskId),
     /// A new group, by its path.
     Mkdir(Text),
     /// A control file is written.

@@ -19,7 +19,8 @@ impl fmt::Display for Word {
 
 impl Reply {
     /// Writes the answer's line: a task's byte or word behind the task's number, a control file's
-    /// text as it is, the shell's word behind `error`, a kill as `killed N`. `Done` writes nothing.
+    /// text as it is, the word of the shell or of control behind `error`, a kill as `killed N`.
+    /// `Done` writes nothing.
     pub fn print<W: Write>(&self, out: &mut W) -> io::Result<()> {
         match &self.answer {
             Answer::Done => Ok(()),
@@ -27,11 +28,11 @@ impl Reply {
             Answer::Kill(task) => writeln!(out, "killed {}", task.0),
             Answer::Byte(byte) => match self.actor {
                 Actor::Task(task) => writeln!(out, "{task} {byte}"),
-                Actor::Shell => writeln!(out, "{byte}"),
+                Actor::Shell | Actor::Control => writeln!(out, "{byte}"),
             },
             Answer::Word(word) => match self.actor {
                 Actor::Task(task) => writeln!(out, "{task} {word}"),
-                Actor::Shell => writeln!(out, "error {word}"),
+                Actor::Shell | Actor::Control => writeln!(out, "error {word}"),
             },
         }
     }

@@ -41,6 +41,23 @@ pub enum Key {
     OomGroupKill,
 }
 
+/// How often each key was counted (kernel: `memory_events` of a `struct mem_cgroup`).
+#[derive(Clone, Copy, Debug, Default, PartialEq, Eq)]
+pub struct EventCounts {
+    /// A group under its protection was reclaimed from.
+    pub low: u64,
+    /// The throttling limit was passed. It is always 0, since there is none.
+    pub high: u64,
+    /// A charge was refused at the group's max.
+    pub max: u64,
+    /// Nothing could be reclaimed under the group.
+    pub oom: u64,
+    /// A task of the group was killed.
+    pub oom_kill: u64,
+    /// The group was killed as one.
+    pub oom_group_kill: u64,
+}
+
 /// The settings of a group.
 #[derive(Clone, Copy, Debug, PartialEq, Eq)]
 pub struct Limits {

@@ -2,13 +2,15 @@
 
 use crate::amount::Amount;
 use crate::id::{FrameId, GroupId, TaskId, TicketId};
+use crate::record::EventCounts;
 use crate::refusal::Refusal;
 
-/// What a control file shows, in pages.
+/// What a control file shows: pages, or how often events were counted.
 #[derive(Clone, Copy, Debug, PartialEq, Eq)]
 pub enum Shown {
     Pages(u64),
     Amount(Amount),
+    Events(EventCounts),
 }
 
 /// The answer to one event. Without swap no page can be taken or be in transfer, and no event is

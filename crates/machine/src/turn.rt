@@ -26,6 +26,7 @@ pub enum Doing {
     /// Room is made under the group, whose max was set.
     Lower(GroupId),
     Spawn { task: TaskId, group: GroupId },
+    Exit(TaskId),
     Mkdir(Text),
     Show(Query),
 }
@@ -39,6 +40,8 @@ pub enum Asked {
     Lower(GroupId),
     /// A task or a group is made.
     Make,
+    /// A task ends by itself.
+    Exit,
     /// A control file is shown.
     Show,
 }

@@ -1,12 +1,21 @@
--- Look-ups in the tables that a slab's records stand for, after a change at one number.
-use Rattle.std.proofs.Common.{◌≡◌, ◌≢◌, ℕ, zero, suc, ◌==◌, ◌&&◌, cond, if◌then◌else◌, List, [], ◌∷◌, map, get_or, set, Option, Some, None, refl, sym, ap, ◌∙◌, subst, inl, inr}
-use Rattle.std.specs.Prelude.{option_map, slice_index, IfSome}
+-- Look-ups in the tables that places stand for, after a change at one number.
+use Rattle.std.proofs.Common.{◌≡◌, ◌≢◌, ◌<◌, ℕ, zero, suc, ◌==◌, ◌&&◌, cond, if◌then◌else◌, List, [], ◌∷◌, length, map, get_or, set, Option, Some, None, refl, sym, ap, ◌∙◌, subst, inl, inr, arith}
+use Rattle.std.specs.Prelude.{option_map, slice_index, IfSome, IsSome}
 use Rattle.std.proofs.lemmas.Bool.Decides.{eqb_tells}
-use Rattle.slab.specs.Slab.{Slab, Updates}
+use Rattle.std.proofs.lemmas.List.{get_or-set_same, get_or-set_other, get_or_past, length-map}
 use Rattle.machine.specs.Slots.{at, Changes}
-use Rattle.pages.specs.declared.PageRecord.{PageRecord}
+use Rattle.machine.specs.Pages.{Pages}
+use Rattle.pages.specs.declared.Held.{Held}
 use Rattle.pages.specs.PageTable.{byte_of, byte_in, IsHeldMemory, AreHeld}
-use Rattle.pages.specs.Records.{page_of}
+use Rattle.pages.specs.Records.{page_of, WritesByte}
+
+module _ {A : Type 0} where
+  -- what stands at a place is replaced
+  pub Changes-set : (slots : List (Option A)) (k : ℕ) (to : Option A) → k < length slots → Changes slots (set slots k to) k to
+  Changes-set slots k to within = record {
+    changed = get_or-set_same slots k to None within;
+    others = λ m differs. get_or-set_other slots k m to None differs;
+  }
 
 module _ {A B : Type 0} (f : A → B) where
   pub at-map : (slots : List (Option A)) (k : ℕ) → get_or (map (option_map f) slots) k None ≡ option_map f (get_or slots k None)
@@ -14,18 +23,18 @@ module _ {A B : Type 0} (f : A → B) where
   at-map (slot ∷ slots) zero = refl
   at-map (slot ∷ slots) (suc k) = at-map slots k
 
-  -- what a slab says of a change, for the table
-  pub Changes-updates : (old new : Slab A) (key : ℕ) (slot : Option A) → Updates old new key slot → Changes (map (option_map f) old.slots) (map (option_map f) new.slots) key (option_map f slot)
-  Changes-updates old new key slot updates = record {
-    changed = at-map new.slots key ∙ ap (option_map f) updates.changed;
-    others = λ m differs. at-map new.slots m ∙ ap (option_map f) (updates.others m differs) ∙ sym (at-map old.slots m);
+  -- a change of what stands there, for the table
+  pub Changes-map : (old new : List (Option A)) (k : ℕ) (to : Option A) → Changes old new k to → Changes (map (option_map f) old) (map (option_map f) new) k (option_map f to)
+  Changes-map old new k to changes = record {
+    changed = at-map new k ∙ ap (option_map f) changes.changed;
+    others = λ m differs. at-map new m ∙ ap (option_map f) (changes.others m differs) ∙ sym (at-map old m);
   }
 
   -- a write that the table doesn't show
-  pub map-set : (slots : List (Option A)) (k : ℕ) (x y : A) → get_or slots k None ≡ Some x → f y ≡ f x → map (option_map f) (set slots k (Some y)) ≡ map (option_map f) slots
-  map-set [] k x y there same = refl
-  map-set (slot ∷ slots) zero x y there same = ap (λ v. v ∷ map (option_map f) slots) (ap Some same ∙ sym (ap (option_map f) there))
-  map-set (slot ∷ slots) (suc k) x y there same = ap (λ rest. option_map f slot ∷ rest) (map-set slots k x y there same)
+  pub map-set : (slots : List (Option A)) (k : ℕ) (to : Option A) → option_map f to ≡ option_map f (get_or slots k None) → map (option_map f) (set slots k to) ≡ map (option_map f) slots
+  map-set [] k to same = refl
+  map-set (slot ∷ slots) zero to same = ap (λ v. v ∷ map (option_map f) slots) same
+  map-set (slot ∷ slots) (suc k) to same = ap (λ rest. option_map f slot ∷ rest) (map-set slots k to same)
 
 pub byte_in-changes : (old new : List (Option (List ℕ))) (p : ℕ) (to : Option (List ℕ)) → Changes old new p to → (q o : ℕ) → byte_in new q o ≡ (if q == p then byte_of to o else byte_in old q o)
 byte_in-changes old new p to changes q o =
@@ -34,29 +43,44 @@ byte_in-changes old new p to changes q o =
       | inr differs ↦ rw differs.0 (ap (λ bytes. byte_of bytes o) (changes.others q differs.1))
     ]
 
--- a page is made with one byte
+-- zeros, and then one byte written
+pub zeros_but : (before after : List ℕ) (offset byte o : ℕ) → ((n : ℕ) → slice_index before n ≡ 0) → slice_index after offset ≡ byte → ((n : ℕ) → n ≢ offset → slice_index after n ≡ slice_index before n) → slice_index after o ≡ (if offset == o then byte else 0)
+zeros_but before after offset byte o cleared written others =
+    elim (eqb_tells offset o) [
+      | inl here ↦ rw (here.0, ← here.1) written
+      | inr elsewhere ↦ rw elsewhere.0 (others o (λ e. elsewhere.1 (sym e)) ∙ cleared o)
+    ]
+
+-- a page is made with these bytes
 pub byte_in-made : (old new : List (Option (List ℕ))) (p : ℕ) (bytes : List ℕ) (offset byte : ℕ) → Changes old new p (Some bytes) → ((o : ℕ) → slice_index bytes o ≡ (if offset == o then byte else 0)) → (q o : ℕ)
     → byte_in new q o ≡ (if q == p then (if offset == o then byte else 0) else byte_in old q o)
 byte_in-made old new p bytes offset byte changes made q o =
     byte_in-changes old new p (Some bytes) changes q o ∙ ap (λ b. cond (q == p) b (byte_in old q o)) (made o)
 
 -- one byte of a page is written
-pub byte_in-written : (old new : List (Option (List ℕ))) (p : ℕ) (before after : List ℕ) (offset byte : ℕ) → at old p ≡ Some before → Changes old new p (Some after) → slice_index after offset ≡ byte
-    → ((o : ℕ) → o ≢ offset → slice_index after o ≡ slice_index before o) → (q o : ℕ) → byte_in new q o ≡ (if (q == p) && (offset == o) then byte else byte_in old q o)
-byte_in-written old new p before after offset byte there changes written others q o =
-    byte_in-changes old new p (Some after) changes q o
+pub byte_in-written : (old new : List (Option (List ℕ))) (p : ℕ) (after : Option (List ℕ)) (offset byte : ℕ) → Changes old new p after → WritesByte (at old p) after offset byte → (q o : ℕ)
+    → byte_in new q o ≡ (if (q == p) && (offset == o) then byte else byte_in old q o)
+byte_in-written old new p after offset byte changes writes q o =
+    byte_in-changes old new p after changes q o
     ∙ elim (eqb_tells q p) [
       | inl same ↦ rw (same.0, same.1) (
           elim (eqb_tells offset o) [
-            | inl here ↦ rw (here.0, ← here.1) written
-            | inr elsewhere ↦ rw elsewhere.0 (others o (λ e. elsewhere.1 (sym e)) ∙ sym (ap (λ bytes. byte_of bytes o) there))
+            | inl here ↦ rw (here.0, ← here.1) writes.written
+            | inr elsewhere ↦ rw elsewhere.0 (writes.others o (λ e. elsewhere.1 (sym e)))
           ])
       | inr differs ↦ rw differs.0 refl
     ]
 
-held_at : (slot : Option PageRecord) → IfSome (option_map page_of slot) IsHeldMemory
+-- a page that the table shows has its place
+pub place_within : (slots : List (Option Held)) (pages : Pages) (p : ℕ) → map (option_map page_of) slots ≡ pages → IsSome (at pages p) → p < length slots
+place_within slots pages p is there =
+    let shown : p < length pages = grind (arith, get_or_past) in
+    omega (arith, ap length is, length-map slots (option_map page_of))
+
+-- what stands at each place is memory in a frame
+held_at : (slot : Option Held) → IfSome (option_map page_of slot) IsHeldMemory
 held_at None = tt
 held_at (Some held) = record { is = refl; anonymous = refl; held = refl; settled = refl }
 
-pub AreHeld-slots : (slots : List (Option PageRecord)) → AreHeld (map (option_map page_of) slots)
+pub AreHeld-slots : (slots : List (Option Held)) → AreHeld (map (option_map page_of) slots)
 AreHeld-slots slots p = subst (λ page. IfSome page IsHeldMemory) (sym (at-map page_of slots p)) (held_at (get_or slots p None))

@@ -4,10 +4,11 @@ use Rattle.machine.specs.Slots.{at}
 use Rattle.machine.specs.Pages.{Page, Pages, page_at, is_anon, is_held, is_in_transfer, frame_at}
 use Rattle.machine.specs.Step.{new_page}
 
--- the pages and their bytes, both by the page's number
+-- the pages and their bytes, both by the page's number, and for how many pages more there is memory
 pub record PageTable : Type 0 where
   pub pages : Pages
   pub bytes : List (Option (List ℕ))
+  pub room : ℕ
 
 abbrev pub byte_of : Option (List ℕ) → ℕ → ℕ
 byte_of None offset = 0

@@ -1,36 +1,37 @@
-//! The pages of memory that there are, by their numbers, and what their bytes are.
+//! The pages of memory that there are, by their numbers, with the frame and the charge that each owns.
 //!
 //! A page here is anonymous and stands in a frame. Its number is free again once the page is dropped.
 #![tactic(auto)]
 
-ghost use Rattle.std.specs.Prelude.{◌≡◌, ◌≢◌, ℕ, ◌<◌, ◌≤◌, ◌==◌, ◌&&◌, [], Some, None, IsSome, IfOk, OnErr, length, option_map, slice_index, if◌then◌else◌};
-ghost use Rattle.machine.specs.Slots.{Changes};
-ghost use Rattle.machine.specs.Pages.{page_at, Held};
+ghost use Rattle.std.specs.Prelude.{◌≡◌, ℕ, ◌+◌, ◌<◌, ◌≤◌, ◌==◌, ◌&&◌, [], Some, None, IsSome, OnOk, IsOk, length, map, option_map, option_copied, slice_index, vec_len, vec_capacity, if◌then◌else◌};
+ghost use Rattle.machine.specs.Slots.{at, Changes};
+ghost use Rattle.machine.specs.Pages as residence;
+ghost use Rattle.machine.specs.Pages.{page_at};
 ghost use Rattle.machine.specs.Access.{page_size};
 ghost use Rattle.machine.specs.Step.{new_page};
 ghost use Rattle.pages.specs.PageTable.{byte_in, AreHeld};
+ghost use Rattle.pages.specs.Records.{page_of, bytes_of, WritesByte};
 
+use frames::Frame;
 use machine::id::{FrameId, GroupId, PageId};
+use page_counter::Charge;
 use slab::Slab;
 use std::alloc::{AllocError, Global};
 use std::marker::Model;
+use std::mem;
 
-/// The bytes of a page.
-pub const PAGE_BYTES: usize = 4096;
-
-/// A page in its frame (kernel: a `struct page` of memory, with what it maps).
-#[derive(Drop)]
-struct PageRecord {
-    group: GroupId,
-    frame: FrameId,
-    bytes: Box<[u8; PAGE_BYTES]>,
+/// A page's frame, and its charge.
+pub struct Held {
+    pub frame: Frame,
+    pub charge: Charge,
 }
 
 /// The pages by their numbers.
-#[derive(Drop)]
 pub struct Pages {
-    records: Slab<PageRecord>,
-    alloc: Global,
+    // The numbers that pages have.
+    numbers: Slab<()>,
+    // What each page owns, by its number.
+    held: Vec<Option<Held>>,
 }
 
 impl Model for Pages {
@@ -38,9 +39,12 @@ impl Model for Pages {
 
     ghost Value = { PageTable };
 
-    ghost use Rattle.pages.specs.Records.{table_of};
+    ghost use Rattle.std.specs.Prelude.{vec_capacity};
+    ghost use Rattle.pages.specs.Records.{table_of, IsTable};
 
-    ghost view = { λ s. table_of s.records };
+    ghost view = { λ s. table_of s.numbers s.held.items (vec_capacity s.held) };
+
+    ghost invariant = { λ s. IsTable s.numbers s.held.items };
 }
 
 impl Pages {
@@ -50,52 +54,56 @@ impl Pages {
         ensures bytes { result.bytes ≡ [] }
     {
         Pages {
-            records: Slab::new(alloc),
-            alloc,
+            numbers: Slab::new(alloc),
+            held: Vec::new(alloc),
         }
     }
 
-    /// A new page of the group in the frame: zeros, but for one byte. Where memory is wanting, nothing changes.
-    pub fn hold(
-        &mut self,
-        group: GroupId,
-        frame: FrameId,
-        offset: usize,
-        byte: u8,
-    ) -> Result<PageId, AllocError>
-        requires { offset < page_size }
-        ensures free { IfOk result (λ p. page_at self.old.pages p.0 ≡ None) }
-        ensures placed { IfOk result (λ p. Changes self.old.pages self.new.pages p.0 (Some (new_page group.0 frame.0))) }
-        ensures bytes { IfOk result (λ p. (q o : ℕ) → byte_in self.new.bytes q o
-            ≡ (if q == p.0 then (if offset == o then byte else 0) else byte_in self.old.bytes q o)) }
-        ensures err { OnErr result (self.new ≡ self.old) }
+    /// Asks for the memory of one page more. `AllocError` where there is none, and then the pages are as they were.
+    pub fn reserve(&mut self) -> Result<(), AllocError>
+        ensures room { OnOk result (0 < self.new.room) }
+        ensures pages { self.new.pages ≡ self.old.pages }
+        ensures bytes { self.new.bytes ≡ self.old.bytes }
+        ensures succeeds { 0 < self.old.room → IsOk result }
+        ensures kept { self.old.room ≤ self.new.room }
     {
-        self.records.reserve(1)?;
-        let bytes = zeros_but(self.alloc, offset, byte)?;
-        let key = self.records.insert_reserved(PageRecord {
-            group,
-            frame,
-            bytes,
-        });
-        Ok(PageId(key))
+        self.numbers.reserve(1)?;
+        let more = self.numbers.capacity() - self.held.len();
+        self.held.reserve(more)
+    }
+
+    /// A new page in the frame: zeros, but for one byte. Its memory was asked for by `reserve`. Takes no memory.
+    pub fn hold(&mut self, mut frame: Frame, charge: Charge, offset: usize, byte: u8) -> PageId
+        requires room { 0 < self.old.room }
+        requires within { offset < page_size }
+        ensures free { page_at self.old.pages result.0 ≡ None }
+        ensures placed { Changes self.old.pages self.new.pages result.0 (Some (new_page charge frame.number)) }
+        ensures bytes { (q o : ℕ) → byte_in self.new.bytes q o
+            ≡ (if q == result.0 then (if offset == o then byte else 0) else byte_in self.old.bytes q o) }
+        ensures fewer { self.old.room ≡ self.new.room + 1 }
+    {
+        set_zeros_but(&mut frame, offset, byte);
+        let key = self.numbers.insert_reserved(());
+        place(&mut self.held, key, Held { frame, charge });
+        PageId(key)
     }
 
     /// The group that the page is charged to, if the page is there.
     pub fn group(&self, page: PageId) -> Option<GroupId>
         ensures { option_map (λ g. g.0) result ≡ option_map (λ page. page.group) (page_at self.now.pages page.0) }
     {
-        match self.records.get(page.0) {
-            Some(held) => Some(held.group),
+        match held_at(&self.held, page.0) {
+            Some(held) => Some(held.charge.group()),
             None => None,
         }
     }
 
     /// The frame that the page stands in, if the page is there.
     pub fn frame(&self, page: PageId) -> Option<FrameId>
-        ensures { option_map (λ f. Held f.0) result ≡ option_map (λ page. page.residence) (page_at self.now.pages page.0) }
+        ensures { option_map (λ f. residence.Held f.0) result ≡ option_map (λ page. page.residence) (page_at self.now.pages page.0) }
     {
-        match self.records.get(page.0) {
-            Some(held) => Some(held.frame),
+        match held_at(&self.held, page.0) {
+            Some(held) => Some(held.frame.number()),
             None => None,
         }
     }
@@ -106,7 +114,10 @@ impl Pages {
         requires within { offset < page_size }
         ensures { result ≡ byte_in self.now.bytes page.0 offset }
     {
-        self.records[page.0].bytes[offset]
+        match held_at(&self.held, page.0) {
+            Some(held) => held.frame.read(offset),
+            None => unreachable!(),
+        }
     }
 
     /// Changes a byte of the page.
@@ -116,48 +127,104 @@ impl Pages {
         ensures pages { self.new.pages ≡ self.old.pages }
         ensures bytes { (q o : ℕ) → byte_in self.new.bytes q o
             ≡ (if (q == page.0) && (offset == o) then byte else byte_in self.old.bytes q o) }
+        ensures room { self.new.room ≡ self.old.room }
     {
-        let held = &mut self.records[page.0];
-        set_byte(&mut held.bytes, offset, byte);
+        write_at(&mut self.held[page.0], offset, byte);
     }
 
-    /// The page is gone, with its bytes. Takes no memory.
-    pub fn drop_page(&mut self, page: PageId)
+    /// The page is gone: its frame and its charge are the caller's to give back. Takes no memory.
+    pub fn drop_page(&mut self, page: PageId) -> Held
         requires { IsSome (page_at self.old.pages page.0) }
         ensures gone { Changes self.old.pages self.new.pages page.0 None }
         ensures bytes { (q o : ℕ) → byte_in self.new.bytes q o ≡ (if q == page.0 then 0 else byte_in self.old.bytes q o) }
+        ensures held { page_at self.old.pages page.0 ≡ Some (new_page result.charge result.frame.number) }
+        ensures room { self.old.room ≤ self.new.room }
     {
-        self.records.remove(page.0);
+        self.numbers.remove(page.0);
+        self.held[page.0].take().unwrap()
     }
 
     /// How many page numbers there are to go over: every page's number is below.
     pub fn slots(&self) -> usize
         ensures { length self.now.pages ≤ result }
     {
-        self.records.capacity()
+        self.held.len()
     }
 
     /// Each page that is there is anonymous memory, in a frame and in no transfer. It does nothing: its contract is the law.
     pub fn are_held(&self)
         ensures { AreHeld self.now.pages }
     {
-        let _ = &self.records;
+        let _ = &self.held;
+    }
+
+    /// Spends the table: what the pages own, by page number.
+    pub fn into_held(self) -> Vec<Option<Held>>
+        ensures { map (option_map page_of) result.items ≡ self.pages }
+    {
+        let Pages { numbers: _, held } = self;
+        held
     }
 }
 
-fn set_byte(bytes: &mut [u8; PAGE_BYTES], offset: usize, byte: u8)
-    requires { offset < page_size }
-    ensures written { slice_index bytes.new offset ≡ byte }
-    ensures others { (o : ℕ) → o ≢ offset → slice_index bytes.new o ≡ slice_index bytes.old o }
+// What the page of a number owns, if the page is there.
+fn held_at(slots: &[Option<Held>], number: usize) -> Option<&Held>
+    ensures { option_copied result ≡ at slots.now number }
 {
-    bytes[offset] = byte;
+    match slots.get(number) {
+        Some(Some(held)) => Some(held),
+        _ => None,
+    }
 }
 
-fn zeros_but(alloc: Global, offset: usize, byte: u8) -> Result<Box<[u8; PAGE_BYTES]>, AllocError>
+// Zeros in place of all bytes, but for one.
+#[tactic(auto, using(crate::proofs::TableLemmas::zeros_but))]
+fn set_zeros_but(frame: &mut Frame, offset: usize, byte: u8)
     requires { offset < page_size }
-    ensures { IfOk result (λ bytes. (o : ℕ) → slice_index bytes.value o ≡ (if offset == o then byte else 0)) }
+    ensures bytes { (o : ℕ) → slice_index frame.new.bytes o ≡ (if offset == o then byte else 0) }
+    ensures number { frame.new.number ≡ frame.old.number }
 {
-    let mut bytes = [0; PAGE_BYTES];
-    set_byte(&mut bytes, offset, byte);
-    Ok(Box::new(alloc, bytes)?)
+    frame.clear();
+    frame.write(offset, byte);
+}
+
+// Changes a byte of the page that stands there.
+fn write_at(slot: &mut Option<Held>, offset: usize, byte: u8)
+    requires there { IsSome slot.old }
+    requires within { offset < page_size }
+    ensures page { option_map page_of slot.new ≡ option_map page_of slot.old }
+    ensures bytes { WritesByte (option_map bytes_of slot.old) (option_map bytes_of slot.new) offset byte }
+{
+    match slot {
+        Some(held) => held.frame.write(offset, byte),
+        None => unreachable!(),
+    }
+}
+
+// Puts what a page owns at its number, where nothing stands.
+fn place(slots: &mut Vec<Option<Held>>, number: usize, held: Held)
+    requires vacant { at slots.old.items number ≡ None }
+    requires room { number < vec_capacity slots.old }
+    ensures placed { Changes slots.old.items slots.new.items number (Some held) }
+    ensures len { (most : ℕ) → vec_len slots.old ≤ most → number < most → vec_len slots.new ≤ most }
+    ensures capacity { vec_capacity slots.new ≡ vec_capacity slots.old }
+{
+    reach(slots, number);
+    match mem::replace(&mut slots[number], Some(held)) {
+        None => {}
+        Some(_) => unreachable!(),
+    }
+}
+
+// Adds empty places until there is one for the number.
+fn reach(slots: &mut Vec<Option<Held>>, number: usize)
+    requires { number < vec_capacity slots.old }
+    ensures same { (n : ℕ) → at slots.new.items n ≡ at slots.old.items n }
+    ensures within { number < vec_len slots.new }
+    ensures len { (most : ℕ) → vec_len slots.old ≤ most → number < most → vec_len slots.new ≤ most }
+    ensures capacity { vec_capacity slots.new ≡ vec_capacity slots.old }
+{
+    while slots.len() <= number {
+        slots.push_reserved(None);
+    }
 }

@@ -32,6 +32,9 @@ header_one item.Nothing = refl
 header_one (item.Frames n) = refl
 header_one (item.Trace n) = refl
 header_one (item.Does actor what) = refl
+header_one (item.Begins actor what) = refl
+header_one (item.Advances actor) = refl
+header_one (item.Finishes actor) = refl
 
 headers_push : (is : List Item) (i : Item) → filter_map header_word (is ++ i ∷ []) ≡ filter_map header_word is ++ option_list (header_word i)
 headers_push is i = filter_map-append header_word is (i ∷ []) ∙ ap (λ (ws : List Word). filter_map header_word is ++ ws) (header_one i)

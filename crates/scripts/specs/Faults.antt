@@ -10,8 +10,10 @@ use Rattle.scripts.specs.declared.fault.Cause.TheVariants.{NotText, UnknownWord,
 use Rattle.scripts.specs.declared.forms.Word.{Word}
 use Rattle.scripts.specs.declared.forms.Speaker.TheVariants as speaker
 use Rattle.scripts.specs.declared.forms.Kind.{Kind}
-use Rattle.scripts.specs.declared.forms.Kind.TheVariants.{Number, Path, Any}
-use Rattle.scripts.specs.Forms.{form_of, word_named, same_word}
+use Rattle.scripts.specs.declared.forms.Kind.TheVariants.{Number, Path, Actor, Any, Line}
+use Rattle.scripts.specs.declared.forms.Manner.{Manner}
+use Rattle.scripts.specs.declared.forms.Manner.TheVariants as manner
+use Rattle.scripts.specs.Forms.{form_of, word_named, same_word, takes_line, may_stand, actor_named}
 use Rattle.scripts.specs.Context.{Before}
 use Rattle.scripts.specs.Words.{words_of}
 
@@ -23,17 +25,29 @@ abbrev pub is_within : ℕ → ℕ → Option ℕ → Bool
 is_within least most None = false
 is_within least most (Some n) = nat_le least n && nat_le n most
 
+-- an argument is an actor, a task's number or a name, where its place asks for one
+abbrev pub actor_fits : Kind → List ℕ → Bool
+actor_fits (Number least most) word = true
+actor_fits Path word = true
+actor_fits Actor word = is_numeral word || is_some (actor_named word)
+actor_fits Any word = true
+actor_fits Line word = true
+
 -- an argument is a number as its place asks for, where its place asks for one
 abbrev pub number_fits : Kind → List ℕ → Bool
 number_fits (Number least most) word = is_within least most (number_below (2 ^ 32) word)
 number_fits Path word = true
+number_fits Actor word = is_some (actor_named word) || is_some (number_below (2 ^ 32) word)
 number_fits Any word = true
+number_fits Line word = true
 
 -- an argument is a path, where its place asks for one
 abbrev pub name_fits : Kind → List ℕ → Bool
 name_fits (Number least most) word = true
 name_fits Path word = is_path word
+name_fits Actor word = true
 name_fits Any word = true
+name_fits Line word = true
 
 abbrev pub task_fits : Option (List ℕ) → Bool
 task_fits None = true
@@ -48,10 +62,11 @@ first_of [] = None
 first_of (c ∷ cs) = if c.0 then Some c.1 else first_of cs
 
 -- of a line with a known word, behind a task's number where there is one
-abbrev pub word_faults : Before → Option (List ℕ) → Word → List (List ℕ) → List (Bool × Cause)
-word_faults before task word arguments =
+abbrev pub word_faults : Before → Manner → Option (List ℕ) → Word → List (List ℕ) → List (Bool × Cause)
+word_faults before how task word arguments =
     let form = form_of word in
-    (nat_lt (length arguments) (length form.arguments), MissingArgument)
+    (not (may_stand how word) || not (all_fit actor_fits form.arguments arguments), UnknownWord)
+    ∷ (nat_lt (length arguments) (length form.arguments), MissingArgument)
     ∷ (nat_lt (length form.arguments) (length arguments), ExtraArgument)
     ∷ (not (task_fits task) || not (all_fit number_fits form.arguments arguments), BadNumber)
     ∷ (not (all_fit name_fits form.arguments arguments), BadName)
@@ -59,14 +74,21 @@ word_faults before task word arguments =
     ∷ (form.once && list_any (same_word word) before.given, HeaderTwice)
     ∷ []
 
-abbrev pub named_faults : Before → Option (List ℕ) → Option Word → List (List ℕ) → List (Bool × Cause)
-named_faults before task None arguments = (true, UnknownWord) ∷ []
-named_faults before task (Some word) arguments = word_faults before task word arguments
+abbrev pub named_faults : Before → Manner → Option (List ℕ) → Option Word → List (List ℕ) → List (Bool × Cause)
+named_faults before how task None arguments = (true, UnknownWord) ∷ []
+named_faults before how task (Some word) arguments = word_faults before how task word arguments
 
 -- of a line that begins with a task's number
-abbrev pub task_faults : Before → List ℕ → List (List ℕ) → List (Bool × Cause)
-task_faults before task [] = (true, MissingArgument) ∷ []
-task_faults before task (word ∷ arguments) = named_faults before (Some task) (word_named speaker.Task word) arguments
+abbrev pub task_faults : Before → Manner → List ℕ → List (List ℕ) → List (Bool × Cause)
+task_faults before how task [] = (true, MissingArgument) ∷ []
+task_faults before how task (word ∷ arguments) = named_faults before how (Some task) (word_named speaker.Task word) arguments
+
+-- of a line without its `begin`
+abbrev pub bare_faults : Before → Manner → List (List ℕ) → List (Bool × Cause)
+bare_faults before how [] = (true, MissingArgument) ∷ []
+bare_faults before how (first ∷ more) =
+    if is_numeral first then task_faults before how first more
+    else named_faults before how None (word_named speaker.Shell first) more
 
 -- the word begins with '#'
 abbrev pub is_comment : List ℕ → Bool
@@ -76,8 +98,8 @@ abbrev pub line_faults : Before → List (List ℕ) → List (Bool × Cause)
 line_faults before [] = []
 line_faults before (first ∷ more) =
     if is_comment first then []
-    else if is_numeral first then task_faults before first more
-    else named_faults before None (word_named speaker.Shell first) more
+    else if takes_line (word_named speaker.Shell first) then bare_faults before manner.Begun more
+    else bare_faults before manner.Whole (first ∷ more)
 
 -- why a line is faulty, if it is
 abbrev pub fault : Before → List ℕ → Option Cause

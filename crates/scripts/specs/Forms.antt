@@ -1,66 +1,100 @@
 -- The words that lines begin with, and what follows each.
-use Rattle.std.specs.Prelude.{ℕ, Bool, true, false, ◌==◌, ◌&&◌, List, [], ◌∷◌, codes, Option, find}
+use Rattle.std.specs.Prelude.{ℕ, Bool, true, false, ◌==◌, ◌&&◌, List, [], ◌∷◌, codes, Option, Some, None, find, if◌then◌else◌}
 use Rattle.std.specs.Str.{bytes_eq}
+use Rattle.machine.specs.declared.command.Actor.{Actor}
+use Rattle.machine.specs.declared.command.Actor.TheVariants as actor
 use Rattle.scripts.specs.declared.forms.Word.{Word}
 use Rattle.scripts.specs.declared.forms.Word.TheVariants as word
 use Rattle.scripts.specs.declared.forms.Speaker.{Speaker}
 use Rattle.scripts.specs.declared.forms.Speaker.TheVariants as speaker
 use Rattle.scripts.specs.declared.forms.Form.{Form}
 use Rattle.scripts.specs.declared.forms.Kind.{Kind}
-use Rattle.scripts.specs.declared.forms.Kind.TheVariants.{Number, Path, Any}
+use Rattle.scripts.specs.declared.forms.Kind.TheVariants as kind
+use Rattle.scripts.specs.declared.forms.Manner.{Manner}
+use Rattle.scripts.specs.declared.forms.Manner.TheVariants as manner
 
--- a row of the table of words: who says the word, what follows it, whether it is of the header and comes at most once
+-- a row of the table of words: who says the word, what follows it, whether it is of the header, comes at most once, and may be begun
 pub record Row : Type 0 where
   pub name : List ℕ
   pub speaker : Speaker
   pub arguments : List Kind
   pub header : Bool
   pub once : Bool
+  pub begun : Bool
 
 -- the row that a form of the code is
 abbrev pub row : Form → Row
-row f = record { name = f.name.now; speaker = f.speaker; arguments = f.arguments.now; header = f.header; once = f.once }
+row f = record { name = f.name.now; speaker = f.speaker; arguments = f.arguments.now; header = f.header; once = f.once; begun = f.begun }
 
 abbrev pub header : List ℕ → List Kind → Row
-header name arguments = record { name = name; speaker = speaker.Shell; arguments = arguments; header = true; once = true }
+header name arguments = record { name = name; speaker = speaker.Shell; arguments = arguments; header = true; once = true; begun = false }
 
 abbrev pub shell : List ℕ → List Kind → Row
-shell name arguments = record { name = name; speaker = speaker.Shell; arguments = arguments; header = false; once = false }
+shell name arguments = record { name = name; speaker = speaker.Shell; arguments = arguments; header = false; once = false; begun = true }
 
 abbrev pub task : List ℕ → List Kind → Row
-task name arguments = record { name = name; speaker = speaker.Task; arguments = arguments; header = false; once = false }
+task name arguments = record { name = name; speaker = speaker.Task; arguments = arguments; header = false; once = false; begun = true }
+
+-- of a line that does a part of what others do whole
+abbrev pub part : List ℕ → List Kind → Row
+part name arguments = record { name = name; speaker = speaker.Shell; arguments = arguments; header = false; once = false; begun = false }
 
 abbrev pub number : Kind
-number = Number 0 4294967295
+number = kind.Number 0 4294967295
 
 abbrev pub byte : Kind
-byte = Number 0 255
+byte = kind.Number 0 255
 
 -- the table
 abbrev pub form_of : Word → Row
-form_of word.Frames = header (codes "frames") (Number 1 65536 ∷ [])
-form_of word.Trace = header (codes "trace") (Number 1 1048576 ∷ [])
-form_of word.Group = shell (codes "group") (Path ∷ [])
-form_of word.Task = shell (codes "task") (number ∷ Path ∷ [])
-form_of word.Set = shell (codes "set") (Path ∷ Any ∷ Any ∷ [])
-form_of word.Cat = shell (codes "cat") (Path ∷ Any ∷ [])
+form_of word.Frames = header (codes "frames") (kind.Number 1 65536 ∷ [])
+form_of word.Trace = header (codes "trace") (kind.Number 1 1048576 ∷ [])
+form_of word.Group = shell (codes "group") (kind.Path ∷ [])
+form_of word.Task = shell (codes "task") (number ∷ kind.Path ∷ [])
+form_of word.Set = shell (codes "set") (kind.Path ∷ kind.Any ∷ kind.Any ∷ [])
+form_of word.Cat = shell (codes "cat") (kind.Path ∷ kind.Any ∷ [])
 form_of word.Write = task (codes "write") (number ∷ number ∷ byte ∷ [])
 form_of word.Read = task (codes "read") (number ∷ number ∷ [])
+form_of word.Exit = task (codes "exit") []
+form_of word.Begin = part (codes "begin") (kind.Line ∷ [])
+form_of word.Step = part (codes "step") (kind.Actor ∷ [])
+form_of word.Finish = part (codes "finish") (kind.Actor ∷ [])
 
 abbrev pub words : List Word
-words = word.Frames ∷ word.Trace ∷ word.Group ∷ word.Task ∷ word.Set ∷ word.Cat ∷ word.Write ∷ word.Read ∷ []
+words = word.Frames ∷ word.Trace ∷ word.Group ∷ word.Task ∷ word.Set ∷ word.Cat ∷ word.Write ∷ word.Read ∷ word.Exit ∷ word.Begin ∷ word.Step ∷ word.Finish ∷ []
 
 abbrev pub same_speaker : Speaker → Speaker → Bool
 same_speaker speaker.Shell speaker.Shell = true
 same_speaker speaker.Task speaker.Task = true
 same_speaker _ _ = false
 
-abbrev pub is_named : Speaker → List ℕ → Word → Bool
-is_named who text w = same_speaker (form_of w).speaker who && bytes_eq text (form_of w).name
+abbrev pub is_named : Speaker → List ℕ → Row → Bool
+is_named who text r = same_speaker r.speaker who && bytes_eq text r.name
 
 -- the word of this name that the speaker has
 abbrev pub word_named : Speaker → List ℕ → Option Word
-word_named who text = find (is_named who text) words
+word_named who text = find (λ w. is_named who text (form_of w)) words
+
+-- what follows the word is a line of its own
+abbrev pub is_line : List Kind → Bool
+is_line (kind.Line ∷ []) = true
+is_line _ = false
+
+abbrev pub takes_line : Option Word → Bool
+takes_line None = false
+takes_line (Some w) = is_line (form_of w).arguments
+
+-- whether a line with the word may stand so: by itself each line may
+abbrev pub may_stand : Manner → Word → Bool
+may_stand manner.Whole w = true
+may_stand manner.Begun w = (form_of w).begun
+
+-- the actor of this name: a task has a number in its place
+abbrev pub actor_named : List ℕ → Option Actor
+actor_named text =
+    if bytes_eq text (codes "shell") then Some actor.Shell
+    else if bytes_eq text (codes "control") then Some actor.Control
+    else None
 
 -- a number for each word, by which words are told apart
 abbrev pub place : Word → ℕ
@@ -72,6 +106,10 @@ place word.Set = 4
 place word.Cat = 5
 place word.Write = 6
 place word.Read = 7
+place word.Exit = 8
+place word.Begin = 9
+place word.Step = 10
+place word.Finish = 11
 
 abbrev pub same_word : Word → Word → Bool
 same_word v w = place v == place w

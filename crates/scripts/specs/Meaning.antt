@@ -2,9 +2,10 @@
 use Rattle.std.specs.Prelude.{ℕ, ◌^◌, List, [], ◌∷◌, Option, Some, None, unwrap_or, slice_index_or, if◌then◌else◌}
 use Rattle.machine.specs.declared.command.Actor.{Actor}
 use Rattle.machine.specs.declared.command.Actor.TheVariants as actor
+use Rattle.machine.specs.declared.command.Command.{Command}
 use Rattle.machine.specs.declared.command.Command.TheVariants as command
-use Rattle.machine.specs.declared.event.Place.{Place}
 use Rattle.machine.specs.declared.event.Place.TheVariants.{Virtual}
+use Rattle.machine.specs.declared.event.Op.{Op}
 use Rattle.machine.specs.declared.event.Op.TheVariants as op
 use Rattle.machine.specs.Numbers.{is_numeral, number_below}
 use Rattle.scripts.specs.declared.meaning.Item.{Item}
@@ -12,7 +13,7 @@ use Rattle.scripts.specs.declared.meaning.Item.TheVariants as item
 use Rattle.scripts.specs.declared.forms.Word.{Word}
 use Rattle.scripts.specs.declared.forms.Word.TheVariants as word
 use Rattle.scripts.specs.declared.forms.Speaker.TheVariants as speaker
-use Rattle.scripts.specs.Forms.{word_named}
+use Rattle.scripts.specs.Forms.{word_named, takes_line, actor_named}
 use Rattle.scripts.specs.Faults.{is_comment}
 
 -- the number that a word writes, below a limit; 0 of a word that writes none, which a faultless line has not
@@ -32,10 +33,14 @@ abbrev pub actor_of : Option (List ℕ) → Actor
 actor_of None = actor.Shell
 actor_of (Some task) = actor.Task (number_value task)
 
-abbrev pub place_of : List ℕ → List ℕ → Place
-place_of page offset = Virtual (number_value page) (number_value offset)
+-- the actor that a word names or numbers
+abbrev pub actor_value : List ℕ → Actor
+actor_value word = unwrap_or (actor_named word) (actor.Task (number_value word))
 
--- of a line with this word and these arguments, behind a task's number where there is one
+abbrev pub access_to : List ℕ → List ℕ → Op → Command
+access_to page offset op = command.Access (Virtual (number_value page) (number_value offset)) op
+
+-- of a line with this word and these arguments, behind a task's number where there is one; what `begin` says, the line behind it tells
 abbrev pub word_means : Option (List ℕ) → Word → List (List ℕ) → Item
 word_means task word.Frames a = item.Frames (number_value (at a 0))
 word_means task word.Trace a = item.Trace (number_value (at a 0))
@@ -43,8 +48,12 @@ word_means task word.Group a = item.Does (actor_of task) (command.Group (at a 0)
 word_means task word.Task a = item.Does (actor_of task) (command.Task (number_value (at a 0)) (at a 1))
 word_means task word.Set a = item.Does (actor_of task) (command.Set (at a 0) (at a 1) (at a 2))
 word_means task word.Cat a = item.Does (actor_of task) (command.Cat (at a 0) (at a 1))
-word_means task word.Write a = item.Does (actor_of task) (command.Access (place_of (at a 0) (at a 1)) (op.Write (byte_value (at a 2))))
-word_means task word.Read a = item.Does (actor_of task) (command.Access (place_of (at a 0) (at a 1)) op.Read)
+word_means task word.Write a = item.Does (actor_of task) (access_to (at a 0) (at a 1) (op.Write (byte_value (at a 2))))
+word_means task word.Read a = item.Does (actor_of task) (access_to (at a 0) (at a 1) op.Read)
+word_means task word.Exit a = item.Does (actor_of task) command.Exit
+word_means task word.Begin a = item.Nothing
+word_means task word.Step a = item.Advances (actor_value (at a 0))
+word_means task word.Finish a = item.Finishes (actor_value (at a 0))
 
 abbrev pub named_means : Option (List ℕ) → Option Word → List (List ℕ) → Item
 named_means task None a = item.Nothing
@@ -54,10 +63,23 @@ abbrev pub task_means : List ℕ → List (List ℕ) → Item
 task_means task [] = item.Nothing
 task_means task (word ∷ a) = named_means (Some task) (word_named speaker.Task word) a
 
+-- of a line without its `begin`
+abbrev pub bare_means : List (List ℕ) → Item
+bare_means [] = item.Nothing
+bare_means (first ∷ more) =
+    if is_numeral first then task_means first more
+    else named_means None (word_named speaker.Shell first) more
+
+-- what is begun is not finished, and control does what the shell would do
+abbrev pub begun : Item → Item
+begun (item.Does actor.Shell what) = item.Begins actor.Control what
+begun (item.Does who what) = item.Begins who what
+begun i = i
+
 -- what the words of a faultless line say
 abbrev pub meaning : List (List ℕ) → Item
 meaning [] = item.Nothing
 meaning (first ∷ more) =
     if is_comment first then item.Nothing
-    else if is_numeral first then task_means first more
-    else named_means None (word_named speaker.Shell first) more
+    else if takes_line (word_named speaker.Shell first) then begun (bare_means more)
+    else bare_means (first ∷ more)

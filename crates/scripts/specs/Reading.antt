@@ -1,5 +1,5 @@
 -- What has been read of a script, line by line. No public clause cites it.
-use Rattle.std.specs.Prelude.{◌||◌, List, [], ◌∷◌, ◌++◌, Option, Some, None}
+use Rattle.std.specs.Prelude.{true, ◌||◌, List, [], ◌∷◌, ◌++◌, Option, Some, None}
 use Rattle.machine.specs.declared.command.Step.{Step}
 use Rattle.machine.specs.declared.config.Config.{Config}
 use Rattle.scripts.specs.declared.meaning.Item.{Item}
@@ -27,6 +27,10 @@ at_start = known []
 abbrev pub option_list : Option Word → List Word
 option_list None = []
 option_list (Some w) = w ∷ []
+
+-- one more step, which a command asks for
+abbrev pub with_step : Known → Step → Known
+with_step k s = record k { before = record { commands = true; given = k.before.given }; steps = k.steps ++ s ∷ [] }
 
 -- one more item
 abbrev pub after : Known → Item → Known

@@ -31,6 +31,9 @@ config_after c (item.Frames n) = record c { frames = n }
 config_after c (item.Trace n) = record c { trace = n }
 config_after c item.Nothing = c
 config_after c (item.Does actor what) = c
+config_after c (item.Begins actor what) = c
+config_after c (item.Advances actor) = c
+config_after c (item.Finishes actor) = c
 
 abbrev pub config_of : List Item → Config
 config_of is = fold config_after default_config is
@@ -38,6 +41,9 @@ config_of is = fold config_after default_config is
 -- what is done is begun and finished
 abbrev pub steps_of_item : Item → List Step
 steps_of_item (item.Does actor what) = step.Begin actor what ∷ step.Finish actor ∷ []
+steps_of_item (item.Begins actor what) = step.Begin actor what ∷ []
+steps_of_item (item.Advances actor) = step.Advance actor ∷ []
+steps_of_item (item.Finishes actor) = step.Finish actor ∷ []
 steps_of_item item.Nothing = []
 steps_of_item (item.Frames n) = []
 steps_of_item (item.Trace n) = []
@@ -49,6 +55,9 @@ steps_of is = flat_map steps_of_item is
 
 abbrev pub is_command : Item → Bool
 is_command (item.Does actor what) = true
+is_command (item.Begins actor what) = true
+is_command (item.Advances actor) = true
+is_command (item.Finishes actor) = true
 is_command item.Nothing = false
 is_command (item.Frames n) = false
 is_command (item.Trace n) = false
@@ -58,6 +67,9 @@ header_word (item.Frames n) = Some word.Frames
 header_word (item.Trace n) = Some word.Trace
 header_word item.Nothing = None
 header_word (item.Does actor what) = None
+header_word (item.Begins actor what) = None
+header_word (item.Advances actor) = None
+header_word (item.Finishes actor) = None
 
 -- what stands before a line, where the lines before it say this
 abbrev pub before_of : List Item → Before

@@ -5,13 +5,22 @@ ghost use Rattle.std.specs.List.{list_all, zip};
 ghost use Rattle.std.specs.Option.{option_map};
 ghost use Rattle.scripts.specs.Forms.{form_of};
 ghost use Rattle.scripts.specs.Context.{before};
-ghost use Rattle.scripts.specs.Faults.{number_fits, name_fits, task_fits, first_of, word_faults, now};
+ghost use Rattle.scripts.specs.Faults.{actor_fits, number_fits, name_fits, task_fits, first_of, word_faults, now};
 
 use crate::context::Context;
 use crate::fault::Cause;
-use crate::forms::{Kind, Word};
+use crate::forms::{Kind, Manner, Word, actor_named, may_stand};
 use text_forms::name::is_path;
-use text_forms::number::number_of;
+use text_forms::number::{is_digits, number_of};
+
+fn actor_fits(kind: Kind, word: &str) -> bool
+    ensures { result ≡ actor_fits kind word.now }
+{
+    match kind {
+        Kind::Actor => is_digits(word) || actor_named(word).is_some(),
+        Kind::Number { .. } | Kind::Path | Kind::Any | Kind::Line => true,
+    }
+}
 
 fn number_fits(kind: Kind, word: &str) -> bool
     ensures { result ≡ number_fits kind word.now }
@@ -21,7 +30,8 @@ fn number_fits(kind: Kind, word: &str) -> bool
             Some(number) => least <= number && number <= most,
             None => false,
         },
-        Kind::Path | Kind::Any => true,
+        Kind::Actor => actor_named(word).is_some() || number_of(word).is_some(),
+        Kind::Path | Kind::Any | Kind::Line => true,
     }
 }
 
@@ -30,7 +40,7 @@ fn name_fits(kind: Kind, word: &str) -> bool
 {
     match kind {
         Kind::Path => is_path(word),
-        Kind::Number { .. } | Kind::Any => true,
+        Kind::Number { .. } | Kind::Actor | Kind::Any | Kind::Line => true,
     }
 }
 
@@ -41,6 +51,15 @@ fn task_fits(task: Option<&str>) -> bool
         Some(word) => number_of(word).is_some(),
         None => true,
     }
+}
+
+fn actors_fit(kinds: &[Kind], words: &[&str]) -> bool
+    ensures { result ≡ list_all (λ p. actor_fits p.0 p.1.now) (zip kinds.now words.now) }
+{
+    kinds
+        .iter()
+        .zip(words)
+        .all(|(kind, word)| actor_fits(*kind, word))
 }
 
 fn numbers_fit(kinds: &[Kind], words: &[&str]) -> bool
@@ -64,14 +83,18 @@ fn names_fit(kinds: &[Kind], words: &[&str]) -> bool
 /// The first fault of a line with this word, which stands behind a task's number where there is one.
 pub fn fault_of_word(
     context: &Context,
+    manner: Manner,
     task: Option<&str>,
     word: Word,
     arguments: &[&str],
 ) -> Option<Cause>
-    ensures fault { result ≡ first_of (word_faults (before context.now) (option_map now task.entry) word (map now arguments.now)) }
+    ensures fault { result ≡ first_of (word_faults (before context.now) manner (option_map now task.entry) word (map now arguments.now)) }
     ensures count { IfNone result (length arguments.now ≡ length (form_of word).arguments) }
 {
     let kinds = word.form().arguments;
+    if !may_stand(manner, word) || !actors_fit(kinds, arguments) {
+        return Some(Cause::UnknownWord);
+    }
     if arguments.len() < kinds.len() {
         return Some(Cause::MissingArgument);
     }

@@ -12,7 +12,8 @@ pub enum Cause {
     /// The line is not UTF-8.
     #[error("not text")]
     NotText,
-    /// No line begins with the word, or none with the word behind a task's number.
+    /// No line begins with the word, or none has it behind a task's number or behind `begin`. Or a
+    /// word that has to be an actor is none.
     #[error("unknown word")]
     UnknownWord,
     /// Fewer words than the line's first asks for.

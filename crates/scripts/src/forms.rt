@@ -3,7 +3,9 @@
 ghost use Rattle.std.specs.Prelude.{◌≡◌};
 ghost use Rattle.std.specs.Option.{option_copied};
 ghost use Rattle.scripts.specs.declared.forms.Word.{Word};
-ghost use Rattle.scripts.specs.Forms.{row, header, shell, task, form_of, is_named, word_named};
+ghost use Rattle.scripts.specs.Forms.{row, header, shell, task, part, form_of, is_named, word_named, is_line, takes_line, may_stand, actor_named};
+
+use machine::command::Actor;
 
 /// Who says a word.
 #[derive(Clone, Copy, Debug, PartialEq, Eq)]
@@ -21,8 +23,21 @@ pub enum Kind {
     Number { least: u32, most: u32 },
     /// A path of a group.
     Path,
+    /// An actor: a task's number, or a name.
+    Actor,
     /// Any word.
     Any,
+    /// All that follows, which is a line of its own. It is the word's one argument.
+    Line,
+}
+
+/// How a line stands.
+#[derive(Clone, Copy, Debug, PartialEq, Eq)]
+pub enum Manner {
+    /// By itself.
+    Whole,
+    /// Behind `begin`.
+    Begun,
 }
 
 /// A word that says what a line does.
@@ -36,6 +51,10 @@ pub enum Word {
     Cat,
     Write,
     Read,
+    Exit,
+    Begin,
+    Step,
+    Finish,
 }
 
 /// How a line with a word is written: one row of the table of words.
@@ -50,6 +69,8 @@ pub struct Form {
     pub header: bool,
     /// The word comes at most once in a script.
     pub once: bool,
+    /// The line may stand behind `begin`.
+    pub begun: bool,
 }
 
 const FRAMES: Kind = Kind::Number {
@@ -72,7 +93,7 @@ const BYTE: Kind = Kind::Number {
     most: 255,
 };
 
-const WORDS: [Word; 8] = [
+const WORDS: [Word; 12] = [
     Word::Frames,
     Word::Trace,
     Word::Group,
@@ -81,6 +102,10 @@ const WORDS: [Word; 8] = [
     Word::Cat,
     Word::Write,
     Word::Read,
+    Word::Exit,
+    Word::Begin,
+    Word::Step,
+    Word::Finish,
 ];
 
 fn header(name: &'static str, arguments: &'static [Kind]) -> Form
@@ -92,6 +117,7 @@ fn header(name: &'static str, arguments: &'static [Kind]) -> Form
         arguments,
         header: true,
         once: true,
+        begun: false,
     }
 }
 
@@ -104,6 +130,7 @@ fn shell(name: &'static str, arguments: &'static [Kind]) -> Form
         arguments,
         header: false,
         once: false,
+        begun: true,
     }
 }
 
@@ -116,6 +143,29 @@ fn task(name: &'static str, arguments: &'static [Kind]) -> Form
         arguments,
         header: false,
         once: false,
+        begun: true,
+    }
+}
+
+/// Of a line that does a part of what others do whole.
+fn part(name: &'static str, arguments: &'static [Kind]) -> Form
+    ensures { row result ≡ part name.now arguments.now }
+{
+    Form {
+        name,
+        speaker: Speaker::Shell,
+        arguments,
+        header: false,
+        once: false,
+        begun: false,
+    }
+}
+
+impl Form {
+    fn is_named(&self, speaker: Speaker, text: &str) -> bool
+        ensures { result ≡ is_named speaker text.now (row self.now) }
+    {
+        self.speaker == speaker && self.name == text
     }
 }
 
@@ -133,14 +183,17 @@ impl Word {
             Word::Cat => shell("cat", &[Kind::Path, Kind::Any]),
             Word::Write => task("write", &[NUMBER, NUMBER, BYTE]),
             Word::Read => task("read", &[NUMBER, NUMBER]),
+            Word::Exit => task("exit", &[]),
+            Word::Begin => part("begin", &[Kind::Line]),
+            Word::Step => part("step", &[Kind::Actor]),
+            Word::Finish => part("finish", &[Kind::Actor]),
         }
     }
 
     fn is_named(self, speaker: Speaker, text: &str) -> bool
-        ensures { result ≡ is_named speaker text.now self }
+        ensures { result ≡ is_named speaker text.now (form_of self) }
     {
-        let form = self.form();
-        form.speaker == speaker && form.name == text
+        self.form().is_named(speaker, text)
     }
 }
 
@@ -155,6 +208,46 @@ pub fn word_named(speaker: Speaker, text: &str) -> Option<Word>
     ensures { result ≡ word_named speaker text.now }
 {
     find_word(speaker, text).copied()
+}
+
+fn is_line(arguments: &[Kind]) -> bool
+    ensures { result ≡ is_line arguments.now }
+{
+    match arguments {
+        [Kind::Line] => true,
+        _ => false,
+    }
+}
+
+/// Whether a line with the word may stand so.
+pub fn may_stand(manner: Manner, word: Word) -> bool
+    ensures { result ≡ may_stand manner word }
+{
+    match manner {
+        Manner::Whole => true,
+        Manner::Begun => word.form().begun,
+    }
+}
+
+/// Whether it is a word that a line of its own follows.
+pub fn takes_line(word: Option<Word>) -> bool
+    ensures { result ≡ takes_line word }
+{
+    match word {
+        Some(word) => is_line(word.form().arguments),
+        None => false,
+    }
+}
+
+/// The actor of this name. A task has none, but a number.
+pub fn actor_named(text: &str) -> Option<Actor>
+    ensures { result ≡ actor_named text.now }
+{
+    match text {
+        "shell" => Some(Actor::Shell),
+        "control" => Some(Actor::Control),
+        _ => None,
+    }
 }
 
 /// A law: each word is found by its name, and so no two words of one speaker have one name.

@@ -4,9 +4,9 @@ ghost use Rattle.std.specs.Prelude.{◌≡◌, map, length, IfOk};
 ghost use Rattle.std.specs.Option.{option_map};
 ghost use Rattle.scripts.specs.Forms.{form_of};
 ghost use Rattle.scripts.specs.Faults.{now};
-ghost use Rattle.scripts.specs.Meaning.{number_value, byte_value, actor_of, place_of, word_means};
+ghost use Rattle.scripts.specs.Meaning.{number_value, byte_value, actor_of, actor_value, access_to, word_means, begun};
 
-use crate::forms::Word;
+use crate::forms::{Word, actor_named};
 use machine::command::{Actor, Command};
 use machine::event::{Op, Place};
 use machine::text::Text;
@@ -22,8 +22,14 @@ pub enum Item {
     Frames(u32),
     /// So many entries of the trace.
     Trace(u32),
-    /// The actor does this.
+    /// The actor does this, from its beginning to its end.
     Does(Actor, Command),
+    /// The actor begins this.
+    Begins(Actor, Command),
+    /// One turn of the actor's command.
+    Advances(Actor),
+    /// Turns of the actor's command until it is answered.
+    Finishes(Actor),
 }
 
 fn number_value(word: &str) -> u32
@@ -56,13 +62,20 @@ fn actor_of(task: Option<&str>) -> Actor
     }
 }
 
-fn place_of(page: &str, offset: &str) -> Place
-    ensures { result ≡ place_of page.now offset.now }
+fn actor_value(word: &str) -> Actor
+    ensures { result ≡ actor_value word.now }
 {
-    Place::Virtual {
+    actor_named(word).unwrap_or(Actor::Task(number_value(word)))
+}
+
+fn access_to(page: &str, offset: &str, op: Op) -> Command
+    ensures { result ≡ access_to page.now offset.now op }
+{
+    let place = Place::Virtual {
         page: number_value(page),
         offset: number_value(offset),
-    }
+    };
+    Command::Access { place, op }
 }
 
 /// What a line with this word says, which stands behind a task's number where there is one.
@@ -92,14 +105,27 @@ pub fn item_of_word(
             path: text_of(alloc, arguments[0])?,
             file: text_of(alloc, arguments[1])?,
         },
-        Word::Write => Command::Access {
-            place: place_of(arguments[0], arguments[1]),
-            op: Op::Write(byte_value(arguments[2])),
-        },
-        Word::Read => Command::Access {
-            place: place_of(arguments[0], arguments[1]),
-            op: Op::Read,
-        },
+        Word::Write => {
+            let byte = byte_value(arguments[2]);
+            access_to(arguments[0], arguments[1], Op::Write(byte))
+        }
+        Word::Read => access_to(arguments[0], arguments[1], Op::Read),
+        Word::Exit => Command::Exit,
+        // The line behind it tells what is begun.
+        Word::Begin => return Ok(Item::Nothing),
+        Word::Step => return Ok(Item::Advances(actor_value(arguments[0]))),
+        Word::Finish => return Ok(Item::Finishes(actor_value(arguments[0]))),
     };
     Ok(Item::Does(actor_of(task), command))
+}
+
+/// What is only begun of what a line says. What the shell would do, control begins.
+pub fn begun(item: Item) -> Item
+    ensures { result ≡ begun item }
+{
+    match item {
+        Item::Does(Actor::Shell, command) => Item::Begins(Actor::Control, command),
+        Item::Does(actor, command) => Item::Begins(actor, command),
+        other => other,
+    }
 }

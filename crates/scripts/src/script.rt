@@ -8,7 +8,7 @@ ghost use Rattle.scripts.specs.Faults.{fault};
 ghost use Rattle.scripts.specs.Meaning.{meaning};
 ghost use Rattle.scripts.specs.Lines.{Adds};
 ghost use Rattle.scripts.specs.Script.{items_of, config_of, steps_of, IsFaultless, IsFirstFault, NamesFirstFault};
-ghost use Rattle.scripts.specs.Reading.{known_by, at_start, after};
+ghost use Rattle.scripts.specs.Reading.{known_by, at_start, with_step, after};
 
 use crate::context::Context;
 use crate::fault::{LineError, ScriptFault};
@@ -64,6 +64,14 @@ impl Reading {
         }
     }
 
+    fn add_step(&mut self, step: Step) -> Result<(), AllocError>
+        ensures { OnOk result (known_by self.new ≡ with_step (known_by self.old) step) }
+    {
+        self.context.commands = true;
+        self.script.steps.push(step)?;
+        Ok(())
+    }
+
     fn add(&mut self, item: Item) -> Result<(), AllocError>
         ensures { OnOk result (known_by self.new ≡ after (known_by self.old) item) }
     {
@@ -78,10 +86,12 @@ impl Reading {
                 self.script.config.trace = trace;
             }
             Item::Does(actor, command) => {
-                self.context.commands = true;
-                self.script.steps.push(Step::Begin(actor, command))?;
-                self.script.steps.push(Step::Finish(actor))?;
+                self.add_step(Step::Begin(actor, command))?;
+                self.add_step(Step::Finish(actor))?;
             }
+            Item::Begins(actor, command) => self.add_step(Step::Begin(actor, command))?,
+            Item::Advances(actor) => self.add_step(Step::Advance(actor))?,
+            Item::Finishes(actor) => self.add_step(Step::Finish(actor))?,
         }
         Ok(())
     }

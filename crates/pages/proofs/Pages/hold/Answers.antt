@@ -1,15 +1,20 @@
-use Rattle.std.proofs.Common.{◌≡◌, ◌∙◌, ap, map}
+use Rattle.std.proofs.Common.{map, Some, subst}
 use Rattle.std.specs.Prelude.{option_map}
-use Rattle.pages.specs.Records.{page_of, bytes_of, table_of}
-use Rattle.pages.proofs.TableLemmas.{Changes-updates, byte_in-made}
+use Rattle.machine.specs.Slots.{Changes}
+use Rattle.machine.specs.Step.{new_page}
+use Rattle.pages.specs.Records.{page_of, bytes_of}
+use Rattle.pages.proofs.TableLemmas.{Changes-map, byte_in-made}
 use Rattle.pages.proofs.Pages.hold.Goals as goal
 
 pub returns-clause-placed : goal.returns-clause-placed
 returns-clause-placed c =
-    let kept : map (option_map page_of) c.reserve.new.self.slots ≡ c.args.self.now.pages = ap (λ slab. (table_of slab).pages) c.reserve.ensures.rest_kept ∙ ap (λ table. table.pages) c.self.view_is in
-    rw (← kept) (Changes-updates page_of _ _ c.insert_reserved-key.result _ c.insert_reserved-key.ensures.updates)
+    let before = map (option_map page_of) c.self.inside.held.items in
+    let after = map (option_map page_of) c.place.new.slots.items in
+    let p = c.insert_reserved-key.result in
+    let placed = subst (λ n. Changes before after p (Some (new_page c.args.charge n))) c.set_zeros_but.ensures.number (Changes-map page_of _ _ p _ c.place.ensures.placed) in
+    rw (← c.self.view_is) placed
 
 pub returns-clause-bytes : goal.returns-clause-bytes
 returns-clause-bytes c =
-    let kept : map (option_map bytes_of) c.reserve.new.self.slots ≡ c.args.self.now.bytes = ap (λ slab. (table_of slab).bytes) c.reserve.ensures.rest_kept ∙ ap (λ table. table.bytes) c.self.view_is in
-    rw (← kept) (byte_in-made _ _ c.insert_reserved-key.result c.in_ok-bytes.bytes.value c.args.offset c.args.byte (Changes-updates bytes_of _ _ c.insert_reserved-key.result _ c.insert_reserved-key.ensures.updates) c.in_ok-bytes.ensures)
+    let p = c.insert_reserved-key.result in
+    rw (← c.self.view_is) (byte_in-made _ _ p c.set_zeros_but.new.frame.bytes c.args.offset c.args.byte (Changes-map bytes_of _ _ p _ c.place.ensures.placed) c.set_zeros_but.ensures.bytes)

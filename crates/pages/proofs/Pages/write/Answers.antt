@@ -1,18 +1,24 @@
-use Rattle.std.proofs.Common.{◌∙◌, ap, refl}
-use Rattle.std.specs.Prelude.{option_map, IsSome, slice_index}
-use Rattle.slab.specs.Slab.{get}
-use Rattle.slab.proofs.SlabLemmas.{Updates-with_value}
-use Rattle.pages.specs.Records.{page_of, bytes_of}
-use Rattle.pages.proofs.TableLemmas.{at-map, map-set, Changes-updates, byte_in-written}
+use Rattle.std.proofs.Common.{◌<◌, ◌∙◌, length, None, ap, subst, sym}
+use Rattle.std.specs.Prelude.{option_map}
+use Rattle.std.proofs.lemmas.List.{get_or_read}
+use Rattle.pages.specs.Records.{page_of, bytes_of, WritesByte}
+use Rattle.pages.proofs.TableLemmas.{at-map, map-set, Changes-map, Changes-set, byte_in-written, place_within}
 use Rattle.pages.proofs.Pages.write.Goals as goal
 
 pub returns-clause-pages : goal.returns-clause-pages
-returns-clause-pages c = map-set page_of c.self.inside.records.slots c.args.page.0 _ _ c.index_mut-held.ensures.value refl ∙ ap (λ table. table.pages) c.self.view_is
+returns-clause-pages c =
+    let slots = c.self.inside.held.items in
+    let p = c.args.page.0 in
+    let within : p < length slots = place_within slots _ p (ap (λ table. table.pages) c.self.view_is) c.requires.there in
+    let read = get_or_read slots p c.index_mut.result.now within c.index_mut.ensures.value None in
+    map-set page_of slots p c.write_at.new.slot (c.write_at.ensures.page ∙ ap (option_map page_of) read) ∙ ap (λ table. table.pages) c.self.view_is
 
 pub returns-clause-bytes : goal.returns-clause-bytes
 returns-clause-bytes c =
-    let slab = c.self.inside.records in
-    let before = c.index_mut-held.result.now in
-    let there = at-map bytes_of slab.slots c.args.page.0 ∙ ap (option_map bytes_of) c.index_mut-held.ensures.value in
-    let present : IsSome (get slab c.args.page.0) = rw c.index_mut-held.ensures.value refl in
-    rw (← c.self.view_is) (byte_in-written _ _ c.args.page.0 before.bytes.value c.set_byte.new.bytes c.args.offset c.args.byte there (Changes-updates bytes_of slab _ c.args.page.0 _ (Updates-with_value slab c.args.page.0 _ present)) c.set_byte.ensures.written (λ o differs. c.set_byte.ensures.others o differs ∙ ap (λ bytes. slice_index bytes o) c.deref_mut.ensures.value))
+    let slots = c.self.inside.held.items in
+    let p = c.args.page.0 in
+    let slot = c.write_at.new.slot in
+    let within : p < length slots = place_within slots _ p (ap (λ table. table.pages) c.self.view_is) c.requires.there in
+    let read = get_or_read slots p c.index_mut.result.now within c.index_mut.ensures.value None in
+    let writes = subst (λ before. WritesByte before (option_map bytes_of slot) c.args.offset c.args.byte) (ap (option_map bytes_of) read ∙ sym (at-map bytes_of slots p)) c.write_at.ensures.bytes in
+    rw (← c.self.view_is) (byte_in-written _ _ p (option_map bytes_of slot) c.args.offset c.args.byte (Changes-map bytes_of _ _ p slot (Changes-set slots p slot within)) writes)

@@ -4,8 +4,29 @@ use Rattle.std.proofs.lemmas.List.{length-reverse, length-set}
 use Rattle.machine.specs.State.{Opening}
 use Rattle.machine.specs.Call.{Past, is_trace_full}
 use Rattle.book.specs.Told.{counted_in}
-use Rattle.book.proofs.HistoryLemmas.{past, room_left, few_by, read_right, refusal-counting, told_more, answers_more, called-served}
+use Rattle.book.proofs.TallyLemmas.{few-tallied}
+use Rattle.book.proofs.HistoryLemmas.{past, room_left, few_by, few-counted, read_right, refusal-counting, told_more, answers_more, called-served}
 use Rattle.book.proofs.book.Book.call.Goals as goal
+
+pub step-requires-clause-few : goal.step-requires-clause-few
+step-requires-clause-few c =
+    let b = c.self.inside in
+    let history = reverse b.entries.items in
+    let few = few-counted history in
+    let all = length-reverse b.entries.items in
+    let within = c.self.invariant.within in
+    let limit = c.has_no_swap.ensures.limit in
+    few-tallied b.state.tallies (counted_in history) 2097152 c.has_no_swap.ensures.lineage c.self.invariant.told.tallied (omega (arith, few, all, within, limit)) (omega arith)
+
+pub append-requires-clause-room : goal.append-requires-clause-room
+append-requires-clause-room c =
+    let b = c.self.inside in
+    let left = room_left (past b.state b.entries.items b.counts.items) c.args.event c.has_no_swap.ensures.swap c.has_no_swap.ensures.held
+    (subst (λ (p : Past). is_trace_full p c.args.event ≡ false) (sym c.self.view_is) (sym c.if-is_full.ensures)) in
+    let all = length-reverse b.entries.items in
+    let room = c.self.invariant.room in
+    let ok = b.entries.ok.0 in
+    omega (arith, left, all, room, ok)
 
 pub append-requires-clause-few : goal.append-requires-clause-few
 append-requires-clause-few c =
@@ -50,4 +71,4 @@ returns-in-Ok-clause-reads c =
     let b = c.self.inside in
     let history = reverse b.entries.items in
     rw (← c.self.view_is)
-    (read_right b.state history c.args.event c.in-Ok.reply _ (counted_in history) c.self.invariant.told.bytes (c.in-Ok.ensures.serves.steps (counted_in history)) c.in-Ok.ensures.serves.reads)
+    (read_right b.state history c.args.event c.in-Ok.reply _ (counted_in history) c.self.invariant.told.bytes (c.in-Ok.ensures.serves.steps (counted_in history) c.self.invariant.told.tallied) c.in-Ok.ensures.serves.reads)

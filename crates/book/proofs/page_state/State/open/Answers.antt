@@ -1,12 +1,17 @@
-use Rattle.std.proofs.Common.{refl}
-use Rattle.book.proofs.StateLemmas.{balanced-open, mapped-open}
+use Rattle.std.proofs.Common.{ap}
+use Rattle.book.specs.Holdings.{Stored}
+use Rattle.book.proofs.KinLemmas.{kin-root}
+use Rattle.book.proofs.StateLemmas.{mapped-open, homes-open}
 use Rattle.book.proofs.page_state.State.open.Goals as goal
 
 pub invariant_of-result : goal.invariant_of-result
 invariant_of-result c =
+    let tree = c.in_ok-tree.ensures in
     record {
       sized = c.requires;
-      limits = (let one = c.in_ok-push.ensures.items in let none = c.new-limits.ensures.items in let tree = c.in_ok-tree.ensures in rw (one, none, tree) refl);
-      balanced = balanced-open c.args.config.frames c.in_ok-pool.pool c.new.result.pages c.new.ensures.pages c.in_ok-pool.ensures.once c.in_ok-pool.ensures.none_beyond c.in_ok-pool.ensures.all;
-      mapped = mapped-open c.new.result.pages c.new-2.result.tasks c.new-2.result.mappings c.new.ensures.pages c.new-2.ensures.mappings;
+      frames = c.in_ok-holdings.ensures.frames;
+      held_kin = rw (c.in_ok-holdings.ensures.kin, tree) kin-root;
+      counted_kin = rw (c.in_ok-events.ensures.tree, tree) kin-root;
+      mapped = mapped-open c.in_ok-holdings.holdings.stored.pages c.new-2.result.tasks c.new-2.result.mappings (ap (λ (s : Stored). s.pages) c.in_ok-holdings.ensures.stored) c.new-2.ensures.mappings;
+      homes = homes-open c.in_ok-tree.tree c.new-2.result.tasks c.new-2.ensures.tasks;
     }

@@ -1,0 +1,7 @@
+//! Counts of what happened to each group, as `memory.events` and `memory.events.local` show them.
+#![tactic(auto)]
+
+pub use events::Events;
+
+mod counts;
+mod events;

@@ -1,0 +1,85 @@
+//! A page frame and its bytes.
+
+ghost use Rattle.std.specs.Prelude.{◌≡◌, ◌≢◌, ℕ, ◌<◌, IfOk, slice_index};
+ghost use Rattle.machine.specs.Access.{page_size};
+
+use machine::id::FrameId;
+use std::alloc::{AllocError, Global};
+use std::marker::Model;
+
+/// The bytes of a frame, which are those of the page that stands in it (kernel: `PAGE_SIZE`).
+pub const FRAME_BYTES: usize = 4096;
+
+/// A page frame: 4,096 bytes of memory, by its number (kernel: a page frame and its number). It is
+/// no `Drop`: it goes back to the pool that it came from, by [`Pool::give`](crate::Pool::give).
+#[must_use]
+pub struct Frame {
+    number: FrameId,
+    bytes: Box<[u8; FRAME_BYTES]>,
+}
+
+impl Model for Frame {
+    ghost use Rattle.frames.specs.Pool.{FrameOf};
+
+    ghost Value = { FrameOf };
+
+    ghost view = { λ f. record { number = f.number.0; bytes = f.bytes.value } };
+}
+
+impl Frame {
+    /// A frame of zeros. `AllocError` where there is no memory for its bytes.
+    pub(crate) fn new(alloc: Global, number: FrameId) -> Result<Self, AllocError>
+        ensures number { IfOk result (λ f. f.number ≡ number.0) }
+        ensures zeros { IfOk result (λ f. (o : ℕ) → slice_index f.bytes o ≡ 0) }
+    {
+        let bytes = Box::new(alloc, [0; FRAME_BYTES])?;
+        Ok(Frame { number, bytes })
+    }
+
+    /// The frame is no more, and its memory is the program's again.
+    pub(crate) fn end(self) {
+        let Frame {
+            number: _,
+            bytes: _,
+        } = self;
+    }
+
+    /// Which frame it is.
+    pub fn number(&self) -> FrameId
+        ensures { result.0 ≡ self.now.number }
+    {
+        self.number
+    }
+
+    /// The byte at an offset.
+    pub fn read(&self, offset: usize) -> u8
+        requires { offset < page_size }
+        ensures { result ≡ slice_index self.now.bytes offset }
+    {
+        self.bytes[offset]
+    }
+
+    /// Changes the byte at an offset.
+    pub fn write(&mut self, offset: usize, byte: u8)
+        requires { offset < page_size }
+        ensures written { slice_index self.new.bytes offset ≡ byte }
+        ensures others { (o : ℕ) → o ≢ offset → slice_index self.new.bytes o ≡ slice_index self.old.bytes o }
+        ensures number { self.new.number ≡ self.old.number }
+    {
+        self.bytes[offset] = byte;
+    }
+
+    /// Zeros in place of all bytes (kernel: `clear_highpage`).
+    pub fn clear(&mut self)
+        ensures zeros { (o : ℕ) → slice_index self.new.bytes o ≡ 0 }
+        ensures number { self.new.number ≡ self.old.number }
+    {
+        set_zeros(&mut self.bytes);
+    }
+}
+
+fn set_zeros(bytes: &mut [u8; FRAME_BYTES])
+    ensures { (o : ℕ) → slice_index bytes.new o ≡ 0 }
+{
+    *bytes = [0; FRAME_BYTES];
+}

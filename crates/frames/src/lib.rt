@@ -1,0 +1,11 @@
+//! Page frames: the machine's memory, in frames of 4,096 bytes, and the pool of those that are free.
+//!
+//! A frame is a value that has to be spent: whoever takes one gives it back to the pool, and the pool
+//! is closed with all of its frames.
+#![tactic(auto)]
+
+pub use frame::{FRAME_BYTES, Frame};
+pub use pool::Pool;
+
+mod frame;
+mod pool;

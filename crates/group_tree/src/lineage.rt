@@ -1,0 +1,107 @@
+//! Which group hangs below which, for those who keep something by group.
+
+ghost use Rattle.std.specs.Prelude.{◌≡◌, ℕ, ◌+◌, ◌<◌, ◌≤◌, ◌++◌, ◌∷◌, [], Some, None, true, false, length, slice_set, IfOk, OnOk, OnErr, IsOk};
+ghost use Rattle.std.specs.Option.{option_map};
+ghost use Rattle.machine.specs.Tree.{node_at, is_live, has_children};
+ghost use Rattle.group_tree.specs.Lineages.{bare, IsLineage};
+
+use machine::id::GroupId;
+use std::alloc::{AllocError, Global};
+use std::marker::Model;
+
+/// A group: what it hangs below, and whether it still is.
+#[derive(Clone, Copy, Debug, PartialEq, Eq)]
+struct Group {
+    parent: Option<GroupId>,
+    live: bool,
+}
+
+/// The groups by their numbers, which come in the order of making. A removed group keeps its
+/// number, and what it hung below stays known.
+#[derive(Drop)]
+pub struct Lineage {
+    groups: Vec<Group>,
+}
+
+impl Model for Lineage {
+    ghost use Rattle.std.specs.Prelude.{◌-◌, vec_len, vec_capacity};
+    ghost use Rattle.group_tree.specs.Lineages.{Kin, nodes_of, IsLineage};
+
+    ghost Value = { Kin };
+
+    ghost view = { λ l. record { tree = nodes_of l.groups.items; room = vec_capacity l.groups - vec_len l.groups } };
+
+    ghost invariant = { λ l. IsLineage (nodes_of l.groups.items) };
+}
+
+impl Lineage {
+    /// The root alone. `AllocError` where there is no memory for it.
+    pub fn new(alloc: Global) -> Result<Self, AllocError>
+        ensures { IfOk result (λ l. l.tree ≡ bare None ∷ []) }
+    {
+        let mut groups = Vec::with_capacity(alloc, 1)?;
+        groups.push_reserved(Group {
+            parent: None,
+            live: true,
+        });
+        Ok(Lineage { groups })
+    }
+
+    /// Asks for the memory of one group more. `AllocError` where there is none, and then nothing
+    /// changes.
+    pub fn reserve(&mut self) -> Result<(), AllocError>
+        ensures room { OnOk result (0 < self.new.room) }
+        ensures tree { self.new.tree ≡ self.old.tree }
+        ensures succeeds { 0 < self.old.room → IsOk result }
+        ensures kept { self.old.room ≤ self.new.room }
+    {
+        self.groups.reserve(1)
+    }
+
+    /// A group more, below another. Its memory was asked for by [`Lineage::reserve`].
+    pub fn add(&mut self, parent: GroupId)
+        requires room { 0 < self.old.room }
+        requires parent { is_live self.old.tree parent.0 ≡ true }
+        ensures tree { self.new.tree ≡ self.old.tree ++ bare (Some parent.0) ∷ [] }
+        ensures room { self.new.room + 1 ≡ self.old.room }
+    {
+        self.groups.push_reserved(Group {
+            parent: Some(parent),
+            live: true,
+        });
+    }
+
+    /// The group is no more. It is not the root, and none hangs below it.
+    pub fn remove(&mut self, group: GroupId)
+        requires below { 0 < group.0 }
+        requires live { is_live self.old.tree group.0 ≡ true }
+        requires childless { has_children self.old.tree group.0 ≡ false }
+        ensures tree { self.new.tree ≡ slice_set self.old.tree group.0 (record (node_at self.old.tree group.0) { live = false }) }
+        ensures room { self.new.room ≡ self.old.room }
+    {
+        self.groups[group.0 as usize].live = false;
+    }
+
+    /// How many groups there ever were.
+    pub fn len(&self) -> usize
+        ensures { result ≡ length self.now.tree }
+    {
+        self.groups.len()
+    }
+
+    /// What a group hangs below (kernel: parent_mem_cgroup). Nothing for the root, and for a number
+    /// that is no group's.
+    pub fn parent(&self, group: GroupId) -> Option<GroupId>
+        ensures parent { option_map (λ g. g.0) result ≡ (node_at self.now.tree group.0).parent }
+        ensures lineage { IsLineage self.now.tree }
+    {
+        self.groups.get(group.0 as usize)?.parent
+    }
+
+    /// Nothing is done: what holds of every lineage.
+    pub fn is_lineage(&self)
+        ensures { IsLineage self.now.tree }
+    {
+        let _ = &self.groups;
+    }
+}

@@ -1,0 +1,5 @@
+pub mod ChargeLemmas
+pub mod RootLemmas
+pub mod GroupLemmas
+pub mod WriteLemmas
+pub mod WalkLemmas

@@ -1,0 +1,285 @@
+//! The counters of all groups.
+
+ghost use Rattle.std.specs.Prelude.{◌≡◌, ◌+◌, ◌<◌, ◌≤◌, ◌++◌, ◌∷◌, ℕ, List, [], length, slice_index, slice_set, Some, None, true, false, IfOk, OnOk, IfErr, OnErr, IsOk, IsSome};
+ghost use Rattle.machine.specs.Amounts.{exceeds};
+ghost use Rattle.machine.specs.Counts.{no_limits, limits_at, over_at};
+ghost use Rattle.machine.specs.Tree.{IsTree, IsAbove, node_at, is_live, has_children, share};
+ghost use Rattle.group_tree.specs.Lineages.{bare, IsLineage};
+ghost use Rattle.group_tree.specs.Tables.{number};
+
+use crate::charge::{Charge, Over};
+use group_tree::Lineage;
+use machine::amount::Amount;
+use machine::id::GroupId;
+use machine::record::Limits;
+use std::alloc::{AllocError, Global};
+use std::marker::Model;
+
+/// For each group its limits, and how many pages are charged to it or below it (kernel: a
+/// `struct page_counter` for each group).
+///
+/// A contract sees the groups, the limits and the counts as lists by the groups' numbers, and for
+/// how many groups more there is memory.
+#[derive(Drop)]
+pub struct Counters {
+    lineage: Lineage,
+    limits: Vec<Limits>,
+    usage: Vec<u64>,
+}
+
+impl Model for Counters {
+    ghost use Rattle.page_counter.specs.Counts.{Counts};
+
+    ghost Value = { Counts };
+
+    ghost use Rattle.page_counter.specs.Tables.{counts_of, IsCounters};
+
+    ghost view = { counts_of };
+
+    ghost invariant = { λ c. IsCounters (counts_of c) };
+}
+
+impl Counters {
+    ghost use Rattle.page_counter.specs.Counts.{Charges, MovesUp, Counted, IsOut, over_in, usage_of};
+
+    /// The counters of the root alone: no limit, and no page charged. `AllocError` where there is
+    /// no memory for them.
+    pub fn new(alloc: Global) -> Result<Self, AllocError>
+        ensures tree { IfOk result (λ c. c.tree ≡ bare None ∷ []) }
+        ensures limits { IfOk result (λ c. c.limits ≡ no_limits ∷ []) }
+        ensures usage { IfOk result (λ c. c.usage ≡ 0 ∷ []) }
+        ensures counted { IfOk result (λ c. Counted c []) }
+    {
+        let lineage = Lineage::new(alloc)?;
+        let mut limits = Vec::with_capacity(alloc, 1)?;
+        let mut usage = Vec::with_capacity(alloc, 1)?;
+        limits.push_reserved(Limits::NONE);
+        usage.push_reserved(0);
+        Ok(Counters {
+            lineage,
+            limits,
+            usage,
+        })
+    }
+
+    /// Asks for the memory of one group more. `AllocError` where there is none; the groups, their
+    /// limits and their counts are the same either way.
+    pub fn reserve(&mut self) -> Result<(), AllocError>
+        ensures room { OnOk result (0 < self.new.room) }
+        ensures tree { self.new.tree ≡ self.old.tree }
+        ensures limits { self.new.limits ≡ self.old.limits }
+        ensures usage { self.new.usage ≡ self.old.usage }
+        ensures succeeds { 0 < self.old.room → IsOk result }
+        ensures kept { self.old.room ≤ self.new.room }
+        ensures counted { (charges : List ℕ) → Counted self.old charges → Counted self.new charges }
+    {
+        self.lineage.reserve()?;
+        self.limits.reserve(1)?;
+        self.usage.reserve(1)
+    }
+
+    /// A group more, below another, with no limit and no page charged. Its memory was asked for by
+    /// [`Counters::reserve`].
+    pub fn add_reserved(&mut self, group: GroupId, parent: GroupId)
+        requires room { 0 < self.old.room }
+        requires next { group.0 ≡ length self.old.tree }
+        requires parent { is_live self.old.tree parent.0 ≡ true }
+        ensures tree { self.new.tree ≡ self.old.tree ++ bare (Some parent.0) ∷ [] }
+        ensures limits { self.new.limits ≡ self.old.limits ++ no_limits ∷ [] }
+        ensures usage { self.new.usage ≡ self.old.usage ++ 0 ∷ [] }
+        ensures room { self.new.room + 1 ≡ self.old.room }
+        ensures counted { (charges : List ℕ) → Counted self.old charges → Counted self.new charges }
+    {
+        prove!(group.0 as usize == self.usage.len());
+        self.lineage.is_lineage();
+        self.lineage.add(parent);
+        self.limits.push_reserved(Limits::NONE);
+        self.usage.push_reserved(0);
+    }
+
+    /// A group more, below another, with no limit and no page charged. `AllocError` where there is
+    /// no memory for it, and then the groups, their limits and their counts are the same.
+    pub fn add(&mut self, group: GroupId, parent: GroupId) -> Result<(), AllocError>
+        requires next { group.0 ≡ length self.old.tree }
+        requires parent { is_live self.old.tree parent.0 ≡ true }
+        ensures tree { OnOk result (self.new.tree ≡ self.old.tree ++ bare (Some parent.0) ∷ []) }
+        ensures limits { OnOk result (self.new.limits ≡ self.old.limits ++ no_limits ∷ []) }
+        ensures usage { OnOk result (self.new.usage ≡ self.old.usage ++ 0 ∷ []) }
+        ensures same_tree { OnErr result (self.new.tree ≡ self.old.tree) }
+        ensures same_limits { OnErr result (self.new.limits ≡ self.old.limits) }
+        ensures same_usage { OnErr result (self.new.usage ≡ self.old.usage) }
+        ensures succeeds { 0 < self.old.room → IsOk result }
+        ensures counted { (charges : List ℕ) → Counted self.old charges → Counted self.new charges }
+    {
+        self.reserve()?;
+        self.add_reserved(group, parent);
+        Ok(())
+    }
+
+    /// The group is no more. It is not the root, none hangs below it, and no page is charged to it.
+    pub fn remove(&mut self, group: GroupId)
+        requires below { 0 < group.0 }
+        requires live { is_live self.old.tree group.0 ≡ true }
+        requires childless { has_children self.old.tree group.0 ≡ false }
+        requires uncharged { usage_of self.old group.0 ≡ 0 }
+        ensures tree { self.new.tree ≡ slice_set self.old.tree group.0 (record (node_at self.old.tree group.0) { live = false }) }
+        ensures limits { self.new.limits ≡ self.old.limits }
+        ensures usage { self.new.usage ≡ self.old.usage }
+        ensures room { self.new.room ≡ self.old.room }
+        ensures counted { (charges : List ℕ) → Counted self.old charges → Counted self.new charges }
+    {
+        self.lineage.is_lineage();
+        self.lineage.remove(group);
+    }
+
+    /// How many pages may be charged to the group and below it, `memory.max`.
+    pub fn max(&self, group: GroupId) -> Amount
+        requires live { is_live self.now.tree group.0 ≡ true }
+        ensures { result ≡ (limits_at self.now.limits group.0).max }
+    {
+        self.limits[group.0 as usize].max
+    }
+
+    /// Sets how many pages may be charged to the group and below it (kernel: page_counter_set_max).
+    /// More may be charged already: then no page more is, until fewer are.
+    pub fn set_max(&mut self, group: GroupId, max: Amount)
+        requires live { is_live self.old.tree group.0 ≡ true }
+        ensures limits { self.new.limits ≡ slice_set self.old.limits group.0 (record (limits_at self.old.limits group.0) { max = max }) }
+        ensures tree { self.new.tree ≡ self.old.tree }
+        ensures usage { self.new.usage ≡ self.old.usage }
+        ensures room { self.new.room ≡ self.old.room }
+        ensures counted { (charges : List ℕ) → Counted self.old charges → Counted self.new charges }
+    {
+        self.limits[group.0 as usize].max = max;
+    }
+
+    /// How many pages are charged to the group or below it (kernel: page_counter_read).
+    pub fn usage(&self, group: GroupId) -> u64
+        requires live { is_live self.now.tree group.0 ≡ true }
+        ensures { result ≡ usage_of self.now group.0 }
+    {
+        self.usage[group.0 as usize]
+    }
+
+    /// Charges a page to the group and to each group above it (kernel: page_counter_try_charge).
+    ///
+    /// `Over` where that would pass a max, with the lowest group whose max it is. Then nothing is
+    /// charged.
+    pub fn try_charge(&mut self, group: GroupId) -> Result<Charge, Over>
+        requires live { is_live self.old.tree group.0 ≡ true }
+        requires room { usage_of self.old 0 < 18446744073709551615 }
+        ensures under { OnOk result (over_in self.old group.0 ≡ None) }
+        ensures over { IfErr result (λ limit. over_in self.old group.0 ≡ Some limit.0.0) }
+        ensures group { IfOk result (λ charge. charge ≡ group.0) }
+        ensures charged { OnOk result (Charges self.old self.new group.0) }
+        ensures counted { (charges : List ℕ) → Counted self.old charges → OnOk result (Counted self.new (group.0 ∷ charges)) }
+        ensures err { OnErr result (self.new ≡ self.old) }
+    {
+        self.lineage.is_lineage();
+        add_up(
+            &self.lineage,
+            &self.limits,
+            self.usage.as_mut_slice(),
+            group,
+        )?;
+        Ok(Charge::new(group))
+    }
+
+    /// Takes a charge back: a page less at its group and at each group above it (kernel:
+    /// page_counter_uncharge).
+    pub fn uncharge(&mut self, charge: Charge)
+        requires out { IsOut self.old charge }
+        ensures uncharged { Charges self.new self.old charge }
+        ensures counted { (rest : List ℕ) → Counted self.old (charge ∷ rest) → Counted self.new rest }
+    {
+        self.lineage.is_lineage();
+        let group = charge.into_group();
+        take_down(&self.lineage, self.usage.as_mut_slice(), group, None);
+    }
+
+    /// Gives a charge to what its group hangs below: a page less at the group itself, and the same
+    /// above it (kernel: the charges of a removed group go to its parent).
+    pub fn move_up(&mut self, charge: Charge) -> Charge
+        requires out { IsOut self.old charge }
+        requires below { IsSome (node_at self.old.tree charge).parent }
+        ensures parent { (node_at self.old.tree charge).parent ≡ Some result }
+        ensures moved { MovesUp self.old self.new charge }
+        ensures counted { (rest : List ℕ) → Counted self.old (charge ∷ rest) → Counted self.new (result ∷ rest) }
+    {
+        let group = charge.into_group();
+        let Some(parent) = self.lineage.parent(group) else {
+            unreachable!()
+        };
+        self.usage[group.0 as usize] -= 1;
+        Charge::new(parent)
+    }
+
+    /// Nothing is done: what holds of all counters.
+    pub fn are_counted(&self)
+        ensures lineage { IsLineage self.now.tree }
+        ensures limits { length self.now.limits ≡ length self.now.tree }
+        ensures usage { length self.now.usage ≡ length self.now.tree }
+    {
+        self.lineage.is_lineage();
+        let _ = &self.limits;
+    }
+}
+
+/// Whether one page more than so many would pass the max.
+fn is_full(usage: u64, max: Amount) -> bool
+    ensures { result ≡ exceeds (usage + 1) max }
+{
+    match max {
+        Amount::Max => false,
+        Amount::Pages(pages) => usage >= pages,
+    }
+}
+
+/// Adds one to the count of each group from this one up, or nothing where one of them is full.
+fn add_up(
+    lineage: &Lineage,
+    limits: &[Limits],
+    usage: &mut [u64],
+    group: GroupId,
+) -> Result<(), Over>
+    requires tree { IsTree lineage.now.tree }
+    requires limits { length limits.now ≡ length lineage.now.tree }
+    requires usage { length usage.old ≡ length lineage.now.tree }
+    requires there { group.0 < length lineage.now.tree }
+    requires room { (a : ℕ) → a < length lineage.now.tree → slice_index usage.old a < 18446744073709551615 }
+    ensures under { OnOk result (over_at lineage.now.tree limits.now (λ a. slice_index usage.old a) (Some group.0) ≡ None) }
+    ensures over { IfErr result (λ limit. over_at lineage.now.tree limits.now (λ a. slice_index usage.old a) (Some group.0) ≡ Some limit.0.0) }
+    ensures charged { OnOk result ((a : ℕ) → a < length lineage.now.tree → slice_index usage.new a ≡ slice_index usage.old a + share lineage.now.tree a (Some group.0)) }
+    ensures err { OnErr result (usage.new ≡ usage.old) }
+{
+    let mut at = Some(group);
+    while let Some(here) = at {
+        if is_full(usage[here.0 as usize], limits[here.0 as usize].max) {
+            take_down(lineage, usage, group, Some(here));
+            return Err(Over(here));
+        }
+        usage[here.0 as usize] += 1;
+        at = lineage.parent(here);
+    }
+    Ok(())
+}
+
+/// Takes one from the count of each group from this one up to `until`, which keeps its count, as
+/// do those above it.
+fn take_down(lineage: &Lineage, usage: &mut [u64], group: GroupId, until: Option<GroupId>)
+    requires tree { IsTree lineage.now.tree }
+    requires usage { length usage.old ≡ length lineage.now.tree }
+    requires there { group.0 < length lineage.now.tree }
+    requires above { IsAbove lineage.now.tree (number until) (Some group.0) }
+    requires counted { (a : ℕ) → a < length lineage.now.tree → share lineage.now.tree a (Some group.0) ≤ slice_index usage.old a + share lineage.now.tree a (number until) }
+    ensures { (a : ℕ) → a < length lineage.now.tree → slice_index usage.new a + share lineage.now.tree a (Some group.0) ≡ slice_index usage.old a + share lineage.now.tree a (number until) }
+{
+    let mut at = Some(group);
+    while let Some(here) = at {
+        if until == Some(here) {
+            return;
+        }
+        usage[here.0 as usize] -= 1;
+        at = lineage.parent(here);
+    }
+}
