@@ -13,7 +13,7 @@ mod case;
 #[cfg(test)]
 mod control_files;
 #[cfg(test)]
-mod events;
+mod event_files;
 #[cfg(test)]
 mod exits;
 #[cfg(test)]
