@@ -125,7 +125,7 @@ module _ (before after : State) (a : ℕ) where
   counted_within same more = absurd (let e : usage after a ≡ usage before a = ap (λ (s : State). usage s a) same in omega (arith, more, e))
 
 -- a page that is hit is there
-hits_there : (s : State) (t : ℕ) (place : Place) (op : Op) (p : ℕ) (page : Page) (frame : ℕ) → meets s t place op ≡ Hits p page frame → page_at s.pages p ≡ Some page
+pub hits_there : (s : State) (t : ℕ) (place : Place) (op : Op) (p : ℕ) (page : Page) (frame : ℕ) → meets s t place op ≡ Hits p page frame → page_at s.pages p ≡ Some page
 hits_there s t (Virtual v o) op p page frame hits = by_mapped (mapped_at s.mappings t v) op hits
   where
     by_shared : (b : Bool) (q f : ℕ) (other : Page) → page_at s.pages q ≡ Some other → cond b NeedsCopy (Hits q other f) ≡ Hits p page frame → page_at s.pages p ≡ Some page

@@ -1,11 +1,12 @@
 -- The headline in the words of its users: what holds of every step and of every run.
-use Rattle.std.specs.Prelude.{◌≡◌, ℕ, ◌<◌, true, false, List, ◌∷◌, ◌++◌}
+use Rattle.std.specs.Prelude.{◌≡◌, ℕ, ◌<◌, true, false, List, ◌∷◌, ◌++◌, Some}
 use Rattle.machine.specs.declared.config.Config.{Config}
 use Rattle.machine.specs.declared.entry.Entry.{Entry}
 use Rattle.machine.specs.declared.event.Cause.{Cause}
 use Rattle.machine.specs.declared.event.Op.{Op}
 use Rattle.machine.specs.declared.event.Place.{Place}
 use Rattle.machine.specs.declared.event.Query.TheVariants as query
+use Rattle.machine.specs.declared.event.Event.{Event}
 use Rattle.machine.specs.declared.event.Event.TheVariants as event
 use Rattle.machine.specs.declared.record.EventCounts.{EventCounts}
 use Rattle.machine.specs.declared.record.Key.{Key}
@@ -17,7 +18,10 @@ use Rattle.machine.specs.declared.command.Step.{Step as Line}
 use Rattle.machine.specs.declared.command.Reply.{Reply as Told_by}
 use Rattle.machine.specs.Amounts.{exceeds}
 use Rattle.machine.specs.Counts.{limits_at, local, total}
-use Rattle.machine.specs.State.{State, usage, opening_of}
+use Rattle.machine.specs.Tree.{is_live}
+use Rattle.machine.specs.Pages.{Page, page_at, frame_at}
+use Rattle.machine.specs.Tasks.{lives, group_of_task}
+use Rattle.machine.specs.State.{Opening, State, usage, opening_of}
 use Rattle.machine.specs.Reclaim.{is_idle, target_of}
 use Rattle.machine.specs.Victim.{is_candidate}
 use Rattle.machine.specs.Step.{Step}
@@ -56,6 +60,17 @@ ChargesStayWithinMax =
     (before after : State) (t : ℕ) (place : Place) (op : Op) (answer : Reply) (a : ℕ) → Step before (event.Access (record { 0 = t }) place op) answer after
     → usage before a < usage after a → exceeds (usage after a) (limits_at after.limits a).max ≡ false
 
+-- the event is an access
+abbrev pub IsAccess : Event → Type 0
+IsAccess (event.Access t place op) = Unit {0}
+IsAccess what = ⊥
+
+-- in whatever state a legal history ends, no other event leaves more pages charged under a group
+abbrev pub OnlyAccessesCharge : Type 0
+OnlyAccessesCharge =
+    (opening : Opening) (history : List Entry) (before after : State) (what : Event) (answer : Reply) (a : ℕ) → Legal opening history before → Step before what answer after
+    → usage before a < usage after a → IsAccess what
+
 -- a task is killed only where nothing could be reclaimed under the limit group, and only a live one of a group at or under it
 abbrev pub KillsComeLast : Type 0
 KillsComeLast =
@@ -65,3 +80,15 @@ KillsComeLast =
 -- each read in a right history gave the last write before it
 abbrev pub ReadsGiveLastWrites : Type 0
 ReadsGiveLastWrites = (later earlier : List Entry) (entry : Entry) → Right (later ++ entry ∷ earlier) → IsRight earlier entry.event entry.reply
+
+-- in whatever state a legal history ends, no two pages have one frame
+abbrev pub PagesShareNoFrame : Type 0
+PagesShareNoFrame =
+    (opening : Opening) (history : List Entry) (s : State) → Legal opening history s
+    → (p q f : ℕ) (page other : Page) → page_at s.pages p ≡ Some page → page_at s.pages q ≡ Some other → frame_at page.residence ≡ Some f → frame_at other.residence ≡ Some f → p ≡ q
+
+-- and the group of each page and of each live task is there
+abbrev pub GroupsAreThere : Type 0
+GroupsAreThere =
+    (opening : Opening) (history : List Entry) (s : State) → Legal opening history s
+    → ((p : ℕ) (page : Page) → page_at s.pages p ≡ Some page → is_live s.tree page.group ≡ true) × ((t : ℕ) → lives s.tasks t ≡ true → is_live s.tree (group_of_task s.tasks t) ≡ true)

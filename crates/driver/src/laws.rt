@@ -1,7 +1,7 @@
 //! The headline in the words of its users: laws of every step and of every run. Each is the contract
 //! of a function that does nothing.
 
-ghost use Rattle.driver.specs.Laws.{RunsAreLegal, CurrentCountsPages, EventsAreThoseCounted, ChargesStayWithinMax, KillsComeLast, ReadsGiveLastWrites};
+ghost use Rattle.driver.specs.Laws.{RunsAreLegal, CurrentCountsPages, EventsAreThoseCounted, ChargesStayWithinMax, OnlyAccessesCharge, KillsComeLast, ReadsGiveLastWrites, PagesShareNoFrame, GroupsAreThere};
 
 /// The history of every run leads from the opening to the run's state, one step of the plain machine
 /// an entry.
@@ -26,6 +26,12 @@ pub fn charges_stay_within_max()
     ensures { ChargesStayWithinMax }
 {}
 
+/// No event but an access leaves more pages charged under a group. So, by `charges_stay_within_max`, a
+/// count that rises stays within the group's max, whatever the event.
+pub fn only_accesses_charge()
+    ensures { OnlyAccessesCharge }
+{}
+
 /// A task is killed only where nothing can be reclaimed under the limit group, and only a live task
 /// of a group at or under it.
 pub fn kills_come_last()
@@ -35,4 +41,14 @@ pub fn kills_come_last()
 /// Each read that is done gives the byte last written.
 pub fn reads_give_last_writes()
     ensures { ReadsGiveLastWrites }
+{}
+
+/// Whatever state a run's history leads to, no two pages have one frame.
+pub fn pages_share_no_frame()
+    ensures { PagesShareNoFrame }
+{}
+
+/// Whatever state a run's history leads to, the group of each page and of each live task is there.
+pub fn groups_are_there()
+    ensures { GroupsAreThere }
 {}

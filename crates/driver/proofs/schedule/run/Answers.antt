@@ -1,4 +1,4 @@
-use Rattle.std.proofs.Common.{◌≡◌, ◌∙◌, ◌+◌, List, [], ap, subst}
+use Rattle.std.proofs.Common.{◌≡◌, ◌∙◌, ◌+◌, List, ap, subst}
 use Rattle.machine.specs.declared.turn.Seat.{Seat}
 use Rattle.machine.specs.Call.{Past}
 use Rattle.machine.specs.Schedule.{World, first_world, Runs}
