@@ -1,0 +1,141 @@
+//! A block device in memory.
+
+ghost use Rattle.std.specs.Prelude.{◌≡◌, ℕ, ◌+◌, ◌<◌, ◌≤◌, ◌↔◌, length, replicate, IfOk, IsErr, OnErr, IsTrue, if◌then◌else◌};
+ghost use Rattle.block_store.specs.Device.{held, ReadsBlock, WritesBlock};
+ghost use Rattle.block_store.specs.Memory.{is_listed, counted, faults_left};
+
+use crate::device::{BLOCK_BYTES, BlockDevice, Fault};
+use std::alloc::{AllocError, Global};
+use std::marker::Model;
+
+/// The byte that a failed write fills its block with.
+const SPOILED: u8 = 255;
+
+/// A block device in memory, some of whose calls fail. Which ones do is listed when it is made.
+#[derive(Drop)]
+pub struct MemDevice {
+    blocks: Vec<[u8; BLOCK_BYTES]>,
+    /// How many reads there have been, good and failed ones. At the greatest `u64` it stays.
+    reads: u64,
+    /// How many writes, likewise.
+    writes: u64,
+    /// Which reads fail, counted from 1.
+    read_faults: Vec<u64>,
+    /// Which writes fail, counted from 1.
+    write_faults: Vec<u64>,
+    failures: u64,
+}
+
+impl Model for MemDevice {
+    ghost use Rattle.std.specs.Prelude.{◌+◌, length, vec_len};
+    ghost use Rattle.block_store.specs.Memory.{MemoryOf, IsMemory};
+
+    ghost Value = { MemoryOf };
+
+    ghost view = { λ d. record { disk = record { contents = d.blocks.items; failures = d.failures; fault_limit = length d.read_faults.items + length d.write_faults.items }; reads = d.reads; writes = d.writes; read_faults = d.read_faults.items; write_faults = d.write_faults.items } };
+
+    ghost invariant = { λ d. IsMemory (vec_len d.blocks) d.failures d.reads d.writes d.read_faults.items d.write_faults.items };
+}
+
+impl MemDevice {
+    /// So many blocks of zeros. The listed reads and the listed writes fail, counted from 1, reads and
+    /// writes apart. A number that is listed twice fails once, and counts twice for the fault limit,
+    /// which is the length of both lists together. A count at the greatest `u64` stays there and fails
+    /// nothing. A failed write fills its block with bytes of 255. `AllocError` where there is no memory
+    /// for the blocks or the lists.
+    pub fn new(
+        alloc: Global,
+        blocks: u32,
+        read_faults: &[u64],
+        write_faults: &[u64],
+    ) -> Result<MemDevice, AllocError>
+        ensures zeros { IfOk result (λ d. d.disk.contents ≡ replicate blocks (replicate BLOCK_BYTES 0)) }
+        ensures failures { IfOk result (λ d. d.disk.failures ≡ 0) }
+        ensures limit { IfOk result (λ d. d.disk.fault_limit ≡ length read_faults.now + length write_faults.now) }
+        ensures reads { IfOk result (λ d. d.reads ≡ 0) }
+        ensures writes { IfOk result (λ d. d.writes ≡ 0) }
+        ensures read_faults { IfOk result (λ d. d.read_faults ≡ read_faults.now) }
+        ensures write_faults { IfOk result (λ d. d.write_faults ≡ write_faults.now) }
+    {
+        let blocks = vec![in alloc; [0; BLOCK_BYTES]; blocks as usize]?;
+        let read_faults = read_faults.to_vec(alloc)?;
+        let write_faults = write_faults.to_vec(alloc)?;
+        Ok(MemDevice {
+            blocks,
+            reads: 0,
+            writes: 0,
+            read_faults,
+            write_faults,
+            failures: 0,
+        })
+    }
+}
+
+impl BlockDevice for MemDevice {
+    ghost disk = { λ d. d.disk };
+
+    fn blocks(&self) -> u32 {
+        self.blocks.len() as u32
+    }
+
+    fn read(&mut self, block: u32, to: &mut [u8; BLOCK_BYTES]) -> Result<(), Fault>
+        requires { block < length self.old.disk.contents }
+        ensures read { ReadsBlock self.old.disk block result to.new self.new.disk }
+        ensures blocks { length self.new.disk.contents ≡ length self.old.disk.contents }
+        ensures limit { self.new.disk.fault_limit ≡ self.old.disk.fault_limit }
+
+        // Exactly the listed reads fail.
+        ensures fault { IsErr result ↔ IsTrue (is_listed self.old.read_faults self.old.reads) }
+        ensures counted { self.new ≡ record self.old { disk = self.new.disk; reads = counted self.old.reads } }
+    {
+        if strikes(&mut self.reads, &self.read_faults) {
+            self.failures += 1;
+            return Err(Fault);
+        }
+        *to = self.blocks[block as usize];
+        Ok(())
+    }
+
+    fn write(&mut self, block: u32, from: &[u8; BLOCK_BYTES]) -> Result<(), Fault>
+        requires { block < length self.old.disk.contents }
+        ensures write { WritesBlock self.old.disk block from.now result self.new.disk }
+        ensures blocks { length self.new.disk.contents ≡ length self.old.disk.contents }
+        ensures limit { self.new.disk.fault_limit ≡ self.old.disk.fault_limit }
+
+        // Exactly the listed writes fail, and each fills its block with one byte.
+        ensures fault { IsErr result ↔ IsTrue (is_listed self.old.write_faults self.old.writes) }
+        ensures spoiled { OnErr result (held self.new.disk.contents block ≡ replicate BLOCK_BYTES 255) }
+        ensures counted { self.new ≡ record self.old { disk = self.new.disk; writes = counted self.old.writes } }
+    {
+        if strikes(&mut self.writes, &self.write_faults) {
+            self.blocks[block as usize] = [SPOILED; BLOCK_BYTES];
+            self.failures += 1;
+            return Err(Fault);
+        }
+        self.blocks[block as usize] = *from;
+        Ok(())
+    }
+
+    fn failures(&self) -> u64 {
+        self.failures
+    }
+
+    fn fault_limit(&self) -> u64 {
+        (self.read_faults.len() + self.write_faults.len()) as u64
+    }
+}
+
+/// Counts a call, and tells whether it is one of those that fail.
+fn strikes(calls: &mut u64, faults: &[u64]) -> bool
+    ensures counted { calls.new ≡ counted calls.old }
+    ensures listed { result ≡ is_listed faults.now calls.old }
+    ensures left { faults_left faults.now calls.new + (if result then 1 else 0) ≤ faults_left faults.now calls.old }
+{
+    match calls.checked_add(1) {
+        None => false,
+        Some(call) => {
+            *calls = call;
+            faults.contains(&call)
+        }
+    }
+}

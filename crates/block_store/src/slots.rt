@@ -1,0 +1,123 @@
+//! The swap slots.
+
+ghost use Rattle.std.specs.Prelude.{◌≡◌, ℕ, ◌+◌, ◌<◌, ◌≤◌, length, vec_len, vec_capacity, IfOk, IfSome, IfNone, OnSome, if◌then◌else◌, ◌==◌};
+ghost use Rattle.block_store.specs.Slots.{slot_count};
+
+use std::alloc::{AllocError, Global};
+use std::marker::Model;
+
+/// A swap slot: one block of the swap device, owned once (kernel: a swap entry). It is no `Drop`: it
+/// goes back to the slots that it came from, by [`Slots::give`].
+#[must_use]
+pub struct Slot {
+    block: u32,
+}
+
+impl Model for Slot {
+    ghost Value = { ℕ };
+
+    ghost view = { λ s. s.block };
+}
+
+impl Slot {
+    /// Which block it is.
+    pub fn block(&self) -> u32
+        ensures { result ≡ self.now }
+    {
+        self.block
+    }
+}
+
+/// The swap blocks that no page stands in (kernel: a swap area's free slots), and how many swap blocks
+/// there are in all. It is no `Drop`: it is closed, by [`Slots::close`], once all slots are back.
+#[must_use]
+pub struct Slots {
+    free: Vec<u32>,
+    /// How many swap blocks there are, free ones and others. Their numbers are those below it.
+    blocks: u32,
+}
+
+impl Model for Slots {
+    ghost use Rattle.std.specs.Prelude.{vec_capacity};
+    ghost use Rattle.block_store.specs.Slots.{SlotsOf, IsSlots};
+
+    ghost Value = { SlotsOf };
+
+    ghost view = { λ s. record { free = s.free.items; blocks = s.blocks } };
+
+    ghost invariant = { λ s. IsSlots s.free.items s.blocks (vec_capacity s.free) };
+}
+
+impl Slots {
+    /// So many swap blocks, numbered from 0 on, and all of them free; there may be none. `AllocError`
+    /// where there is no memory for the list of the free ones.
+    pub fn open(alloc: Global, blocks: u32) -> Result<Slots, AllocError>
+        ensures once { IfOk result (λ s. (n : ℕ) → n < blocks → slot_count s.free n ≡ 1) }
+        ensures none_beyond { IfOk result (λ s. (n : ℕ) → blocks ≤ n → slot_count s.free n ≡ 0) }
+        ensures all { IfOk result (λ s. length s.free ≡ blocks) }
+        ensures blocks { IfOk result (λ s. s.blocks ≡ blocks) }
+    {
+        let mut free = Vec::with_capacity(alloc, blocks as usize)?;
+        fill(&mut free, blocks);
+        Ok(Slots { free, blocks })
+    }
+
+    /// How many swap blocks are free.
+    pub fn free(&self) -> u32
+        ensures { result ≡ length self.now.free }
+    {
+        self.free.len() as u32
+    }
+
+    /// A free swap block, if there is one. Its bytes are what its last user left. It goes back by
+    /// [`Slots::give`].
+    pub fn take(&mut self) -> Option<Slot>
+        ensures none { IfNone result (length self.old.free ≡ 0) }
+        ensures kept { IfNone result (self.new ≡ self.old) }
+        ensures counts { IfSome result (λ s. (n : ℕ) → slot_count self.old.free n ≡ slot_count self.new.free n + (if s == n then 1 else 0)) }
+        ensures fewer { OnSome result (length self.old.free ≡ length self.new.free + 1) }
+        ensures blocks { self.new.blocks ≡ self.old.blocks }
+
+        // The block is no longer free, so that no two slots that are out have one number.
+        ensures out { IfSome result (λ s. slot_count self.new.free s ≡ 0) }
+        ensures in_range { IfSome result (λ s. s < self.old.blocks) }
+    {
+        match self.free.pop() {
+            None => None,
+            Some(block) => Some(Slot { block }),
+        }
+    }
+
+    /// Takes a slot back. This takes no memory.
+    pub fn give(&mut self, slot: Slot)
+        requires out { slot_count self.old.free slot ≡ 0 }
+        requires in_range { slot < self.old.blocks }
+        ensures counts { (n : ℕ) → slot_count self.new.free n ≡ slot_count self.old.free n + (if slot == n then 1 else 0) }
+        ensures more { length self.new.free ≡ length self.old.free + 1 }
+        ensures blocks { self.new.blocks ≡ self.old.blocks }
+    {
+        let Slot { block } = slot;
+        self.free.push_reserved(block);
+    }
+
+    /// The end of the slots, once all of them are free.
+    pub fn close(self)
+        requires all { length self.free ≡ self.blocks }
+    {
+        let Slots { free: _, blocks: _ } = self;
+    }
+}
+
+/// Adds the numbers below `blocks` to an empty list that has room for them.
+fn fill(free: &mut Vec<u32>, blocks: u32)
+    requires empty { vec_len free.old ≡ 0 }
+    requires room { blocks ≤ vec_capacity free.old }
+    ensures once { (n : ℕ) → n < blocks → slot_count free.new.items n ≡ 1 }
+    ensures none_beyond { (n : ℕ) → blocks ≤ n → slot_count free.new.items n ≡ 0 }
+    ensures all { length free.new.items ≡ blocks }
+    ensures room { blocks ≤ vec_capacity free.new }
+{
+    for block in 0..blocks {
+        free.push_reserved(block);
+    }
+}
