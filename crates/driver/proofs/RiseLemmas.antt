@@ -23,11 +23,7 @@ use Rattle.machine.specs.Step.{Takes, StartsLeave, Drops, LeavesBy, LeavesFrom, 
 use Rattle.machine.proofs.TreeLemmas.{under_at-append}
 use Rattle.machine.proofs.SlotLemmas.{one_if, count_there-changes}
 use Rattle.driver.specs.Laws.{OnlyAccessesCharge}
-use Rattle.driver.proofs.SoundLemmas.{count-less, still_passes, sound_in, legal-sound}
-
-bool_less : (a b : Bool) → (a ≡ true → b ≡ true) → one_if a ≤ one_if b
-bool_less true b f = let e : one_if b ≡ 1 = ap one_if (f refl) in omega (arith, e)
-bool_less false b f = omega arith
+use Rattle.driver.proofs.SoundLemmas.{bool_le, count-less, still_passes, sound_in, legal-sound}
 
 -- whoever passes one test passes another
 tests_less : (test other : Page → Bool) (pages : Pages) → ((n : ℕ) → there_and other (at pages n) ≡ true → there_and test (at pages n) ≡ true) → count_there other pages ≤ count_there test pages
@@ -35,7 +31,7 @@ tests_less test other [] less = omega arith
 tests_less test other (slot ∷ pages) less =
     let more = sum_by-cons (λ (s : Option Page). one_if (there_and test s)) slot pages in
     let more' = sum_by-cons (λ (s : Option Page). one_if (there_and other s)) slot pages in
-    let here = bool_less (there_and other slot) (there_and test slot) (less 0) in
+    let here = bool_le (there_and other slot) (there_and test slot) (less 0) in
     let rest = tests_less test other pages (λ n. less (suc n)) in
     omega (arith, more, more', here, rest)
 

@@ -55,7 +55,7 @@ sound_in s = IsSound s.pages s.tasks s.tree
 slot_test : {T : Type 0} (test : T → Bool) → Option T → ℕ
 slot_test test slot = one_if (there_and test slot)
 
-bool_le : (a b : Bool) → (a ≡ true → b ≡ true) → one_if a ≤ one_if b
+pub bool_le : (a b : Bool) → (a ≡ true → b ≡ true) → one_if a ≤ one_if b
 bool_le true b f = let e : one_if b ≡ 1 = ap one_if (f refl) in omega (arith, e)
 bool_le false b f = omega arith
 

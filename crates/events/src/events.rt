@@ -62,8 +62,8 @@ impl Events {
         })
     }
 
-    /// Asks for the memory of one group more. `AllocError` where there is none, and then nothing
-    /// changes.
+    /// Asks for the memory of one group more. `AllocError` where there is none; the groups and their
+    /// counts are the same either way.
     pub fn reserve(&mut self) -> Result<(), AllocError>
         ensures room { OnOk result (0 < self.new.room) }
         ensures tree { self.new.tree ≡ self.old.tree }

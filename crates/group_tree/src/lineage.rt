@@ -47,8 +47,8 @@ impl Lineage {
         Ok(Lineage { groups })
     }
 
-    /// Asks for the memory of one group more. `AllocError` where there is none, and then nothing
-    /// changes.
+    /// Asks for the memory of one group more. `AllocError` where there is none; the groups are the
+    /// same either way.
     pub fn reserve(&mut self) -> Result<(), AllocError>
         ensures room { OnOk result (0 < self.new.room) }
         ensures tree { self.new.tree ≡ self.old.tree }

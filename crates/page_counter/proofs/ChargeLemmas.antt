@@ -1,23 +1,13 @@
 -- Which charges are out after one more, one less, or one that moved up.
-use Rattle.std.proofs.Common.{◌≡◌, ℕ, zero, suc, ◌+◌, ◌<◌, ◌≤◌, ◌==◌, true, cond, List, ◌∷◌, length, Some, sym, ap, subst, ◌∙◌, arith}
+use Rattle.std.proofs.Common.{◌≡◌, ℕ, ◌+◌, ◌<◌, ◌≤◌, ◌==◌, true, cond, List, ◌∷◌, length, Some, sym, ap, subst, ◌∙◌, arith}
 use Rattle.std.specs.Prelude.{count_by}
-use Rattle.std.specs.List.{All}
+use Rattle.std.proofs.lemmas.List.Elements.{All-cons, All-head, All-tail}
 use Rattle.std.proofs.lemmas.List.Sums.{sum_by-cons}
 use Rattle.machine.specs.Tree.{Node, node_at, is_live, IsTree, share, under}
 use Rattle.machine.proofs.TreeLemmas.{share-under, share-own, share-step}
 use Rattle.group_tree.specs.Lineages.{IsLineage}
 use Rattle.group_tree.proofs.LineageLemmas.{live-within}
 use Rattle.page_counter.specs.Counts.{Counts, Charges, MovesUp, Counted, IsOut, usage_of}
-
-pub All-cons : (P : ℕ → Type 0) (x : ℕ) (xs : List ℕ) → P x → All P xs → All P (x ∷ xs)
-All-cons P x xs h rest zero d lt = h
-All-cons P x xs h rest (suc k) d lt = rest k d (omega arith)
-
-pub All-head : (P : ℕ → Type 0) (x : ℕ) (xs : List ℕ) → All P (x ∷ xs) → P x
-All-head P x xs h = h 0 x (omega arith)
-
-pub All-tail : (P : ℕ → Type 0) (x : ℕ) (xs : List ℕ) → All P (x ∷ xs) → All P xs
-All-tail P x xs h k d lt = h (suc k) d (omega arith)
 
 -- the count of a after one charge more
 pub count_more : (tree : List Node) → IsTree tree → (a g : ℕ) (charges : List ℕ) → count_by (λ x. under tree a x) (g ∷ charges) ≡ count_by (λ x. under tree a x) charges + share tree a (Some g)

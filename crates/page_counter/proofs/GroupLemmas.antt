@@ -5,6 +5,7 @@ use Rattle.std.specs.List.{All}
 use Rattle.std.proofs.lemmas.List.{get_or_append_left}
 use Rattle.std.proofs.lemmas.List.Sums.{sum_by-cons}
 use Rattle.std.proofs.Math.Seq.{get_or-append_seam}
+use Rattle.std.proofs.lemmas.List.Elements.{All-head, All-tail}
 use Rattle.machine.specs.Counts.{no_limits}
 use Rattle.machine.specs.Tree.{Node, no_node, node_at, is_live, IsTree, under}
 use Rattle.machine.proofs.TreeLemmas.{eq_cases, lt_cases, share-own, same_under, under_at-append, under_at-beyond, IsTree-push}
@@ -12,7 +13,7 @@ use Rattle.group_tree.specs.Lineages.{bare, IsLineage}
 use Rattle.group_tree.proofs.LineageLemmas.{live-within}
 use Rattle.page_counter.specs.Counts.{Counts, Counted, usage_of}
 use Rattle.page_counter.specs.Tables.{IsCounters}
-use Rattle.page_counter.proofs.ChargeLemmas.{All-head, All-tail, count_more}
+use Rattle.page_counter.proofs.ChargeLemmas.{count_more}
 
 -- a group to which pages are charged counts them
 counts_own : (tree : List Node) → IsTree tree → (charges : List ℕ) (k d : ℕ) → k < length charges → 1 ≤ count_by (λ x. under tree (get_or charges k d) x) charges

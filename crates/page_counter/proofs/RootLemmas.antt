@@ -2,12 +2,13 @@
 use Rattle.std.proofs.Common.{◌≡◌, ℕ, ◌<◌, ◌≤◌, Bool, true, cond, List, [], ◌∷◌, length, Some, ap, arith}
 use Rattle.std.specs.Prelude.{count_by}
 use Rattle.std.specs.List.{All}
+use Rattle.std.proofs.lemmas.List.Elements.{All-head, All-tail}
 use Rattle.machine.specs.Tree.{Node, is_live, under}
 use Rattle.machine.proofs.TreeLemmas.{share-under, share-le}
 use Rattle.group_tree.specs.Lineages.{IsLineage}
 use Rattle.group_tree.proofs.LineageLemmas.{live-within}
 use Rattle.page_counter.specs.Counts.{Counts, Counted, usage_of}
-use Rattle.page_counter.proofs.ChargeLemmas.{All-head, All-tail, count_more}
+use Rattle.page_counter.proofs.ChargeLemmas.{count_more}
 
 -- every page is counted at the root
 most_at_root : (tree : List Node) → IsLineage tree → (a : ℕ) (charges : List ℕ) → All (λ x. is_live tree x ≡ true) charges → count_by (λ x. under tree a x) charges ≤ count_by (λ x. under tree 0 x) charges

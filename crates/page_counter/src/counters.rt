@@ -214,11 +214,12 @@ impl Counters {
         Charge::new(parent)
     }
 
-    /// Nothing is done: what holds of all counters.
+    /// Nothing is done: what holds of all counters. The counts are those of some charges.
     pub fn are_counted(&self)
         ensures lineage { IsLineage self.now.tree }
         ensures limits { length self.now.limits ≡ length self.now.tree }
         ensures usage { length self.now.usage ≡ length self.now.tree }
+        ensures counted { (charges : List ℕ) × Counted self.now charges }
     {
         self.lineage.is_lineage();
         let _ = &self.limits;
