@@ -1,5 +1,6 @@
 //! A case: a script, and what the program must write for it.
 
+use std::alloc::AllocError;
 use std::process::Abort;
 use subcommands::schedule;
 
@@ -36,4 +37,33 @@ pub fn faults<R: Abort + AllocGlobal>(rt: &R, name: &str, script: &str, line: &s
 /// The same for a script that may not be text.
 pub fn faults_in_bytes<R: Abort + AllocGlobal>(rt: &R, name: &str, script: &[u8], line: &str) {
     ends(rt, name, script, "", line, 1);
+}
+
+/// A command that is under way, and what is done between two of its turns.
+pub struct Between {
+    /// The lines up to the one that begins the command.
+    pub begun: &'static str,
+    /// The line of one of its turns.
+    pub turn: &'static str,
+    /// The lines that follow.
+    pub then: &'static str,
+}
+
+impl Between {
+    /// Where they follow after so many turns, the script prints this.
+    pub fn prints<R: Abort + AllocGlobal>(
+        &self,
+        rt: &R,
+        name: &str,
+        turns: u32,
+        out: &str,
+    ) -> Result<(), AllocError> {
+        let mut script = String::from_str(rt.alloc(), self.begun)?;
+        for _ in 0..turns {
+            script.push_str(self.turn)?;
+        }
+        script.push_str(self.then)?;
+        prints(rt, name, &script, out);
+        Ok(())
+    }
 }

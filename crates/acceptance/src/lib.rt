@@ -1,7 +1,8 @@
 //! Scripts with what the program must write for them, run through its public functions.
 //!
 //! To add a case, add a call of `prints` or `faults` to the test of its theme. Its name says what it
-//! shows, and what it expects comes from the rules, never from a run.
+//! shows, and what it expects comes from the rules, never from a run. `Between` is for what is done
+//! between the turns of a command, once for each number of turns.
 #![tactic(auto)]
 
 #[cfg(test)]
@@ -13,6 +14,10 @@ mod case;
 #[cfg(test)]
 mod control_files;
 #[cfg(test)]
+mod device_faults;
+#[cfg(test)]
+mod device_words;
+#[cfg(test)]
 mod event_files;
 #[cfg(test)]
 mod exits;
@@ -23,6 +28,8 @@ mod interleavings;
 #[cfg(test)]
 mod limits;
 #[cfg(test)]
+mod read_ins;
+#[cfg(test)]
 mod script_faults;
 #[cfg(test)]
 mod script_forms;
@@ -31,10 +38,20 @@ mod sizes;
 #[cfg(test)]
 mod streams;
 #[cfg(test)]
+mod swap;
+#[cfg(test)]
+mod swap_trace;
+#[cfg(test)]
+mod swapped_bytes;
+#[cfg(test)]
 mod tasks;
 #[cfg(test)]
 mod trace;
 #[cfg(test)]
+mod transfers;
+#[cfg(test)]
 mod turns;
 #[cfg(test)]
 mod victims;
+#[cfg(test)]
+mod write_outs;

@@ -277,6 +277,51 @@ cat /a memory.current
     Ok(())
 }
 
+// The limit is set in the first turn. Then each page takes three, and one finds that there is room.
+#[test]
+fn a_lowered_limit_writes_332_pages_out(rt: HostRuntime) -> Result<(), Fail> {
+    let alloc = rt.alloc();
+    let writes = numbered(alloc, "1 write ", 1..=332, " 0 1")?;
+    let reads = numbered(alloc, "1 read ", 1..=332, " 0")?;
+    let script = format!(in alloc;
+        "\
+frames 400
+swap 400
+group /a
+task 1 /a
+{writes}set /a memory.max 0
+cat /a memory.current
+set /a memory.max max
+{reads}cat /a memory.current
+"
+    )?;
+    let bytes = "1 1\n".repeat(alloc, 332)?;
+    let printed = format!(in alloc; "0\n{bytes}1359872\n")?;
+    prints(&rt, "in 998 turns", &script, &printed);
+    let script = format!(in alloc;
+        "\
+frames 400
+swap 400
+group /a
+task 1 /a
+{writes}1 write 0 0 1
+set /a memory.max 0
+begin cat /a memory.current
+finish control
+step shell
+cat /a memory.current
+1 read 0 0
+"
+    )?;
+    prints(
+        &rt,
+        "for one more a turn is lacking, which the shell's next one is",
+        &script,
+        "error turn limit\n0\n0\nkilled 1\n1 killed\n",
+    );
+    Ok(())
+}
+
 #[test]
 fn a_script_may_have_many_lines(rt: HostRuntime) -> Result<(), Fail> {
     let alloc = rt.alloc();

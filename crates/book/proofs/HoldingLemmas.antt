@@ -1,214 +1,256 @@
--- The counters go on to count the pages, whatever page comes or goes.
-use Rattle.std.proofs.Common.{◌≡◌, ◌≢◌, inl, inr, ℕ, zero, suc, ◌+◌, ◌<◌, ◌≤◌, ◌&&◌, Bool, true, false, List, [], ◌∷◌, ◌++◌, length, Option, Some, None, refl, sym, ap, subst, ◌∙◌, arith}
-use Rattle.std.specs.Prelude.{IfSome, count_by, slice_index, option_map, option_to_list}
-use Rattle.std.specs.List.{All}
+-- The parts of the holdings go on to agree after one place in the table of pages changed.
+use Rattle.std.proofs.Common.{◌≡◌, ◌≢◌, inl, inr, ℕ, zero, suc, ◌+◌, ◌<◌, ◌≤◌, ◌==◌, ◌&&◌, Bool, true, false, cond, List, [], ◌∷◌, ◌++◌, length, Option, Some, None, refl, sym, ap, ◌∙◌, arith}
+use Rattle.std.specs.Prelude.{IfSome, option_map, option_to_list, is_none, nat_lt}
+use Rattle.std.proofs.lemmas.Bool.{cases_Bool, cases_lt}
+use Rattle.std.proofs.lemmas.Bool.Decides.{eqb_tells, nat_tests}
 use Rattle.std.proofs.lemmas.List.{map-append}
 use Rattle.std.proofs.lemmas.List.Sums.{sum_by-cons}
+use Rattle.machine.specs.declared.id.GroupId.{GroupId}
 use Rattle.machine.specs.declared.record.Limits.{Limits}
-use Rattle.machine.specs.Slots.{at, Changes, there_and}
-use Rattle.machine.specs.Tree.{Node, is_live, under, share, IsTree}
-use Rattle.machine.specs.Pages.{Page, Pages, page_at, has_frame, is_charged, charged, used_frames}
-use Rattle.machine.specs.Counts.{over}
-use Rattle.machine.specs.Step.{new_page}
-use Rattle.machine.proofs.TreeLemmas.{eq_cases, share-is, over_at-same}
-use Rattle.machine.proofs.SlotLemmas.{one_if, count_there-changes}
+use Rattle.machine.specs.Slots.{at, Changes, there_and, count_there, any_there}
+use Rattle.machine.specs.Tree.{Node, is_live}
+use Rattle.machine.specs.Pages.{Residence, Held, Coming, Going, Away, Page, Pages, page_at, is_some_number, frame_at, block_at, ticket_at, is_number, is_held_at, in_transfer_at, has_frame, has_this_frame, has_swap, is_held, is_in_transfer, in_transfer, used_frames, is_ticket_taken}
+use Rattle.machine.proofs.SlotLemmas.{one_if, any_there-none, count_there-none}
 use Rattle.group_tree.specs.Lineages.{IsLineage}
-use Rattle.group_tree.proofs.LineageLemmas.{live-within}
-use Rattle.pages.specs.PageTable.{IsHeldMemory, AreHeld}
-use Rattle.page_counter.specs.Counts.{Counts, Counted, IsOut, Charges, usage_of, over_in}
-use Rattle.pages.specs.declared.Held.{Held}
+use Rattle.frames.specs.Pool.{PoolOf, free_count}
+use Rattle.block_store.specs.Slots.{SlotsOf, slot_count}
+use Rattle.page_counter.specs.Counts.{Counts, over_in}
+use Rattle.pages.specs.declared.flight.Flight.{Flight}
+use Rattle.pages.specs.declared.kept.Kept.{Kept}
 use Rattle.pages.specs.Records.{page_of}
-use Rattle.book.specs.Holdings.{Stored, HoldingsOf}
-use Rattle.book.specs.Keeping.{IsCounted, groups_of, pages_of}
+use Rattle.pages.specs.PageTable.{anon_page, Stands, is_held_in, is_under_ticket, AreInFlight}
+use Rattle.book.specs.declared.holdings.Holdings.TheInside.{Inside}
+use Rattle.book.specs.Queue.{page_count}
+use Rattle.book.specs.Holdings.{with_stored, over_of, would_grant}
+use Rattle.book.specs.Keeping.{holdings_of, has_this_block, is_leaving_at, is_going, AreKept, AreListed, IsCounted, IsHolding, pages_of}
+use Rattle.book.proofs.BalanceLemmas.{Trades, changed-count, balanced-step, given-out}
+use Rattle.book.proofs.CountLemmas.{Recharges, counted-step, over-counted}
 
--- what holds of each page's group holds of all of them
-all_groups : (P : ℕ → Type 0) (pages : Pages) → ((p : ℕ) → IfSome (page_at pages p) (λ page. P page.group)) → All P (groups_of pages)
-all_groups P [] h k d lt = absurd (omega (arith, lt))
-all_groups P (None ∷ pages) h k d lt = all_groups P pages (λ p. h (suc p)) k d lt
-all_groups P (Some page ∷ pages) h zero d lt = h 0
-all_groups P (Some page ∷ pages) h (suc k) d lt = all_groups P pages (λ p. h (suc p)) k d (omega (arith, lt))
+-- ---- lists of pages
 
-frame_there : (page : Page) → IsHeldMemory page → has_frame page ≡ true
-frame_there page h = ap has_frame h.is
+-- the list lacks what a place gave up, and has what it got
+pub record Relists (test : Page → Bool) (xs xs' : List ℕ) (p : ℕ) (from to : Option Page) : Type 0 where
+  pub once : (n : ℕ) → page_count xs' n + one_if (there_and test from && (p == n)) ≡ page_count xs n + one_if (there_and test to && (p == n))
+  pub len : length xs' + one_if (there_and test from) ≡ length xs + one_if (there_and test to)
 
--- the pages under a group are as many as their groups under it
-charged-groups : (tree : List Node) (a : ℕ) (pages : Pages) → AreHeld pages → charged tree pages a ≡ count_by (λ g. under tree a g) (groups_of pages)
-charged-groups tree a [] held = refl
-charged-groups tree a (None ∷ pages) held =
-    let all = sum_by-cons (λ (slot : Option Page). one_if (there_and (is_charged tree a) slot)) None pages in
-    let rest = charged-groups tree a pages (λ p. held (suc p)) in
-    omega (arith, all, rest)
-charged-groups tree a (Some page ∷ pages) held =
-    let all = sum_by-cons (λ (slot : Option Page). one_if (there_and (is_charged tree a) slot)) (Some page) pages in
-    let groups = sum_by-cons (λ g. one_if (under tree a g)) page.group (groups_of pages) in
-    let here : one_if (has_frame page && under tree a page.group) ≡ one_if (under tree a page.group) = ap (λ b. one_if (b && under tree a page.group)) (frame_there page (held 0)) in
-    let rest = charged-groups tree a pages (λ p. held (suc p)) in
-    omega (arith, all, groups, here, rest)
+and_true : (b : Bool) → one_if (b && true) ≡ one_if b
+and_true true = refl
+and_true false = refl
 
--- pages that are counted are charges that are out
-pub pages-counted : (counters : Counts) (pages : Pages) → AreHeld pages → IsCounted counters pages → Counted counters (groups_of pages)
-pages-counted counters pages held counted =
+and_false : (b : Bool) → one_if (b && false) ≡ 0
+and_false true = refl
+and_false false = refl
+
+pub listed-step : (test : Page → Bool) (xs xs' : List ℕ) (pages pages' : Pages) (p : ℕ) (from to : Option Page) → page_at pages p ≡ from → Changes pages pages' p to → Relists test xs xs' p from to → AreListed test xs pages → AreListed test xs' pages'
+listed-step test xs xs' pages pages' p from to stood changes relists listed =
     record {
-      live = all_groups (λ g. is_live counters.tree g ≡ true) pages counted.live;
-      counts = λ a lt. counted.counts a lt ∙ charged-groups counters.tree a pages held;
+      once = λ n.
+          (let k = relists.once n in
+          let before = listed.once n in
+          elim (eqb_tells p n) [
+            | inl same ↦
+                (let was : one_if (there_and test (page_at pages n)) ≡ one_if (there_and test from) = ap (λ (slot : Option Page). one_if (there_and test slot)) (ap (page_at pages) (sym same.1) ∙ stood) in
+                let now : one_if (there_and test (page_at pages' n)) ≡ one_if (there_and test to) = ap (λ (slot : Option Page). one_if (there_and test slot)) (ap (page_at pages') (sym same.1) ∙ changes.changed) in
+                let from_n : one_if (there_and test from && (p == n)) ≡ one_if (there_and test from) = ap (λ b. one_if (there_and test from && b)) same.0 ∙ and_true (there_and test from) in
+                let to_n : one_if (there_and test to && (p == n)) ≡ one_if (there_and test to) = ap (λ b. one_if (there_and test to && b)) same.0 ∙ and_true (there_and test to) in
+                omega (arith, k, before, was, now, from_n, to_n))
+            | inr other ↦
+                (let kept : one_if (there_and test (page_at pages' n)) ≡ one_if (there_and test (page_at pages n)) = ap (λ (slot : Option Page). one_if (there_and test slot)) (changes.others n (λ e. other.1 (sym e))) in
+                let from_n : one_if (there_and test from && (p == n)) ≡ 0 = ap (λ b. one_if (there_and test from && b)) other.0 ∙ and_false (there_and test from) in
+                let to_n : one_if (there_and test to && (p == n)) ≡ 0 = ap (λ b. one_if (there_and test to && b)) other.0 ∙ and_false (there_and test to) in
+                omega (arith, k, before, kept, from_n, to_n))
+          ]);
+      len = (let c = changed-count test pages pages' p from to stood changes in let k = relists.len in let before = listed.len in omega (arith, c, k, before));
     }
 
-group_of_all : (P : ℕ → Type 0) (pages : Pages) → All P (groups_of pages) → (p : ℕ) → IfSome (page_at pages p) (λ page. P page.group)
-group_of_all P [] all p = tt
-group_of_all P (None ∷ pages) all zero = tt
-group_of_all P (None ∷ pages) all (suc p) = group_of_all P pages all p
-group_of_all P (Some page ∷ pages) all zero = all 0 0 (omega arith)
-group_of_all P (Some page ∷ pages) all (suc p) = group_of_all P pages (λ k d lt. all (suc k) d (omega (arith, lt))) p
+pub listed-open : (test : Page → Bool) (xs : List ℕ) (pages : Pages) → xs ≡ [] → pages ≡ [] → AreListed test xs pages
+listed-open test xs pages none empty = rw (none, empty) (record { once = λ p. refl; len = refl })
 
--- and the other way round
-pub counted-pages : (counters : Counts) (pages : Pages) → AreHeld pages → Counted counters (groups_of pages) → IsCounted counters pages
-counted-pages counters pages held counted =
+pub relists-same : (test : Page → Bool) (xs : List ℕ) (p : ℕ) (from to : Option Page) → there_and test from ≡ there_and test to → Relists test xs xs p from to
+relists-same test xs p from to same = record { once = λ n. ap (λ b. page_count xs n + one_if (b && (p == n))) same; len = ap (λ b. length xs + one_if b) same }
+
+-- a page comes to the list's end
+pub relists-in : (test : Page → Bool) (xs xs' : List ℕ) (q p : ℕ) (from to : Option Page) → q ≡ p → there_and test from ≡ false → there_and test to ≡ true
+    → ((n : ℕ) → page_count xs' n ≡ page_count xs n + cond (q == n) 1 0) → length xs' ≡ length xs + 1 → Relists test xs xs' p from to
+relists-in test xs xs' q p from to same fails passes counts more =
     record {
-      counts = λ a lt. counted.counts a lt ∙ sym (charged-groups counters.tree a pages held);
-      live = group_of_all (λ g. is_live counters.tree g ≡ true) pages counted.live;
+      once = λ n.
+          (let k = counts n in
+          let here : cond (q == n) 1 0 ≡ one_if (p == n) = ap (λ x. one_if (x == n)) same in
+          let was = ap (λ b. one_if (b && (p == n))) fails in
+          let now = ap (λ b. one_if (b && (p == n))) passes in
+          omega (arith, k, here, was, now));
+      len = (let was = ap one_if fails in let now = ap one_if passes in omega (arith, more, was, now));
     }
 
--- the groups and the counts alone say what is counted
-pub counted-same : (c d : Counts) (pages : Pages) → d.tree ≡ c.tree → d.usage ≡ c.usage → IsCounted c pages → IsCounted d pages
-counted-same c d pages tree usage counted =
-    subst (λ t. IsCounted (record { tree = t; limits = d.limits; usage = d.usage; room = d.room }) pages) (sym tree)
-    (record { counts = λ a lt. ap (λ (u : List ℕ). slice_index u a) usage ∙ counted.counts a lt; live = counted.live })
-
-pub counted-open : (c : Counts) (pages : Pages) → pages ≡ [] → c.usage ≡ 0 ∷ [] → IsCounted c pages
-counted-open c pages empty usage =
-    rw empty
-    (record { counts = λ a lt. ap (λ (u : List ℕ). slice_index u a) usage ∙ zeros a; live = λ p. tt })
+-- a page that stood in the list is taken out
+pub relists-out : (test : Page → Bool) (xs xs' : List ℕ) (pages : Pages) (q p : ℕ) (from to : Option Page) → q ≡ p → page_at pages p ≡ from → there_and test to ≡ false → AreListed test xs pages
+    → ((n : ℕ) → page_count xs' n + cond (q == n) (page_count xs q) 0 ≡ page_count xs n) → length xs' + page_count xs q ≡ length xs → Relists test xs xs' p from to
+relists-out test xs xs' pages q p from to same stood fails listed counts fewer =
+    let one : page_count xs q ≡ one_if (there_and test from) = ap (page_count xs) same ∙ listed.once p ∙ ap (λ (slot : Option Page). one_if (there_and test slot)) stood in
+    record {
+      once = λ n.
+          (let k = counts n in
+          let here = ap (λ m. cond (q == n) m 0) one in
+          let there = ap (λ x. cond (x == n) (one_if (there_and test from)) 0) same in
+          let both = swapped (there_and test from) (p == n) in
+          let now = ap (λ b. one_if (b && (p == n))) fails in
+          omega (arith, k, here, there, both, now));
+      len = (let now = ap one_if fails in omega (arith, fewer, one, now));
+    }
   where
-    zeros : (a : ℕ) → slice_index (0 ∷ []) a ≡ 0
-    zeros zero = refl
-    zeros (suc a) = refl
+    swapped : (b c : Bool) → one_if (b && c) ≡ cond c (one_if b) 0
+    swapped true true = refl
+    swapped true false = refl
+    swapped false true = refl
+    swapped false false = refl
 
--- the counters and the filter have the same group without room
-pub over-counted : (c : Counts) (pages : Pages) (g : ℕ) → IsLineage c.tree → IsCounted c pages → is_live c.tree g ≡ true → over c.tree c.limits (charged c.tree pages) g ≡ over_in c g
-over-counted c pages g is counted live =
-    sym (over_at-same c.tree c.limits is.earlier_parents (usage_of c) (charged c.tree pages) counted.counts (Some g) (live-within c.tree g live))
+-- ---- what is free, or a page's
 
--- the charge of a page that is still to come is out
-pub charge-out : (c d : Counts) (g charge : ℕ) (pages : Pages) → charge ≡ g → AreHeld pages → IsCounted c pages → ((charges : List ℕ) → Counted c charges → Counted d (g ∷ charges)) → IsOut d charge
-charge-out c d g charge pages is held counted adds = subst (λ x. IsOut d x) (sym is) (record { others = groups_of pages; counted = adds (groups_of pages) (pages-counted c pages held counted) })
+pub kept-step : (c d : Counts) (pool pool' : PoolOf) (slots slots' : SlotsOf) (pages pages' : Pages) (p : ℕ) (from to : Option Page) → page_at pages p ≡ from → Changes pages pages' p to
+    → pool'.frames ≡ pool.frames → Trades has_this_frame has_frame pool.free pool'.free from to → slots'.blocks ≡ slots.blocks → Trades has_this_block has_swap slots.free slots'.free from to → Recharges c d from to
+    → AreKept c pool slots pages → AreKept d pool' slots' pages'
+kept-step c d pool pool' slots slots' pages pages' p from to stood changes frames free blocks cut charges kept =
+    record {
+      frames = rw frames (balanced-step has_this_frame has_frame pool.frames pool.free pool'.free pages pages' p from to stood changes free kept.frames);
+      blocks = rw blocks (balanced-step has_this_block has_swap slots.blocks slots.free slots'.free pages pages' p from to stood changes cut kept.blocks);
+      counted = counted-step c d pages pages' p from to stood changes charges kept.counted;
+    }
 
-and_less : (b c : Bool) → one_if (b && c) ≤ one_if b
-and_less true true = omega arith
-and_less true false = omega arith
-and_less false c = omega arith
+own : (n : ℕ) → (n == n) ≡ true
+own n = grind (arith, nat_tests)
 
-slot_less : (tree : List Node) (a : ℕ) (slot : Option Page) → one_if (there_and (is_charged tree a) slot) ≤ one_if (there_and has_frame slot)
-slot_less tree a None = omega arith
-slot_less tree a (Some page) = and_less (has_frame page) (under tree a page.group)
+-- the frame and the block of a page are not free
+pub frame-out : (c : Counts) (pool : PoolOf) (slots : SlotsOf) (pages : Pages) (p g : ℕ) (r : Residence) (f : ℕ) → Stands pages p g r → frame_at r ≡ Some f → AreKept c pool slots pages → (free_count pool.free f ≡ 0) × (f < pool.frames)
+frame-out c pool slots pages p g r f stood is kept =
+    given-out has_this_frame has_frame pool.frames pool.free pages p f (ap (there_and (has_this_frame f)) stood ∙ ap (λ (o : Option ℕ). is_number o f) is ∙ own f) kept.frames
 
--- no group has more pages than there are frames in use
-pub charged-used : (tree : List Node) (a : ℕ) (pages : Pages) → charged tree pages a ≤ used_frames pages
-charged-used tree a [] = omega arith
-charged-used tree a (slot ∷ pages) =
-    let all = sum_by-cons (λ (slot : Option Page). one_if (there_and (is_charged tree a) slot)) slot pages in
+pub block-out : (c : Counts) (pool : PoolOf) (slots : SlotsOf) (pages : Pages) (p g : ℕ) (r : Residence) (b : ℕ) → Stands pages p g r → block_at r ≡ Some b → AreKept c pool slots pages → (slot_count slots.free b ≡ 0) × (b < slots.blocks)
+block-out c pool slots pages p g r b stood is kept =
+    given-out has_this_block has_swap slots.blocks slots.free pages p b (ap (there_and (has_this_block b)) stood ∙ ap (λ (o : Option ℕ). is_number o b) is ∙ own b) kept.blocks
+
+-- ---- the holdings
+
+-- one place changes, and each part with it
+pub record Moves (h h' : Inside) (p : ℕ) (from to : Option Page) : Type 0 where
+  pub stood : page_at h.pages.pages p ≡ from
+  pub changes : Changes h.pages.pages h'.pages.pages p to
+  pub kept : AreKept h'.counters h'.pool h'.slots h'.pages.pages
+  pub frames : h'.pool.frames ≡ h.pool.frames
+  pub held : Relists is_held h.held.numbers h'.held.numbers p from to
+  pub moving : Relists is_in_transfer h.moving.numbers h'.moving.numbers p from to
+  pub held_room : h'.held.room ≡ h.held.room
+  pub moving_room : h'.moving.room ≡ h.moving.room
+  pub spares : h'.pool.spares + one_if (there_and is_going to) ≡ h.pool.spares + one_if (there_and is_going from)
+  pub tickets : h'.pages.tickets + one_if (there_and is_in_transfer to) ≡ h.pages.tickets + one_if (there_and is_in_transfer from)
+
+pub holding-step : (h h' : Inside) (p : ℕ) (from to : Option Page) → Moves h h' p from to → IsHolding h → IsHolding h'
+holding-step h h' p from to moves is =
+    let going = changed-count is_going h.pages.pages h'.pages.pages p from to moves.stood moves.changes in
+    let moving = changed-count is_in_transfer h.pages.pages h'.pages.pages p from to moves.stood moves.changes in
+    let frames = moves.frames in
+    record {
+      kept = moves.kept;
+      few = (let few = is.few in omega (arith, few, frames));
+      held = listed-step is_held h.held.numbers h'.held.numbers h.pages.pages h'.pages.pages p from to moves.stood moves.changes moves.held is.held;
+      moving = listed-step is_in_transfer h.moving.numbers h'.moving.numbers h.pages.pages h'.pages.pages p from to moves.stood moves.changes moves.moving is.moving;
+      held_room = (let room = moves.held_room in let fit = is.held_room in omega (arith, room, fit, frames));
+      moving_room = (let room = moves.moving_room in let fit = is.moving_room in omega (arith, room, fit, frames));
+      spares = (let k = moves.spares in let before = is.spares in omega (arith, k, before, going, frames));
+      tickets = (let k = moves.tickets in let before = is.tickets in omega (arith, k, before, moving, frames));
+    }
+
+-- ---- how many pages there are of a kind
+
+split_at : (r : Residence) → one_if (is_some_number (frame_at r)) ≡ one_if (is_held_at r) + one_if (in_transfer_at r)
+split_at (Held f) = refl
+split_at (Coming f b n) = refl
+split_at (Going f b n) = refl
+split_at (Away b) = refl
+
+split_slot : (slot : Option Page) → one_if (there_and has_frame slot) ≡ one_if (there_and is_held slot) + one_if (there_and is_in_transfer slot)
+split_slot None = refl
+split_slot (Some page) = split_at page.residence
+
+-- a page that has a frame is held or in transfer
+pub used-split : (pages : Pages) → used_frames pages ≡ count_there is_held pages + in_transfer pages
+used-split [] = refl
+used-split (slot ∷ pages) =
     let used = sum_by-cons (λ (slot : Option Page). one_if (there_and has_frame slot)) slot pages in
-    let here = slot_less tree a slot in
-    let rest = charged-used tree a pages in
-    omega (arith, all, used, here, rest)
+    let held = sum_by-cons (λ (slot : Option Page). one_if (there_and is_held slot)) slot pages in
+    let moving = sum_by-cons (λ (slot : Option Page). one_if (there_and is_in_transfer slot)) slot pages in
+    let here = split_slot slot in
+    let rest = used-split pages in
+    omega (arith, used, held, moving, here, rest)
 
--- so the root's count is small
-pub root-small : (counters : Counts) (pages : Pages) (frames free : ℕ) → IsLineage counters.tree → IsCounted counters pages → free + used_frames pages ≡ frames → frames < 4294967296 → usage_of counters 0 < 18446744073709551615
-root-small counters pages frames free is counted all few =
-    let here = counted.counts 0 (live-within counters.tree 0 is.root_first) in
-    let most = charged-used counters.tree 0 pages in
-    omega (arith, here, most, all, few)
+going_at : (r : Residence) → one_if (is_leaving_at r) ≤ one_if (in_transfer_at r)
+going_at (Held f) = omega arith
+going_at (Coming f b n) = omega arith
+going_at (Going f b n) = omega arith
+going_at (Away b) = omega arith
 
--- a charge that is taken back at once
-pub counted-back : (c d e : Counts) (g : ℕ) (pages : Pages) → Charges c d g → Charges e d g → IsCounted c pages → IsCounted e pages
-counted-back c d e g pages first second counted =
-    let same : e.tree ≡ c.tree = sym second.groups.tree ∙ first.groups.tree in
-    subst (λ t. IsCounted (record { tree = t; limits = e.limits; usage = e.usage; room = e.room }) pages) (sym same)
-    (record {
-      counts = λ a lt.
-          (let more = first.usage a lt in
-          let back = subst (λ t. (a : ℕ) → a < length t → usage_of d a ≡ usage_of e a + share t a (Some g)) same second.usage a lt in
-          let before = counted.counts a lt in
-          omega (arith, more, back, before));
-      live = counted.live;
-    })
+going_slot : (slot : Option Page) → one_if (there_and is_going slot) ≤ one_if (there_and is_in_transfer slot)
+going_slot None = omega arith
+going_slot (Some page) = going_at page.residence
 
-at_new : (P : Page → Type 0) (slot slot' : Option Page) → slot ≡ slot' → IfSome slot' P → IfSome slot P
-at_new P slot slot' same h = subst (λ s. IfSome s P) (sym same) h
+pub going-least : (pages : Pages) → count_there is_going pages ≤ in_transfer pages
+going-least [] = omega arith
+going-least (slot ∷ pages) =
+    let going = sum_by-cons (λ (slot : Option Page). one_if (there_and is_going slot)) slot pages in
+    let moving = sum_by-cons (λ (slot : Option Page). one_if (there_and is_in_transfer slot)) slot pages in
+    let here = going_slot slot in
+    let rest = going-least pages in
+    omega (arith, going, moving, here, rest)
 
--- what a page adds to the counts, or takes from them
-page_change : (tree : List Node) → IsTree tree → (pages pages' : Pages) (p g f a : ℕ) → page_at pages p ≡ None → Changes pages pages' p (Some (new_page g f)) → charged tree pages' a ≡ charged tree pages a + share tree a (Some g)
-page_change tree is pages pages' p g f a free changes =
-    let both = count_there-changes (is_charged tree a) pages pages' p (Some (new_page g f)) changes in
-    let none : one_if (there_and (is_charged tree a) (at pages p)) ≡ 0 = ap (λ (slot : Option Page). one_if (there_and (is_charged tree a) slot)) free in
-    let one : share tree a (Some g) ≡ one_if (under tree a g) = share-is tree a (Some g) in
-    omega (arith, both, none, one)
+pub not-going : (slot : Option Page) → there_and is_in_transfer slot ≡ false → one_if (there_and is_going slot) ≡ 0
+not-going slot settled = let less = going_slot slot in let none : one_if (there_and is_in_transfer slot) ≡ 0 = ap one_if settled in omega (arith, less, none)
 
-page_gone : (tree : List Node) → IsTree tree → (pages pages' : Pages) (p g f a : ℕ) → page_at pages p ≡ Some (new_page g f) → Changes pages pages' p None → charged tree pages a ≡ charged tree pages' a + share tree a (Some g)
-page_gone tree is pages pages' p g f a stood changes =
-    let both = count_there-changes (is_charged tree a) pages pages' p None changes in
-    let was : one_if (there_and (is_charged tree a) (at pages p)) ≡ one_if (under tree a g) = ap (λ (slot : Option Page). one_if (there_and (is_charged tree a) slot)) stood in
-    let one : share tree a (Some g) ≡ one_if (under tree a g) = share-is tree a (Some g) in
-    omega (arith, both, was, one)
+-- ---- where a page stands
 
--- a page comes, and is charged
-pub counted-more : (c d : Counts) (g f p : ℕ) (pages pages' : Pages) → IsTree c.tree → Charges c d g → is_live c.tree g ≡ true → page_at pages p ≡ None → Changes pages pages' p (Some (new_page g f)) → IsCounted c pages → IsCounted d pages'
-counted-more c d g f p pages pages' is charge live free changes counted =
-    subst (λ t. IsCounted (record { tree = t; limits = d.limits; usage = d.usage; room = d.room }) pages') (sym charge.groups.tree)
-    (record {
-      counts = λ a lt. (let more = charge.usage a lt in let before = counted.counts a lt in let page = page_change c.tree is pages pages' p g f a free changes in omega (arith, more, before, page));
-      live = λ q.
-          elim (eq_cases q p) [
-            | inl same ↦ at_new (λ page. is_live c.tree page.group ≡ true) (page_at pages' q) (Some (new_page g f)) (ap (page_at pages') same ∙ changes.changed) live
-            | inr other ↦ at_new (λ page. is_live c.tree page.group ≡ true) (page_at pages' q) (page_at pages q) (changes.others q other) (counted.live q)
-          ];
-    })
+some_stands : (slot : Option Page) → IfSome slot (λ page. page ≡ anon_page page.group page.residence) → there_and is_held slot ≡ true → (g f : ℕ) × (slot ≡ Some (anon_page g (Held f)))
+some_stands None memory held = cc
+some_stands (Some page) memory held = let there = held_res page.residence held memory in (page.group, there.0, there.1)
+  where
+    held_res : (r : Residence) → is_held_at r ≡ true → page ≡ anon_page page.group r → (f : ℕ) × (Some page ≡ Some (anon_page page.group (Held f)))
+    held_res (Held f) held is = (f, ap Some is)
+    held_res (Coming f b n) held is = cc
+    held_res (Going f b n) held is = cc
+    held_res (Away b) held is = cc
 
-held_less : (pages pages' : Pages) (p : ℕ) → Changes pages pages' p None → AreHeld pages → AreHeld pages'
-held_less pages pages' p changes held q =
-    elim (eq_cases q p) [
-      | inl same ↦ at_new IsHeldMemory (page_at pages' q) None (ap (page_at pages') same ∙ changes.changed) tt
-      | inr other ↦ at_new IsHeldMemory (page_at pages' q) (page_at pages q) (changes.others q other) (held q)
-    ]
+-- a page that is held stands in a frame
+pub held-stands : (pages : Pages) (flights : List (Option Flight)) (p : ℕ) → AreInFlight pages flights → is_held_in pages p ≡ true → (g f : ℕ) × Stands pages p g (Held f)
+held-stands pages flights p is held = some_stands (page_at pages p) (is.memory p) held
 
-live_less : (tree : List Node) (pages pages' : Pages) (p : ℕ) → Changes pages pages' p None → ((q : ℕ) → IfSome (page_at pages q) (λ page. is_live tree page.group ≡ true)) → (q : ℕ) → IfSome (page_at pages' q) (λ page. is_live tree page.group ≡ true)
-live_less tree pages pages' p changes live q =
-    elim (eq_cases q p) [
-      | inl same ↦ at_new (λ page. is_live tree page.group ≡ true) (page_at pages' q) None (ap (page_at pages') same ∙ changes.changed) tt
-      | inr other ↦ at_new (λ page. is_live tree page.group ≡ true) (page_at pages' q) (page_at pages q) (changes.others q other) (live q)
-    ]
+pub under-ticket : (pages : Pages) (p g n m : ℕ) (r : Residence) → Stands pages p g r → ticket_at r ≡ Some n → m ≡ n → is_under_ticket pages p m ≡ true
+under-ticket pages p g n m r stood is same = ap (there_and (λ page. is_number (ticket_at page.residence) m)) stood ∙ ap (λ (o : Option ℕ). is_number o m) is ∙ ap (λ x. n == x) same ∙ own n
 
-all_cons : (P : ℕ → Type 0) (x : ℕ) (xs : List ℕ) → P x → All P xs → All P (x ∷ xs)
-all_cons P x xs h rest zero d lt = h
-all_cons P x xs h rest (suc k) d lt = rest k d (omega (arith, lt))
+-- a ticket that is not in flight is none that a page has
+pub ticket-free : (pages : Pages) (flights : List (Option Flight)) (n : ℕ) → AreInFlight pages flights → at flights n ≡ None → is_ticket_taken pages n ≡ false
+ticket-free pages flights n is free = any_there-none (λ page. is_number (ticket_at page.residence) n) pages (count_there-none (λ page. is_number (ticket_at page.residence) n) pages none)
+  where
+    none : (p : ℕ) → is_under_ticket pages p n ≡ false
+    none p =
+        elim (cases_Bool (is_under_ticket pages p n)) [
+          | inl so ↦ absurd (let listed = is.listed p n so in let gone = ap (option_map (λ (f : Flight). f.page.0)) free in cc)
+          | inr not_so ↦ not_so
+        ]
 
--- the charge of a page that went is out
-pub page-out : (c : Counts) (g f p : ℕ) (pages pages' : Pages) → IsTree c.tree → AreHeld pages → page_at pages p ≡ Some (new_page g f) → Changes pages pages' p None → IsCounted c pages → IsOut c g
-page-out c g f p pages pages' is held stood changes counted =
-    record {
-      others = groups_of pages';
-      counted = record {
-        live = all_cons (λ x. is_live c.tree x ≡ true) g (groups_of pages') (subst (λ slot. IfSome slot (λ page. is_live c.tree page.group ≡ true)) stood (counted.live p))
-            (all_groups (λ x. is_live c.tree x ≡ true) pages' (live_less c.tree pages pages' p changes counted.live));
-        counts = λ a lt.
-            (let before = counted.counts a lt in
-            let page = page_gone c.tree is pages pages' p g f a stood changes in
-            let one : share c.tree a (Some g) ≡ one_if (under c.tree a g) = share-is c.tree a (Some g) in
-            let cons = sum_by-cons (λ x. one_if (under c.tree a x)) g (groups_of pages') in
-            let groups = charged-groups c.tree a pages' (held_less pages pages' p changes held) in
-            omega (arith, before, page, one, cons, groups));
-      };
-    }
+-- ---- views
 
--- a page went, and its charge is taken back
-pub counted-less : (c d : Counts) (g f p : ℕ) (pages pages' : Pages) → IsTree d.tree → Charges d c g → page_at pages p ≡ Some (new_page g f) → Changes pages pages' p None → IsCounted c pages → IsCounted d pages'
-counted-less c d g f p pages pages' is charge stood changes counted =
-    let before = subst (λ t. IsCounted (record { tree = t; limits = c.limits; usage = c.usage; room = c.room }) pages) charge.groups.tree counted in
-    record {
-      counts = λ a lt. (let less = charge.usage a lt in let was = before.counts a lt in let page = page_gone d.tree is pages pages' p g f a stood changes in omega (arith, less, was, page));
-      live = live_less d.tree pages pages' p changes before.live;
-    }
+pub same-view : (h h' : Inside) → h'.counters.tree ≡ h.counters.tree → h'.counters.limits ≡ h.counters.limits → h'.counters.room ≡ h.counters.room → h'.pool.frames ≡ h.pool.frames → h'.slots.blocks ≡ h.slots.blocks
+    → holdings_of h' ≡ with_stored (holdings_of h) (holdings_of h').stored
+same-view h h' tree limits room frames blocks =
+    ap (λ (t : List Node). record (holdings_of h') { kin = t }) tree
+    ∙ ap (λ (l : List Limits). record (holdings_of h') { kin = h.counters.tree; limits = l }) limits
+    ∙ ap (λ (n : ℕ). record (holdings_of h') { kin = h.counters.tree; limits = h.counters.limits; frames = n }) frames
+    ∙ ap (λ (n : ℕ). record (holdings_of h') { kin = h.counters.tree; limits = h.counters.limits; frames = h.pool.frames; swap = n }) blocks
+    ∙ ap (λ (n : ℕ). record (holdings_of h') { kin = h.counters.tree; limits = h.counters.limits; frames = h.pool.frames; swap = h.slots.blocks; room = n }) room
 
--- a place that is empty makes no difference, and the last one goes as any other
+-- ---- what pages own, one after the other
+
+pub pages-pop : (xs ys : List (Option Kept)) (o : Option (Option Kept)) (x : Option Kept) → xs ≡ ys ++ option_to_list o → o ≡ Some x → pages_of xs ≡ pages_of ys ++ option_map page_of x ∷ []
+pages-pop xs ys o x is some = ap pages_of (is ∙ ap (λ (p : Option (Option Kept)). ys ++ option_to_list p) some) ∙ map-append (option_map page_of) ys (x ∷ [])
+
 last_others : (pages : Pages) (x : Option Page) (q : ℕ) → q ≢ length pages → at pages q ≡ at (pages ++ x ∷ []) q
 last_others [] x zero other = absurd (other refl)
 last_others [] x (suc q) other = refl
@@ -219,35 +261,80 @@ last_gone : (pages : Pages) → at pages (length pages) ≡ None
 last_gone [] = refl
 last_gone (y ∷ pages) = last_gone pages
 
-last_stood : (pages : Pages) (x : Option Page) → at (pages ++ x ∷ []) (length pages) ≡ x
-last_stood [] x = refl
-last_stood (y ∷ pages) x = last_stood pages x
-
 pub last-stood : (pages : Pages) (x : Option Page) → page_at (pages ++ x ∷ []) (length pages) ≡ x
-last-stood = last_stood
+last-stood [] x = refl
+last-stood (y ∷ pages) x = last-stood pages x
 
 pub last-goes : (pages : Pages) (x : Option Page) → Changes (pages ++ x ∷ []) pages (length pages) None
 last-goes pages x = record { changed = last_gone pages; others = last_others pages x }
 
-pub held-front : (pages : Pages) (x : Option Page) → AreHeld (pages ++ x ∷ []) → AreHeld pages
-held-front pages x held = held_less (pages ++ x ∷ []) pages (length pages) (last-goes pages x) held
+-- ---- the counters alone change
 
--- ---- views
+pub holding-counted : (h : Inside) (d : Counts) → IsCounted d h.pages.pages → IsHolding h → IsHolding (record h { counters = d })
+holding-counted h d counted is =
+    record {
+      kept = record { frames = is.kept.frames; blocks = is.kept.blocks; counted = counted };
+      few = is.few;
+      held = is.held;
+      moving = is.moving;
+      held_room = is.held_room;
+      moving_room = is.moving_room;
+      spares = is.spares;
+      tickets = is.tickets;
+    }
 
-abbrev pub view_of : Counts → Stored → ℕ → HoldingsOf
-view_of c stored frames = record { kin = c.tree; limits = c.limits; stored = stored; frames = frames; room = c.room }
+none-map : (limit : Option GroupId) → is_none (option_map (λ (g : GroupId). g.0) limit) ≡ is_none limit
+none-map None = refl
+none-map (Some g) = refl
 
-pub same-view : (c e : Counts) (stored : Stored) (frames : ℕ) (pages : Pages) (bytes : List (Option (List ℕ))) (frames' : ℕ) → e.tree ≡ c.tree → e.limits ≡ c.limits → e.room ≡ c.room → pages ≡ stored.pages → bytes ≡ stored.bytes → frames' ≡ frames
-    → view_of e (record { pages = pages; bytes = bytes }) frames' ≡ view_of c stored frames
-same-view c e stored frames pages bytes frames' tree limits room same_pages same_bytes same_frames =
-    ap (λ (t : List Node). view_of (record e { tree = t }) (record { pages = pages; bytes = bytes }) frames') tree
-    ∙ ap (λ (l : List Limits). view_of (record { tree = c.tree; limits = l; usage = e.usage; room = e.room }) (record { pages = pages; bytes = bytes }) frames') limits
-    ∙ ap (λ (n : ℕ). view_of (record c { room = n }) (record { pages = pages; bytes = bytes }) frames') room
-    ∙ ap (λ (ps : Pages). view_of c (record { pages = ps; bytes = bytes }) frames') same_pages
-    ∙ ap (λ (bs : List (Option (List ℕ))). view_of c (record { pages = stored.pages; bytes = bs }) frames') same_bytes
-    ∙ ap (λ (n : ℕ). view_of c stored n) same_frames
+pub would-grant : (h : Inside) (g : ℕ) (limit : Option GroupId) → IsLineage h.counters.tree → IsHolding h → is_live h.counters.tree g ≡ true → option_map (λ (g : GroupId). g.0) limit ≡ over_in h.counters g
+    → would_grant (holdings_of h) g ≡ (is_none limit && nat_lt 0 (length h.pool.free))
+would-grant h g limit lineage is live over =
+    let same : is_none (over_of (holdings_of h) g) ≡ is_none limit = ap is_none (over-counted h.counters h.pages.pages g lineage is.kept.counted live ∙ sym over) ∙ none-map limit in
+    let all = is.kept.frames.all in
+    let free : nat_lt (used_frames h.pages.pages) h.pool.frames ≡ nat_lt 0 (length h.pool.free) = lt_same (used_frames h.pages.pages) h.pool.frames (length h.pool.free) all in
+    ap (λ b. b && nat_lt (used_frames h.pages.pages) h.pool.frames) same ∙ ap (λ b. is_none limit && b) free
+  where
+    lt_same : (used frames free : ℕ) → free + used ≡ frames → nat_lt used frames ≡ nat_lt 0 free
+    lt_same used frames free all =
+        elim (cases_lt 0 free) [
+          | inl some ↦ (let yes : nat_lt 0 free ≡ true = grind (arith, nat_tests) in let also : nat_lt used frames ≡ true = grind (arith, nat_tests) in also ∙ sym yes)
+          | inr none ↦ (let no : nat_lt 0 free ≡ false = grind (arith, nat_tests) in let neither : nat_lt used frames ≡ false = grind (arith, nat_tests) in neither ∙ sym no)
+        ]
 
--- ---- what pages own, one after the other
+-- ---- whether a page of the list passes another test too
 
-pub pages-pop : (xs ys : List (Option Held)) (o : Option (Option Held)) (x : Option Held) → xs ≡ ys ++ option_to_list o → o ≡ Some x → pages_of xs ≡ pages_of ys ++ option_map page_of x ∷ []
-pages-pop xs ys o x is some = ap pages_of (is ∙ ap (λ (p : Option (Option Held)). ys ++ option_to_list p) some) ∙ map-append (option_map page_of) ys (x ∷ [])
+pub any-listed : (test more : Page → Bool) (xs : List ℕ) (pages : Pages) → AreListed test xs pages → ((p : ℕ) → 1 ≤ page_count xs p → there_and more (page_at pages p) ≡ false) → any_there (λ page. test page && more page) pages ≡ false
+any-listed test more xs pages listed none = any_there-none (λ page. test page && more page) pages (count_there-none (λ page. test page && more page) pages fails)
+  where
+    both : (slot : Option Page) → (one_if (there_and test slot) ≡ 1 → there_and more slot ≡ false) → there_and (λ page. test page && more page) slot ≡ false
+    both None h = refl
+    both (Some page) h = by_test (test page) h
+      where
+        by_test : (b : Bool) → (one_if b ≡ 1 → more page ≡ false) → (b && more page) ≡ false
+        by_test true h = h refl
+        by_test false h = refl
+
+    fails : (p : ℕ) → there_and (λ page. test page && more page) (at pages p) ≡ false
+    fails p = both (at pages p) (λ one. none p (let k = listed.once p in omega (arith, k, one)))
+
+any-at : (test : Page → Bool) (pages : Pages) (p : ℕ) → there_and test (page_at pages p) ≡ true → any_there test pages ≡ true
+any-at test [] p e = cc
+any-at test (slot ∷ pages) zero e = rw e
+any-at test (slot ∷ pages) (suc p) e =
+    elim (cases_Bool (there_and test slot)) [
+      | inl so ↦ rw so
+      | inr not_so ↦ rw not_so (any-at test pages p e)
+    ]
+
+pub listed-any : (test more : Page → Bool) (xs : List ℕ) (pages : Pages) (p : ℕ) → AreListed test xs pages → 1 ≤ page_count xs p → there_and more (page_at pages p) ≡ true → any_there (λ page. test page && more page) pages ≡ true
+listed-any test more xs pages p listed some passes =
+    any-at (λ page. test page && more page) pages p (both (page_at pages p) (let k = listed.once p in omega (arith, k, some)) passes)
+  where
+    both : (slot : Option Page) → 1 ≤ one_if (there_and test slot) → there_and more slot ≡ true → there_and (λ page. test page && more page) slot ≡ true
+    both None one passes = passes
+    both (Some page) one passes = by_test (test page) one
+      where
+        by_test : (b : Bool) → 1 ≤ one_if b → (b && more page) ≡ true
+        by_test true e = passes
+        by_test false e = absurd (omega (arith, e))

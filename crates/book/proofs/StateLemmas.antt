@@ -1,6 +1,6 @@
 -- The joined parts at their opening, and what a refusal that does not come says.
-use Rattle.std.proofs.Common.{◌≡◌, inl, inr, ℕ, ◌+◌, ◌<◌, ◌==◌, ◌&&◌, ◌++◌, ◌∷◌, not, Bool, true, false, List, [], Option, Some, None, refl, sym, ap, ◌∙◌, arith}
-use Rattle.std.specs.Prelude.{is_some, nat_le, nat_lt, IsSome, IfSome, option_map, Result, Ok, Err, OnErr}
+use Rattle.std.proofs.Common.{◌≡◌, inl, inr, ℕ, zero, suc, ◌+◌, ◌<◌, ◌≤◌, ◌≢◌, ◌==◌, ◌&&◌, ◌++◌, ◌∷◌, not, Bool, true, false, cond, List, [], Option, Some, None, refl, sym, ap, ◌∙◌, arith}
+use Rattle.std.specs.Prelude.{is_some, nat_le, nat_lt, slice_set, IsSome, option_map, Result, Ok, Err, OnErr}
 use Rattle.machine.specs.declared.record.Life.{Life}
 use Rattle.machine.specs.declared.record.Life.TheVariants.{Live, Exited, Killed}
 use Rattle.machine.specs.declared.record.Task.{Task}
@@ -10,9 +10,12 @@ use Rattle.machine.specs.declared.refusal.Refusal.TheVariants.{Invalid, NoEntry,
 use Rattle.machine.specs.declared.id.FrameId.{FrameId}
 use Rattle.machine.specs.Slots.{Changes, there_and}
 use Rattle.machine.specs.Tree.{Node, is_live}
-use Rattle.machine.specs.Pages.{Held, Page, Pages, page_at}
+use Rattle.machine.specs.Pages.{Residence, Held, Coming, Going, Away, Page, Pages, page_at, is_in_transfer}
 use Rattle.machine.specs.Tasks.{Tasks, task_at, live_tasks, is_live_life, is_live_task, lives, group_of, group_of_task, SetsTask, mapped_at, mappers, mapping}
 use Rattle.machine.specs.State.{State, over_in, is_frame_free}
+use Rattle.machine.specs.declared.record.Limits.{Limits}
+use Rattle.machine.specs.Counts.{no_limits, limits_at}
+use Rattle.pages.specs.declared.flight.Flight.{Flight}
 use Rattle.machine.specs.declared.amount.Amount.{Amount}
 use Rattle.machine.specs.declared.amount.Amount.TheVariants.{Pages as PagesOf}
 use Rattle.machine.specs.declared.event.Place.TheVariants.{Virtual}
@@ -25,19 +28,18 @@ use Rattle.machine.specs.Call.{grows}
 use Rattle.machine.specs.Reclaim.{stands, target_of}
 use Rattle.machine.specs.Victim.{is_candidate, is_live_under}
 use Rattle.machine.specs.Refusals.{first_cause, life_refusal, task_refusal, number_refusal, bars_tasks, spawn_refusal}
-use Rattle.machine.specs.Step.{new_page}
 use Rattle.std.proofs.lemmas.Bool.Decides.{nat_tests}
 use Rattle.machine.proofs.TreeLemmas.{eq_cases}
 use Rattle.machine.proofs.SlotLemmas.{one_if}
 use Rattle.machine.proofs.MappingLemmas.{mapped_at-mappers, mapped_at-push_other, mappers-push}
-use Rattle.pages.specs.PageTable.{IsHeldMemory}
-use Rattle.book.proofs.BalanceLemmas.{held_page}
-use Rattle.book.proofs.DropLemmas.{there_some}
-use Rattle.book.proofs.ServeLemmas.{same_true, true_same, false_other, both_true}
-use Rattle.book.specs.Contents.{AreMapped, there}
+use Rattle.pages.specs.PageTable.{anon_page, Stands, standing_of, AreInFlight}
+use Rattle.pages.specs.declared.standing.Standing.{Standing}
+use Rattle.pages.specs.declared.standing.Standing.TheVariants as standing
+use Rattle.book.proofs.TransferLemmas.{same_true, true_same, false_other, both_true, stands-so}
+use Rattle.book.specs.Contents.{AreMapped, is_there, is_settled}
 
 pub mapped-open : (pages : Pages) (tasks : Tasks) (mappings : List Mapping) → pages ≡ [] → mappings ≡ [] → AreMapped pages tasks mappings
-mapped-open pages tasks mappings no_pages no_mappings = rw (no_pages, no_mappings) (record { once = λ p. refl; owned = λ t v p e. cc })
+mapped-open pages tasks mappings no_pages no_mappings = rw (no_pages, no_mappings) (record { most = λ p. omega arith; least = λ p. omega arith; owned = λ t v p e. cc })
 
 -- a live task's event is refused for its own cause
 pub task_refusal-live : (slot : Option Task) (task : Task) (others : Option Refusal) → slot ≡ Some task → task.life ≡ Live → others ≡ task_refusal slot others
@@ -72,33 +74,49 @@ spawn-unused s t g e = by_group (not (is_live s.tree g)) e
     by_group true e = cc
     by_group false e = by_busy (bars_tasks s.tree g) e
 
+pub there_some : (slot : Option Page) → 1 ≤ is_there slot → IsSome slot
+there_some None le = absurd (omega (arith, le))
+there_some (Some page) le = refl
+
 -- what is mapped is there
 pub mapped_there : (pages : Pages) (tasks : Tasks) (mappings : List Mapping) → AreMapped pages tasks mappings → (t v p : ℕ) → mapped_at mappings t v ≡ Some p → IsSome (page_at pages p)
-mapped_there pages tasks mappings mapped t v p e = let some = mapped_at-mappers mappings t v p e in let once = mapped.once p in there_some (page_at pages p) (omega (arith, some, once))
-
--- the frame of a page that is there
-pub hit_frame : (slot : Option Page) (r : Option FrameId) → IsSome slot → IfSome slot IsHeldMemory → option_map (λ (f : FrameId). Held f.0) r ≡ option_map (λ (page : Page). page.residence) slot
-    → (g : ℕ) × (f : ℕ) × (slot ≡ Some (new_page g f)) × (r ≡ Some (record { 0 = f }))
-hit_frame slot None there held is = absurd (none slot there is)
-  where
-    none : (slot : Option Page) → IsSome slot → None ≡ option_map (λ (page : Page). page.residence) slot → ⊥
-    none None there is = cc
-    none (Some page) there is = cc
-hit_frame slot (Some f) there held is = let page = held_page slot f.0 held is in (page.0, f.0, page.1, refl)
+mapped_there pages tasks mappings mapped t v p e = let some = mapped_at-mappers mappings t v p e in let most = mapped.most p in there_some (page_at pages p) (omega (arith, some, most))
 
 -- one page more, mapped at one place of a task that is there
 pub mapped-push : (pages pages' : Pages) (tasks : Tasks) (mappings : List Mapping) (t v p : ℕ) (page : Page) → AreMapped pages tasks mappings → page_at pages p ≡ None → Changes pages pages' p (Some page)
     → is_some (task_at tasks t) ≡ true → AreMapped pages' tasks (mappings ++ mapping t v p ∷ [])
-mapped-push pages pages' tasks mappings t v p page mapped free changes known = record { once = once; owned = owned }
+mapped-push pages pages' tasks mappings t v p page mapped free changes known = record { most = most; least = least; owned = owned }
   where
-    once : (q : ℕ) → mappers (mappings ++ mapping t v p ∷ []) q ≡ there (page_at pages' q)
-    once q =
+    at_p : (q : ℕ) → q ≡ p → mappers (mappings ++ mapping t v p ∷ []) q ≡ 1
+    at_p q same =
+        let more = mappers-push mappings t v p q in
+        let hit : one_if (p == q) ≡ 1 = ap one_if (true_same p q (sym same)) in
+        let before = mapped.most q in
+        let none : is_there (page_at pages q) ≡ 0 = ap (λ (x : ℕ). is_there (page_at pages x)) same ∙ ap is_there free in
+        omega (arith, more, hit, before, none)
+
+    elsewhere : (q : ℕ) → q ≢ p → mappers (mappings ++ mapping t v p ∷ []) q ≡ mappers mappings q
+    elsewhere q other =
+        let more = mappers-push mappings t v p q in
+        let miss : one_if (p == q) ≡ 0 = ap one_if (false_other p q (λ e. other (sym e))) in
+        omega (arith, more, miss)
+
+    settled_one : (slot : Option Page) → is_settled slot ≤ 1
+    settled_one None = omega arith
+    settled_one (Some page) = elim (is_in_transfer page) as (λ b. cond b 0 1 ≤ 1) [ true ↦ omega arith | false ↦ omega arith ]
+
+    most : (q : ℕ) → mappers (mappings ++ mapping t v p ∷ []) q ≤ is_there (page_at pages' q)
+    most q =
         elim (eq_cases q p) [
-          | inl same ↦ (let more = mappers-push mappings t v p q in let hit : one_if (p == q) ≡ 1 = ap one_if (true_same p q (sym same)) in
-              let before = mapped.once q in let none : there (page_at pages q) ≡ 0 = ap (λ (x : ℕ). there (page_at pages x)) same ∙ ap there free in
-              let now : there (page_at pages' q) ≡ 1 = ap (λ (x : ℕ). there (page_at pages' x)) same ∙ ap there changes.changed in omega (arith, more, hit, before, none, now))
-          | inr other ↦ (let more = mappers-push mappings t v p q in let miss : one_if (p == q) ≡ 0 = ap one_if (false_other p q (λ e. other (sym e))) in
-              let before = mapped.once q in let kept = ap there (changes.others q other) in omega (arith, more, miss, before, kept))
+          | inl same ↦ (let one = at_p q same in let now : is_there (page_at pages' q) ≡ 1 = ap (λ (x : ℕ). is_there (page_at pages' x)) same ∙ ap is_there changes.changed in omega (arith, one, now))
+          | inr other ↦ (let kept = elsewhere q other in let before = mapped.most q in let slot = ap is_there (changes.others q other) in omega (arith, kept, before, slot))
+        ]
+
+    least : (q : ℕ) → is_settled (page_at pages' q) ≤ mappers (mappings ++ mapping t v p ∷ []) q
+    least q =
+        elim (eq_cases q p) [
+          | inl same ↦ (let one = at_p q same in let now = settled_one (page_at pages' q) in omega (arith, one, now))
+          | inr other ↦ (let kept = elsewhere q other in let before = mapped.least q in let slot = ap is_settled (changes.others q other) in omega (arith, kept, before, slot))
         ]
 
     owned : (u w q : ℕ) → mapped_at (mappings ++ mapping t v p ∷ []) u w ≡ Some q → is_some (task_at tasks u) ≡ true
@@ -189,7 +207,8 @@ pub mapped-spawned : (pages : Pages) (tasks tasks' : Tasks) (mappings mappings' 
 mapped-spawned pages tasks tasks' mappings mappings' t g mapped sets same =
     rw same
     (record {
-      once = mapped.once;
+      most = mapped.most;
+      least = mapped.least;
       owned = λ u v p e.
           elim (eq_cases u t) [
             | inl is ↦ ap is_some (ap (task_at tasks') is ∙ sets.changed)
@@ -206,3 +225,76 @@ free-false used frames config full same = grind (arith, nat_tests, full, same)
 pub on-err : {T E : Type 0} (r : Result T E) (P : Type 0) → P → OnErr r P
 on-err (Ok x) P p = tt
 on-err (Err e) P p = p
+
+-- ---- limits
+
+-- a new group is protected from nothing
+pub open-push : (old new : List Limits) → ((g : ℕ) → (limits_at old g).min ≡ PagesOf 0) → new ≡ old ++ no_limits ∷ [] → (g : ℕ) → (limits_at new g).min ≡ PagesOf 0
+open-push old new unprotected pushed g = ap (λ (ls : List Limits). (limits_at ls g).min) pushed ∙ more old g unprotected
+  where
+    more : (old : List Limits) (g : ℕ) → ((g : ℕ) → (limits_at old g).min ≡ PagesOf 0) → (limits_at (old ++ no_limits ∷ []) g).min ≡ PagesOf 0
+    more [] zero unprotected = refl
+    more [] (suc g) unprotected = refl
+    more (l ∷ ls) zero unprotected = unprotected 0
+    more (l ∷ ls) (suc g) unprotected = more ls g (λ h. unprotected (suc h))
+
+pub open-set : (old : List Limits) (n : ℕ) (max : Amount) → ((g : ℕ) → (limits_at old g).min ≡ PagesOf 0) → (g : ℕ) → (limits_at (slice_set old n (record (limits_at old n) { max = max })) g).min ≡ PagesOf 0
+open-set [] n max unprotected g = refl
+open-set (l ∷ ls) zero max unprotected zero = unprotected 0
+open-set (l ∷ ls) zero max unprotected (suc g) = unprotected (suc g)
+open-set (l ∷ ls) (suc n) max unprotected zero = unprotected 0
+open-set (l ∷ ls) (suc n) max unprotected (suc g) = open-set ls n max (λ h. unprotected (suc h)) g
+
+-- ---- standing
+
+-- a page that is there stands so, as its standing says
+pub standing-some : (pages : Pages) (flights : List (Option Flight)) → AreInFlight pages flights → (p : ℕ) (found : Standing) → Some found ≡ option_map (λ (page : Page). standing_of page.residence) (page_at pages p)
+    → (g : ℕ) × (r : Residence) × Stands pages p g r × (standing_of r ≡ found)
+standing-some pages flights are p found e = by_slot (page_at pages p) refl e
+  where
+    some_inj : {x y : Standing} → Some x ≡ Some y → x ≡ y
+    some_inj e = cc
+
+    by_slot : (slot : Option Page) → page_at pages p ≡ slot → Some found ≡ option_map (λ (page : Page). standing_of page.residence) slot
+        → (g : ℕ) × (r : Residence) × Stands pages p g r × (standing_of r ≡ found)
+    by_slot None is e = cc
+    by_slot (Some page) is e = (page.group, page.residence, stands-so pages flights are p page is, sym (some_inj e))
+
+pub standing-none : (slot : Option Page) → IsSome slot → option_map (λ (page : Page). standing_of page.residence) slot ≡ None → ⊥
+standing-none None there e = cc
+standing-none (Some page) there e = cc
+
+pub held-stands : (pages : Pages) (p g : ℕ) (r : Residence) (frame : FrameId) → Stands pages p g r → standing_of r ≡ standing.Held frame → Stands pages p g (Held frame.0)
+held-stands pages p g (Held f) frame stands e = stands ∙ ap (λ (f : FrameId). Some (anon_page g (Held f.0))) (held_inj e)
+  where
+    held_inj : {a b : FrameId} → standing.Held a ≡ standing.Held b → a ≡ b
+    held_inj e = cc
+held-stands pages p g (Coming f b n) frame stands e = cc
+held-stands pages p g (Going f b n) frame stands e = cc
+held-stands pages p g (Away b) frame stands e = cc
+
+pub away-stands : (pages : Pages) (p g : ℕ) (r : Residence) (block : ℕ) → Stands pages p g r → standing_of r ≡ standing.Away block → (b : ℕ) × Stands pages p g (Away b)
+away-stands pages p g (Held f) block stands e = cc
+away-stands pages p g (Coming f b n) block stands e = cc
+away-stands pages p g (Going f b n) block stands e = cc
+away-stands pages p g (Away b) block stands e = (b, stands)
+
+pub coming-stands_so : (pages : Pages) (p g : ℕ) (r : Residence) → Stands pages p g r → standing_of r ≡ standing.Coming → (f : ℕ) × (b : ℕ) × (n : ℕ) × Stands pages p g (Coming f b n)
+coming-stands_so pages p g (Held f) stands e = cc
+coming-stands_so pages p g (Coming f b n) stands e = (f, b, n, stands)
+coming-stands_so pages p g (Going f b n) stands e = cc
+coming-stands_so pages p g (Away b) stands e = cc
+
+pub going-stands_so : (pages : Pages) (p g : ℕ) (r : Residence) → Stands pages p g r → standing_of r ≡ standing.Going → (f : ℕ) × (b : ℕ) × (n : ℕ) × Stands pages p g (Going f b n)
+going-stands_so pages p g (Held f) stands e = cc
+going-stands_so pages p g (Coming f b n) stands e = cc
+going-stands_so pages p g (Going f b n) stands e = (f, b, n, stands)
+going-stands_so pages p g (Away b) stands e = cc
+
+-- the root alone is unprotected
+pub open-first : (limits : List Limits) → limits ≡ no_limits ∷ [] → (g : ℕ) → (limits_at limits g).min ≡ PagesOf 0
+open-first limits first g = ap (λ (ls : List Limits). (limits_at ls g).min) first ∙ alone g
+  where
+    alone : (g : ℕ) → (limits_at (no_limits ∷ []) g).min ≡ PagesOf 0
+    alone zero = refl
+    alone (suc g) = refl

@@ -1,5 +1,6 @@
 -- What a book's fields mean, and what is always true of them.
-use Rattle.std.specs.Prelude.{◌≤◌, length, reverse, vec_capacity}
+use Rattle.std.specs.Prelude.{◌+◌, ◌≤◌, length, reverse, vec_capacity}
+use Rattle.machine.specs.Pages.{in_transfer}
 use Rattle.machine.specs.Call.{Past}
 use Rattle.book.specs.declared.book.Book.TheInside.{Inside}
 use Rattle.book.specs.Told.{state_of, IsHistory}
@@ -9,7 +10,8 @@ past_of b = record { state = state_of b.state (reverse b.entries.items); history
 
 pub record IsBook (b : Inside) : Type 0 where
   pub told : IsHistory b.state (reverse b.entries.items) b.counts.items
-  pub within : length b.entries.items ≤ b.state.tables.opening.limit
+  -- each transfer in flight has room for the entry of its end
+  pub within : length b.entries.items + in_transfer b.state.tables.pages ≤ b.state.tables.opening.limit
   -- the trace's room comes from the opening
   pub room : b.state.tables.opening.limit ≤ vec_capacity b.entries
   pub few : length b.counts.items ≤ 131072

@@ -1,5 +1,5 @@
--- What the parts of a book hold: the machine's tables, and the bytes of the pages.
-use Rattle.std.specs.Prelude.{◌≡◌, ℕ, ◌<◌, ◌==◌, true, List, [], ◌∷◌, ◌++◌, is_some, Option, Some, None, if◌then◌else◌}
+-- What the parts of a book hold: the machine's tables, the bytes of the pages, and the transfers in flight.
+use Rattle.std.specs.Prelude.{◌≡◌, ◌⊎◌, ℕ, ◌<◌, ◌≤◌, ◌==◌, Bool, true, false, List, [], ◌∷◌, ◌++◌, is_some, slice_index, option_map, IfSome, Option, Some, None, if◌then◌else◌}
 use Rattle.machine.specs.declared.record.Key.{Key}
 use Rattle.machine.specs.declared.record.Key.TheVariants as key
 use Rattle.machine.specs.declared.record.Mapping.{Mapping}
@@ -8,21 +8,27 @@ use Rattle.machine.specs.declared.event.Event.{Event}
 use Rattle.machine.specs.declared.event.Event.TheVariants as event
 use Rattle.machine.specs.declared.reply.Reply.{Reply}
 use Rattle.machine.specs.declared.reply.Reply.TheVariants as reply
-use Rattle.machine.specs.Pages.{Page, Pages, page_at}
+use Rattle.machine.specs.Slots.{at, there_and}
+use Rattle.machine.specs.Pages.{Residence, Held, Coming, Going, Page, Pages, page_at, is_number, is_in_transfer}
 use Rattle.machine.specs.Counts.{Counted}
 use Rattle.machine.specs.Tasks.{Tasks, task_at, lives, group_of_task, mapped_at, mappers}
 use Rattle.machine.specs.State.{State}
 use Rattle.machine.specs.Reclaim.{target_of}
 use Rattle.machine.specs.Step.{Step, count_of}
-use Rattle.machine.specs.History.{Spot, InTask, spot_of, says, follow}
-use Rattle.pages.specs.PageTable.{byte_in}
+use Rattle.machine.specs.Access.{page_size}
+use Rattle.machine.specs.Step.{virtual_page}
+use Rattle.machine.specs.History.{Spot, InTask, spot_of, Nothing, says, follow, ticket_given, taker_or}
+use Rattle.pages.specs.PageTable.{byte_in, Stands}
+use Rattle.pages.specs.declared.flight.Flight.{Flight}
 use Rattle.events.specs.Tallies.{Tallies, Tells, total_of}
 
--- the tables, without the events counted so far, which the history tells; by page number the bytes; and how often events were counted
+-- the tables, without the events counted so far, which the history tells; by page number the bytes; how often events were counted; and by ticket
+-- number the transfers in flight
 pub record Contents : Type 0 where
   pub tables : State
   pub bytes : List (Option (List ℕ))
   pub tallies : Tallies
+  pub flights : List (Option Flight)
 
 -- ---- events counted
 
@@ -74,23 +80,85 @@ byte_at c t v o = byte_shown c.bytes (mapped_at c.tables.mappings t v) o
 abbrev pub byte_at_spot : Contents → Spot → ℕ
 byte_at_spot c (InTask t v o) = byte_at c t v o
 
--- a read answers the byte at its place
+-- a page whose bytes are in memory: it has a frame, and is not being read in
+abbrev pub is_in_memory : Residence → Bool
+is_in_memory (Held frame) = true
+is_in_memory (Going frame block ticket) = true
+is_in_memory residence = false
+
+abbrev pub is_known : Pages → Option ℕ → Bool
+is_known pages None = true
+is_known pages (Some p) = there_and (λ page. is_in_memory page.residence) (page_at pages p)
+
+-- the bytes of a task's virtual page are in memory
+abbrev pub knows : Contents → ℕ → ℕ → Bool
+knows c t v = is_known c.tables.pages (mapped_at c.tables.mappings t v)
+
+abbrev pub KnowsSpot : Contents → Spot → Type 0
+KnowsSpot c (InTask t v o) = (knows c t v ≡ true) × (o < page_size)
+
+-- a read answers the byte at its place, which is in memory
 abbrev pub ReadsByte : Contents → Event → Reply → Type 0
-ReadsByte old (event.Access t place Read) (reply.Done byte hit) = byte ≡ byte_at_spot old (spot_of t.0 place)
+ReadsByte old (event.Access t place Read) (reply.Done byte hit) = (byte ≡ byte_at_spot old (spot_of t.0 place)) × KnowsSpot old (spot_of t.0 place)
 ReadsByte old what answer = Unit {0}
 
--- each byte of a live task is what the event says of it, or as it was
+-- the page at the place was being read in under the ticket that arrived, and this is its byte
+abbrev pub Arrives : Contents → Event → ℕ → ℕ → ℕ → ℕ → Type 0
+Arrives old (event.Arrived ticket arrived) t v o byte =
+    (p : ℕ) × (g : ℕ) × (f : ℕ) × (b : ℕ) × (mapped_at old.tables.mappings t v ≡ Some p) × Stands old.tables.pages p g (Coming f b ticket.0) × (byte ≡ slice_index arrived o)
+Arrives old what t v o byte = ⊥
+
+-- the byte was in memory, and is what the event says of it, or as it was
+abbrev pub Follows : Contents → Event → Reply → ℕ → ℕ → ℕ → ℕ → Type 0
+Follows old what answer t v o byte = (knows old t v ≡ true) × (byte ≡ follow (says what answer (InTask t v o)) (byte_at_spot old) (InTask t v o))
+
+-- each byte of a live task that is in memory
 abbrev pub ChangesBytes : Contents → Event → Reply → Contents → Type 0
 ChangesBytes old what answer new =
-    (t v o : ℕ) → lives new.tables.tasks t ≡ true → byte_at new t v o ≡ follow (says what answer (InTask t v o)) (byte_at_spot old) (InTask t v o)
+    (t v o : ℕ) → lives new.tables.tasks t ≡ true → o < page_size → knows new t v ≡ true
+    → Arrives old what t v o (byte_at new t v o) ⊎ Follows old what answer t v o (byte_at new t v o)
+
+-- ---- transfers
+
+-- the event began to read in the page at the place, under this ticket
+abbrev pub IsFetchOf : Event → Reply → ℕ → ℕ → ℕ → Type 0
+IsFetchOf (event.Access u place op) (reply.Fetch m) t v n = (m.0 ≡ n) × (u.0 ≡ t) × (virtual_page place ≡ v)
+IsFetchOf what answer t v n = ⊥
+
+-- the page at the place was being read in before, and the event says nothing of it
+pub record StaysComing (old : Contents) (what : Event) (answer : Reply) (t v p g f b n : ℕ) : Type 0 where
+  pub shown : mapped_at old.tables.mappings t v ≡ Some p
+  pub stands : Stands old.tables.pages p g (Coming f b n)
+  pub quiet : (o : ℕ) → says what answer (InTask t v o) ≡ Nothing
+  pub other : is_number (ticket_given answer) n ≡ false
+
+-- each page of a live task that is being read in
+abbrev pub ChangesComing : Contents → Event → Reply → Contents → Type 0
+ChangesComing old what answer new =
+    (t v p g f b n : ℕ) → lives new.tables.tasks t ≡ true → mapped_at new.tables.mappings t v ≡ Some p → Stands new.tables.pages p g (Coming f b n)
+    → IsFetchOf what answer t v n ⊎ StaysComing old what answer t v p g f b n
+
+abbrev pub worker_of : Option Flight → Option ℕ
+worker_of flight = option_map (λ (f : Flight). f.worker.0) flight
+
+-- each transfer in flight is the worker's who was given its ticket
+abbrev pub ChangesFlights : Contents → ℕ → Reply → Contents → Type 0
+ChangesFlights old worker answer new =
+    (n : ℕ) → IfSome (at new.flights n) (λ f. Some f.worker.0 ≡ taker_or n (ticket_given answer) worker (worker_of (at old.flights n)))
 
 -- ---- the parts agree
 
-abbrev pub there : Option Page → ℕ
-there None = 0
-there (Some page) = 1
+abbrev pub is_there : Option Page → ℕ
+is_there None = 0
+is_there (Some page) = 1
 
--- each page that is there is mapped once, and none that is not; and a mapping's task is there
+-- a page in transfer may be left without a mapping, until its end
+abbrev pub is_settled : Option Page → ℕ
+is_settled None = 0
+is_settled (Some page) = if is_in_transfer page then 0 else 1
+
+-- each page that is there is mapped at most once, and once where it is in no transfer; none that is not there is mapped; and a mapping's task is there
 pub record AreMapped (pages : Pages) (tasks : Tasks) (mappings : List Mapping) : Type 0 where
-  pub once : (p : ℕ) → mappers mappings p ≡ there (page_at pages p)
+  pub most : (p : ℕ) → mappers mappings p ≤ is_there (page_at pages p)
+  pub least : (p : ℕ) → is_settled (page_at pages p) ≤ mappers mappings p
   pub owned : (t v p : ℕ) → mapped_at mappings t v ≡ Some p → is_some (task_at tasks t) ≡ true

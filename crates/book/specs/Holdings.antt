@@ -1,26 +1,34 @@
 -- What contracts see of the holdings, and how they change.
-use Rattle.std.specs.Prelude.{◌≡◌, ℕ, ◌<◌, ◌==◌, false, if◌then◌else◌, List, Option, Some, None}
+use Rattle.std.specs.Prelude.{◌≡◌, ◌≢◌, ℕ, ◌<◌, ◌==◌, ◌&&◌, nat_lt, is_none, Bool, false, if◌then◌else◌, List, Option, Some, None, slice_index}
 use Rattle.machine.specs.declared.record.Limits.{Limits}
 use Rattle.machine.specs.Slots.{Changes}
 use Rattle.machine.specs.Tree.{Node}
-use Rattle.machine.specs.Pages.{Pages, page_at, is_frame_taken, charged, used_frames}
+use Rattle.machine.specs.Pages.{Pages, Residence, Coming, Going, page_at, is_frame_taken, is_swap_taken, is_ticket_taken, charged, used_frames}
 use Rattle.machine.specs.Counts.{over}
+use Rattle.machine.specs.Access.{page_size}
 use Rattle.machine.specs.Step.{new_page}
-use Rattle.pages.specs.PageTable.{byte_in}
+use Rattle.pages.specs.Tickets.{TicketOf}
+use Rattle.pages.specs.Transfers.{given_ticket}
+use Rattle.pages.specs.PageTable.{byte_in, anon_page, flight}
+use Rattle.pages.specs.declared.flight.Flight.{Flight}
 use Rattle.book.specs.declared.holdings.Grant.{Grant}
 use Rattle.book.specs.declared.holdings.Grant.TheVariants as grant
+use Rattle.book.specs.declared.holdings.Fetched.{Fetched}
+use Rattle.book.specs.declared.holdings.Fetched.TheVariants as fetched
 
--- the pages and their bytes, both by the page's number
+-- the pages and their bytes, both by the page's number, and by ticket number the transfers in flight
 pub record Stored : Type 0 where
   pub pages : Pages
   pub bytes : List (Option (List ℕ))
+  pub flights : List (Option Flight)
 
--- the groups without their paths, their limits, the pages, how many frames there are, and for how many groups more there is memory
+-- the groups without their paths, their limits, the pages, how many frames and swap blocks there are, and for how many groups more there is memory
 pub record HoldingsOf : Type 0 where
   pub kin : List Node
   pub limits : List Limits
   pub stored : Stored
   pub frames : ℕ
+  pub swap : ℕ
   pub room : ℕ
 
 -- with other pages, and all else as it was
@@ -39,12 +47,16 @@ pub record AddsPage (old new : HoldingsOf) (p g offset byte : ℕ) : Type 0 wher
   pub unused : is_frame_taken old.stored.pages frame ≡ false
   pub placed : Changes old.stored.pages new.stored.pages p (Some (new_page g frame))
   pub bytes : (q o : ℕ) → byte_in new.stored.bytes q o ≡ (if q == p then (if offset == o then byte else 0) else byte_in old.stored.bytes q o)
+  pub flights : new.stored.flights ≡ old.stored.flights
   pub others : new ≡ with_stored old new.stored
 
 -- the charge of one page to g is granted: no max and no want of a frame is in its way
 pub record IsGranted (h : HoldingsOf) (g : ℕ) : Type 0 where
   pub under : over_of h g ≡ None
   pub free : used_frames h.stored.pages < h.frames
+
+abbrev pub would_grant : HoldingsOf → ℕ → Bool
+would_grant h g = is_none (over_of h g) && nat_lt (used_frames h.stored.pages) h.frames
 
 -- what asking for a page of g comes to
 abbrev pub Grants : HoldingsOf → Grant → ℕ → ℕ → ℕ → HoldingsOf → Type 0
@@ -57,8 +69,45 @@ abbrev pub HasRoom : Grant → ℕ → Type 0
 HasRoom (grant.Page p) room = 0 < room
 HasRoom other room = Unit {0}
 
+-- a page of g on its block is from now on being read into a frame that no page had
+pub record BeginsIn (old new : HoldingsOf) (p g block worker entry : ℕ) (ticket : TicketOf) : Type 0 where
+  pub frame : ℕ
+  pub in_range : frame < old.frames
+  pub unused : is_frame_taken old.stored.pages frame ≡ false
+  pub ticket_free : is_ticket_taken old.stored.pages ticket.number ≡ false
+  pub given : ticket ≡ given_ticket ticket.number worker entry block ticket.bytes
+  pub placed : Changes old.stored.pages new.stored.pages p (Some (anon_page g (Coming frame block ticket.number)))
+  pub bytes : (q o : ℕ) → q ≢ p → byte_in new.stored.bytes q o ≡ byte_in old.stored.bytes q o
+  pub listed : Changes old.stored.flights new.stored.flights ticket.number (Some (flight p worker))
+  pub others : new ≡ with_stored old new.stored
+
+-- what asking for a read-in of a page of g comes to
+abbrev pub Fetches : HoldingsOf → Fetched → ℕ → ℕ → ℕ → ℕ → ℕ → HoldingsOf → Type 0
+Fetches old (fetched.Over a) p g block worker entry new = (over_of old g ≡ Some a.0) × (new ≡ old)
+Fetches old fetched.NoFrame p g block worker entry new = (over_of old g ≡ None) × (used_frames old.stored.pages ≡ old.frames) × (new ≡ old)
+Fetches old (fetched.Coming ticket) p g block worker entry new = IsGranted old g × BeginsIn old new p g block worker entry ticket
+
+-- a page in a frame is from now on being written to a swap block that no page had; the ticket has its bytes
+pub record BeginsOut (old new : HoldingsOf) (p g frame worker entry : ℕ) (ticket : TicketOf) : Type 0 where
+  pub in_range : ticket.block < old.swap
+  pub unused : is_swap_taken old.stored.pages ticket.block ≡ false
+  pub ticket_free : is_ticket_taken old.stored.pages ticket.number ≡ false
+  pub given : ticket ≡ given_ticket ticket.number worker entry ticket.block ticket.bytes
+  pub holds : (o : ℕ) → o < page_size → slice_index ticket.bytes o ≡ byte_in old.stored.bytes p o
+  pub placed : Changes old.stored.pages new.stored.pages p (Some (anon_page g (Going frame ticket.block ticket.number)))
+  pub bytes : (q o : ℕ) → byte_in new.stored.bytes q o ≡ byte_in old.stored.bytes q o
+  pub listed : Changes old.stored.flights new.stored.flights ticket.number (Some (flight p worker))
+  pub others : new ≡ with_stored old new.stored
+
+-- the transfer under a ticket has ended, and the page stands so
+pub record Settles (old new : HoldingsOf) (p g n : ℕ) (residence : Residence) : Type 0 where
+  pub placed : Changes old.stored.pages new.stored.pages p (Some (anon_page g residence))
+  pub unlisted : Changes old.stored.flights new.stored.flights n None
+  pub others : new ≡ with_stored old new.stored
+
 -- a page is gone with its bytes
 pub record DropsPage (old new : HoldingsOf) (p : ℕ) : Type 0 where
   pub gone : Changes old.stored.pages new.stored.pages p None
   pub bytes : (q o : ℕ) → byte_in new.stored.bytes q o ≡ (if q == p then 0 else byte_in old.stored.bytes q o)
+  pub flights : new.stored.flights ≡ old.stored.flights
   pub others : new ≡ with_stored old new.stored

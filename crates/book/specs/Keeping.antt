@@ -1,47 +1,91 @@
 -- What the fields of the holdings mean, and how they agree. No public clause cites it.
-use Rattle.std.specs.Prelude.{◌≡◌, ℕ, ◌+◌, ◌<◌, ◌≤◌, true, List, [], ◌∷◌, length, map, Option, option_map, Some, None, IfSome}
-use Rattle.machine.specs.Slots.{count_there}
+use Rattle.std.specs.Prelude.{◌≡◌, ℕ, ◌+◌, ◌<◌, ◌≤◌, ◌&&◌, Bool, true, false, if◌then◌else◌, List, length, map, Option, option_map, Some, None, IfSome}
+use Rattle.machine.specs.Slots.{Changes, there_and, count_there}
 use Rattle.machine.specs.Tree.{is_live}
-use Rattle.machine.specs.Pages.{Pages, page_at, charged, has_this_frame, used_frames}
-use Rattle.frames.specs.Pool.{free_count}
+use Rattle.machine.specs.Pages.{Residence, Going, Page, Pages, page_at, is_anon, is_number, block_at, charged, has_frame, has_this_frame, has_swap, is_held, is_in_transfer, in_transfer}
+use Rattle.frames.specs.Pool.{PoolOf, free_count}
+use Rattle.block_store.specs.Slots.{SlotsOf}
 use Rattle.page_counter.specs.Counts.{Counts, usage_of}
-use Rattle.book.specs.declared.holdings.Holdings.TheInside.{Inside}
-use Rattle.pages.specs.declared.Held.{Held}
+use Rattle.pages.specs.declared.kept.Kept.{Kept}
 use Rattle.pages.specs.Records.{page_of}
+use Rattle.book.specs.Queue.{page_count}
 use Rattle.book.specs.Holdings.{HoldingsOf}
+use Rattle.book.specs.declared.holdings.Holdings.TheInside.{Inside}
 
 abbrev pub holdings_of : Inside → HoldingsOf
 holdings_of h =
     record {
       kin = h.counters.tree;
       limits = h.counters.limits;
-      stored = record { pages = h.pages.pages; bytes = h.pages.bytes };
+      stored = record { pages = h.pages.pages; bytes = h.pages.bytes; flights = h.pages.flights };
       frames = h.pool.frames;
+      swap = h.slots.blocks;
       room = h.counters.room;
     }
 
--- each frame is free or a page's, once
-pub record IsBalanced (frames : ℕ) (free : List ℕ) (pages : Pages) : Type 0 where
-  pub once : (f : ℕ) → f < frames → free_count free f + count_there (has_this_frame f) pages ≡ 1
-  pub none_beyond : (f : ℕ) → frames ≤ f → free_count free f + count_there (has_this_frame f) pages ≡ 0
-  pub all : length free + used_frames pages ≡ frames
+-- a page has this swap block
+abbrev pub has_this_block : ℕ → Page → Bool
+has_this_block b page = is_anon page.content && is_number (block_at page.residence) b
 
--- the counters count the pages, each of which is of a group that is there
+abbrev pub is_leaving_at : Residence → Bool
+is_leaving_at (Going frame block ticket) = true
+is_leaving_at residence = false
+
+abbrev pub is_going : Page → Bool
+is_going page = is_leaving_at page.residence
+
+abbrev pub as_number : Bool → ℕ
+as_number b = if b then 1 else 0
+
+-- each of so many is free or a page's, once: `has` tells whether a page has one at all
+pub record IsBalanced (this : ℕ → Page → Bool) (has : Page → Bool) (total : ℕ) (free : List ℕ) (pages : Pages) : Type 0 where
+  pub once : (n : ℕ) → n < total → free_count free n + count_there (this n) pages ≡ 1
+  pub none_beyond : (n : ℕ) → total ≤ n → free_count free n + count_there (this n) pages ≡ 0
+  pub all : length free + count_there has pages ≡ total
+
+-- the counters count the pages that have a frame, and each page is of a group that is there
 pub record IsCounted (counters : Counts) (pages : Pages) : Type 0 where
   pub counts : (a : ℕ) → a < length counters.tree → usage_of counters a ≡ charged counters.tree pages a
   pub live : (p : ℕ) → IfSome (page_at pages p) (λ page. is_live counters.tree page.group ≡ true)
 
--- the pages that own this, by number
-abbrev pub pages_of : List (Option Held) → Pages
-pages_of held = map (option_map page_of) held
+-- frames, swap blocks and charges are free or a page's
+pub record AreKept (counters : Counts) (pool : PoolOf) (slots : SlotsOf) (pages : Pages) : Type 0 where
+  pub frames : IsBalanced has_this_frame has_frame pool.frames pool.free pages
+  pub blocks : IsBalanced has_this_block has_swap slots.blocks slots.free pages
+  pub counted : IsCounted counters pages
 
--- the groups of the pages
-abbrev pub groups_of : Pages → List ℕ
-groups_of [] = []
-groups_of (None ∷ pages) = groups_of pages
-groups_of (Some page ∷ pages) = page.group ∷ groups_of pages
+-- these are the numbers of the pages that pass the test, each once
+pub record AreListed (test : Page → Bool) (numbers : List ℕ) (pages : Pages) : Type 0 where
+  pub once : (p : ℕ) → page_count numbers p ≡ as_number (there_and test (page_at pages p))
+  pub len : length numbers ≡ count_there test pages
 
 pub record IsHolding (h : Inside) : Type 0 where
-  pub balanced : IsBalanced h.pool.frames h.pool.free h.pages.pages
-  pub counted : IsCounted h.counters h.pages.pages
+  pub kept : AreKept h.counters h.pool h.slots h.pages.pages
   pub few : h.pool.frames < 4294967296
+  pub held : AreListed is_held h.held.numbers h.pages.pages
+  pub moving : AreListed is_in_transfer h.moving.numbers h.pages.pages
+  -- there is room in both lists for as many pages as there are frames
+  pub held_room : h.pool.frames ≤ h.held.room
+  pub moving_room : h.pool.frames ≤ h.moving.room
+  -- a page that is being written out has a spare
+  pub spares : h.pool.spares + count_there is_going h.pages.pages ≡ h.pool.frames
+  -- each frame may come to be in transfer
+  pub tickets : h.pool.frames ≤ h.pages.tickets + in_transfer h.pages.pages
+
+-- the pages that own this, by number
+abbrev pub pages_of : List (Option Kept) → Pages
+pages_of kept = map (option_map page_of) kept
+
+-- a page stood in a table, and is gone from it
+pub record Leaves (counters : Counts) (pool : PoolOf) (slots : SlotsOf) (page : Page) : Type 0 where
+  pub pages : Pages
+  pub rest : Pages
+  pub p : ℕ
+  pub stood : page_at pages p ≡ Some page
+  pub gone : Changes pages rest p None
+  pub kept : AreKept counters pool slots pages
+
+-- what the page owned is given back
+abbrev pub Releases : Page → Counts → PoolOf → SlotsOf → Counts → PoolOf → SlotsOf → Type 0
+Releases page counters pool slots counters' pool' slots' =
+    (pages rest : Pages) (p : ℕ) → page_at pages p ≡ Some page → Changes pages rest p None → AreKept counters pool slots pages → AreKept counters' pool' slots' rest

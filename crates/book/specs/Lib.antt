@@ -1,10 +1,15 @@
+pub mod Passes
+pub mod Events
+pub mod Replies
 pub mod Holdings
 pub mod Keeping
+pub mod Queue
+pub mod Room
 pub mod Worst
 pub mod Contents
+pub mod Kin
 pub mod Serves
 pub mod Drops
 pub mod Parts
 pub mod Told
-pub mod Passes
 pub mod Books

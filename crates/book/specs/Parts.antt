@@ -1,16 +1,24 @@
--- What the fields of the joined parts mean, and what is always true of them.
-use Rattle.std.specs.Prelude.{◌≡◌, ℕ, true, List, [], length}
-use Rattle.machine.specs.Tree.{Node, node_at, is_live}
+-- What the fields of the joined parts mean, what is always true of them, and how they answer.
+use Rattle.std.specs.Prelude.{◌≡◌, ℕ, ◌&&◌, not, Bool, true, false, List, [], Some}
+use Rattle.machine.specs.declared.amount.Amount.TheVariants.{Pages as PagesOf}
+use Rattle.machine.specs.declared.record.Mapping.{Mapping}
+use Rattle.machine.specs.declared.event.Event.{Event}
+use Rattle.machine.specs.Tree.{is_live}
+use Rattle.machine.specs.Pages.{Residence, Coming, Going, Away, Page, Pages}
+use Rattle.machine.specs.Counts.{limits_at}
 use Rattle.machine.specs.Tasks.{lives, group_of_task}
-use Rattle.machine.specs.State.{opening_of}
-use Rattle.machine.specs.Schedule.{is_config}
-use Rattle.events.specs.Tallies.{Tallies}
+use Rattle.machine.specs.State.{State, opening_of, is_config}
+use Rattle.machine.specs.Call.{is_granted}
+use Rattle.pages.specs.PageTable.{is_moving_in}
+use Rattle.pages.specs.declared.standing.Standing.{Standing}
+use Rattle.pages.specs.declared.standing.Standing.TheVariants as standing
+use Rattle.book.specs.declared.event.Reply.{Reply as Given}
 use Rattle.book.specs.declared.page_state.State.TheInside.{Inside}
+use Rattle.book.specs.Events.{reply_of}
 use Rattle.book.specs.Contents.{Contents, AreMapped}
-
--- what was counted, whatever memory there is for groups to come
-abbrev pub without_room : Tallies → Tallies
-without_room t = record t { room = 0 }
+use Rattle.book.specs.Drops.{is_gone}
+use Rattle.book.specs.Kin.{AreKin, without_room}
+use Rattle.book.specs.Serves.{Serves, GivesTicket, RepliesTo}
 
 abbrev pub contents_of : Inside → Contents
 contents_of s =
@@ -26,19 +34,50 @@ contents_of s =
       };
       bytes = s.holdings.stored.bytes;
       tallies = without_room s.events;
+      flights = s.holdings.stored.flights;
     }
-
--- the groups without their paths are these groups
-pub record AreKin (kin tree : List Node) : Type 0 where
-  pub len : length kin ≡ length tree
-  pub parents : (g : ℕ) → (node_at kin g).parent ≡ (node_at tree g).parent
-  pub living : (g : ℕ) → is_live kin g ≡ is_live tree g
 
 pub record IsJoined (s : Inside) : Type 0 where
   pub sized : is_config s.config ≡ true
   pub frames : s.holdings.frames ≡ s.config.frames
+  pub swap : s.holdings.swap ≡ s.config.swap
   pub held_kin : AreKin s.holdings.kin s.tree
   pub counted_kin : AreKin s.events.tree s.tree
   pub mapped : AreMapped s.holdings.stored.pages s.spaces.tasks s.spaces.mappings
   -- the group of a live task is there
   pub homes : (t : ℕ) → lives s.spaces.tasks t ≡ true → is_live s.tree (group_of_task s.spaces.tasks t) ≡ true
+  -- nothing is protected from reclaim
+  pub open_groups : (g : ℕ) → (limits_at s.holdings.limits g).min ≡ PagesOf 0
+
+-- the answer to an event, with the ticket that it gives out
+pub record AnswersTo (old : Contents) (worker entry : ℕ) (what : Event) (said : Given) (new : Contents) : Type 0 where
+  pub serves : Serves old worker what (reply_of said) new
+  pub gives : GivesTicket new worker entry said
+  pub replies : RepliesTo what said
+
+-- a page that has a mapping of the task goes with it, unless it is in transfer
+abbrev pub is_let_go : ℕ → List Mapping → Pages → ℕ → Bool
+is_let_go t mappings pages p = is_gone t mappings p && not (is_moving_in pages p)
+
+-- where a page stands
+abbrev pub is_transfer : Standing → Bool
+is_transfer (standing.Held frame) = false
+is_transfer standing.Coming = true
+is_transfer standing.Going = true
+is_transfer (standing.Away block) = false
+
+abbrev pub is_coming : Residence → Bool
+is_coming (Coming frame block ticket) = true
+is_coming residence = false
+
+abbrev pub is_going : Residence → Bool
+is_going (Going frame block ticket) = true
+is_going residence = false
+
+abbrev pub is_away : Residence → Bool
+is_away (Away block) = true
+is_away residence = false
+
+-- an access would begin to read in the page
+abbrev pub would_fetch : State → Page → Bool
+would_fetch s page = is_away page.residence && is_granted s (Some page.group)

@@ -1,13 +1,17 @@
 -- What a history tells of the tasks' groups and of the events counted, and what always holds of it.
-use Rattle.std.specs.Prelude.{◌≡◌, ℕ, true, List, [], ◌∷◌, length, slice_index}
+use Rattle.std.specs.Prelude.{◌≡◌, ℕ, ◌<◌, true, List, [], ◌∷◌, length, slice_index, IfSome, Some}
 use Rattle.machine.specs.declared.entry.Entry.{Entry}
 use Rattle.machine.specs.Counts.{Counted}
-use Rattle.machine.specs.Tasks.{lives, group_of_task}
+use Rattle.machine.specs.Slots.{at}
+use Rattle.machine.specs.Pages.{Coming}
+use Rattle.machine.specs.Tasks.{lives, group_of_task, mapped_at}
+use Rattle.machine.specs.Access.{page_size}
 use Rattle.machine.specs.State.{State}
 use Rattle.machine.specs.Legal.{Legal}
-use Rattle.machine.specs.History.{Right, InTask, last, entries_by, Numbered}
+use Rattle.machine.specs.History.{Right, InTask, at_offset, last, Fetched, fetch_of, Honest, taker, entries_by, Numbered}
+use Rattle.pages.specs.PageTable.{Stands}
 use Rattle.events.specs.Tallies.{Tells}
-use Rattle.book.specs.Contents.{Contents, counting, counted_after, group_after, byte_at}
+use Rattle.book.specs.Contents.{Contents, counting, counted_after, group_after, knows, byte_at}
 
 -- the group that a task was last put in
 abbrev pub group_in : List Entry → ℕ → ℕ
@@ -23,13 +27,21 @@ counted_in (entry ∷ earlier) = counted_after (group_in earlier) (counted_in ea
 abbrev pub state_of : Contents → List Entry → State
 state_of c history = counting c.tables (counted_in history)
 
--- the history leads to the tables, gave each read the last write, and is numbered by worker
+-- the read-in under a ticket began at this place, and what was last written there has not changed since
+pub record IsFetched (history : List Entry) (n t v : ℕ) : Type 0 where
+  pub fetch : Fetched
+  pub found : fetch_of n history ≡ Some fetch
+  pub same : (o : ℕ) → o < page_size → last fetch.earlier (at_offset o fetch.spot) ≡ last history (InTask t v o)
+
+-- the history leads to the tables, gave each read the last write where every arrival brought it, and is numbered by worker
 pub record IsHistory (c : Contents) (history : List Entry) (counts : List ℕ) : Type 0 where
   pub legal : Legal c.tables.opening history (state_of c history)
-  pub right : Right history
+  pub right : Honest history → Right history
   pub numbered : Numbered history
-  -- the byte at each live task's place is the one last written there
-  pub bytes : (t v o : ℕ) → lives c.tables.tasks t ≡ true → byte_at c t v o ≡ last history (InTask t v o)
+  -- the byte at each live task's place that is in memory is the one last written there
+  pub bytes : Honest history → (t v o : ℕ) → lives c.tables.tasks t ≡ true → o < page_size → knows c t v ≡ true → byte_at c t v o ≡ last history (InTask t v o)
+  pub coming : (t v p g f b n : ℕ) → lives c.tables.tasks t ≡ true → mapped_at c.tables.mappings t v ≡ Some p → Stands c.tables.pages p g (Coming f b n) → IsFetched history n t v
+  pub takers : (n : ℕ) → IfSome (at c.flights n) (λ f. taker n history ≡ Some f.worker.0)
   pub groups : (t : ℕ) → group_of_task c.tables.tasks t ≡ group_in history t
   pub tallied : Tells c.tallies (counted_in history)
   pub counted : (w : ℕ) → slice_index counts w ≡ length (entries_by w history)

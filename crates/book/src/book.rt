@@ -1,30 +1,38 @@
 //! The book: one event a call, and the history of what was answered.
 
-ghost use Rattle.std.specs.Prelude.{◌≡◌, ◌⊎◌, ℕ, ◌+◌, ◌-◌, ◌<◌, ◌≤◌, ◌++◌, ◌∷◌, [], true, false, length, reverse, nat_le, ◌&&◌, slice_index, slice_set, option_map, IsTrue, IfOk, IfErr, OnErr, vec_len, vec_capacity};
+ghost use Rattle.std.specs.Prelude.{◌≡◌, ◌⊎◌, ℕ, ◌+◌, ◌<◌, ◌≤◌, ◌++◌, ◌∷◌, ◌&&◌, [], None, true, false, length, reverse, nat_le, slice_index, slice_set, option_map, IfOk, IfErr, OnErr, vec_len, vec_capacity};
 ghost use Rattle.machine.specs.Tree.{find_group};
-ghost use Rattle.machine.specs.Pages.{used_frames};
-ghost use Rattle.machine.specs.State.{opening_of};
-ghost use Rattle.machine.specs.Schedule.{is_config};
+ghost use Rattle.machine.specs.Pages.{used_frames, is_coming_in, is_going_out};
+ghost use Rattle.machine.specs.State.{opening_of, is_config};
+ghost use Rattle.machine.specs.Refusals.{refusal};
 ghost use Rattle.machine.specs.Legal.{Legal};
-ghost use Rattle.machine.specs.History.{Right, IsRight, Numbered};
-ghost use Rattle.machine.specs.Call.{first_past, is_trace_full, Called, Replies};
+ghost use Rattle.machine.specs.History.{Right, IsRight, Honest, Numbered, taker};
+ghost use Rattle.machine.specs.Call.{first_past, is_worker, is_trace_full, Called};
+ghost use Rattle.machine.specs.declared.event.Event.TheVariants as plain;
+ghost use Rattle.book.specs.Events.{event_of, reply_of};
+ghost use Rattle.book.specs.Replies.{Replies, IsInReply, IsOutReply, IsBack, HandsBack, KeepsTicket, Gives};
+ghost use Rattle.book.specs.Serves.{IsAsked, RepliesTo};
 
+use crate::event::{Event, Reply};
 use crate::page_state::State;
 use crate::pass::Pass;
 use machine::config::Config;
 use machine::entry::Entry;
-use machine::event::Event;
-use machine::id::{GroupId, WorkerId};
+use machine::event::Event as PlainEvent;
+use machine::id::{GroupId, TicketId, WorkerId};
 use machine::refusal::Refusal;
-use machine::reply::Reply;
+use machine::reply::Reply as PlainReply;
+use pages::{InTicket, OutTicket};
 use std::alloc::{AllocError, Global};
 use std::marker::Model;
 
 /// As many passes can be given out.
 const MOST_PASSES: usize = 131_072;
 
-/// The greatest number of frames, and of entries of a trace.
+/// The greatest number of frames, of swap blocks, and of entries of a trace.
 const MOST_FRAMES: u32 = 65_536;
+
+const MOST_SWAP: u32 = 65_536;
 
 const MOST_ENTRIES: u32 = 1_048_576;
 
@@ -32,10 +40,12 @@ const MOST_ENTRIES: u32 = 1_048_576;
 ///
 /// A contract sees it as its past: the machine's state, the history with the newest entry first, and
 /// how many passes were given out. The history is always legal, so it leads from the opening to that
-/// state by steps of the plain machine, and right, so each read in it gave the last write.
+/// state by steps of the plain machine; and where each page that arrived brought what was last written,
+/// it is right, so each read in it gave the last write.
 ///
 /// A book must be spent, by [`Book::close`].
 pub struct Book {
+    alloc: Global,
     state: State,
     entries: Vec<Entry>,
     /// How many entries each worker has.
@@ -61,7 +71,8 @@ pub struct Trace {
 }
 
 impl Book {
-    /// A book with the root group alone and all frames free. Its trace has all its room from here.
+    /// A book with the root group alone, all frames and all swap blocks free. Its trace has all its room
+    /// from here.
     ///
     /// `Invalid` where the configuration is out of its limits, and otherwise `NoMemory` where memory
     /// is refused.
@@ -86,6 +97,7 @@ impl Book {
         let entries = Vec::with_capacity(alloc, config.trace as usize)?;
         let state = State::open(alloc, config)?;
         Ok(Book {
+            alloc,
             state,
             entries,
             counts: Vec::new(alloc),
@@ -114,43 +126,191 @@ impl Book {
     /// One event, asked by the pass's worker, the pass being one of this book's.
     ///
     /// Either it is refused, for the first cause that stands, and nothing changes; or it is one step
-    /// of the machine and exactly one entry more.
+    /// of the machine and exactly one entry more. A refused ticket comes back.
     pub fn call(&mut self, pass: &mut Pass, event: Event) -> Reply
         requires { pass.old.worker < self.old.passes }
-        ensures called { Called self.old pass.old.worker event result self.new }
-        ensures reads { IsRight self.old.history event result }
+        ensures called { Called self.old pass.old.worker (event_of event) (reply_of result) self.new }
+        ensures reads { Honest self.old.history → IsRight self.old.history (event_of event) (reply_of result) }
         ensures replies { Replies event result }
+        ensures gives { Gives self.new pass.old.worker result }
+        ensures keeps { KeepsTicket pass.old.worker event result }
         ensures pass { pass.new.worker ≡ pass.old.worker }
         ensures passes { self.new.passes ≡ self.old.passes }
     {
-        self.state.has_no_swap();
+        let worker = pass.worker();
+        match event {
+            Event::Access { task, place, op } => {
+                self.ask(worker, PlainEvent::Access { task, place, op })
+            }
+            Event::Arrived(ticket) => self.arrived(worker, ticket),
+            Event::FetchFailed(ticket) => self.fetch_failed(worker, ticket),
+            Event::Left(ticket) => self.left(worker, ticket),
+            Event::LeaveFailed(ticket) => self.leave_failed(worker, ticket),
+            Event::Relieve(cause) => self.ask(worker, PlainEvent::Relieve(cause)),
+            Event::Spawn { task, group } => self.ask(worker, PlainEvent::Spawn { task, group }),
+            Event::Exit(task) => self.ask(worker, PlainEvent::Exit(task)),
+            Event::Mkdir(path) => self.ask(worker, PlainEvent::Mkdir(path)),
+            Event::Set { group, setting } => {
+                self.ask(worker, PlainEvent::Set { group, setting })
+            }
+            Event::Show(query) => self.ask(worker, PlainEvent::Show(query)),
+        }
+    }
+
+    /// An event without a ticket.
+    fn ask(&mut self, worker: WorkerId, event: PlainEvent) -> Reply
+        requires known { worker.0 < self.old.passes }
+        requires asked { IsAsked event }
+        ensures called { Called self.old worker.0 event (reply_of result) self.new }
+        ensures reads { Honest self.old.history → IsRight self.old.history event (reply_of result) }
+        ensures replies { RepliesTo event result }
+        ensures gives { Gives self.new worker.0 result }
+        ensures passes { self.new.passes ≡ self.old.passes }
+    {
         if let Some(cause) = self.state.refusal(&event) {
             return Reply::Refused(cause);
         }
         if self.is_full(&event) {
             return Reply::Refused(Refusal::TraceFull);
         }
-        match self.state.step(&event) {
+        self.state.is_joined();
+        let entry = self.entries.len() as u32 + 1;
+        match self.state.step(self.alloc, &event, worker, entry) {
             Err(AllocError) => Reply::Refused(Refusal::NoMemory),
             Ok(reply) => {
-                append(
-                    &mut self.entries,
-                    &mut self.counts,
-                    pass.worker(),
-                    event,
-                    reply,
-                );
+                let said = plain(&reply);
+                append(&mut self.entries, &mut self.counts, worker, event, said);
                 reply
             }
         }
     }
 
-    /// Whether the trace has no room for the entries that the reply needs.
-    fn is_full(&self, event: &Event) -> bool
+    /// Whether the trace has no room for the entries that the reply needs, besides those that are kept
+    /// for the ends of transfers.
+    fn is_full(&self, event: &PlainEvent) -> bool
+        requires asked { IsAsked event.now }
+        requires none { refusal self.now.state event.now ≡ None }
         ensures { result ≡ is_trace_full self.now event.now }
     {
-        self.state.has_no_swap();
-        self.entries.len() >= self.state.limit()
+        self.state.is_joined();
+        self.state.limit()
+            < self.entries.len() + self.state.transfers() as usize + self.state.need(event)
+    }
+
+    /// Whether the ticket is one of a page that is being read in, and the worker took it.
+    fn knows_in(&self, ticket: TicketId, worker: WorkerId) -> bool
+        ensures { result ≡ (is_coming_in self.now.state.pages ticket.0 && is_worker worker.0 (taker ticket.0 self.now.history)) }
+    {
+        self.state.is_joined();
+        self.state.is_own_in(ticket, worker)
+    }
+
+    /// Whether the ticket is one of a page that is being written out, and the worker took it.
+    fn knows_out(&self, ticket: TicketId, worker: WorkerId) -> bool
+        ensures { result ≡ (is_going_out self.now.state.pages ticket.0 && is_worker worker.0 (taker ticket.0 self.now.history)) }
+    {
+        self.state.is_joined();
+        self.state.is_own_out(ticket, worker)
+    }
+
+    /// The end of a read-in, with the bytes that arrived. Like each end of a transfer it has room in the
+    /// trace, which was kept for it.
+    fn arrived(&mut self, worker: WorkerId, ticket: InTicket) -> Reply
+        requires { worker.0 < self.old.passes }
+        ensures called { Called self.old worker.0 (plain.Arrived (record { 0 = ticket.number }) ticket.bytes) (reply_of result) self.new }
+        ensures replies { IsInReply result }
+        ensures keeps { HandsBack worker.0 ticket result }
+        ensures passes { self.new.passes ≡ self.old.passes }
+    {
+        let number = ticket.number();
+        if !self.knows_in(number, worker) {
+            return Reply::StrangeIn(back_in(worker, ticket));
+        }
+        self.state.is_joined();
+        let bytes = self.state.arrived(ticket);
+        append(
+            &mut self.entries,
+            &mut self.counts,
+            worker,
+            PlainEvent::Arrived {
+                ticket: number,
+                bytes,
+            },
+            PlainReply::Ok,
+        );
+        Reply::Ok
+    }
+
+    /// The end of a read-in that failed.
+    fn fetch_failed(&mut self, worker: WorkerId, ticket: InTicket) -> Reply
+        requires { worker.0 < self.old.passes }
+        ensures called { Called self.old worker.0 (plain.FetchFailed (record { 0 = ticket.number })) (reply_of result) self.new }
+        ensures replies { IsInReply result }
+        ensures keeps { HandsBack worker.0 ticket result }
+        ensures passes { self.new.passes ≡ self.old.passes }
+    {
+        let number = ticket.number();
+        if !self.knows_in(number, worker) {
+            return Reply::StrangeIn(back_in(worker, ticket));
+        }
+        self.state.is_joined();
+        self.state.fetch_failed(ticket);
+        append(
+            &mut self.entries,
+            &mut self.counts,
+            worker,
+            PlainEvent::FetchFailed(number),
+            PlainReply::Ok,
+        );
+        Reply::Ok
+    }
+
+    /// The end of a write-out.
+    fn left(&mut self, worker: WorkerId, ticket: OutTicket) -> Reply
+        requires { worker.0 < self.old.passes }
+        ensures called { Called self.old worker.0 (plain.Left (record { 0 = ticket.number })) (reply_of result) self.new }
+        ensures replies { IsOutReply result }
+        ensures keeps { HandsBack worker.0 ticket result }
+        ensures passes { self.new.passes ≡ self.old.passes }
+    {
+        let number = ticket.number();
+        if !self.knows_out(number, worker) {
+            return Reply::StrangeOut(back_out(worker, ticket));
+        }
+        self.state.is_joined();
+        self.state.left(ticket);
+        append(
+            &mut self.entries,
+            &mut self.counts,
+            worker,
+            PlainEvent::Left(number),
+            PlainReply::Ok,
+        );
+        Reply::Ok
+    }
+
+    /// The end of a write-out that failed.
+    fn leave_failed(&mut self, worker: WorkerId, ticket: OutTicket) -> Reply
+        requires { worker.0 < self.old.passes }
+        ensures called { Called self.old worker.0 (plain.LeaveFailed (record { 0 = ticket.number })) (reply_of result) self.new }
+        ensures replies { IsOutReply result }
+        ensures keeps { HandsBack worker.0 ticket result }
+        ensures passes { self.new.passes ≡ self.old.passes }
+    {
+        let number = ticket.number();
+        if !self.knows_out(number, worker) {
+            return Reply::StrangeOut(back_out(worker, ticket));
+        }
+        self.state.is_joined();
+        self.state.leave_failed(ticket);
+        append(
+            &mut self.entries,
+            &mut self.counts,
+            worker,
+            PlainEvent::LeaveFailed(number),
+            PlainReply::Ok,
+        );
+        Reply::Ok
     }
 
     /// The live group of a path. It is no event.
@@ -172,17 +332,18 @@ impl Book {
     /// Nothing is done: what holds of every book's history.
     pub fn history_is_right(&self)
         ensures legal { Legal self.now.state.opening self.now.history self.now.state }
-        ensures right { Right self.now.history }
+        ensures right { Honest self.now.history → Right self.now.history }
         ensures numbered { Numbered self.now.history }
     {
-        self.state.has_no_swap();
+        self.state.is_joined();
     }
 
-    /// Spends the book, and hands out its entries.
+    /// Spends the book, and hands out its entries. Whoever has a ticket ends its transfer before.
     pub fn close(self) -> Trace
         ensures { reverse result.entries.items ≡ self.history }
     {
         let Book {
+            alloc: _,
             state,
             entries,
             counts: _,
@@ -196,7 +357,8 @@ impl Book {
 fn is_config(config: Config) -> bool
     ensures { result ≡ is_config config }
 {
-    is_size(config.frames, MOST_FRAMES) && is_size(config.trace, MOST_ENTRIES)
+    is_size(config.frames, MOST_FRAMES)
+        && (config.swap <= MOST_SWAP && is_size(config.trace, MOST_ENTRIES))
 }
 
 fn is_size(size: u32, most: u32) -> bool
@@ -210,8 +372,8 @@ fn append(
     entries: &mut Vec<Entry>,
     counts: &mut Vec<u64>,
     worker: WorkerId,
-    event: Event,
-    reply: Reply,
+    event: PlainEvent,
+    reply: PlainReply,
 )
     requires room { vec_len entries.old < vec_capacity entries.old }
     requires known { worker.0 < length counts.old.items }
@@ -228,4 +390,53 @@ fn append(
         event,
         reply,
     });
+}
+
+/// What stands in the history of a reply.
+fn plain(reply: &Reply) -> PlainReply
+    ensures { result ≡ reply_of reply.now }
+{
+    match reply {
+        Reply::Done { byte, hit } => PlainReply::Done {
+            byte: *byte,
+            hit: *hit,
+        },
+        Reply::Fetch(ticket) => PlainReply::Fetch(ticket.number()),
+        Reply::Over(group) => PlainReply::Over(*group),
+        Reply::NoFrame => PlainReply::NoFrame,
+        Reply::Busy => PlainReply::Busy,
+        Reply::Killed => PlainReply::Killed,
+        Reply::Ok => PlainReply::Ok,
+        Reply::Room => PlainReply::Room,
+        Reply::Out(ticket) => PlainReply::Out(ticket.number()),
+        Reply::Wait => PlainReply::Wait,
+        Reply::KilledTask(task) => PlainReply::KilledTask(*task),
+        Reply::NoVictim => PlainReply::NoVictim,
+        Reply::Shown(numbers) => PlainReply::Shown(*numbers),
+        Reply::Refused(why) => PlainReply::Refused(*why),
+        Reply::StrangeIn(_) => PlainReply::Refused(Refusal::Stranger),
+        Reply::StrangeOut(_) => PlainReply::Refused(Refusal::Stranger),
+    }
+}
+
+/// A ticket that the book does not take, handed back where its own worker asked.
+fn back_in(worker: WorkerId, ticket: InTicket) -> InTicket
+    ensures { IsBack worker.0 ticket result }
+{
+    if ticket.worker().0 == worker.0 {
+        ticket.hand_back()
+    } else {
+        ticket
+    }
+}
+
+/// The same of a write-out.
+fn back_out(worker: WorkerId, ticket: OutTicket) -> OutTicket
+    ensures { IsBack worker.0 ticket result }
+{
+    if ticket.worker().0 == worker.0 {
+        ticket.hand_back()
+    } else {
+        ticket
+    }
 }

@@ -1,20 +1,28 @@
-//! The pages, with the frames and the charges that they own.
+//! The pages, with the frames, the charges and the swap slots that they own.
 
-ghost use Rattle.std.specs.Prelude.{◌≡◌, ℕ, ◌+◌, ◌<◌, ◌==◌, ◌&&◌, ◌++◌, ◌∷◌, [], true, false, None, Some, IsSome, IfOk, OnOk, OnErr, length, slice_set, vec_len, if◌then◌else◌};
-ghost use Rattle.machine.specs.Tree.{is_live};
-ghost use Rattle.machine.specs.Pages.{page_at, charged, used_frames};
+ghost use Rattle.std.specs.Prelude.{◌≡◌, ◌≢◌, ℕ, ◌+◌, ◌<◌, ◌==◌, ◌&&◌, ◌++◌, ◌∷◌, [], true, false, None, Some, IsSome, IfSome, IfNone, IfOk, OnOk, OnErr, nat_lt, length, slice_set, slice_index, if◌then◌else◌};
+ghost use Rattle.machine.specs.Slots.{there_and, any_there};
+ghost use Rattle.machine.specs.Tree.{is_live, under};
+ghost use Rattle.machine.specs.Pages as residence;
+ghost use Rattle.machine.specs.Pages.{Page, page_at, is_held, is_in_transfer, in_transfer, charged, used_frames, used_swap};
 ghost use Rattle.machine.specs.Counts.{no_limits, limits_at};
 ghost use Rattle.machine.specs.Access.{page_size};
 ghost use Rattle.group_tree.specs.Lineages.{bare, IsLineage};
-ghost use Rattle.pages.specs.PageTable.{byte_in, AreHeld};
-ghost use Rattle.book.specs.Holdings.{with_stored, HasRoom, Grants, IsGranted, DropsPage};
-ghost use Rattle.book.specs.Keeping.{pages_of, IsBalanced, IsCounted};
+ghost use Rattle.pages.specs.PageTable.{byte_in, Stands, is_held_in, is_moving_in, AreInFlight};
+ghost use Rattle.book.specs.Holdings.{with_stored, would_grant, HasRoom, Grants, IsGranted, Fetches, BeginsOut, Settles, DropsPage};
 
-use frames::Pool;
+use crate::lookup::{first_under, group_of, page_of_ticket};
+use crate::queue::Queue;
+use crate::release::{release, release_last};
+use crate::room::{Room, give_room, take_room, take_slot, take_spare};
+use block_store::Slots;
+use frames::{FRAME_BYTES, Pool};
+use group_tree::Tree;
 use machine::amount::Amount;
-use machine::id::{GroupId, PageId};
-use page_counter::{Counters, Over};
-use pages::{Held, Pages};
+use machine::bytes::PageBytes;
+use machine::id::{GroupId, PageId, WorkerId};
+use page_counter::Counters;
+use pages::{InTicket, OutTicket, Pages};
 use spaces::Spaces;
 use std::alloc::{AllocError, Global};
 use std::marker::Model;
@@ -29,12 +37,30 @@ pub enum Grant {
     Page(PageId),
 }
 
-/// The pages, the frames that no page stands in, and for each group its limits and how many pages
-/// are charged to it or below it. It must be spent, by [`Holdings::close`].
+/// What asking for a read-in comes to.
+#[must_use]
+pub enum Fetched {
+    /// None: this is the lowest group whose max leaves no room.
+    Over(GroupId),
+    /// None: no frame is free.
+    NoFrame,
+    /// The page is being read in.
+    Coming(InTicket),
+}
+
+/// The pages, the frames that no page stands in, the swap slots that no page stands on, and for each
+/// group its limits and how many pages are charged to it or below it. And the pages in frames, in the
+/// order in which they came into them. It must be spent, by [`Holdings::close`].
+#[must_use]
 pub struct Holdings {
     pages: Pages,
     pool: Pool,
+    slots: Slots,
     counters: Counters,
+    // The pages in frames, in the order in which they came into them.
+    held: Queue,
+    // The pages in transfer.
+    moving: Queue,
 }
 
 impl Model for Holdings {
@@ -49,19 +75,34 @@ impl Model for Holdings {
 }
 
 impl Holdings {
-    /// No page, all frames free, and the root alone, without a limit.
-    pub fn open(alloc: Global, frames: u32) -> Result<Holdings, AllocError>
+    /// No page, all frames and all swap slots free, and the root alone, without a limit.
+    pub fn open(alloc: Global, frames: u32, swap: u32) -> Result<Holdings, AllocError>
         ensures kin { IfOk result (λ h. h.kin ≡ bare None ∷ []) }
         ensures limits { IfOk result (λ h. h.limits ≡ no_limits ∷ []) }
-        ensures stored { IfOk result (λ h. h.stored ≡ record { pages = []; bytes = [] }) }
+        ensures stored { IfOk result (λ h. h.stored ≡ record { pages = []; bytes = []; flights = [] }) }
         ensures frames { IfOk result (λ h. h.frames ≡ frames) }
+        ensures swap { IfOk result (λ h. h.swap ≡ swap) }
     {
         let counters = Counters::new(alloc)?;
-        let pool = Pool::open(alloc, frames)?;
+        let held = Queue::open(alloc, frames)?;
+        let moving = Queue::open(alloc, frames)?;
+        let slots = Slots::open(alloc, swap)?;
+        let Ok(pool) = Pool::open(alloc, frames) else {
+            slots.close();
+            return Err(AllocError);
+        };
+        let Ok(pages) = Pages::new(alloc, frames) else {
+            pool.close();
+            slots.close();
+            return Err(AllocError);
+        };
         Ok(Holdings {
-            pages: Pages::new(alloc),
+            pages,
             pool,
+            slots,
             counters,
+            held,
+            moving,
         })
     }
 
@@ -69,6 +110,7 @@ impl Holdings {
     pub fn pages(&self) -> &Pages
         ensures pages { result.now.pages ≡ self.now.stored.pages }
         ensures bytes { result.now.bytes ≡ self.now.stored.bytes }
+        ensures flights { result.now.flights ≡ self.now.stored.flights }
     {
         &self.pages
     }
@@ -78,6 +120,20 @@ impl Holdings {
         ensures { result + used_frames self.now.stored.pages ≡ self.now.frames }
     {
         self.pool.free()
+    }
+
+    /// Whether a swap block is free.
+    pub fn has_swap(&self) -> bool
+        ensures { result ≡ nat_lt (used_swap self.now.stored.pages) self.now.swap }
+    {
+        self.slots.free() > 0
+    }
+
+    /// How many pages are in transfer.
+    pub fn transfers(&self) -> u32
+        ensures { result ≡ in_transfer self.now.stored.pages }
+    {
+        self.moving.len() as u32
     }
 
     /// The most pages that may be charged to the group and below it.
@@ -122,8 +178,8 @@ impl Holdings {
         ensures limits { self.new.limits ≡ self.old.limits ++ no_limits ∷ [] }
         ensures stored { self.new.stored ≡ self.old.stored }
         ensures frames { self.new.frames ≡ self.old.frames }
+        ensures swap { self.new.swap ≡ self.old.swap }
     {
-        self.pages.are_held();
         self.counters.add_reserved(group, parent);
     }
 
@@ -131,8 +187,20 @@ impl Holdings {
     pub fn are_counted(&self)
         ensures lineage { IsLineage self.now.kin }
         ensures limits { length self.now.limits ≡ length self.now.kin }
+        ensures groups { (p : ℕ) → IfSome (page_at self.now.stored.pages p) (λ page. is_live self.now.kin page.group ≡ true) }
+        ensures flights { AreInFlight self.now.stored.pages self.now.stored.flights }
     {
         self.counters.are_counted();
+        self.pages.are_in_flight();
+    }
+
+    /// Whether a page could be charged to the group and brought into a frame.
+    pub fn would_grant(&self, group: GroupId) -> bool
+        requires { is_live self.now.kin group.0 ≡ true }
+        ensures { result ≡ would_grant self.now group.0 }
+    {
+        self.counters.are_counted();
+        self.counters.over(group).is_none() && self.pool.free() > 0
     }
 
     /// A page of the group, where its charge is granted: zeros, but for one byte. The memory to map
@@ -153,68 +221,193 @@ impl Holdings {
         ensures mappings { spaces.new.mappings ≡ spaces.old.mappings }
         ensures room { IfOk result (λ grant. HasRoom grant spaces.new.room) }
     {
-        self.pages.are_held();
         self.counters.are_counted();
-        let charge = match self.counters.try_charge(group) {
-            Err(Over(limit)) => return Ok(Grant::Over(limit)),
-            Ok(charge) => charge,
+        let (frame, charge) = match take_room(&mut self.counters, &mut self.pool, group) {
+            Room::Over(limit) => return Ok(Grant::Over(limit)),
+            Room::NoFrame => return Ok(Grant::NoFrame),
+            Room::Granted(frame, charge) => (frame, charge),
         };
-        let Some(frame) = self.pool.take() else {
-            self.counters.uncharge(charge);
-            return Ok(Grant::NoFrame);
-        };
-        if reserve(&mut self.pages, spaces).is_err() {
-            self.pool.give(frame);
-            self.counters.uncharge(charge);
+        if reserve_page(&mut self.pages, spaces).is_err() {
+            give_room(frame, charge, &mut self.counters, &mut self.pool);
             return Err(AllocError);
         }
-        Ok(Grant::Page(self.pages.hold(frame, charge, offset, byte)))
+        let page = self.pages.hold(frame, charge, offset, byte);
+        self.held.push(page);
+        Ok(Grant::Page(page))
     }
 
-    /// Changes a byte of the page.
+    /// Begins to read in a page that is on its block, where the charge to its group is granted. The
+    /// memory of the bytes that will arrive is asked for. Where memory is wanting, nothing changes.
+    pub fn fetch(
+        &mut self,
+        alloc: Global,
+        page: PageId,
+        worker: WorkerId,
+        entry: u32,
+    ) -> Result<Fetched, AllocError>
+        requires away { (g b : ℕ) × Stands self.old.stored.pages page.0 g (residence.Away b) }
+        ensures fetches { IfOk result (λ fetched. (g b : ℕ) → Stands self.old.stored.pages page.0 g (residence.Away b) → Fetches self.old fetched page.0 g b worker.0 entry self.new) }
+        ensures err { OnErr result (self.new ≡ self.old) }
+        ensures wanted { OnErr result ((g b : ℕ) → Stands self.old.stored.pages page.0 g (residence.Away b) → IsGranted self.old g) }
+    {
+        self.counters.are_counted();
+        self.pages.are_in_flight();
+        let group = group_of(&self.pages, page);
+        let (frame, charge) = match take_room(&mut self.counters, &mut self.pool, group) {
+            Room::Over(limit) => return Ok(Fetched::Over(limit)),
+            Room::NoFrame => return Ok(Fetched::NoFrame),
+            Room::Granted(frame, charge) => (frame, charge),
+        };
+        let Ok(buffer) = buffer(alloc) else {
+            give_room(frame, charge, &mut self.counters, &mut self.pool);
+            return Err(AllocError);
+        };
+        let ticket = self
+            .pages
+            .start_in(page, frame, charge, worker, entry, buffer);
+        self.moving.push(page);
+        Ok(Fetched::Coming(ticket))
+    }
+
+    /// Begins to write out a page that is in a frame, a swap block being free. Takes no memory.
+    pub fn write_out(&mut self, page: PageId, worker: WorkerId, entry: u32) -> OutTicket
+        requires held { is_held_in self.old.stored.pages page.0 ≡ true }
+        requires swap { used_swap self.old.stored.pages < self.old.swap }
+        ensures { (g f : ℕ) → Stands self.old.stored.pages page.0 g (residence.Held f) → BeginsOut self.old self.new page.0 g f worker.0 entry result }
+    {
+        self.pages.are_in_flight();
+        let slot = take_slot(&mut self.slots);
+        let spare = take_spare(&mut self.pool);
+        let ticket = self.pages.start_out(page, slot, spare, worker, entry);
+        self.held.remove(page);
+        self.moving.push(page);
+        ticket
+    }
+
+    /// A page has arrived: it is in its frame, with the bytes that the ticket read. Takes no memory.
+    pub fn arrived(&mut self, ticket: InTicket) -> PageBytes
+        requires { (p g f b : ℕ) × Stands self.old.stored.pages p g (residence.Coming f b ticket.number) }
+        ensures settles { (p g f b : ℕ) → Stands self.old.stored.pages p g (residence.Coming f b ticket.number) → Settles self.old self.new p g ticket.number (residence.Held f) }
+        ensures holds { (p g f b : ℕ) → Stands self.old.stored.pages p g (residence.Coming f b ticket.number) → (q o : ℕ) → byte_in self.new.stored.bytes q o ≡ (if q == p then slice_index ticket.bytes o else byte_in self.old.stored.bytes q o) }
+        ensures bytes { result ≡ ticket.bytes }
+    {
+        self.pages.are_in_flight();
+        let page = page_of_ticket(&self.pages, ticket.number());
+        let (slot, bytes) = self.pages.end_in(ticket);
+        self.slots.give(slot);
+        self.moving.remove(page);
+        self.held.push(page);
+        bytes
+    }
+
+    /// A page could not be read: it is on its block, and its charge is taken back. Takes no memory.
+    pub fn fetch_failed(&mut self, ticket: InTicket)
+        requires { (p g f b : ℕ) × Stands self.old.stored.pages p g (residence.Coming f b ticket.number) }
+        ensures settles { (p g f b : ℕ) → Stands self.old.stored.pages p g (residence.Coming f b ticket.number) → Settles self.old self.new p g ticket.number (residence.Away b) }
+        ensures bytes { (p g f b : ℕ) → Stands self.old.stored.pages p g (residence.Coming f b ticket.number) → (q o : ℕ) → q ≢ p → byte_in self.new.stored.bytes q o ≡ byte_in self.old.stored.bytes q o }
+    {
+        self.counters.are_counted();
+        self.pages.are_in_flight();
+        let page = page_of_ticket(&self.pages, ticket.number());
+        let (frame, charge) = self.pages.fail_in(ticket);
+        give_room(frame, charge, &mut self.counters, &mut self.pool);
+        self.moving.remove(page);
+    }
+
+    /// A page was written out: it is on its block, and its charge is taken back. Takes no memory.
+    pub fn left(&mut self, ticket: OutTicket)
+        requires { (p g f b : ℕ) × Stands self.old.stored.pages p g (residence.Going f b ticket.number) }
+        ensures settles { (p g f b : ℕ) → Stands self.old.stored.pages p g (residence.Going f b ticket.number) → Settles self.old self.new p g ticket.number (residence.Away b) }
+        ensures bytes { (p g f b : ℕ) → Stands self.old.stored.pages p g (residence.Going f b ticket.number) → (q o : ℕ) → q ≢ p → byte_in self.new.stored.bytes q o ≡ byte_in self.old.stored.bytes q o }
+    {
+        self.counters.are_counted();
+        self.pages.are_in_flight();
+        let page = page_of_ticket(&self.pages, ticket.number());
+        let (frame, charge, spare) = self.pages.end_out(ticket);
+        give_room(frame, charge, &mut self.counters, &mut self.pool);
+        self.pool.give_spare(spare);
+        self.moving.remove(page);
+    }
+
+    /// A page could not be written out: it is in its frame, as it was, and the last of those that came
+    /// into theirs. Takes no memory.
+    pub fn leave_failed(&mut self, ticket: OutTicket)
+        requires { (p g f b : ℕ) × Stands self.old.stored.pages p g (residence.Going f b ticket.number) }
+        ensures settles { (p g f b : ℕ) → Stands self.old.stored.pages p g (residence.Going f b ticket.number) → Settles self.old self.new p g ticket.number (residence.Held f) }
+        ensures bytes { (q o : ℕ) → byte_in self.new.stored.bytes q o ≡ byte_in self.old.stored.bytes q o }
+    {
+        self.pages.are_in_flight();
+        let page = page_of_ticket(&self.pages, ticket.number());
+        let (slot, spare) = self.pages.fail_out(ticket);
+        self.slots.give(slot);
+        self.pool.give_spare(spare);
+        self.moving.remove(page);
+        self.held.push(page);
+    }
+
+    /// Of the pages in frames whose group is at or under the target, the one that has been in its
+    /// frame for longest.
+    pub fn oldest_under(&self, tree: &Tree, target: GroupId) -> Option<PageId>
+        ensures found { IfSome result (λ p. there_and (λ page. is_held page && under tree.now target.0 page.group) (page_at self.now.stored.pages p.0) ≡ true) }
+        ensures none { IfNone result (any_there (λ page. is_held page && under tree.now target.0 page.group) self.now.stored.pages ≡ false) }
+    {
+        first_under(&self.pages, self.held.as_slice(), tree, target)
+    }
+
+    /// Whether a page whose group is at or under the target is in transfer.
+    pub fn has_transfer(&self, tree: &Tree, target: GroupId) -> bool
+        ensures { result ≡ any_there (λ page. is_in_transfer page && under tree.now target.0 page.group) self.now.stored.pages }
+    {
+        first_under(&self.pages, self.moving.as_slice(), tree, target).is_some()
+    }
+
+    /// Changes a byte of a page in a frame.
     pub fn write(&mut self, page: PageId, offset: usize, byte: u8)
-        requires there { IsSome (page_at self.old.stored.pages page.0) }
+        requires held { is_held_in self.old.stored.pages page.0 ≡ true }
         requires within { offset < page_size }
         ensures pages { self.new.stored.pages ≡ self.old.stored.pages }
         ensures bytes { (q o : ℕ) → byte_in self.new.stored.bytes q o
             ≡ (if (q == page.0) && (offset == o) then byte else byte_in self.old.stored.bytes q o) }
+        ensures flights { self.new.stored.flights ≡ self.old.stored.flights }
         ensures others { self.new ≡ with_stored self.old self.new.stored }
     {
         self.pages.write(page, offset, byte);
     }
 
-    /// The page is gone: its frame goes back to the pool, and its charge is taken back. Takes no
-    /// memory.
+    /// The page is gone, which is in no transfer: its frame and its charge, or its slot, go back. Takes
+    /// no memory.
     pub fn drop_page(&mut self, page: PageId)
-        requires { IsSome (page_at self.old.stored.pages page.0) }
+        requires there { IsSome (page_at self.old.stored.pages page.0) }
+        requires settled { is_moving_in self.old.stored.pages page.0 ≡ false }
         ensures { DropsPage self.old self.new page.0 }
     {
-        self.pages.are_held();
-        self.counters.are_counted();
-        let Held { frame, charge } = self.pages.drop_page(page);
-        self.pool.give(frame);
-        self.counters.uncharge(charge);
+        self.pages.are_in_flight();
+        let kept = self.pages.drop_page(page);
+        release(kept, &mut self.counters, &mut self.pool, &mut self.slots);
+        self.held.remove(page);
     }
 
-    /// Spends the holdings: each frame goes back to the pool, and each charge is taken back.
+    /// Spends the holdings: each frame and each slot goes back, and each charge is taken back.
     pub fn close(self) {
         let Holdings {
             pages,
             mut pool,
+            mut slots,
             mut counters,
+            held: _,
+            moving: _,
         } = self;
-        pages.are_held();
-        let mut held = pages.into_held();
-        while release_last(&mut held, &mut pool, &mut counters) {}
-        held.destroy_empty();
+        let mut kept = pages.into_kept();
+        while release_last(&mut kept, &mut counters, &mut pool, &mut slots) {}
+        kept.destroy_empty();
         pool.close();
+        slots.close();
     }
 }
 
 /// Asks for the memory of one page more, and of its mapping.
-fn reserve(pages: &mut Pages, spaces: &mut Spaces) -> Result<(), AllocError>
-    ensures pages { pages.new.pages ≡ pages.old.pages }
-    ensures bytes { pages.new.bytes ≡ pages.old.bytes }
+fn reserve_page(pages: &mut Pages, spaces: &mut Spaces) -> Result<(), AllocError>
+    ensures pages { pages.new ≡ record pages.old { room = pages.new.room } }
     ensures tasks { spaces.new.tasks ≡ spaces.old.tasks }
     ensures mappings { spaces.new.mappings ≡ spaces.old.mappings }
     ensures page_room { OnOk result (0 < pages.new.room) }
@@ -225,25 +418,10 @@ fn reserve(pages: &mut Pages, spaces: &mut Spaces) -> Result<(), AllocError>
     Ok(())
 }
 
-/// Takes the last place away, and gives back what its page owned. False where there is no place.
-fn release_last(held: &mut Vec<Option<Held>>, pool: &mut Pool, counters: &mut Counters) -> bool
-    requires memory { AreHeld (pages_of held.old.items) }
-    requires balanced { IsBalanced pool.old.frames pool.old.free (pages_of held.old.items) }
-    requires counted { IsCounted counters.old (pages_of held.old.items) }
-    ensures memory { AreHeld (pages_of held.new.items) }
-    ensures balanced { IsBalanced pool.new.frames pool.new.free (pages_of held.new.items) }
-    ensures counted { IsCounted counters.new (pages_of held.new.items) }
-    ensures shorter { result ≡ true → vec_len held.new < vec_len held.old }
-    ensures empty { result ≡ false → vec_len held.new ≡ 0 }
+/// The memory of a page's bytes that will arrive: zeros until then.
+fn buffer(alloc: Global) -> Result<Box<[u8; FRAME_BYTES]>, AllocError>
+    ensures zeros { IfOk result (λ bytes. (o : ℕ) → slice_index bytes.value o ≡ 0) }
 {
-    counters.are_counted();
-    match held.pop() {
-        None => false,
-        Some(None) => true,
-        Some(Some(Held { frame, charge })) => {
-            pool.give(frame);
-            counters.uncharge(charge);
-            true
-        }
-    }
+    let buffer = Box::new(alloc, [0; FRAME_BYTES])?;
+    Ok(buffer)
 }

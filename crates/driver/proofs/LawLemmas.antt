@@ -12,7 +12,6 @@ use Rattle.machine.specs.declared.record.Key.{Key}
 use Rattle.machine.specs.declared.record.Key.TheVariants.{Low, High, Max, Oom, OomKill, OomGroupKill}
 use Rattle.machine.specs.declared.id.TaskId.{TaskId}
 use Rattle.machine.specs.declared.event.Place.{Place}
-use Rattle.machine.specs.declared.event.Place.TheVariants.{Virtual}
 use Rattle.machine.specs.declared.event.Op.{Op}
 use Rattle.machine.specs.declared.event.Op.TheVariants.{Read, Write}
 use Rattle.machine.specs.declared.reply.Reply.{Reply}
@@ -23,14 +22,15 @@ use Rattle.machine.specs.Slots.{at, Changes, there_and, count_there}
 use Rattle.machine.specs.Tree.{Node, chain, under_at, under}
 use Rattle.machine.specs.Amounts.{exceeds}
 use Rattle.machine.specs.Counts.{limits_at, is_full, over_at, Counted, local, total, counts_by}
-use Rattle.machine.specs.Pages.{Content, Memory, OfFile, Residence, Held, Coming, Going, Away, Page, page_at, has_frame, is_charged, charged}
-use Rattle.machine.specs.Tasks.{task_at, mapped_at}
+use Rattle.machine.specs.Pages.{Content, Memory, OfFile, Residence, Held, Coming, Going, Away, Page, page_at, in_transfer_at, frame_at, is_some_number, has_frame, is_charged, charged}
+use Rattle.machine.specs.Tasks.{task_at}
 use Rattle.machine.specs.State.{State, usage, over_in, is_frame_free}
-use Rattle.machine.specs.Access.{Meeting, Unmapped, Hits, Transferring, NeedsPage, NeedsCopy, NeedsSwapIn, meets, meets_mapped, meets_slot, meets_residence, is_shared_write}
+use Rattle.machine.specs.Access.{Meeting, Unmapped, Hits, Transferring, NeedsPage, NeedsCopy, NeedsSwapIn, meets}
 use Rattle.machine.specs.Reclaim.{has_takeable, has_transfer, stands, target_of}
 use Rattle.machine.specs.Step.{Only, Takes, LeavesFrom, LeavesBy, ChargeStep, MakesPage, StartsFetch, HitStep, UnmappedStep, MeetStep, LifeStep, TaskStep, new_page, touched}
 use Rattle.machine.proofs.SlotLemmas.{one_if, count_there-changes}
-use Rattle.driver.specs.Laws.{CurrentCountsPages, EventsAreThoseCounted, count_for, ChargesStayWithinMax, KillsComeLast, ReadsGiveLastWrites}
+use Rattle.driver.proofs.MoveLemmas.{hits_held}
+use Rattle.driver.specs.Laws.{TransfersStayCharged, CurrentCountsPages, EventsAreThoseCounted, count_for, ChargesStayWithinMax, KillsComeLast, ReadsGiveLastWrites}
 
 -- ---- memory.current
 
@@ -124,29 +124,6 @@ module _ (before after : State) (a : ℕ) where
   unfolding Within
   counted_within same more = absurd (let e : usage after a ≡ usage before a = ap (λ (s : State). usage s a) same in omega (arith, more, e))
 
--- a page that is hit is there
-pub hits_there : (s : State) (t : ℕ) (place : Place) (op : Op) (p : ℕ) (page : Page) (frame : ℕ) → meets s t place op ≡ Hits p page frame → page_at s.pages p ≡ Some page
-hits_there s t (Virtual v o) op p page frame hits = by_mapped (mapped_at s.mappings t v) op hits
-  where
-    by_shared : (b : Bool) (q f : ℕ) (other : Page) → page_at s.pages q ≡ Some other → cond b NeedsCopy (Hits q other f) ≡ Hits p page frame → page_at s.pages p ≡ Some page
-    by_shared true q f other is e = cc
-    by_shared false q f other is e = cc
-
-    by_residence : (q : ℕ) (other : Page) (r : Residence) (op : Op) → page_at s.pages q ≡ Some other → meets_residence s q other r op ≡ Hits p page frame → page_at s.pages p ≡ Some page
-    by_residence q other (Held f) op is e = by_shared (is_shared_write s.mappings q op) q f other is e
-    by_residence q other (Coming f block ticket) op is e = cc
-    by_residence q other (Going f block ticket) op is e = cc
-    by_residence q other (Away block) op is e = cc
-
-    by_page : (q : ℕ) (slot : Option Page) (op : Op) → page_at s.pages q ≡ slot → meets_slot s q slot op ≡ Hits p page frame → page_at s.pages p ≡ Some page
-    by_page q None op is e = cc
-    by_page q (Some other) op is e = by_residence q other other.residence op is e
-
-    by_mapped : (m : Option ℕ) (op : Op) → meets_mapped s m op ≡ Hits p page frame → page_at s.pages p ≡ Some page
-    by_mapped None Read e = cc
-    by_mapped None (Write b) e = cc
-    by_mapped (Some q) op e = by_page q (page_at s.pages q) op refl e
-
 module _ (before after : State) (a : ℕ) where
   test_of : Page → Bool
   test_of = is_charged before.tree a
@@ -215,7 +192,7 @@ module _ (before after : State) (a : ℕ) where
 
   meet_within : (t g : ℕ) (place : Place) (op : Op) (answer : Reply) (meeting : Meeting) → meets before t place op ≡ meeting → MeetStep before t g place op meeting answer after → Within before after a
   meet_within t g place op answer Unmapped is h = unmapped_within answer h
-  meet_within t g place op answer (Hits p page frame) is h = hit_within p frame page op answer (hits_there before t place op p page frame is) h
+  meet_within t g place op answer (Hits p page frame) is h = hit_within p frame page op answer (hits_held before t place op p page frame is).0 h
   meet_within t g place op answer Transferring is h = same_within before after a h.1
   meet_within t g place op answer NeedsPage is h = charge_within g _ answer (λ none made. makes_within t _ g op _ answer none made) h
   meet_within t g place op answer NeedsCopy is h = charge_within g _ answer (λ none made. makes_within t _ g op _ answer none made) h
@@ -233,3 +210,13 @@ charges_stay_within_max before after t place op answer a step = by_slot (task_at
     by_slot : (slot : Option Task) → TaskStep before slot (λ task. MeetStep before t task.group.0 place op (meets before t place op) answer after) answer after → Within before after a
     by_slot None h = absurd h
     by_slot (Some task) h = by_life task task.life h
+
+-- ---- transfers
+
+pub transfers_stay_charged : TransfersStayCharged
+transfers_stay_charged tree a page moving = ap (λ b. b && under tree a page.group) (framed page.residence moving)
+  where
+    framed : (r : Residence) → in_transfer_at r ≡ true → is_some_number (frame_at r) ≡ true
+    framed (Coming frame block ticket) e = refl
+    framed (Going frame block ticket) e = refl
+    framed r e = cc

@@ -1,6 +1,15 @@
-pub mod SeatLists
-pub mod Runs
 pub mod Legals
 pub mod LawLemmas
+pub mod MoveLemmas
 pub mod SoundLemmas
 pub mod RiseLemmas
+pub mod ErrorLemmas
+pub mod Effects
+pub mod Keeps
+pub mod CallCases
+pub mod Tickets
+pub mod Faithful
+pub mod OpeningLemmas
+pub mod TicketLemmas
+pub mod SeatLists
+pub mod Runs

@@ -1,11 +1,12 @@
 -- Nothing but an access leaves more pages charged under a group.
 use Rattle.std.proofs.Common.{◌≡◌, inl, inr, ℕ, suc, ◌<◌, ◌≤◌, ◌&&◌, Bool, true, false, List, [], ◌∷◌, ◌++◌, length, Option, Some, None, refl, sym, ap, ◌∙◌, arith}
-use Rattle.std.specs.Prelude.{MatchBool, IfSome}
+use Rattle.std.specs.Prelude.{◌⊎◌, MatchBool, IfSome}
 use Rattle.std.proofs.lemmas.Bool.{cases_lt}
 use Rattle.std.proofs.lemmas.List.Sums.{sum_by-cons}
 use Rattle.std.proofs.Math.ListN.{get_or-eq_default}
 use Rattle.machine.specs.declared.record.Life.{Life}
 use Rattle.machine.specs.declared.record.Life.TheVariants.{Live, Exited, Killed}
+use Rattle.machine.specs.declared.record.Mapping.{Mapping}
 use Rattle.machine.specs.declared.record.Limits.{Limits}
 use Rattle.machine.specs.declared.record.Task.{Task}
 use Rattle.machine.specs.declared.event.Cause.{Cause}
@@ -17,13 +18,16 @@ use Rattle.machine.specs.Tree.{Node, no_node, is_live, under, IsTree}
 use Rattle.machine.specs.Pages.{Content, Memory, OfFile, Residence, Held, Coming, Going, Away, Page, Pages, page_at, frame_at, is_some_number, has_frame, is_charged, charged}
 use Rattle.machine.specs.Counts.{Counted}
 use Rattle.machine.specs.Tasks.{task_at, without_task}
-use Rattle.machine.specs.State.{State, usage}
+use Rattle.machine.specs.State.{Opening, State, usage}
 use Rattle.machine.specs.Reclaim.{has_takeable, has_transfer, stands, target_of}
-use Rattle.machine.specs.Step.{Takes, StartsLeave, Drops, LeavesBy, LeavesFrom, KillStep, RelieveStep, LifeStep, TaskStep, EndsTask, Exits}
+use Rattle.machine.specs.Legal.{Legal}
+use Rattle.machine.specs.declared.entry.Entry.{Entry}
+use Rattle.machine.specs.Step.{EndsTransfer, in_frame, on_block, Takes, StartsLeave, Drops, LeavesBy, LeavesFrom, KillStep, RelieveStep, LifeStep, TaskStep, EndsTask, Exits}
 use Rattle.machine.proofs.TreeLemmas.{under_at-append}
 use Rattle.machine.proofs.SlotLemmas.{one_if, count_there-changes}
-use Rattle.driver.specs.Laws.{OnlyAccessesCharge}
-use Rattle.driver.proofs.SoundLemmas.{bool_le, count-less, still_passes, sound_in, legal-sound}
+use Rattle.driver.specs.Laws.{OnlyAccessesCharge, WriteOutsStayCharged}
+use Rattle.driver.proofs.SoundLemmas.{bool_le, count-less, still_passes, legal-sound, legal-fit}
+use Rattle.driver.proofs.MoveLemmas.{in_frame-cases, on_block-cases}
 
 -- whoever passes one test passes another
 tests_less : (test other : Page → Bool) (pages : Pages) → ((n : ℕ) → there_and other (at pages n) ≡ true → there_and test (at pages n) ≡ true) → count_there other pages ≤ count_there test pages
@@ -119,23 +123,108 @@ module _ (before after : State) (a : ℕ) where
       by_life Exited h = absurd h
       by_life Killed h = same_less h.1
 
-  made_less : (x : Node) (ls : List Limits) → sound_in before → after ≡ record before { tree = before.tree ++ x ∷ []; limits = ls } → Less
+  made_less : (x : Node) (ls : List Limits) → IsTree before.tree → ((p : ℕ) → IfSome (page_at before.pages p) (λ page. is_live before.tree page.group ≡ true)) → after ≡ record before { tree = before.tree ++ x ∷ []; limits = ls } → Less
   unfolding Less
-  made_less x ls sound e =
+  made_less x ls falls groups e =
       let same : usage after a ≡ charged (before.tree ++ x ∷ []) before.pages a = ap (λ (s : State). usage s a) e in
-      let le = tests_less (is_charged before.tree a) (is_charged (before.tree ++ x ∷ []) a) before.pages (λ n. grown_slot before.tree x a sound.falls (page_at before.pages n) (sound.groups n)) in
+      let le = tests_less (is_charged before.tree a) (is_charged (before.tree ++ x ∷ []) a) before.pages (λ n. grown_slot before.tree x a falls (page_at before.pages n) (groups n)) in
       omega (arith, same, le)
+
+  -- a transfer ends: the page had a frame, and has none more
+  settled_less : (from : ℕ → ℕ → Residence) (to : List Mapping → ℕ → Page → ℕ → ℕ → Option Page) (settled : ℕ → ℕ → Residence) (answer : Reply)
+      → ((mappings : List Mapping) (q : ℕ) (page : Page) (frame block : ℕ) → (to mappings q page frame block ≡ None) ⊎ (to mappings q page frame block ≡ Some (record page { residence = settled frame block })))
+      → ((frame block : ℕ) → frame_at (from frame block) ≡ Some frame) → EndsTransfer before from to answer after → Less
+  settled_less from to settled answer cases framed h =
+      pages_less (ap (λ (s : State). s.tree) h.state)
+      (let both = count_there-changes (is_charged before.tree a) before.pages after.pages h.p _ h.placed in
+      let stood : one_if (there_and (is_charged before.tree a) (at before.pages h.p)) ≡ one_if (is_charged before.tree a h.page) = ap (λ (slot : Option Page). one_if (there_and (is_charged before.tree a) slot)) h.there in
+      let had : one_if (is_charged before.tree a h.page) ≡ one_if (under before.tree a h.page.group) = ap (λ o. one_if (is_some_number o && under before.tree a h.page.group)) (ap frame_at h.moves ∙ framed h.frame h.block) in
+      let most : one_if (there_and (is_charged before.tree a) (to before.mappings h.p h.page h.frame h.block)) ≤ one_if (under before.tree a h.page.group) = bool_le _ _ (now _ (cases before.mappings h.p h.page h.frame h.block)) in
+      omega (arith, both, stood, had, most))
+    where
+      both_hold : (b c : Bool) → (b && c) ≡ true → c ≡ true
+      both_hold true c e = e
+      both_hold false c e = cc
+
+      now : (slot : Option Page) → (slot ≡ None) ⊎ (slot ≡ Some (record h.page { residence = settled h.frame h.block })) → there_and (is_charged before.tree a) slot ≡ true → under before.tree a h.page.group ≡ true
+      now slot (inl none) e = absurd (let x : false ≡ true = ap (there_and (is_charged before.tree a)) (sym none) ∙ e in cc)
+      now slot (inr some) e = both_hold (is_some_number (frame_at (settled h.frame h.block))) (under before.tree a h.page.group) (ap (there_and (is_charged before.tree a)) (sym some) ∙ e)
 
   never : Less → usage before a < usage after a → ⊥
   unfolding Less
   never le more = absurd (omega (arith, le, more))
 
+-- the groups of pages are there
+groups_live : (opening : Opening) (history : List Entry) (s : State) → Legal opening history s → (p : ℕ) → IfSome (page_at s.pages p) (λ page. is_live s.tree page.group ≡ true)
+groups_live opening history s legal p = by_slot (page_at s.pages p) refl
+  where
+    by_slot : (slot : Option Page) → page_at s.pages p ≡ slot → IfSome slot (λ page. is_live s.tree page.group ≡ true)
+    by_slot None there = tt
+    by_slot (Some page) there = (legal-fit opening history s legal p page there).live
+
+-- beginning to write a page out leaves the counts as they were
+module _ (before after : State) (n a : ℕ) where
+  Kept : Type 0
+  Kept = usage after a ≡ usage before a
+
+  out : Reply
+  out = reply.Out (record { 0 = n })
+
+  leaves_kept : (p frame block : ℕ) (page : Page) (counted : List Counted) → page_at before.pages p ≡ Some page → page.residence ≡ Held frame → StartsLeave before p page frame block counted out after → Kept
+  unfolding Kept
+  leaves_kept p frame block page counted there stands h =
+      let same : usage after a ≡ charged before.tree after.pages a = ap (λ (ns : List Node). charged ns after.pages a) (ap (λ (s : State). s.tree) h.state) in
+      let both = count_there-changes (is_charged before.tree a) before.pages after.pages p _ h.placed in
+      let stood : one_if (there_and (is_charged before.tree a) (at before.pages p)) ≡ one_if (is_charged before.tree a page) = ap (λ (slot : Option Page). one_if (there_and (is_charged before.tree a) slot)) there in
+      let framed : one_if (is_charged before.tree a page) ≡ one_if (under before.tree a page.group) = ap (λ r. one_if (is_some_number (frame_at r) && under before.tree a page.group)) stands in
+      omega (arith, same, both, stood, framed)
+
+  by_kept : {P Q : Type 0} (b : Bool) → (P → Kept) → (Q → Kept) → MatchBool b P Q → Kept
+  by_kept true f g h = f h
+  by_kept false f g h = g h
+
+  dropped_kept : (p : ℕ) (counted : List Counted) → Drops before p counted out after → Kept
+  unfolding out
+  dropped_kept p counted h = let e = h.answers in cc
+
+  leaves_by_kept : (p frame : ℕ) (page : Page) (content : Content) (counted : List Counted) → page_at before.pages p ≡ Some page → page.residence ≡ Held frame → LeavesBy before p page content frame counted out after → Kept
+  leaves_by_kept p frame page Memory counted there stands h = leaves_kept p frame h.block page counted there stands h.leave
+  leaves_by_kept p frame page (OfFile file q) counted there stands h = by_kept page.dirty (λ k. leaves_kept p frame _ page counted there stands k) (λ k. dropped_kept p counted k) h
+
+  taken_kept : (target : ℕ) → Takes before target out after → Kept
+  taken_kept target h = by_residence h.page.residence refl h.leaves
+    where
+      by_residence : (r : Residence) → h.page.residence ≡ r → LeavesFrom before h.p h.page r before.counted out after → Kept
+      by_residence (Held frame) stands k = leaves_by_kept h.p frame h.page h.page.content before.counted h.there stands k
+      by_residence (Coming frame block ticket) stands k = absurd k
+      by_residence (Going frame block ticket) stands k = absurd k
+      by_residence (Away block) stands k = absurd k
+
+  out_kept : (why : Cause) → RelieveStep before why out after → usage after a ≡ usage before a
+  unfolding Kept out
+  out_kept why step =
+      by_kept (stands before why)
+      (λ s. by_kept (has_takeable before (target_of why)) (λ k. taken_kept (target_of why) k) (λ k. by_kept (has_transfer before (target_of why)) (λ w. let e = w.0 in cc) (λ w. absurd w) k) s)
+      (λ r. let e = r.0 in cc) step
+
+pub write_outs_stay_charged : WriteOutsStayCharged
+unfolding out Kept
+write_outs_stay_charged before after why n a step = out_kept before after n a why step
+
 pub only_accesses_charge : OnlyAccessesCharge
 only_accesses_charge opening history before after (event.Access t place op) answer a legal step more = tt
+only_accesses_charge opening history before after (event.Arrived ticket bytes) answer a legal step more =
+    never before after a (settled_less before after a _ in_frame (λ frame block. Held frame) answer in_frame-cases (λ frame block. refl) step) more
+only_accesses_charge opening history before after (event.FetchFailed ticket) answer a legal step more =
+    never before after a (settled_less before after a _ on_block (λ frame block. Away block) answer on_block-cases (λ frame block. refl) step) more
+only_accesses_charge opening history before after (event.Left ticket) answer a legal step more =
+    never before after a (settled_less before after a _ on_block (λ frame block. Away block) answer on_block-cases (λ frame block. refl) step) more
+only_accesses_charge opening history before after (event.LeaveFailed ticket) answer a legal step more =
+    never before after a (settled_less before after a _ in_frame (λ frame block. Held frame) answer in_frame-cases (λ frame block. refl) step) more
 only_accesses_charge opening history before after (event.Relieve why) answer a legal step more = never before after a (relief_less before after a why answer step) more
 only_accesses_charge opening history before after (event.Spawn t g) reply.Ok a legal step more = let same : usage after a ≡ usage before a = ap (λ (s : State). usage s a) step.1 in absurd (omega (arith, same, more))
 only_accesses_charge opening history before after (event.Exit t) answer a legal step more = never before after a (exit_less before after a t.0 answer (task_at before.tasks t.0) step) more
-only_accesses_charge opening history before after (event.Mkdir path) reply.Ok a legal step more = never before after a (made_less before after a _ _ (legal-sound opening history before legal) step) more
+only_accesses_charge opening history before after (event.Mkdir path) reply.Ok a legal step more = never before after a (made_less before after a _ _ (legal-sound opening history before legal).1.falls (groups_live opening history before legal) step) more
 only_accesses_charge opening history before after (event.Set g setting) reply.Ok a legal step more = let same : usage after a ≡ usage before a = ap (λ (s : State). usage s a) step in absurd (omega (arith, same, more))
 only_accesses_charge opening history before after (event.Show what) (reply.Shown numbers) a legal step more = never before after a (same_less before after a step.1) more
 only_accesses_charge opening history before after what answer a legal step more = absurd step

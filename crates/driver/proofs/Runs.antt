@@ -1,18 +1,24 @@
 -- Runs go on by one.
-use Rattle.std.proofs.Common.{◌≡◌, false, List, [], ◌∷◌, ◌++◌, refl, sym, ap, ◌∙◌, append_assoc, append-nil, subst}
+use Rattle.std.proofs.Common.{◌≡◌, ◌≤◌, true, length, arith, rules, false, List, [], ◌∷◌, ◌++◌, refl, sym, ap, ◌∙◌, append_assoc, append-nil, subst}
 use Rattle.machine.specs.declared.command.Actor.{Actor}
 use Rattle.machine.specs.declared.command.Step.{Step}
 use Rattle.machine.specs.declared.command.Reply.{Reply}
-use Rattle.machine.specs.declared.turn.Outcome.{Outcome}
+use Rattle.driver.specs.declared.turn.Outcome.{Outcome}
 use Rattle.std.specs.Prelude.{Ok, Err}
 use Rattle.machine.specs.declared.refusal.Refusal.{Refusal}
 use Rattle.machine.specs.declared.command.Command.{Command}
-use Rattle.machine.specs.declared.turn.Doing.{Doing}
-use Rattle.machine.specs.declared.turn.Activity.{Activity}
-use Rattle.machine.specs.declared.turn.Activity.TheVariants.{Rests, Begun, Does}
-use Rattle.machine.specs.Call.{Past}
-use Rattle.machine.specs.Turns.{judged, ends_refused}
-use Rattle.machine.specs.Schedule.{World, activity_of, with_activity, outcome_of, left_of, Asks, DoingTurn, Turn, Goings, is_end, said_at, all_said, Stepped, Runs}
+use Rattle.driver.specs.declared.turn.Doing.{Doing}
+use Rattle.driver.specs.declared.turn.Seat.{Seat}
+use Rattle.driver.specs.declared.turn.Activity.{Activity}
+use Rattle.driver.specs.declared.turn.Activity.TheVariants.{Rests, Begun, Does}
+use Rattle.block_store.specs.Device.{Disk}
+use Rattle.machine.specs.declared.config.Config.{Config}
+use Rattle.machine.specs.State.{is_config}
+use Rattle.driver.specs.declared.desk.Desk.{Desk}
+use Rattle.driver.specs.Tickets.{OwnSeats}
+use Rattle.driver.specs.Desks.{world, swap_of, Asks, IsOn, IsSame}
+use Rattle.driver.specs.Turns.{judged, ends_refused}
+use Rattle.driver.specs.Schedule.{World, first_world, fits, activity_of, with_activity, outcome_of, left_of, DoingTurn, Turn, Goings, is_end, said_at, all_said, Stepped, Runs}
 
 pub Goings-more : (old : World) (actor : Actor) (earlier : List Outcome) (mid new : World) (outcome : Outcome)
     → Goings old actor earlier mid → Turn mid actor outcome new → is_end outcome ≡ false → Goings old actor (earlier ++ outcome ∷ []) new
@@ -37,12 +43,12 @@ Runs-more old (first ∷ steps) answers mid new step here h one =
 -- ---- one turn
 
 -- a turn of a command that was taken from its seat
-pub turn_taken : (old mid new : World) (who : Actor) (doing : Doing) (outcome : Outcome) → mid.past ≡ old.past → ((what : Activity) → with_activity who what mid.seats ≡ with_activity who what old.seats)
-    → DoingTurn mid who doing outcome new → DoingTurn old who doing outcome new
-turn_taken old mid new who doing outcome same others turn =
+pub turn_taken : (old : World) (taken : List Seat) (new : World) (who : Actor) (doing : Doing) (outcome : Outcome) → ((what : Activity) → with_activity who what taken ≡ with_activity who what old.seats)
+    → DoingTurn (record old { seats = taken }) who doing outcome new → DoingTurn old who doing outcome new
+turn_taken old taken new who doing outcome others turn =
     record {
       turned = turn.turned;
-      asks = subst (λ (p : Past). Asks p doing turn.turned new.past) same turn.asks;
+      turns = turn.turns;
       shows = turn.shows;
       leaves = turn.leaves ∙ others (left_of turn.turned);
     }
@@ -55,5 +61,27 @@ pub turn_begun : (old new : World) (who : Actor) (command : Command) (doing : Do
 turn_begun old new who command doing outcome is starts turn = rw is (rw starts turn)
 
 pub turn_refused : (old new : World) (who : Actor) (command : Command) (why : Refusal) → activity_of who old.seats ≡ Begun command → judged old.past.state.tree who command ≡ Err why
-    → new ≡ record { past = old.past; seats = with_activity who Rests old.seats } → Turn old who (outcome_of (ends_refused why)) new
+    → new ≡ record old { seats = with_activity who Rests old.seats } → Turn old who (outcome_of (ends_refused why)) new
 turn_refused old new who command why is wrong stays = rw is (rw wrong (refl, stays))
+
+-- ---- the device
+
+pub same-refl : (disk : Disk) → IsSame disk disk
+same-refl disk = record { blocks = refl; limit = refl }
+
+pub same-more : (old mid new : Disk) → IsSame old mid → IsSame mid new → IsSame old new
+same-more old mid new h k = record { blocks = k.blocks ∙ h.blocks; limit = k.limit ∙ h.limit }
+
+-- ---- the opening
+
+-- a desk at which nobody has a command can go on with a device that has the swap blocks
+pub opened_on : (desk : Desk) (config : Config) (disk : Disk) → world desk disk ≡ first_world config disk → Asks desk → config.swap ≤ length disk.contents → IsOn desk disk
+opened_on desk config disk opens asks enough =
+    let swap : swap_of desk ≡ config.swap = ap (λ (w : World). w.past.state.opening.swap) opens in
+    let seats : desk.seats.items ≡ [] = ap (λ (w : World). w.seats) opens in
+    let Own : List Seat → Type 0 = λ ss. OwnSeats (swap_of desk) ss in
+    let own : OwnSeats (swap_of desk) desk.seats.items = subst Own (sym seats) tt in
+    record { asks = asks; own = own; blocks = omega (arith, swap, enough) }
+
+pub fitting : (config : Config) (disk : Disk) → is_config config ≡ true → config.swap ≤ length disk.contents → fits config disk ≡ true
+fitting config disk sized enough = rw sized (search (arith, rules, enough))

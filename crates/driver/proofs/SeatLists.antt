@@ -2,10 +2,11 @@
 use Rattle.std.proofs.Common.{◌≡◌, ℕ, suc, ◌<◌, Bool, true, false, List, [], ◌∷◌, ◌++◌, length, get_or, refl, sym, ap, ◌∙◌, arith}
 use Rattle.std.specs.Prelude.{if◌then◌else◌, slice_set}
 use Rattle.machine.specs.declared.command.Actor.{Actor}
-use Rattle.machine.specs.declared.turn.Activity.{Activity}
-use Rattle.machine.specs.declared.turn.Activity.TheVariants.{Rests}
-use Rattle.machine.specs.declared.turn.Seat.{Seat}
-use Rattle.machine.specs.Schedule.{is_of, activity_of, with_activity}
+use Rattle.driver.specs.declared.turn.Activity.{Activity}
+use Rattle.driver.specs.declared.turn.Activity.TheVariants.{Rests}
+use Rattle.driver.specs.declared.turn.Seat.{Seat}
+use Rattle.driver.specs.Schedule.{is_of, activity_of, with_activity}
+use Rattle.driver.specs.Tickets.{OwnActivity, OwnSeats}
 use Rattle.driver.specs.Seats.{place_of, IsTaken}
 
 -- at the actor's seat
@@ -134,6 +135,7 @@ taken-seated actor old new h e =
       rests = λ within. e;
       others = λ within what. rw e (with_activity-twice actor what Rests old h);
       unseated = λ none. absurd (omega (arith, h, none));
+      empty = rw e (activity_of-with_activity actor Rests old h);
     }
 
 -- an actor with no seat leaves all as it was
@@ -144,6 +146,7 @@ taken-unseated actor old none =
       rests = λ within. absurd (omega (arith, within, none));
       others = λ within what. refl;
       unseated = λ none. refl;
+      empty = activity_of-none actor old none;
     }
 
 -- one that rested leaves all as it was, too
@@ -159,3 +162,25 @@ seated actor (seat ∷ seats) busy = at (is_of actor seat) busy (seated actor se
         → (if b then 0 else suc (place_of actor seats)) < suc (length seats)
     at true busy ih = omega arith
     at false busy ih = let rest = ih busy in omega (arith, rest)
+
+-- tickets in hand
+
+pub own-activity_of : (swap : ℕ) (actor : Actor) (seats : List Seat) → OwnSeats swap seats → OwnActivity swap (activity_of actor seats)
+own-activity_of swap actor [] own = tt
+own-activity_of swap actor (seat ∷ seats) own = at (is_of actor seat) (own-activity_of swap actor seats own.1)
+  where
+    at : (b : Bool) → OwnActivity swap (activity_of actor seats) → OwnActivity swap (if b then seat.activity else activity_of actor seats)
+    at true ih = own.0
+    at false ih = ih
+
+pub own-with_activity : (swap : ℕ) (actor : Actor) (what : Activity) (seats : List Seat) → OwnSeats swap seats → OwnActivity swap what → OwnSeats swap (with_activity actor what seats)
+own-with_activity swap actor what [] own here = (here, tt)
+own-with_activity swap actor what (seat ∷ seats) own here = at (is_of actor seat) (own-with_activity swap actor what seats own.1 here)
+  where
+    at : (b : Bool) → OwnSeats swap (with_activity actor what seats) → OwnSeats swap (if b then record { actor = seat.actor; activity = what } ∷ seats else seat ∷ with_activity actor what seats)
+    at true ih = (here, own.1)
+    at false ih = (own.0, ih)
+
+pub own-popped : (swap : ℕ) (rest : List Seat) (last : Seat) → OwnSeats swap (rest ++ last ∷ []) → OwnActivity swap last.activity × OwnSeats swap rest
+own-popped swap [] last own = (own.0, tt)
+own-popped swap (seat ∷ rest) last own = let below = own-popped swap rest last own.1 in (below.0, (own.0, below.1))

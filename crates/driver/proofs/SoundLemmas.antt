@@ -1,9 +1,11 @@
--- In every legal history no two pages share a frame, and the groups of pages and of live tasks are there.
-use Rattle.std.proofs.Common.{◌<◌, ◌≡◌, ◌≢◌, inl, inr, ℕ, zero, suc, ◌≤◌, ◌==◌, ◌&&◌, ◌||◌, not, Bool, true, false, cond, List, [], ◌∷◌, ◌++◌, length, Option, Some, None, refl, sym, ap, ◌∙◌, subst, arith, get_or-set_other}
-use Rattle.std.specs.Prelude.{MatchBool, IfSome, slice_set}
+-- In every legal history no two pages share a frame, a swap block or a ticket, each page is memory on blocks that there are, and the groups of pages and
+-- of live tasks are there.
+use Rattle.std.proofs.Common.{◌+◌, ◌<◌, ◌≡◌, ◌≢◌, inl, inr, ℕ, zero, suc, ◌≤◌, ◌==◌, ◌&&◌, ◌||◌, not, Bool, true, false, cond, List, [], ◌∷◌, ◌++◌, length, Option, Some, None, refl, sym, ap, ◌∙◌, subst, arith, get_or-set_other}
+use Rattle.std.specs.Prelude.{◌⊎◌, MatchBool, IfSome, slice_set}
 use Rattle.std.proofs.lemmas.Bool.{cases_lt}
 use Rattle.std.proofs.lemmas.Bool.Decides.{nat_tests}
 use Rattle.std.proofs.lemmas.List.{get_or_append_left}
+use Rattle.std.proofs.lemmas.List.Quantifiers.{position-Some}
 use Rattle.std.proofs.lemmas.List.Sums.{sum_by-cons}
 use Rattle.std.proofs.Math.ListN.{get_or-eq_default}
 use Rattle.machine.specs.declared.entry.Entry.{Entry}
@@ -13,8 +15,6 @@ use Rattle.machine.specs.declared.record.Task.{Task}
 use Rattle.machine.specs.declared.record.Mapping.{Mapping}
 use Rattle.machine.specs.declared.event.Op.{Op}
 use Rattle.machine.specs.declared.event.Op.TheVariants.{Read, Write}
-use Rattle.machine.specs.declared.record.Limits.{Limits}
-use Rattle.machine.specs.declared.event.Place.{Place}
 use Rattle.machine.specs.declared.event.Place.TheVariants.{Virtual}
 use Rattle.machine.specs.declared.event.Event.{Event}
 use Rattle.machine.specs.declared.event.Event.TheVariants as event
@@ -22,38 +22,55 @@ use Rattle.machine.specs.declared.event.Cause.{Cause}
 use Rattle.machine.specs.declared.refusal.Refusal.TheVariants.{NoEntry, Busy}
 use Rattle.machine.specs.declared.reply.Reply.{Reply}
 use Rattle.machine.specs.declared.reply.Reply.TheVariants as reply
-use Rattle.machine.specs.Slots.{at, Changes, there_and, count_there}
+use Rattle.machine.specs.Names.{parent_path}
+use Rattle.machine.specs.Slots.{at, Changes, there_and, count_there, any_there}
 use Rattle.machine.specs.Tree.{Node, no_node, root, node_at, is_live, is_at_path, find_group, IsBelow, IsTree}
-use Rattle.machine.specs.Pages.{is_anon, in_transfer_at, Content, Memory, OfFile, Residence, Held, Coming, Going, Away, Page, Pages, page_at, frame_at, is_number, has_this_frame, is_frame_taken}
+use Rattle.machine.specs.Pages.{is_anon, in_transfer_at, Content, Memory, OfFile, Residence, Held, Coming, Going, Away, Page, Pages, page_at, frame_at, block_at, ticket_at, is_number, has_this_frame, is_frame_taken, is_swap_taken, is_ticket_taken}
 use Rattle.machine.specs.Counts.{Counted}
-use Rattle.machine.specs.Tasks.{Tasks, task_at, is_live_life, is_live_task, lives, group_of, group_of_task, SetsTask, without_task, mappers, mapped_at}
+use Rattle.machine.specs.Tasks.{Tasks, task_at, is_live_life, is_live_task, lives, group_of, group_of_task, SetsTask, without_task, mappers}
 use Rattle.machine.specs.State.{Opening, State, first_state, over_in, is_frame_free}
-use Rattle.machine.specs.Access.{Meeting, Unmapped, Hits, Transferring, NeedsPage, NeedsCopy, NeedsSwapIn, meets, meets_mapped, meets_slot, meets_residence, is_shared_write}
+use Rattle.machine.specs.Access.{Meeting, Unmapped, Hits, Transferring, NeedsPage, NeedsCopy, NeedsSwapIn, meets}
 use Rattle.machine.specs.Reclaim.{has_takeable, has_transfer, stands, target_of}
 use Rattle.machine.specs.Refusals.{refusal, first_cause, bars_tasks, number_refusal}
-use Rattle.machine.specs.Step.{Only, ChargeStep, MakesPage, StartsFetch, HitStep, UnmappedStep, MeetStep, LifeStep, TaskStep, Takes, StartsLeave, Drops, LeavesBy, LeavesFrom, KillStep, RelieveStep, still, EndsTask, Exits, Step, new_page, touched}
+use Rattle.machine.specs.Step.{ChargeStep, MakesPage, StartsFetch, HitStep, UnmappedStep, MeetStep, LifeStep, TaskStep, Takes, StartsSwap, LeavesBy, LeavesFrom, KillStep, RelieveStep, still, EndsTask, Exits, EndsTransfer, in_frame, on_block, Step, new_page}
 use Rattle.machine.specs.Legal.{Legal}
-use Rattle.driver.specs.Laws.{PagesShareNoFrame, GroupsAreThere}
-use Rattle.driver.proofs.LawLemmas.{hits_there}
-use Rattle.std.proofs.lemmas.List.Quantifiers.{position-Some}
-use Rattle.machine.specs.Names.{parent_path}
 use Rattle.machine.proofs.TreeLemmas.{eq_cases, IsTree-push}
 use Rattle.machine.proofs.SlotLemmas.{one_if, count_there-none, count_there-some, count_there-changes}
+use Rattle.driver.specs.Laws.{PagesShareNoFrame, PagesShareNoBlock, BlocksAreThere, PagesShareNoTicket, PagesAreMemory, GroupsAreThere}
+use Rattle.driver.proofs.MoveLemmas.{hits_held, swaps_away, in_frame-cases, on_block-cases, both_true, same_true}
 
--- each frame is one page's at most, and the groups of live tasks and of pages are there
-pub record IsSound (pages : Pages) (tasks : Tasks) (tree : List Node) : Type 0 where
-  pub once : (f : ℕ) → count_there (has_this_frame f) pages ≤ 1
+-- ---- what is sound
+
+abbrev pub has_this_block : ℕ → Page → Bool
+has_this_block b page = is_anon page.content && is_number (block_at page.residence) b
+
+abbrev pub has_this_ticket : ℕ → Page → Bool
+has_this_ticket n page = is_number (ticket_at page.residence) n
+
+-- one page at most passes the test of each number
+abbrev pub Once : (ℕ → Page → Bool) → Pages → Type 0
+Once test pages = (k : ℕ) → count_there (test k) pages ≤ 1
+
+-- memory of tasks, charged to a group that is there, on a block that is there
+pub record IsFit (swap : ℕ) (tree : List Node) (page : Page) : Type 0 where
+  pub memory : is_anon page.content ≡ true
+  pub live : is_live tree page.group ≡ true
+  pub within : (b : ℕ) → block_at page.residence ≡ Some b → b < swap
+
+-- each frame, block and ticket is one page's at most, each page is fit, and the groups of live tasks are there
+pub record IsSound (swap : ℕ) (pages : Pages) (tasks : Tasks) (tree : List Node) : Type 0 where
+  pub frames : Once has_this_frame pages
+  pub blocks : Once has_this_block pages
+  pub tickets : Once has_this_ticket pages
+  pub fits : (p : ℕ) → IfSome (page_at pages p) (IsFit swap tree)
   pub homes : (t : ℕ) → lives tasks t ≡ true → is_live tree (group_of_task tasks t) ≡ true
-  pub groups : (p : ℕ) → IfSome (page_at pages p) (λ page. is_live tree page.group ≡ true)
   pub falls : IsTree tree
 
-abbrev pub sound_in : State → Type 0
-sound_in s = IsSound s.pages s.tasks s.tree
+-- a state of that opening
+abbrev pub sound_in : Opening → State → Type 0
+sound_in opening s = (s.opening ≡ opening) × IsSound opening.swap s.pages s.tasks s.tree
 
 -- ---- counts
-
-slot_test : {T : Type 0} (test : T → Bool) → Option T → ℕ
-slot_test test slot = one_if (there_and test slot)
 
 pub bool_le : (a b : Bool) → (a ≡ true → b ≡ true) → one_if a ≤ one_if b
 bool_le true b f = let e : one_if b ≡ 1 = ap one_if (f refl) in omega (arith, e)
@@ -66,13 +83,6 @@ not_true false f = refl
 neither : (a b : Bool) → (a || b) ≡ false → (a ≡ false) × (b ≡ false)
 neither true b e = cc
 neither false b e = (refl, e)
-
-one_most : (b : Bool) → one_if b ≤ 1
-one_most true = omega arith
-one_most false = omega arith
-
-differ : (a b : ℕ) → (a ≡ b → ⊥) → (a == b) ≡ false
-differ a b e = grind (arith, nat_tests, e)
 
 -- what passes there passed before
 pub count-less : {T : Type 0} (test : T → Bool) (xs ys : List (Option T)) → ((n : ℕ) → there_and test (at ys n) ≡ true → there_and test (at xs n) ≡ true) → count_there test ys ≤ count_there test xs
@@ -100,71 +110,105 @@ count-two {T} test xs p q differs first second =
     set_none (z ∷ zs) zero = refl
     set_none (z ∷ zs) (suc n) = set_none zs n
 
--- ---- changes of the tables
+none_has : {T : Type 0} (test : T → Bool) (slots : List (Option T)) → any_there test slots ≡ false → (n : ℕ) → there_and test (at slots n) ≡ false
+none_has test [] e n = refl
+none_has test (slot ∷ slots) e zero = (neither (there_and test slot) _ e).0
+none_has test (slot ∷ slots) e (suc n) = none_has test slots (neither (there_and test slot) _ e).1 n
 
-sound-same : (old new : State) → new.pages ≡ old.pages → new.tasks ≡ old.tasks → new.tree ≡ old.tree → sound_in old → sound_in new
-sound-same old new pages tasks tree sound =
-    subst (λ (ps : Pages). IsSound ps new.tasks new.tree) (sym pages) (subst (λ (ts : Tasks). IsSound old.pages ts new.tree) (sym tasks) (subst (λ (ns : List Node). IsSound old.pages old.tasks ns) (sym tree) sound))
+-- ---- tests of which each number has one page at most
 
-sound-only : (old new : State) → new ≡ old → sound_in old → sound_in new
-sound-only old new e sound = subst sound_in (sym e) sound
+-- what comes to stand there passes the test of no number, but of those that it passed, or that nobody had
+abbrev Keeps : (ℕ → Page → Bool) → Pages → ℕ → Option Page → Type 0
+Keeps test pages p to = (k : ℕ) → there_and (test k) to ≡ true → (there_and (test k) (at pages p) ≡ true) ⊎ (any_there (test k) pages ≡ false)
 
-none_has : (pages : Pages) (f : ℕ) → is_frame_taken pages f ≡ false → (n : ℕ) → there_and (has_this_frame f) (at pages n) ≡ false
-none_has [] f e n = refl
-none_has (slot ∷ pages) f e zero = (neither (there_and (has_this_frame f) slot) _ e).0
-none_has (slot ∷ pages) f e (suc n) = none_has pages f (neither (there_and (has_this_frame f) slot) _ e).1 n
+once-changed : (test : ℕ → Page → Bool) (pages pages' : Pages) (p : ℕ) (to : Option Page) → Once test pages → Changes pages pages' p to → Keeps test pages p to → Once test pages'
+once-changed test pages pages' p to once changes keeps k = by_test (there_and (test k) to) refl
+  where
+    both : count_there (test k) pages' + one_if (there_and (test k) (at pages p)) ≡ count_there (test k) pages + one_if (there_and (test k) to)
+    both = count_there-changes (test k) pages pages' p to changes
+
+    by_test : (b : Bool) → there_and (test k) to ≡ b → count_there (test k) pages' ≤ 1
+    by_test false is = let none : one_if (there_and (test k) to) ≡ 0 = ap one_if is in let before = once k in omega (arith, both, none, before)
+    by_test true is =
+        let one : one_if (there_and (test k) to) ≡ 1 = ap one_if is in
+        elim (keeps k is) [
+          | inl stood ↦ (let stood_one : one_if (there_and (test k) (at pages p)) ≡ 1 = ap one_if stood in let before = once k in omega (arith, both, one, stood_one, before))
+          | inr free ↦ (let none = count_there-none (test k) pages (none_has (test k) pages free) in omega (arith, both, one, none))
+        ]
+
+once-fewer : (test : ℕ → Page → Bool) (pages pages' : Pages) → Once test pages → ((k n : ℕ) → there_and (test k) (at pages' n) ≡ true → there_and (test k) (at pages n) ≡ true) → Once test pages'
+once-fewer test pages pages' once fewer k = let less = count-less (test k) pages pages' (fewer k) in let before = once k in omega (arith, less, before)
+
+once-same : (test : ℕ → Page → Bool) (pages : Pages) (p q k : ℕ) → Once test pages → there_and (test k) (at pages p) ≡ true → there_and (test k) (at pages q) ≡ true → p ≡ q
+once-same test pages p q k once first second =
+    elim (eq_cases p q) [
+      | inl same ↦ same
+      | inr differs ↦ absurd (let two = count-two (test k) pages p q differs first second in let most = once k in omega (arith, two, most))
+    ]
+
+-- the number that a page has now is none, or what it was, or one that nobody had
+abbrev Renumbers : Option ℕ → Option ℕ → (ℕ → Bool) → Type 0
+Renumbers now was is_taken = (now ≡ None) ⊎ ((now ≡ was) ⊎ ((n : ℕ) × (now ≡ Some n) × (is_taken n ≡ false)))
+
+-- no number passes but the page's own
+keeps-number : (test : ℕ → Page → Bool) (pages : Pages) (p : ℕ) (page : Page) (now was : Option ℕ) → ((k : ℕ) → test k page ≡ true → is_number now k ≡ true)
+    → ((k : ℕ) → now ≡ was → test k page ≡ true → there_and (test k) (at pages p) ≡ true) → Renumbers now was (λ n. any_there (test n) pages) → Keeps test pages p (Some page)
+keeps-number test pages p page now was only same (inl none) k is = absurd (let e : is_number None k ≡ true = ap (λ o. is_number o k) (sym none) ∙ only k is in cc)
+keeps-number test pages p page now was only same (inr (inl stood)) k is = inl (same k stood is)
+keeps-number test pages p page now was only same (inr (inr free)) k is =
+    let e : (free.0 == k) ≡ true = ap (λ o. is_number o k) (sym free.1) ∙ only k is in
+    inr (ap (λ (n : ℕ). any_there (test n) pages) (sym (same_true free.0 k e)) ∙ free.2)
 
 slot_is : (P : Page → Type 0) (slot slot' : Option Page) → slot ≡ slot' → IfSome slot' P → IfSome slot P
 slot_is P slot slot' same h = subst (λ x. IfSome x P) (sym same) h
 
-module _ (pages pages' : Pages) (tasks : Tasks) (tree : List Node) (p : ℕ) (sound : IsSound pages tasks tree) where
-  groups_placed : (to : Option Page) → Changes pages pages' p to → IfSome to (λ page. is_live tree page.group ≡ true) → (q : ℕ) → IfSome (page_at pages' q) (λ page. is_live tree page.group ≡ true)
-  groups_placed to changes live q =
-      elim (eq_cases q p) [
-        | inl same ↦ slot_is _ (page_at pages' q) to (ap (page_at pages') same ∙ changes.changed) live
-        | inr other ↦ slot_is _ (page_at pages' q) (page_at pages q) (changes.others q other) (sound.groups q)
-      ]
+-- ---- one page changes
 
-  -- a page comes into a frame that none had
-  sound-placed : (page : Page) (f : ℕ) → frame_at page.residence ≡ Some f → is_frame_taken pages f ≡ false → is_live tree page.group ≡ true → Changes pages pages' p (Some page) → IsSound pages' tasks tree
-  sound-placed page f framed free live changes = record { once = once; homes = sound.homes; groups = groups_placed (Some page) changes live; falls = sound.falls }
-    where
-      once : (n : ℕ) → count_there (has_this_frame n) pages' ≤ 1
-      once n =
-          let both = count_there-changes (has_this_frame n) pages pages' p (Some page) changes in
-          let has : one_if (has_this_frame n page) ≡ one_if (f == n) = ap (λ r. one_if (is_number r n)) framed in
-          elim (eq_cases f n) [
-            | inl same ↦
-                (let none : count_there (has_this_frame n) pages ≡ 0 = ap (λ m. count_there (has_this_frame m) pages) (sym same) ∙ count_there-none (has_this_frame f) pages (none_has pages f free) in
-                let most : one_if (f == n) ≤ 1 = one_most (f == n) in
-                omega (arith, both, has, none, most))
-            | inr other ↦ (let miss : one_if (f == n) ≡ 0 = ap one_if (differ f n other) in let before = sound.once n in omega (arith, both, has, miss, before))
-          ]
-
-  -- a page stays in its frame
-  sound-kept : (page page' : Page) → page_at pages p ≡ Some page → frame_at page'.residence ≡ frame_at page.residence → page'.group ≡ page.group → Changes pages pages' p (Some page') → IsSound pages' tasks tree
-  sound-kept page page' there frame group changes =
+module _ (swap : ℕ) (pages pages' : Pages) (tasks : Tasks) (tree : List Node) (p : ℕ) (sound : IsSound swap pages tasks tree) where
+  sound-changed : (to : Option Page) → Changes pages pages' p to → IfSome to (IsFit swap tree) → Keeps has_this_frame pages p to → Keeps has_this_block pages p to → Keeps has_this_ticket pages p to
+      → IsSound swap pages' tasks tree
+  sound-changed to changes fit frames blocks tickets =
       record {
-        once = λ n.
-            (let both = count_there-changes (has_this_frame n) pages pages' p (Some page') changes in
-            let stood : one_if (there_and (has_this_frame n) (at pages p)) ≡ one_if (has_this_frame n page) = ap (λ (slot : Option Page). one_if (there_and (has_this_frame n) slot)) there in
-            let same : one_if (has_this_frame n page') ≡ one_if (has_this_frame n page) = ap (λ r. one_if (is_number r n)) frame in
-            let before = sound.once n in
-            omega (arith, both, stood, same, before));
+        frames = once-changed has_this_frame pages pages' p to sound.frames changes frames;
+        blocks = once-changed has_this_block pages pages' p to sound.blocks changes blocks;
+        tickets = once-changed has_this_ticket pages pages' p to sound.tickets changes tickets;
+        fits = λ q.
+            elim (eq_cases q p) [
+              | inl same ↦ slot_is (IsFit swap tree) (page_at pages' q) to (ap (page_at pages') same ∙ changes.changed) fit
+              | inr other ↦ slot_is (IsFit swap tree) (page_at pages' q) (page_at pages q) (changes.others q other) (sound.fits q)
+            ];
         homes = sound.homes;
-        groups = groups_placed (Some page') changes (ap (is_live tree) group ∙ subst (λ slot. IfSome slot (λ page. is_live tree page.group ≡ true)) there (sound.groups p));
         falls = sound.falls;
       }
 
   -- a page goes
-  sound-gone : Changes pages pages' p None → IsSound pages' tasks tree
-  sound-gone changes =
-      record {
-        once = λ n. (let both = count_there-changes (has_this_frame n) pages pages' p None changes in let before = sound.once n in omega (arith, both, before));
-        homes = sound.homes;
-        groups = groups_placed None changes tt;
-        falls = sound.falls;
-      }
+  sound-gone : Changes pages pages' p None → IsSound swap pages' tasks tree
+  sound-gone changes = sound-changed None changes tt (λ k is. cc) (λ k is. cc) (λ k is. cc)
+
+  -- a page comes into a frame that none had
+  sound-placed : (g frame : ℕ) → is_live tree g ≡ true → is_frame_taken pages frame ≡ false → Changes pages pages' p (Some (new_page g frame)) → IsSound swap pages' tasks tree
+  sound-placed g frame live free changes =
+      sound-changed (Some (new_page g frame)) changes (record { memory = refl; live = live; within = λ b e. cc })
+      (keeps-number has_this_frame pages p (new_page g frame) (Some frame) None (λ k is. is) (λ k e is. cc) (inr (inr (frame, refl, free)))) (λ k is. cc) (λ k is. cc)
+
+  fit_there : (page : Page) → page_at pages p ≡ Some page → IsFit swap tree page
+  fit_there page there = subst (λ slot. IfSome slot (IsFit swap tree)) there (sound.fits p)
+
+  -- a page comes to stand elsewhere
+  sound-moved : (page : Page) (dirty : Bool) (r : Residence) → page_at pages p ≡ Some page
+      → Changes pages pages' p (Some (record { content = page.content; group = page.group; dirty = dirty; residence = r })) → ((b : ℕ) → block_at r ≡ Some b → b < swap)
+      → Renumbers (frame_at r) (frame_at page.residence) (is_frame_taken pages) → Renumbers (block_at r) (block_at page.residence) (is_swap_taken pages)
+      → Renumbers (ticket_at r) (ticket_at page.residence) (is_ticket_taken pages) → IsSound swap pages' tasks tree
+  sound-moved page dirty r there changes within frames blocks tickets =
+      let fit = fit_there page there in
+      let page' : Page = record { content = page.content; group = page.group; dirty = dirty; residence = r } in
+      sound-changed (Some page') changes (record { memory = fit.memory; live = fit.live; within = within })
+      (keeps-number has_this_frame pages p page' (frame_at r) (frame_at page.residence) (λ k is. is) (λ k e is. ap (there_and (has_this_frame k)) there ∙ (ap (λ o. is_number o k) (sym e) ∙ is)) frames)
+      (keeps-number has_this_block pages p page' (block_at r) (block_at page.residence) (λ k is. (both_true (is_anon page.content) (is_number (block_at r) k) is).1)
+      (λ k e is. ap (there_and (has_this_block k)) there ∙ (ap (λ o. is_anon page.content && is_number o k) (sym e) ∙ is)) blocks)
+      (keeps-number has_this_ticket pages p page' (ticket_at r) (ticket_at page.residence) (λ k is. is) (λ k e is. ap (there_and (has_this_ticket k)) there ∙ (ap (λ o. is_number o k) (sym e) ∙ is)) tickets)
+
+-- ---- tasks and groups
 
 pub still_passes : (mappings : List Mapping) (p : ℕ) (test : Page → Bool) (slot : Option Page) → there_and test (still mappings p slot) ≡ true → there_and test slot ≡ true
 still_passes mappings p test None e = e
@@ -183,42 +227,43 @@ still_some P mappings p (Some page) h = by_test (is_anon page.content && ((mappe
     by_test false = h
 
 -- a task ends, and the pages that nothing maps any more go
-sound-ended : (old new : State) (t : ℕ) (ended : Life) (counted : List Counted) → is_live_life ended ≡ false → EndsTask old t ended counted new → sound_in old → sound_in new
-sound-ended old new t ended counted dead ends sound =
-    subst (λ (ns : List Node). IsSound new.pages new.tasks ns) (sym (ap (λ (s : State). s.tree) ends.state))
-    (record {
-      once = λ f.
-          (let less = count-less (has_this_frame f) old.pages new.pages
-          (λ n e. still_passes (without_task old.mappings t) n (has_this_frame f) (page_at old.pages n) (sym (ap (there_and (has_this_frame f)) (ends.unmaps n)) ∙ e)) in
-          let before = sound.once f in
-          omega (arith, less, before));
+sound-ended : (swap : ℕ) (old new : State) (t : ℕ) (ended : Life) (counted : List Counted) → is_live_life ended ≡ false → EndsTask old t ended counted new
+    → IsSound swap old.pages old.tasks old.tree → IsSound swap new.pages new.tasks old.tree
+sound-ended swap old new t ended counted dead ends sound =
+    record {
+      frames = once-fewer has_this_frame old.pages new.pages sound.frames (λ k. passed (has_this_frame k));
+      blocks = once-fewer has_this_block old.pages new.pages sound.blocks (λ k. passed (has_this_block k));
+      tickets = once-fewer has_this_ticket old.pages new.pages sound.tickets (λ k. passed (has_this_ticket k));
+      fits = λ p. slot_is _ (page_at new.pages p) _ (ends.unmaps p) (still_some _ (without_task old.mappings t) p (page_at old.pages p) (sound.fits p));
       homes = λ u alive.
           elim (eq_cases u t) [
             | inl same ↦ absurd (let not_live : lives new.tasks u ≡ false = ap (λ (x : ℕ). lives new.tasks x) same ∙ ap (there_and is_live_task) ends.ends.changed ∙ dead in unlike (lives new.tasks u) alive not_live)
             | inr other ↦ ap (λ (slot : Option Task). is_live old.tree (group_of slot)) (ends.ends.others u other) ∙ sound.homes u (sym (ap (there_and is_live_task) (ends.ends.others u other)) ∙ alive)
           ];
-      groups = λ p. slot_is _ (page_at new.pages p) _ (ends.unmaps p) (still_some _ (without_task old.mappings t) p (page_at old.pages p) (sound.groups p));
       falls = sound.falls;
-    })
+    }
   where
     unlike : (b : Bool) → b ≡ true → b ≡ false → ⊥
     unlike b e f = cc
 
+    passed : (test : Page → Bool) (n : ℕ) → there_and test (at new.pages n) ≡ true → there_and test (at old.pages n) ≡ true
+    passed test n e = still_passes (without_task old.mappings t) n test (page_at old.pages n) (sym (ap (there_and test) (ends.unmaps n)) ∙ e)
+
 -- a task begins in a group that is there
-sound-spawned : (old new : State) (t g : ℕ) → is_live old.tree g ≡ true → SetsTask old.tasks t g Live new.tasks → new ≡ record old { tasks = new.tasks } → sound_in old → sound_in new
-sound-spawned old new t g live sets state sound =
-    subst (λ (ps : Pages). IsSound ps new.tasks new.tree) (sym (ap (λ (s : State). s.pages) state))
-    (subst (λ (ns : List Node). IsSound old.pages new.tasks ns) (sym (ap (λ (s : State). s.tree) state))
-    (record {
-      once = sound.once;
+sound-spawned : (swap : ℕ) (pages : Pages) (tasks tasks' : Tasks) (tree : List Node) (t g : ℕ) → is_live tree g ≡ true → SetsTask tasks t g Live tasks' → IsSound swap pages tasks tree → IsSound swap pages tasks' tree
+sound-spawned swap pages tasks tasks' tree t g live sets sound =
+    record {
+      frames = sound.frames;
+      blocks = sound.blocks;
+      tickets = sound.tickets;
+      fits = sound.fits;
       homes = λ u alive.
           elim (eq_cases u t) [
-            | inl same ↦ ap (λ (slot : Option Task). is_live old.tree (group_of slot)) (ap (task_at new.tasks) same ∙ sets.changed) ∙ live
-            | inr other ↦ ap (λ (slot : Option Task). is_live old.tree (group_of slot)) (sets.others u other) ∙ sound.homes u (sym (ap (there_and is_live_task) (sets.others u other)) ∙ alive)
+            | inl same ↦ ap (λ (slot : Option Task). is_live tree (group_of slot)) (ap (task_at tasks') same ∙ sets.changed) ∙ live
+            | inr other ↦ ap (λ (slot : Option Task). is_live tree (group_of slot)) (sets.others u other) ∙ sound.homes u (sym (ap (there_and is_live_task) (sets.others u other)) ∙ alive)
           ];
-      groups = sound.groups;
       falls = sound.falls;
-    }))
+    }
 
 -- what a path finds is there
 found_below : (tree : List Node) (path : List ℕ) → IsBelow (find_group tree path) (length tree)
@@ -236,161 +281,114 @@ live_push tree x g live =
       | inr beyond ↦ absurd (let none = ap (λ (n : Node). n.live) (get_or-eq_default tree no_node beyond) in cc)
     ]
 
-some_push : (tree : List Node) (x : Node) (slot : Option Page) → IfSome slot (λ page. is_live tree page.group ≡ true) → IfSome slot (λ page. is_live (tree ++ x ∷ []) page.group ≡ true)
-some_push tree x None h = h
-some_push tree x (Some page) h = live_push tree x page.group h
+some_push : (swap : ℕ) (tree : List Node) (x : Node) (slot : Option Page) → IfSome slot (IsFit swap tree) → IfSome slot (IsFit swap (tree ++ x ∷ []))
+some_push swap tree x None h = h
+some_push swap tree x (Some page) h = record { memory = h.memory; live = live_push tree x page.group h.live; within = h.within }
 
-sound-grown : (pages : Pages) (tasks : Tasks) (tree : List Node) (x : Node) → IsBelow x.parent (length tree) → IsSound pages tasks tree → IsSound pages tasks (tree ++ x ∷ [])
-sound-grown pages tasks tree x below sound =
+sound-grown : (swap : ℕ) (pages : Pages) (tasks : Tasks) (tree : List Node) (x : Node) → IsBelow x.parent (length tree) → IsSound swap pages tasks tree → IsSound swap pages tasks (tree ++ x ∷ [])
+sound-grown swap pages tasks tree x below sound =
     record {
-      once = sound.once;
+      frames = sound.frames;
+      blocks = sound.blocks;
+      tickets = sound.tickets;
+      fits = λ p. some_push swap tree x (page_at pages p) (sound.fits p);
       homes = λ t alive. live_push tree x (group_of_task tasks t) (sound.homes t alive);
-      groups = λ p. some_push tree x (page_at pages p) (sound.groups p);
       falls = IsTree-push tree x sound.falls below;
     }
 
--- ---- accesses
+-- ---- steps
 
--- a page that is to be swapped in is there
-swaps_there : (s : State) (t : ℕ) (place : Place) (op : Op) (p : ℕ) (page : Page) (block : ℕ) → meets s t place op ≡ NeedsSwapIn p page block → page_at s.pages p ≡ Some page
-swaps_there s t (Virtual v o) op p page block swaps = by_mapped (mapped_at s.mappings t v) op swaps
-  where
-    by_shared : (b : Bool) (q f : ℕ) (other : Page) → cond b NeedsCopy (Hits q other f) ≡ NeedsSwapIn p page block → page_at s.pages p ≡ Some page
-    by_shared true q f other e = cc
-    by_shared false q f other e = cc
+module _ (opening : Opening) (old new : State) (sound : sound_in opening old) where
+  sound-only : new ≡ old → sound_in opening new
+  sound-only e = subst (sound_in opening) (sym e) sound
 
-    by_residence : (q : ℕ) (other : Page) (r : Residence) (op : Op) → page_at s.pages q ≡ Some other → meets_residence s q other r op ≡ NeedsSwapIn p page block → page_at s.pages p ≡ Some page
-    by_residence q other (Held f) op is e = by_shared (is_shared_write s.mappings q op) q f other e
-    by_residence q other (Coming f b ticket) op is e = cc
-    by_residence q other (Going f b ticket) op is e = cc
-    by_residence q other (Away b) op is e = cc
+  counted_sound : {counted : List Counted} → new ≡ record old { counted = counted } → sound_in opening new
+  counted_sound e = subst (sound_in opening) (sym e) (sound.0, sound.1)
 
-    by_page : (q : ℕ) (slot : Option Page) (op : Op) → page_at s.pages q ≡ slot → meets_slot s q slot op ≡ NeedsSwapIn p page block → page_at s.pages p ≡ Some page
-    by_page q None op is e = cc
-    by_page q (Some other) op is e = by_residence q other other.residence op is e
+  -- with new pages and counts, and the tasks and the groups as they were
+  pages_sound : {counted : List Counted} {mappings : List Mapping} → new ≡ record old { pages = new.pages; counted = counted; mappings = mappings } → IsSound opening.swap new.pages old.tasks old.tree → sound_in opening new
+  pages_sound e h = subst (sound_in opening) (sym e) (sound.0, h)
 
-    by_mapped : (m : Option ℕ) (op : Op) → meets_mapped s m op ≡ NeedsSwapIn p page block → page_at s.pages p ≡ Some page
-    by_mapped None Read e = cc
-    by_mapped None (Write b) e = cc
-    by_mapped (Some q) op e = by_page q (page_at s.pages q) op refl e
+  swap_is : (b : ℕ) → b < old.opening.swap → b < opening.swap
+  swap_is b lt = subst (λ (o : Opening). b < o.swap) sound.0 lt
 
-module _ (old new : State) (sound : sound_in old) where
-  counted_sound : {counted : List Counted} → new ≡ record old { counted = counted } → sound_in new
-  counted_sound e = sound-same old new (ap (λ (s : State). s.pages) e) (ap (λ (s : State). s.tasks) e) (ap (λ (s : State). s.tree) e) sound
-
-  -- with new pages, and the tasks and the groups as they were
-  pages_sound : new.tasks ≡ old.tasks → new.tree ≡ old.tree → IsSound new.pages old.tasks old.tree → sound_in new
-  pages_sound tasks tree h = subst (λ (ts : Tasks). IsSound new.pages ts new.tree) (sym tasks) (subst (λ (ns : List Node). IsSound new.pages old.tasks ns) (sym tree) h)
-
-  charge_sound : (g : ℕ) (Granted : Type 0) (answer : Reply) → (Granted → sound_in new) → ChargeStep old (over_in old g) (is_frame_free old) Granted answer new → sound_in new
-  charge_sound g Granted answer granted step = by_over (over_in old g) step
-    where
-      by_free : (free : Bool) → MatchBool free Granted (Only old reply.NoFrame answer new) → sound_in new
-      by_free true h = granted h
-      by_free false h = sound-only old new h.1 sound
-
-      by_over : (low : Option ℕ) → ChargeStep old low (is_frame_free old) Granted answer new → sound_in new
-      by_over (Some low) h = counted_sound h.1
-      by_over None h = by_free (is_frame_free old) h
-
-  unmapped_sound : (answer : Reply) → UnmappedStep old answer new → sound_in new
-  unmapped_sound (reply.Done byte hit) h = sound-only old new h.1 sound
-  unmapped_sound answer h = absurd h
-
-  hit_sound : (p frame : ℕ) (page : Page) (op : Op) (answer : Reply) → page_at old.pages p ≡ Some page → HitStep old p page frame op answer new → sound_in new
-  hit_sound p frame page Read (reply.Done byte hit) there h = sound-only old new h.1 sound
-  hit_sound p frame page (Write b) (reply.Done byte hit) there h =
-      pages_sound (ap (λ (s : State). s.tasks) h.3) (ap (λ (s : State). s.tree) h.3) (sound-kept old.pages new.pages old.tasks old.tree p sound page (touched page (Write b)) there refl refl h.2)
-  hit_sound p frame page op answer there h = absurd h
-
-  makes_sound : (t v g : ℕ) (op : Op) (others : List Mapping) (answer : Reply) → is_live old.tree g ≡ true → MakesPage old t v g op others answer new → sound_in new
-  makes_sound t v g op others answer live h =
-      pages_sound (ap (λ (s : State). s.tasks) h.state) (ap (λ (s : State). s.tree) h.state)
-      (sound-placed old.pages new.pages old.tasks old.tree h.page sound (new_page g h.frame) h.frame refl h.frame_free.unused live h.placed)
-
-  fetch_sound : (p g : ℕ) (content : Content) (block : ℕ) (answer : Reply) → is_live old.tree g ≡ true → StartsFetch old p g content block answer new → sound_in new
-  fetch_sound p g content block answer live h =
-      pages_sound (ap (λ (s : State). s.tasks) h.state) (ap (λ (s : State). s.tree) h.state)
-      (sound-placed old.pages new.pages old.tasks old.tree p sound (record { content = content; group = g; dirty = false; residence = Coming h.frame block h.ticket }) h.frame refl h.frame_free.unused live h.placed)
-
-  group_live : (p : ℕ) (page : Page) → page_at old.pages p ≡ Some page → is_live old.tree page.group ≡ true
-  group_live p page there = subst (λ slot. IfSome slot (λ page. is_live old.tree page.group ≡ true)) there (sound.groups p)
-
-  meet_sound : (t g : ℕ) (place : Place) (op : Op) (answer : Reply) (meeting : Meeting) → is_live old.tree g ≡ true → meets old t place op ≡ meeting → MeetStep old t g place op meeting answer new → sound_in new
-  meet_sound t g place op answer Unmapped live is h = unmapped_sound answer h
-  meet_sound t g place op answer (Hits p page frame) live is h = hit_sound p frame page op answer (hits_there old t place op p page frame is) h
-  meet_sound t g place op answer Transferring live is h = sound-only old new h.1 sound
-  meet_sound t g place op answer NeedsPage live is h = charge_sound g _ answer (λ made. makes_sound t _ g op _ answer live made) h
-  meet_sound t g place op answer NeedsCopy live is h = charge_sound g _ answer (λ made. makes_sound t _ g op _ answer live made) h
-  meet_sound t g place op answer (NeedsSwapIn p page block) live is h =
-      charge_sound page.group _ answer (λ begun. fetch_sound p page.group page.content block answer (group_live p page (swaps_there old t place op p page block is)) begun) h
-
-  access_sound : (t : ℕ) (place : Place) (op : Op) (answer : Reply) → TaskStep old (task_at old.tasks t) (λ task. MeetStep old t task.group.0 place op (meets old t place op) answer new) answer new → sound_in new
-  access_sound t place op answer step = by_slot (task_at old.tasks t) refl step
-    where
-      by_life : (task : Task) (ending : Life) → task_at old.tasks t ≡ Some task → task.life ≡ ending → LifeStep old ending (MeetStep old t task.group.0 place op (meets old t place op) answer new) answer new → sound_in new
-      by_life task Live known alive h =
-          meet_sound t task.group.0 place op answer (meets old t place op)
-          (ap (λ (slot : Option Task). is_live old.tree (group_of slot)) (sym known) ∙ sound.homes t (ap (there_and is_live_task) known ∙ ap is_live_life alive)) refl h
-      by_life task Exited known alive h = absurd h
-      by_life task Killed known alive h = sound-only old new h.1 sound
-
-      by_slot : (slot : Option Task) → task_at old.tasks t ≡ slot → TaskStep old slot (λ task. MeetStep old t task.group.0 place op (meets old t place op) answer new) answer new → sound_in new
-      by_slot None known h = absurd h
-      by_slot (Some task) known h = by_life task task.life known refl h
-
-  exit_sound : (t : ℕ) (answer : Reply) (slot : Option Task) → TaskStep old slot (λ task. Exits old t answer new) answer new → sound_in new
-  exit_sound t answer None h = absurd h
-  exit_sound t answer (Some task) h = by_life task.life h
-    where
-      by_life : (ending : Life) → LifeStep old ending (Exits old t answer new) answer new → sound_in new
-      by_life Live h = sound-ended old new t Exited old.counted refl h.1 sound
-      by_life Exited h = absurd h
-      by_life Killed h = sound-only old new h.1 sound
-
-  -- ---- relief
-
-  leaves_sound : (p frame block : ℕ) (page : Page) (counted : List Counted) (answer : Reply) → page_at old.pages p ≡ Some page → page.residence ≡ Held frame → StartsLeave old p page frame block counted answer new → sound_in new
-  leaves_sound p frame block page counted answer there stands h =
-      pages_sound (ap (λ (s : State). s.tasks) h.state) (ap (λ (s : State). s.tree) h.state)
-      (sound-kept old.pages new.pages old.tasks old.tree p sound page (record page { residence = Going frame block h.ticket }) there (sym (ap frame_at stands)) refl h.placed)
-
-  drops_sound : (p : ℕ) (counted : List Counted) (answer : Reply) → Drops old p counted answer new → sound_in new
-  drops_sound p counted answer h = pages_sound (ap (λ (s : State). s.tasks) h.state) (ap (λ (s : State). s.tree) h.state) (sound-gone old.pages new.pages old.tasks old.tree p sound h.gone)
-
-  by_sound : {P Q : Type 0} (b : Bool) → (P → sound_in new) → (Q → sound_in new) → MatchBool b P Q → sound_in new
+  by_sound : {P Q : Type 0} (b : Bool) → (P → sound_in opening new) → (Q → sound_in opening new) → MatchBool b P Q → sound_in opening new
   by_sound true f g h = f h
   by_sound false f g h = g h
 
-  leaves_by_sound : (p frame : ℕ) (page : Page) (content : Content) (counted : List Counted) (answer : Reply) → page_at old.pages p ≡ Some page → page.residence ≡ Held frame → LeavesBy old p page content frame counted answer new → sound_in new
-  leaves_by_sound p frame page Memory counted answer there stands h = leaves_sound p frame h.block page counted answer there stands h.leave
-  leaves_by_sound p frame page (OfFile file q) counted answer there stands h = by_sound page.dirty (λ k. leaves_sound p frame _ page counted answer there stands k) (λ k. drops_sound p counted answer k) h
+  fit_at : (p : ℕ) (page : Page) → page_at old.pages p ≡ Some page → IsFit opening.swap old.tree page
+  fit_at p page there = fit_there opening.swap old.pages new.pages old.tasks old.tree p sound.1 page there
 
-  taken_sound : (target : ℕ) (answer : Reply) → Takes old target answer new → sound_in new
-  taken_sound target answer h = by_residence h.page.residence refl h.leaves
+  -- ---- accesses
+
+  charge_sound : (g : ℕ) (Granted : Type 0) (answer : Reply) → (Granted → sound_in opening new) → ChargeStep old (over_in old g) (is_frame_free old) Granted answer new → sound_in opening new
+  charge_sound g Granted answer granted step = by_over (over_in old g) step
     where
-      by_residence : (r : Residence) → h.page.residence ≡ r → LeavesFrom old h.p h.page r old.counted answer new → sound_in new
-      by_residence (Held frame) stands k = leaves_by_sound h.p frame h.page h.page.content old.counted answer h.there stands k
-      by_residence (Coming frame block ticket) stands k = absurd k
-      by_residence (Going frame block ticket) stands k = absurd k
-      by_residence (Away block) stands k = absurd k
+      by_over : (low : Option ℕ) → ChargeStep old low (is_frame_free old) Granted answer new → sound_in opening new
+      by_over (Some low) h = counted_sound h.1
+      by_over None h = by_sound (is_frame_free old) granted (λ k. sound-only k.1) h
 
-  kill_sound : (limit : ℕ) (answer : Reply) → KillStep old limit answer new → sound_in new
-  kill_sound limit (reply.KilledTask t) h = sound-ended old new t.0 Killed _ refl h.1 sound
-  kill_sound limit reply.NoVictim h = counted_sound h.1
-  kill_sound limit answer h = absurd h
+  unmapped_sound : (answer : Reply) → UnmappedStep old answer new → sound_in opening new
+  unmapped_sound (reply.Done byte hit) h = sound-only h.1
+  unmapped_sound answer h = absurd h
 
-  relief_sound : (why : Cause) (answer : Reply) → RelieveStep old why answer new → sound_in new
-  relief_sound why answer step =
-      by_sound (stands old why)
-      (λ s. by_sound (has_takeable old (target_of why)) (λ k. taken_sound (target_of why) answer k) (λ k. by_sound (has_transfer old (target_of why)) (λ w. sound-only old new w.1 sound) (λ w. kill_sound (target_of why) answer w) k) s)
-      (λ r. sound-only old new r.1 sound) step
+  hit_sound : (p frame : ℕ) (page : Page) (op : Op) (answer : Reply) → page_at old.pages p ≡ Some page → HitStep old p page frame op answer new → sound_in opening new
+  hit_sound p frame page Read (reply.Done byte hit) there h = sound-only h.1
+  hit_sound p frame page (Write b) (reply.Done byte hit) there h =
+      pages_sound h.3
+      (sound-moved opening.swap old.pages new.pages old.tasks old.tree p sound.1 page _ page.residence there h.2 (fit_at p page there).within (inr (inl refl)) (inr (inl refl)) (inr (inl refl)))
+  hit_sound p frame page op answer there h = absurd h
 
-  made_sound : (x : Node) (ls : List Limits) → IsBelow x.parent (length old.tree) → new ≡ record old { tree = old.tree ++ x ∷ []; limits = ls } → sound_in new
-  made_sound x ls below e =
-      subst (λ (ps : Pages). IsSound ps new.tasks new.tree) (sym (ap (λ (s : State). s.pages) e))
-      (subst (λ (ts : Tasks). IsSound old.pages ts new.tree) (sym (ap (λ (s : State). s.tasks) e))
-      (subst (λ (ns : List Node). IsSound old.pages old.tasks ns) (sym (ap (λ (s : State). s.tree) e)) (sound-grown old.pages old.tasks old.tree x below sound)))
+  makes_sound : (t v g : ℕ) (op : Op) (others : List Mapping) (answer : Reply) → is_live old.tree g ≡ true → MakesPage old t v g op others answer new → sound_in opening new
+  makes_sound t v g op others answer live h = pages_sound h.state (sound-placed opening.swap old.pages new.pages old.tasks old.tree h.page sound.1 g h.frame live h.frame_free.unused h.placed)
+
+  fetch_sound : (p : ℕ) (page : Page) (block : ℕ) (answer : Reply) → page_at old.pages p ≡ Some page → page.residence ≡ Away block → StartsFetch old p page.group page.content block answer new → sound_in opening new
+  fetch_sound p page block answer there away h =
+      pages_sound h.state
+      (sound-moved opening.swap old.pages new.pages old.tasks old.tree p sound.1 page false (Coming h.frame block h.ticket) there h.placed
+      (λ b e. (fit_at p page there).within b (ap block_at away ∙ e)) (inr (inr (h.frame, refl, h.frame_free.unused))) (inr (inl (sym (ap block_at away)))) (inr (inr (h.ticket, refl, h.ticket_free))))
+
+  meet_sound : (t v offset g : ℕ) (op : Op) (answer : Reply) (meeting : Meeting) → is_live old.tree g ≡ true → meets old t (Virtual v offset) op ≡ meeting → MeetStep old t g (Virtual v offset) op meeting answer new
+      → sound_in opening new
+  meet_sound t v offset g op answer Unmapped live is h = unmapped_sound answer h
+  meet_sound t v offset g op answer (Hits p page frame) live is h = hit_sound p frame page op answer (hits_held old t (Virtual v offset) op p page frame is).0 h
+  meet_sound t v offset g op answer Transferring live is h = sound-only h.1
+  meet_sound t v offset g op answer NeedsPage live is h = charge_sound g _ answer (λ made. makes_sound t v g op _ answer live made) h
+  meet_sound t v offset g op answer NeedsCopy live is h = charge_sound g _ answer (λ made. makes_sound t v g op _ answer live made) h
+  meet_sound t v offset g op answer (NeedsSwapIn p page block) live is h =
+      let found = swaps_away old t v offset op p page block is in
+      charge_sound page.group _ answer (λ begun. fetch_sound p page block answer found.0 found.1 begun) h
+
+  access_sound : (t v offset : ℕ) (op : Op) (answer : Reply)
+      → TaskStep old (task_at old.tasks t) (λ task. MeetStep old t task.group.0 (Virtual v offset) op (meets old t (Virtual v offset) op) answer new) answer new → sound_in opening new
+  access_sound t v offset op answer step = by_slot (task_at old.tasks t) refl step
+    where
+      by_life : (task : Task) (ending : Life) → task_at old.tasks t ≡ Some task → task.life ≡ ending
+          → LifeStep old ending (MeetStep old t task.group.0 (Virtual v offset) op (meets old t (Virtual v offset) op) answer new) answer new → sound_in opening new
+      by_life task Live known alive h =
+          meet_sound t v offset task.group.0 op answer (meets old t (Virtual v offset) op)
+          (ap (λ (slot : Option Task). is_live old.tree (group_of slot)) (sym known) ∙ sound.1.homes t (ap (there_and is_live_task) known ∙ ap is_live_life alive)) refl h
+      by_life task Exited known alive h = absurd h
+      by_life task Killed known alive h = sound-only h.1
+
+      by_slot : (slot : Option Task) → task_at old.tasks t ≡ slot → TaskStep old slot (λ task. MeetStep old t task.group.0 (Virtual v offset) op (meets old t (Virtual v offset) op) answer new) answer new
+          → sound_in opening new
+      by_slot None known h = absurd h
+      by_slot (Some task) known h = by_life task task.life known refl h
+
+  -- ---- tasks
+
+  ended_sound : (t : ℕ) (ended : Life) (counted : List Counted) → is_live_life ended ≡ false → EndsTask old t ended counted new → sound_in opening new
+  ended_sound t ended counted dead ends = subst (sound_in opening) (sym ends.state) (sound.0, sound-ended opening.swap old new t ended counted dead ends sound.1)
+
+  exit_sound : (t : ℕ) (answer : Reply) (slot : Option Task) → TaskStep old slot (λ task. Exits old t answer new) answer new → sound_in opening new
+  exit_sound t answer None h = absurd h
+  exit_sound t answer (Some task) h = by_life task.life h
+    where
+      by_life : (ending : Life) → LifeStep old ending (Exits old t answer new) answer new → sound_in opening new
+      by_life Live h = ended_sound t Exited old.counted refl h.1
+      by_life Exited h = absurd h
+      by_life Killed h = sound-only h.1
 
   spawn_live : (t g : ℕ) → refusal old (event.Spawn (record { 0 = t }) (record { 0 = g })) ≡ None → is_live old.tree g ≡ true
   spawn_live t g none = by_live (is_live old.tree g) refl none
@@ -399,14 +397,82 @@ module _ (old new : State) (sound : sound_in old) where
       by_live true is e = is
       by_live false is e = cc
 
-  step_sound : (what : Event) (answer : Reply) → refusal old what ≡ None → Step old what answer new → sound_in new
-  step_sound (event.Access t place op) answer none h = access_sound t.0 place op answer h
+  -- ---- relief
+
+  leaves_sound : (p frame : ℕ) (page : Page) (counted : List Counted) (answer : Reply) → page_at old.pages p ≡ Some page → page.residence ≡ Held frame → StartsSwap old p page frame counted answer new → sound_in opening new
+  leaves_sound p frame page counted answer there held h =
+      pages_sound h.leave.state
+      (sound-moved opening.swap old.pages new.pages old.tasks old.tree p sound.1 page page.dirty (Going frame h.block h.leave.ticket) there h.leave.placed
+      (λ b e. (let same : h.block ≡ b = cc in subst (λ (n : ℕ). n < opening.swap) same (swap_is h.block h.block_free.in_range)))
+      (inr (inl (sym (ap frame_at held)))) (inr (inr (h.block, refl, h.block_free.unused))) (inr (inr (h.leave.ticket, refl, h.leave.ticket_free))))
+
+  -- a page is memory, and so goes to a swap block
+  leaves_by_sound : (p frame : ℕ) (page : Page) (content : Content) (counted : List Counted) (answer : Reply) → page_at old.pages p ≡ Some page → page.residence ≡ Held frame → page.content ≡ content
+      → LeavesBy old p page content frame counted answer new → sound_in opening new
+  leaves_by_sound p frame page Memory counted answer there held is h = leaves_sound p frame page counted answer there held h
+  leaves_by_sound p frame page (OfFile file q) counted answer there held is h = absurd (let e : false ≡ true = sym (ap is_anon is) ∙ (fit_at p page there).memory in cc)
+
+  taken_sound : (target : ℕ) (answer : Reply) → Takes old target answer new → sound_in opening new
+  taken_sound target answer h = by_residence h.page.residence refl h.leaves
+    where
+      by_residence : (r : Residence) → h.page.residence ≡ r → LeavesFrom old h.p h.page r old.counted answer new → sound_in opening new
+      by_residence (Held frame) held k = leaves_by_sound h.p frame h.page h.page.content old.counted answer h.there held refl k
+      by_residence (Coming frame block ticket) held k = absurd k
+      by_residence (Going frame block ticket) held k = absurd k
+      by_residence (Away block) held k = absurd k
+
+  kill_sound : (limit : ℕ) (answer : Reply) → KillStep old limit answer new → sound_in opening new
+  kill_sound limit (reply.KilledTask t) h = ended_sound t.0 Killed _ refl h.1
+  kill_sound limit reply.NoVictim h = counted_sound h.1
+  kill_sound limit answer h = absurd h
+
+  relief_sound : (why : Cause) (answer : Reply) → RelieveStep old why answer new → sound_in opening new
+  relief_sound why answer step =
+      by_sound (stands old why)
+      (λ s. by_sound (has_takeable old (target_of why)) (λ k. taken_sound (target_of why) answer k) (λ k. by_sound (has_transfer old (target_of why)) (λ w. sound-only w.1) (λ w. kill_sound (target_of why) answer w) k) s)
+      (λ r. sound-only r.1) step
+
+  -- ---- ends of transfers
+
+  -- the page goes, or gives up its ticket, and its frame or its block
+  settled_sound : (from : ℕ → ℕ → Residence) (to : List Mapping → ℕ → Page → ℕ → ℕ → Option Page) (settled : ℕ → ℕ → Residence) (answer : Reply)
+      → ((mappings : List Mapping) (q : ℕ) (page : Page) (frame block : ℕ) → (to mappings q page frame block ≡ None) ⊎ (to mappings q page frame block ≡ Some (record page { residence = settled frame block })))
+      → ((frame block b : ℕ) → block_at (settled frame block) ≡ Some b → block_at (from frame block) ≡ Some b)
+      → ((frame block : ℕ) → (frame_at (settled frame block) ≡ None) ⊎ (frame_at (settled frame block) ≡ frame_at (from frame block)))
+      → ((frame block : ℕ) → (block_at (settled frame block) ≡ None) ⊎ (block_at (settled frame block) ≡ block_at (from frame block))) → ((frame block : ℕ) → ticket_at (settled frame block) ≡ None)
+      → EndsTransfer old from to answer new → sound_in opening new
+  settled_sound from to settled answer cases within frames blocks tickets h =
+      pages_sound h.state
+      (elim (cases old.mappings h.p h.page h.frame h.block) [
+        | inl none ↦ sound-gone opening.swap old.pages new.pages old.tasks old.tree h.p sound.1 (subst (Changes old.pages new.pages h.p) none h.placed)
+        | inr some ↦
+            sound-moved opening.swap old.pages new.pages old.tasks old.tree h.p sound.1 h.page h.page.dirty (settled h.frame h.block) h.there (subst (Changes old.pages new.pages h.p) some h.placed)
+            (λ b e. (fit_at h.p h.page h.there).within b (ap block_at h.moves ∙ within h.frame h.block b e)) (renumbers frame_at (is_frame_taken old.pages) (frames h.frame h.block))
+            (renumbers block_at (is_swap_taken old.pages) (blocks h.frame h.block)) (inl (tickets h.frame h.block))
+      ])
+    where
+      renumbers : (key : Residence → Option ℕ) (is_taken : ℕ → Bool) → (key (settled h.frame h.block) ≡ None) ⊎ (key (settled h.frame h.block) ≡ key (from h.frame h.block))
+          → Renumbers (key (settled h.frame h.block)) (key h.page.residence) is_taken
+      renumbers key is_taken (inl none) = inl none
+      renumbers key is_taken (inr same) = inr (inl (same ∙ sym (ap key h.moves)))
+
+  step_sound : (what : Event) (answer : Reply) → refusal old what ≡ None → Step old what answer new → sound_in opening new
+  step_sound (event.Access t (Virtual v offset) op) answer none h = access_sound t.0 v offset op answer h
+  step_sound (event.Arrived ticket bytes) answer none h =
+      settled_sound _ in_frame (λ frame block. Held frame) answer in_frame-cases (λ frame block b e. cc) (λ frame block. inr refl) (λ frame block. inl refl) (λ frame block. refl) h
+  step_sound (event.FetchFailed ticket) answer none h =
+      settled_sound _ on_block (λ frame block. Away block) answer on_block-cases (λ frame block b e. e) (λ frame block. inl refl) (λ frame block. inr refl) (λ frame block. refl) h
+  step_sound (event.Left ticket) answer none h =
+      settled_sound _ on_block (λ frame block. Away block) answer on_block-cases (λ frame block b e. e) (λ frame block. inl refl) (λ frame block. inr refl) (λ frame block. refl) h
+  step_sound (event.LeaveFailed ticket) answer none h =
+      settled_sound _ in_frame (λ frame block. Held frame) answer in_frame-cases (λ frame block b e. cc) (λ frame block. inr refl) (λ frame block. inl refl) (λ frame block. refl) h
   step_sound (event.Relieve why) answer none h = relief_sound why answer h
-  step_sound (event.Spawn t g) reply.Ok none h = sound-spawned old new t.0 g.0 (spawn_live t.0 g.0 none) h.0 h.1 sound
+  step_sound (event.Spawn t g) reply.Ok none h =
+      subst (sound_in opening) (sym h.1) (sound.0, sound-spawned opening.swap old.pages old.tasks new.tasks old.tree t.0 g.0 (spawn_live t.0 g.0 none) h.0 sound.1)
   step_sound (event.Exit t) answer none h = exit_sound t.0 answer (task_at old.tasks t.0) h
-  step_sound (event.Mkdir path) reply.Ok none h = made_sound _ _ (found_below old.tree (parent_path path)) h
-  step_sound (event.Set g setting) reply.Ok none h = sound-same old new (ap (λ (s : State). s.pages) h) (ap (λ (s : State). s.tasks) h) (ap (λ (s : State). s.tree) h) sound
-  step_sound (event.Show what) (reply.Shown numbers) none h = sound-only old new h.1 sound
+  step_sound (event.Mkdir path) reply.Ok none h = subst (sound_in opening) (sym h) (sound.0, sound-grown opening.swap old.pages old.tasks old.tree _ (found_below old.tree (parent_path path)) sound.1)
+  step_sound (event.Set g setting) reply.Ok none h = subst (sound_in opening) (sym h) (sound.0, sound.1)
+  step_sound (event.Show what) (reply.Shown numbers) none h = sound-only h.1
   step_sound what answer none h = absurd h
 
 -- ---- legal histories
@@ -415,31 +481,48 @@ root_falls : (g p : ℕ) → (node_at (root ∷ []) g).parent ≡ Some p → p <
 root_falls zero p e = cc
 root_falls (suc g) p e = cc
 
-first_sound : (opening : Opening) → sound_in (first_state opening)
-first_sound opening = record { once = λ f. omega arith; homes = λ t alive. cc; groups = λ p. tt; falls = record { falls = root_falls } }
+first_sound : (opening : Opening) → sound_in opening (first_state opening)
+first_sound opening = (
+  refl,
+  record { frames = λ f. omega arith; blocks = λ b. omega arith; tickets = λ n. omega arith; fits = λ p. tt; homes = λ t alive. cc; falls = record { falls = root_falls } },
+)
 
-pub legal-sound : (opening : Opening) (history : List Entry) (s : State) → Legal opening history s → sound_in s
-legal-sound opening [] s legal = subst sound_in (sym legal) (first_sound opening)
-legal-sound opening (entry ∷ earlier) s legal = step_sound legal.0 s (legal-sound opening earlier legal.0 legal.1) entry.event entry.reply legal.2.unrefused legal.2.steps
+pub legal-sound : (opening : Opening) (history : List Entry) (s : State) → Legal opening history s → sound_in opening s
+legal-sound opening [] s legal = subst (sound_in opening) (sym legal) (first_sound opening)
+legal-sound opening (entry ∷ earlier) s legal = step_sound opening legal.0 s (legal-sound opening earlier legal.0 legal.1) entry.event entry.reply legal.2.unrefused legal.2.steps
 
-frame_passes : (pages : Pages) (p f : ℕ) (page : Page) → page_at pages p ≡ Some page → frame_at page.residence ≡ Some f → there_and (has_this_frame f) (at pages p) ≡ true
-frame_passes pages p f page there framed = ap (there_and (has_this_frame f)) there ∙ ap (λ r. is_number r f) framed ∙ own f
+-- ---- the laws
+
+own_number : (key : Option ℕ) (n : ℕ) → key ≡ Some n → is_number key n ≡ true
+own_number key n e = ap (λ o. is_number o n) e ∙ own n
   where
-    own : (n : ℕ) → (n == n) ≡ true
-    own n = grind (arith, nat_tests)
+    own : (m : ℕ) → (m == m) ≡ true
+    own m = grind (arith, nat_tests)
 
 pub pages_share_no_frame : PagesShareNoFrame
 pages_share_no_frame opening history s legal p q f page other first second framed framed' =
-    elim (eq_cases p q) [
-      | inl same ↦ same
-      | inr differs ↦
-          absurd
-          (let two = count-two (has_this_frame f) s.pages p q differs (frame_passes s.pages p f page first framed) (frame_passes s.pages q f other second framed') in
-          let once = (legal-sound opening history s legal).once f in
-          omega (arith, two, once))
-    ]
+    once-same has_this_frame s.pages p q f (legal-sound opening history s legal).1.frames (ap (there_and (has_this_frame f)) first ∙ own_number _ f framed) (ap (there_and (has_this_frame f)) second ∙ own_number _ f framed')
+
+pub pages_share_no_block : PagesShareNoBlock
+pages_share_no_block opening history s legal p q b page other first second memory memory' on on' =
+    once-same has_this_block s.pages p q b (legal-sound opening history s legal).1.blocks (passes p page first memory on) (passes q other second memory' on')
+  where
+    passes : (n : ℕ) (x : Page) → page_at s.pages n ≡ Some x → is_anon x.content ≡ true → block_at x.residence ≡ Some b → there_and (has_this_block b) (at s.pages n) ≡ true
+    passes n x there anon on = ap (there_and (has_this_block b)) there ∙ (ap (λ a. a && is_number (block_at x.residence) b) anon ∙ own_number _ b on)
+
+pub pages_share_no_ticket : PagesShareNoTicket
+pages_share_no_ticket opening history s legal p q n page other first second under under' =
+    once-same has_this_ticket s.pages p q n (legal-sound opening history s legal).1.tickets (ap (there_and (has_this_ticket n)) first ∙ own_number _ n under) (ap (there_and (has_this_ticket n)) second ∙ own_number _ n under')
+
+-- each page of a state that a legal history leads to
+pub legal-fit : (opening : Opening) (history : List Entry) (s : State) → Legal opening history s → (p : ℕ) (page : Page) → page_at s.pages p ≡ Some page → IsFit opening.swap s.tree page
+legal-fit opening history s legal p page there = subst (λ slot. IfSome slot (IsFit opening.swap s.tree)) there ((legal-sound opening history s legal).1.fits p)
+
+pub blocks_are_there : BlocksAreThere
+blocks_are_there opening history s legal p b page there anon on = (legal-fit opening history s legal p page there).within b on
+
+pub pages_are_memory : PagesAreMemory
+pages_are_memory opening history s legal p page there = (legal-fit opening history s legal p page there).memory
 
 pub groups_are_there : GroupsAreThere
-groups_are_there opening history s legal =
-    let sound = legal-sound opening history s legal in
-    (λ p page there. subst (λ slot. IfSome slot (λ page. is_live s.tree page.group ≡ true)) there (sound.groups p), sound.homes)
+groups_are_there opening history s legal = (λ p page there. (legal-fit opening history s legal p page there).live, (legal-sound opening history s legal).1.homes)

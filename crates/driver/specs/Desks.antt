@@ -1,12 +1,29 @@
--- A desk as a world of a schedule.
-use Rattle.std.specs.Prelude.{◌≡◌}
-use Rattle.machine.specs.Schedule.{World}
+-- A desk, with a device, as a world of a schedule.
+use Rattle.std.specs.Prelude.{◌≡◌, ℕ, ◌≤◌, length}
+use Rattle.block_store.specs.Device.{Disk}
+use Rattle.driver.specs.Schedule.{World}
+use Rattle.driver.specs.Tickets.{OwnSeats}
 use Rattle.driver.specs.declared.desk.Desk.{Desk}
 
-abbrev pub world : Desk → World
-world desk = record { past = desk.book; seats = desk.seats.items }
+abbrev pub world : Desk → Disk → World
+world desk disk = record { past = desk.book; disk = disk; seats = desk.seats.items }
+
+-- how many swap blocks there are
+abbrev pub swap_of : Desk → ℕ
+swap_of desk = desk.book.state.opening.swap
 
 -- the desk asks with the first pass of its book
 pub record Asks (desk : Desk) : Type 0 where
   pub first : desk.pass.worker ≡ 0
   pub given : desk.book.passes ≡ 1
+
+-- the desk can go on with this device: that has the swap blocks, and the tickets in hand name some of them
+pub record IsOn (desk : Desk) (disk : Disk) : Type 0 where
+  pub asks : Asks desk
+  pub own : OwnSeats (swap_of desk) desk.seats.items
+  pub blocks : swap_of desk ≤ length disk.contents
+
+-- the device has as many blocks as before, and as many calls of it can fail
+pub record IsSame (old new : Disk) : Type 0 where
+  pub blocks : length new.contents ≡ length old.contents
+  pub limit : new.fault_limit ≡ old.fault_limit

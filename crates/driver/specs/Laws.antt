@@ -1,5 +1,5 @@
 -- The headline in the words of its users: what holds of every step and of every run.
-use Rattle.std.specs.Prelude.{◌≡◌, ℕ, ◌<◌, true, false, List, ◌∷◌, ◌++◌, Some}
+use Rattle.std.specs.Prelude.{◌≡◌, ℕ, ◌+◌, ◌<◌, ◌≤◌, true, false, List, ◌∷◌, ◌++◌, Some, slice_get}
 use Rattle.machine.specs.declared.config.Config.{Config}
 use Rattle.machine.specs.declared.entry.Entry.{Entry}
 use Rattle.machine.specs.declared.event.Cause.{Cause}
@@ -18,20 +18,44 @@ use Rattle.machine.specs.declared.command.Step.{Step as Line}
 use Rattle.machine.specs.declared.command.Reply.{Reply as Told_by}
 use Rattle.machine.specs.Amounts.{exceeds}
 use Rattle.machine.specs.Counts.{limits_at, local, total}
-use Rattle.machine.specs.Tree.{is_live}
-use Rattle.machine.specs.Pages.{Page, page_at, frame_at}
+use Rattle.machine.specs.Tree.{Node, is_live, under}
+use Rattle.machine.specs.Pages.{Page, page_at, is_anon, frame_at, block_at, ticket_at, is_in_transfer, is_charged}
 use Rattle.machine.specs.Tasks.{lives, group_of_task}
 use Rattle.machine.specs.State.{Opening, State, usage, opening_of}
 use Rattle.machine.specs.Reclaim.{is_idle, target_of}
 use Rattle.machine.specs.Victim.{is_candidate}
 use Rattle.machine.specs.Step.{Step}
 use Rattle.machine.specs.Legal.{Legal}
-use Rattle.machine.specs.History.{Right, IsRight}
-use Rattle.machine.specs.Schedule.{World, first_world, Runs}
+use Rattle.machine.specs.History.{Right, IsRight, Honest}
+use Rattle.machine.specs.declared.command.Answer.TheVariants as answer
+use Rattle.machine.specs.declared.command.Word.TheVariants as word
+use Rattle.machine.specs.declared.refusal.Refusal.TheVariants.{Stranger}
+use Rattle.block_store.specs.Device.{Disk}
+use Rattle.driver.specs.Schedule.{World, first_world, Runs, fits, errors}
 
 -- the history of every run leads from the opening to the run's state, one step of the machine an entry
 abbrev pub RunsAreLegal : Type 0
-RunsAreLegal = (config : Config) (steps : List Line) (answers : List Told_by) (end : World) → Runs (first_world config) steps answers end → Legal (opening_of config) end.past.history end.past.state
+RunsAreLegal =
+    (config : Config) (before : Disk) (steps : List Line) (answers : List Told_by) (end : World) → Runs (first_world config before) steps answers end
+    → Legal (opening_of config) end.past.history end.past.state
+
+-- over a device that has the swap blocks, and that keeps its promise, every page that was read in brought what was last written
+abbrev pub RunsAreHonest : Type 0
+RunsAreHonest =
+    (config : Config) (before : Disk) (steps : List Line) (answers : List Told_by) (end : World) → fits config before ≡ true → Runs (first_world config before) steps answers end
+    → Honest end.past.history
+
+-- no answer of a run is that a ticket was none of its holder's
+abbrev pub NoStrangers : Type 0
+NoStrangers =
+    (config : Config) (before : Disk) (steps : List Line) (answers : List Told_by) (end : World) → Runs (first_world config before) steps answers end
+    → (k : ℕ) (told : Told_by) → slice_get answers k ≡ Some told → told.answer ≡ answer.Word (word.Refused Stranger) → ⊥
+
+-- an error of the device is answered only where a call of it failed: at most as often
+abbrev pub ErrorsAreFailures : Type 0
+ErrorsAreFailures =
+    (config : Config) (before : Disk) (steps : List Line) (answers : List Told_by) (end : World) → Runs (first_world config before) steps answers end
+    → errors answers + before.failures ≤ end.disk.failures
 
 -- memory.current counts the pages with frames at or under the group
 abbrev pub CurrentCountsPages : Type 0
@@ -60,6 +84,10 @@ ChargesStayWithinMax =
     (before after : State) (t : ℕ) (place : Place) (op : Op) (answer : Reply) (a : ℕ) → Step before (event.Access (record { 0 = t }) place op) answer after
     → usage before a < usage after a → exceeds (usage after a) (limits_at after.limits a).max ≡ false
 
+-- beginning to write a page out leaves every group's count as it was. (Excludes a charge that is given back before the page has left.)
+abbrev pub WriteOutsStayCharged : Type 0
+WriteOutsStayCharged = (before after : State) (why : Cause) (n a : ℕ) → Step before (event.Relieve why) (reply.Out (record { 0 = n })) after → usage after a ≡ usage before a
+
 -- the event is an access
 abbrev pub IsAccess : Event → Type 0
 IsAccess (event.Access t place op) = Unit {0}
@@ -86,6 +114,33 @@ abbrev pub PagesShareNoFrame : Type 0
 PagesShareNoFrame =
     (opening : Opening) (history : List Entry) (s : State) → Legal opening history s
     → (p q f : ℕ) (page other : Page) → page_at s.pages p ≡ Some page → page_at s.pages q ≡ Some other → frame_at page.residence ≡ Some f → frame_at other.residence ≡ Some f → p ≡ q
+
+-- no two anonymous pages have one swap block, and each such block is there
+abbrev pub PagesShareNoBlock : Type 0
+PagesShareNoBlock =
+    (opening : Opening) (history : List Entry) (s : State) → Legal opening history s
+    → (p q b : ℕ) (page other : Page) → page_at s.pages p ≡ Some page → page_at s.pages q ≡ Some other → is_anon page.content ≡ true → is_anon other.content ≡ true
+    → block_at page.residence ≡ Some b → block_at other.residence ≡ Some b → p ≡ q
+
+abbrev pub BlocksAreThere : Type 0
+BlocksAreThere =
+    (opening : Opening) (history : List Entry) (s : State) → Legal opening history s
+    → (p b : ℕ) (page : Page) → page_at s.pages p ≡ Some page → is_anon page.content ≡ true → block_at page.residence ≡ Some b → b < opening.swap
+
+-- no two pages are in transfer under one ticket
+abbrev pub PagesShareNoTicket : Type 0
+PagesShareNoTicket =
+    (opening : Opening) (history : List Entry) (s : State) → Legal opening history s
+    → (p q n : ℕ) (page other : Page) → page_at s.pages p ≡ Some page → page_at s.pages q ≡ Some other → ticket_at page.residence ≡ Some n → ticket_at other.residence ≡ Some n → p ≡ q
+
+-- there are no pages of files: each page is memory of tasks
+abbrev pub PagesAreMemory : Type 0
+PagesAreMemory =
+    (opening : Opening) (history : List Entry) (s : State) → Legal opening history s → (p : ℕ) (page : Page) → page_at s.pages p ≡ Some page → is_anon page.content ≡ true
+
+-- a page counts as charged while it is being read in and while it is being written out
+abbrev pub TransfersStayCharged : Type 0
+TransfersStayCharged = (tree : List Node) (a : ℕ) (page : Page) → is_in_transfer page ≡ true → is_charged tree a page ≡ under tree a page.group
 
 -- and the group of each page and of each live task is there
 abbrev pub GroupsAreThere : Type 0

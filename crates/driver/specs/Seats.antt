@@ -1,10 +1,10 @@
 -- Places of seats.
 use Rattle.std.specs.Prelude.{◌≡◌, ℕ, Bool, true, false, suc, ◌<◌, List, [], ◌∷◌, length, if◌then◌else◌}
 use Rattle.machine.specs.declared.command.Actor.{Actor}
-use Rattle.machine.specs.declared.turn.Activity.{Activity}
-use Rattle.machine.specs.declared.turn.Activity.TheVariants.{Rests, Begun, Does}
-use Rattle.machine.specs.declared.turn.Seat.{Seat}
-use Rattle.machine.specs.Schedule.{is_of, with_activity}
+use Rattle.driver.specs.declared.turn.Activity.{Activity}
+use Rattle.driver.specs.declared.turn.Activity.TheVariants.{Rests, Begun, Does}
+use Rattle.driver.specs.declared.turn.Seat.{Seat}
+use Rattle.driver.specs.Schedule.{is_of, activity_of, with_activity}
 
 -- the place of an actor's seat, or how many seats there are
 abbrev pub place_of : Actor → List Seat → ℕ
@@ -17,6 +17,7 @@ pub record IsTaken (who : Actor) (old new : List Seat) : Type 0 where
   pub rests : place_of who old < length old → new ≡ with_activity who Rests old
   pub others : place_of who old < length old → (what : Activity) → with_activity who what new ≡ with_activity who what old
   pub unseated : place_of who old ≡ length old → new ≡ old
+  pub empty : activity_of who new ≡ Rests
 
 -- a command is not answered yet
 abbrev pub is_under_way : Activity → Bool

@@ -1,51 +1,51 @@
-//! The automaton of a command: what it asks of the book in a state, and what it makes of the reply.
-//! It knows no book and no loop, so whoever runs commands runs this one.
+//! The automaton of a command: what it wants of the book or of the device in a state, and what it
+//! makes of the book's reply. It knows no book, no device and no loop, so whoever runs commands runs
+//! this one.
 
-ghost use Rattle.std.specs.Prelude.{◌≡◌, IfOk, IfErr};
-ghost use Rattle.machine.specs.declared.reply.Reply.{Reply};
-ghost use Rattle.machine.specs.Call.{Replies, IsAccessReply, IsReliefReply, IsOkReply, IsExitReply, IsShownReply};
-ghost use Rattle.machine.specs.Turns.{access_event, asks, asked_of, ends_with, ends_refused, byte_answer, Tried, MadeRoom, MaxSet, Lowered, Made, Left, WasShown, Told, Awaits};
+ghost use Rattle.std.specs.Prelude.{◌≡◌, true, IfOk, IfErr};
+ghost use Rattle.book.specs.Replies.{IsAccessReply, IsReliefReply, IsOkReply, IsExitReply, IsShownReply, IsInReply, IsOutReply};
+ghost use Rattle.driver.specs.Turns.{access_event, wants, ends_with, ends_refused, byte_answer, goes_on, Tried, MadeRoom, MaxSet, Lowered, Made, Ended, WasShown, Closed, Told, Awaits, AwaitsAll};
+ghost use Rattle.driver.specs.Tickets.{IsHanded, IsSpendableReply};
 
 use crate::control_files::show_text;
+use crate::turn::{Access, Asked, Doing, Onward, Turned, Want};
+use book::{Event, InTicket, OutTicket, Reply};
 use machine::command::{Answer, Word};
-use machine::event::{Cause, Event, Op, Setting};
+use machine::event::{Cause, Op, Setting};
 use machine::id::GroupId;
 use machine::refusal::Refusal;
-use machine::reply::Reply;
-use machine::turn::{Access, Asked, Doing, Question, Turned};
 use std::alloc::{AllocError, Global};
 
-/// What a command asks of the book next, and what it remembers meanwhile.
-pub fn ask(doing: Doing) -> Question
-    ensures asked { result.asked ≡ asked_of doing }
-    ensures event { result.event ≡ asks doing }
-    ensures awaits { (said : Reply) → Replies result.event said → Awaits result.asked said }
+/// What a command wants in one turn. The event of a [`Want::Call`] has only replies that [`told`]
+/// knows of.
+pub fn ask(doing: Doing) -> Want
+    ensures wants { result ≡ wants doing }
+    ensures awaits { AwaitsAll result }
 {
     match doing {
-        Doing::Try(access) => question(Asked::Try(access), access_event(access)),
+        Doing::Try(access) => Want::Call(Asked::Try(access), access_event(access)),
         Doing::MakeRoom(access, cause) => {
-            question(Asked::MakeRoom(access), Event::Relieve(cause))
+            Want::Call(Asked::MakeRoom(access), Event::Relieve(cause))
         }
-        Doing::SetMax { group, max } => question(
+        Doing::SetMax { group, max } => Want::Call(
             Asked::SetMax(group),
             Event::Set {
                 group,
                 setting: Setting::Max(max),
             },
         ),
-        Doing::Lower(group) => question(Asked::Lower(group), Event::Relieve(Cause::Lower(group))),
-        Doing::Spawn { task, group } => question(Asked::Make, Event::Spawn { task, group }),
-        Doing::Exit(task) => question(Asked::Exit, Event::Exit(task)),
-        Doing::Mkdir(path) => question(Asked::Make, Event::Mkdir(path)),
-        Doing::Show(query) => question(Asked::Show, Event::Show(query)),
+        Doing::Lower(group) => Want::Call(Asked::Lower(group), Event::Relieve(Cause::Lower(group))),
+        Doing::Spawn { task, group } => Want::Call(Asked::Make, Event::Spawn { task, group }),
+        Doing::Exit(task) => Want::Call(Asked::Exit, Event::Exit(task)),
+        Doing::Mkdir(path) => Want::Call(Asked::Make, Event::Mkdir(path)),
+        Doing::Show(query) => Want::Call(Asked::Show, Event::Show(query)),
+        Doing::Read(access, ticket) => Want::Read(access, ticket),
+        Doing::Arrive(access, ticket) => Want::Call(Asked::Arrive(access), Event::Arrived(ticket)),
+        Doing::FetchFail(ticket) => Want::Call(Asked::FetchFail, Event::FetchFailed(ticket)),
+        Doing::Write(onward, ticket) => Want::Write(onward, ticket),
+        Doing::Leave(onward, ticket) => Want::Call(Asked::Leave(onward), Event::Left(ticket)),
+        Doing::LeaveFail(ticket) => Want::Call(Asked::LeaveFail, Event::LeaveFailed(ticket)),
     }
-}
-
-fn question(asked: Asked, event: Event) -> Question
-    ensures asked { result.asked ≡ asked }
-    ensures event { result.event ≡ event }
-{
-    Question { asked, event }
 }
 
 fn access_event(access: Access) -> Event
@@ -58,10 +58,11 @@ fn access_event(access: Access) -> Event
     }
 }
 
-/// What a command makes of the book's reply. It fails only where memory is wanted for a control
-/// file's text and refused.
+/// What a command makes of the book's reply, a ticket in which goes on with the command or is spent.
+/// It fails only where memory is wanted for a control file's text and refused.
 pub fn told(alloc: Global, asked: Asked, reply: Reply) -> Result<Turned, AllocError>
-    requires { Awaits asked reply }
+    requires awaits { Awaits asked reply }
+    requires handed { IsHanded reply }
     ensures told { IfOk result (λ turned. Told asked reply turned) }
     ensures err { IfErr result (λ e. asked ≡ Asked.Show) }
 {
@@ -71,8 +72,12 @@ pub fn told(alloc: Global, asked: Asked, reply: Reply) -> Result<Turned, AllocEr
         Asked::SetMax(group) => Ok(max_set(group, reply)),
         Asked::Lower(group) => Ok(lowered(group, reply)),
         Asked::Make => Ok(made(reply)),
-        Asked::Exit => Ok(left(reply)),
+        Asked::Exit => Ok(ended(reply)),
         Asked::Show => shown(alloc, reply),
+        Asked::Arrive(access) => Ok(arrived(access, reply)),
+        Asked::FetchFail => Ok(fetch_failed(reply)),
+        Asked::Leave(onward) => Ok(left(onward, reply)),
+        Asked::LeaveFail => Ok(leave_failed(reply)),
     }
 }
 
@@ -90,8 +95,28 @@ fn refused(cause: Refusal) -> Turned
 }
 
 /// What a reply that can't come would be.
-fn never() -> Turned {
+fn never(reply: Reply) -> Turned
+    requires { IsSpendableReply reply }
+{
+    spend(reply);
     Turned::Ends(Answer::Done)
+}
+
+/// Spends a reply, whose ticket was handed back.
+pub(crate) fn spend(reply: Reply)
+    requires { IsSpendableReply reply }
+{
+    match reply {
+        Reply::Fetch(ticket) | Reply::StrangeIn(ticket) => ticket.discard(),
+        Reply::Out(ticket) | Reply::StrangeOut(ticket) => ticket.discard(),
+        Reply::Done { byte: _, hit: _ }
+        | Reply::Over(_)
+        | Reply::NoFrame
+        | Reply::Busy
+        | Reply::Killed => {}
+        Reply::Ok | Reply::Room | Reply::Wait | Reply::KilledTask(_) | Reply::NoVictim => {}
+        Reply::Shown(_) | Reply::Refused(_) => {}
+    }
 }
 
 fn byte_answer(op: Op, byte: u8) -> Answer
@@ -109,11 +134,13 @@ fn tried(access: Access, reply: Reply) -> Turned
 {
     match reply {
         Reply::Done { byte, hit: _ } => Turned::Ends(byte_answer(access.op, byte)),
+        Reply::Fetch(ticket) => Turned::Goes(Doing::Read(access, ticket)),
         Reply::Over(group) => Turned::Goes(Doing::MakeRoom(access, Cause::Charge(group))),
         Reply::NoFrame => Turned::Goes(Doing::MakeRoom(access, Cause::Frame)),
+        Reply::Busy => word(Word::Busy),
         Reply::Killed => word(Word::Killed),
         Reply::Refused(cause) => refused(cause),
-        _ => never(),
+        other => never(other),
     }
 }
 
@@ -123,10 +150,12 @@ fn made_room(access: Access, reply: Reply) -> Turned
 {
     match reply {
         Reply::Room => Turned::Goes(Doing::Try(access)),
+        Reply::Out(ticket) => Turned::Goes(Doing::Write(Onward::Try(access), ticket)),
+        Reply::Wait => word(Word::Busy),
         Reply::KilledTask(task) => Turned::Kills(task, Doing::Try(access)),
         Reply::NoVictim => word(Word::OutOfMemory),
         Reply::Refused(cause) => refused(cause),
-        _ => never(),
+        other => never(other),
     }
 }
 
@@ -137,7 +166,7 @@ fn max_set(group: GroupId, reply: Reply) -> Turned
     match reply {
         Reply::Ok => Turned::Goes(Doing::Lower(group)),
         Reply::Refused(cause) => refused(cause),
-        _ => never(),
+        other => never(other),
     }
 }
 
@@ -147,9 +176,11 @@ fn lowered(group: GroupId, reply: Reply) -> Turned
 {
     match reply {
         Reply::Room | Reply::NoVictim => Turned::Ends(Answer::Done),
+        Reply::Out(ticket) => Turned::Goes(Doing::Write(Onward::Lower(group), ticket)),
+        Reply::Wait => word(Word::Busy),
         Reply::KilledTask(task) => Turned::Kills(task, Doing::Lower(group)),
         Reply::Refused(cause) => refused(cause),
-        _ => never(),
+        other => never(other),
     }
 }
 
@@ -160,19 +191,19 @@ fn made(reply: Reply) -> Turned
     match reply {
         Reply::Ok => Turned::Ends(Answer::Done),
         Reply::Refused(cause) => refused(cause),
-        _ => never(),
+        other => never(other),
     }
 }
 
-fn left(reply: Reply) -> Turned
+fn ended(reply: Reply) -> Turned
     requires { IsExitReply reply }
-    ensures { Left reply result }
+    ensures { Ended reply result }
 {
     match reply {
         Reply::Ok => Turned::Ends(Answer::Done),
         Reply::Killed => word(Word::Killed),
         Reply::Refused(cause) => refused(cause),
-        _ => never(),
+        other => never(other),
     }
 }
 
@@ -183,6 +214,81 @@ fn shown(alloc: Global, reply: Reply) -> Result<Turned, AllocError>
     match reply {
         Reply::Shown(numbers) => Ok(Turned::Ends(Answer::Text(show_text(alloc, numbers)?))),
         Reply::Refused(cause) => Ok(refused(cause)),
-        _ => Ok(never()),
+        other => Ok(never(other)),
+    }
+}
+
+/// The book does not know the ticket.
+fn strange_in(ticket: InTicket) -> Turned
+    requires { ticket.handed ≡ true }
+    ensures { result ≡ ends_refused Refusal.Stranger }
+{
+    ticket.discard();
+    refused(Refusal::Stranger)
+}
+
+fn strange_out(ticket: OutTicket) -> Turned
+    requires { ticket.handed ≡ true }
+    ensures { result ≡ ends_refused Refusal.Stranger }
+{
+    ticket.discard();
+    refused(Refusal::Stranger)
+}
+
+fn arrived(access: Access, reply: Reply) -> Turned
+    requires comes { IsInReply reply }
+    requires handed { IsHanded reply }
+    ensures { Closed (Turned.Goes (Doing.Try access)) reply result }
+{
+    match reply {
+        Reply::Ok => Turned::Goes(Doing::Try(access)),
+        Reply::StrangeIn(ticket) => strange_in(ticket),
+        other => never(other),
+    }
+}
+
+fn fetch_failed(reply: Reply) -> Turned
+    requires comes { IsInReply reply }
+    requires handed { IsHanded reply }
+    ensures { Closed (ends_with Word.Io) reply result }
+{
+    match reply {
+        Reply::Ok => word(Word::Io),
+        Reply::StrangeIn(ticket) => strange_in(ticket),
+        other => never(other),
+    }
+}
+
+/// Where a command goes on once a page has left.
+fn goes_on(onward: Onward) -> Doing
+    ensures { result ≡ goes_on onward }
+{
+    match onward {
+        Onward::Try(access) => Doing::Try(access),
+        Onward::Lower(group) => Doing::Lower(group),
+    }
+}
+
+fn left(onward: Onward, reply: Reply) -> Turned
+    requires comes { IsOutReply reply }
+    requires handed { IsHanded reply }
+    ensures { Closed (Turned.Goes (goes_on onward)) reply result }
+{
+    match reply {
+        Reply::Ok => Turned::Goes(goes_on(onward)),
+        Reply::StrangeOut(ticket) => strange_out(ticket),
+        other => never(other),
+    }
+}
+
+fn leave_failed(reply: Reply) -> Turned
+    requires comes { IsOutReply reply }
+    requires handed { IsHanded reply }
+    ensures { Closed (ends_with Word.Io) reply result }
+{
+    match reply {
+        Reply::Ok => word(Word::Io),
+        Reply::StrangeOut(ticket) => strange_out(ticket),
+        other => never(other),
     }
 }

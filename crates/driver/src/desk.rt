@@ -1,23 +1,31 @@
 //! A book, and the seats of those who work on it.
 
-ghost use Rattle.std.specs.Prelude.{◌≡◌, ◌<◌, ◌++◌, [], List, length, OnOk, IfOk};
+ghost use Rattle.std.specs.Prelude.{◌≡◌, ◌⊎◌, ◌<◌, ◌++◌, [], true, false, List, length, OnOk, IfOk, IfErr};
 ghost use Rattle.machine.specs.declared.command.Reply.{Reply as Told_by};
-ghost use Rattle.machine.specs.Schedule.{Asks, Turn, DoingTurn, Advances, Finishes, Begins, Stepped, Runs, activity_of};
-ghost use Rattle.driver.specs.Desks.{world};
-ghost use Rattle.driver.specs.Seats.{place_of};
+ghost use Rattle.machine.specs.State.{is_config};
+ghost use Rattle.block_store.specs.Device.{Disk};
+ghost use Rattle.driver.specs.Turns.{wants, AwaitsAll};
+ghost use Rattle.driver.specs.Schedule.{Asks, WantTurn, DoingTurn, Turn, Advances, Finishes, Begins, Stepped, Runs, activity_of, first_world};
+ghost use Rattle.driver.specs.Tickets.{OwnEvent, OwnDoing, OwnTurned, OwnSeats};
+ghost use Rattle.driver.specs.Seats.{place_of, is_under_way};
+ghost use Rattle.driver.specs.Desks.{world, swap_of, IsOn, IsSame};
 
 use crate::automaton::{ask, told};
 use crate::judge::judge;
-use crate::seats;
-use book::{Book, Pass};
+use crate::turn::{Activity, Asked, Doing, Outcome, Seat, Turned, Want};
+use crate::{calls, seats};
+use block_store::BlockDevice;
+use book::{Book, Event, Pass};
 use machine::command::{Actor, Answer, Command, Reply, Step, Word};
-use machine::turn::{Activity, Doing, Outcome, Question, Seat, Turned};
+use machine::config::Config;
+use machine::refusal::Refusal;
 use std::alloc::{AllocError, Global};
 
 /// A `finish` takes at most so many turns.
 const MOST_TURNS: u32 = 1000;
 
 /// It must be closed.
+#[must_use]
 pub struct Desk {
     pub alloc: Global,
     pub book: Book,
@@ -28,46 +36,103 @@ pub struct Desk {
 impl Desk {
     ghost use Rattle.driver.specs.Desks.{Asks as AsksFirst};
 
+    /// A desk at which nobody has a command, over a new book. It fails as [`Book::open`] does.
+    pub fn open(alloc: Global, config: Config) -> Result<Desk, Refusal>
+        ensures opens { IfOk result (λ desk. (disk : Disk) → world desk disk ≡ first_world config disk) }
+        ensures asks { IfOk result (λ desk. AsksFirst desk) }
+        ensures sized { IfOk result (λ desk. is_config config ≡ true) }
+        ensures err { IfErr result (λ cause. (cause ≡ Refusal.Invalid) × (is_config config ≡ false) ⊎ (cause ≡ Refusal.NoMemory) × (is_config config ≡ true)) }
+    {
+        let mut book = Book::open(alloc, config)?;
+        match book.pass() {
+            Err(_) => {
+                book.close();
+                Err(Refusal::NoMemory)
+            }
+            Ok(pass) => Ok(Desk {
+                alloc,
+                book,
+                pass,
+                seats: Vec::new(alloc),
+            }),
+        }
+    }
+
     /// One event of the book, and what the command makes of its reply.
-    fn ask_book(&mut self, doing: Doing) -> Result<Turned, AllocError>
-        requires { AsksFirst self.old }
-        ensures asks { IfOk result (λ turned. Asks self.old.book doing turned self.new.book) }
+    fn ask_book(&mut self, asked: Asked, event: Event) -> Result<Turned, AllocError>
+        requires first { AsksFirst self.old }
+        requires awaits { AwaitsAll (Want.Call asked event) }
+        requires own { OwnEvent (swap_of self.old) event }
+        ensures asks { IfOk result (λ turned. Asks self.old.book asked event turned self.new.book) }
+        ensures own { IfOk result (λ turned. OwnTurned (swap_of self.old) turned) }
         ensures first { AsksFirst self.new }
+        ensures opening { self.new.book.state.opening ≡ self.old.book.state.opening }
         ensures seats { self.new.seats ≡ self.old.seats }
     {
-        let Question { asked, event } = ask(doing);
-        let reply = self.book.call(&mut self.pass, event);
+        let reply = calls::call(&mut self.book, &mut self.pass, event);
         told(self.alloc, asked, reply)
     }
 
-    /// A turn of a command that stands there, the actor having been taken from its seat.
-    fn turn_doing(&mut self, actor: Actor, doing: Doing) -> Result<Outcome, AllocError>
-        requires first { AsksFirst self.old }
-        requires seated { place_of actor self.old.seats.items < length self.old.seats.items }
-        ensures turn { IfOk result (λ outcome. DoingTurn (world self.old) actor doing outcome (world self.new)) }
+    /// What the book or the device is asked by a command that stands there, and what it makes of the
+    /// answer.
+    fn serve<D: BlockDevice>(&mut self, device: &mut D, doing: Doing) -> Result<Turned, AllocError>
+        requires on { IsOn self.old (D.disk device.old) }
+        requires own { OwnDoing (swap_of self.old) doing }
+        ensures turns { IfOk result (λ turned. WantTurn self.old.book (D.disk device.old) (wants doing) turned self.new.book (D.disk device.new)) }
+        ensures own { IfOk result (λ turned. OwnTurned (swap_of self.old) turned) }
         ensures first { AsksFirst self.new }
+        ensures opening { self.new.book.state.opening ≡ self.old.book.state.opening }
+        ensures seats { self.new.seats ≡ self.old.seats }
+        ensures same { IsSame (D.disk device.old) (D.disk device.new) }
     {
-        let turned = self.ask_book(doing)?;
+        match ask(doing) {
+            Want::Call(asked, event) => self.ask_book(asked, event),
+            Want::Read(access, ticket) => Ok(calls::read_in(device, access, ticket)),
+            Want::Write(onward, ticket) => Ok(calls::write_out(device, onward, ticket)),
+        }
+    }
+
+    /// A turn of a command that stands there, the actor having been taken from its seat.
+    fn turn_doing<D: BlockDevice>(
+        &mut self,
+        device: &mut D,
+        actor: Actor,
+        doing: Doing,
+    ) -> Result<Outcome, AllocError>
+        requires on { IsOn self.old (D.disk device.old) }
+        requires own { OwnDoing (swap_of self.old) doing }
+        requires seated { place_of actor self.old.seats.items < length self.old.seats.items }
+        requires free { is_under_way (activity_of actor self.old.seats.items) ≡ false }
+        ensures turn { IfOk result (λ outcome. DoingTurn (world self.old (D.disk device.old)) actor doing outcome (world self.new (D.disk device.new))) }
+        ensures on { IsOn self.new (D.disk device.new) }
+        ensures same { IsSame (D.disk device.old) (D.disk device.new) }
+    {
+        let turned = self.serve(device, doing)?;
         let (outcome, left) = seats::settle(turned);
         seats::put(&mut self.seats, actor, left);
         Ok(outcome)
     }
 
     /// One turn of the actor.
-    pub fn turn(&mut self, actor: Actor) -> Result<Outcome, AllocError>
-        requires { AsksFirst self.old }
-        ensures turn { IfOk result (λ outcome. Turn (world self.old) actor outcome (world self.new)) }
-        ensures first { AsksFirst self.new }
+    pub fn turn<D: BlockDevice>(
+        &mut self,
+        device: &mut D,
+        actor: Actor,
+    ) -> Result<Outcome, AllocError>
+        requires { IsOn self.old (D.disk device.old) }
+        ensures turn { IfOk result (λ outcome. Turn (world self.old (D.disk device.old)) actor outcome (world self.new (D.disk device.new))) }
+        ensures on { IsOn self.new (D.disk device.new) }
+        ensures same { IsSame (D.disk device.old) (D.disk device.new) }
     {
         match seats::take(&mut self.seats, actor) {
             Activity::Rests => Ok(seats::word(Word::Idle)),
             Activity::Begun(command) => {
                 match judge(&self.book, &mut self.pass, actor, command) {
                     Err(cause) => Ok(seats::word(Word::Refused(cause))),
-                    Ok(doing) => Ok(self.turn_doing(actor, doing)?),
+                    Ok(doing) => Ok(self.turn_doing(device, actor, doing)?),
                 }
             }
-            Activity::Does(doing) => Ok(self.turn_doing(actor, doing)?),
+            Activity::Does(doing) => Ok(self.turn_doing(device, actor, doing)?),
         }
     }
 
@@ -78,37 +143,47 @@ impl Desk {
         command: &Command,
         answers: &mut Vec<Reply>,
     ) -> Result<(), AllocError>
-        requires { AsksFirst self.old }
-        ensures begins { OnOk result ((added : List Told_by) × (answers.new.items ≡ answers.old.items ++ added) × Begins (world self.old) actor command.now (activity_of actor self.old.seats.items) added (world self.new)) }
-        ensures first { AsksFirst self.new }
+        ensures begins { OnOk result ((added : List Told_by) × (answers.new.items ≡ answers.old.items ++ added) × ((disk : Disk) → Begins (world self.old disk) actor command.now (activity_of actor self.old.seats.items) added (world self.new disk))) }
+        ensures on { (disk : Disk) → IsOn self.old disk → IsOn self.new disk }
     {
         if seats::is_under_way(&self.seats, actor) {
             seats::answer(answers, actor, Answer::Word(Word::Underway))?;
             return Ok(());
         }
         let command = command.copy(self.alloc)?;
-        seats::seat(&mut self.seats, actor, Activity::Begun(command))?;
-        Ok(())
+        seats::seat(&mut self.seats, actor, command)
     }
 
     /// One turn, whatever comes of it: `idle` where the actor has no command.
-    fn advance(&mut self, actor: Actor, answers: &mut Vec<Reply>) -> Result<(), AllocError>
-        requires { AsksFirst self.old }
-        ensures advances { OnOk result ((added : List Told_by) × (answers.new.items ≡ answers.old.items ++ added) × Advances (world self.old) actor added (world self.new)) }
-        ensures first { AsksFirst self.new }
+    fn advance<D: BlockDevice>(
+        &mut self,
+        device: &mut D,
+        actor: Actor,
+        answers: &mut Vec<Reply>,
+    ) -> Result<(), AllocError>
+        requires { IsOn self.old (D.disk device.old) }
+        ensures advances { OnOk result ((added : List Told_by) × (answers.new.items ≡ answers.old.items ++ added) × Advances (world self.old (D.disk device.old)) actor added (world self.new (D.disk device.new))) }
+        ensures on { IsOn self.new (D.disk device.new) }
+        ensures same { IsSame (D.disk device.old) (D.disk device.new) }
     {
-        let shown = self.turn(actor)?;
+        let shown = self.turn(device, actor)?;
         seats::say(answers, actor, shown)
     }
 
     /// Turns until an answer, at most 1,000.
-    fn finish(&mut self, actor: Actor, answers: &mut Vec<Reply>) -> Result<(), AllocError>
-        requires { AsksFirst self.old }
-        ensures finishes { OnOk result ((added : List Told_by) × (answers.new.items ≡ answers.old.items ++ added) × Finishes (world self.old) actor added (world self.new)) }
-        ensures first { AsksFirst self.new }
+    fn finish<D: BlockDevice>(
+        &mut self,
+        device: &mut D,
+        actor: Actor,
+        answers: &mut Vec<Reply>,
+    ) -> Result<(), AllocError>
+        requires { IsOn self.old (D.disk device.old) }
+        ensures finishes { OnOk result ((added : List Told_by) × (answers.new.items ≡ answers.old.items ++ added) × Finishes (world self.old (D.disk device.old)) actor added (world self.new (D.disk device.new))) }
+        ensures on { IsOn self.new (D.disk device.new) }
+        ensures same { IsSame (D.disk device.old) (D.disk device.new) }
     {
         for _turn in 0..MOST_TURNS {
-            let outcome = self.turn(actor)?;
+            let outcome = self.turn(device, actor)?;
             let ends = seats::ends(&outcome);
             seats::say(answers, actor, outcome)?;
             if ends {
@@ -120,38 +195,59 @@ impl Desk {
     }
 
     /// One step of a schedule.
-    fn step(&mut self, step: &Step, answers: &mut Vec<Reply>) -> Result<(), AllocError>
-        requires { AsksFirst self.old }
-        ensures step { OnOk result ((added : List Told_by) × (answers.new.items ≡ answers.old.items ++ added) × Stepped (world self.old) step.now added (world self.new)) }
-        ensures first { AsksFirst self.new }
+    fn step<D: BlockDevice>(
+        &mut self,
+        device: &mut D,
+        step: &Step,
+        answers: &mut Vec<Reply>,
+    ) -> Result<(), AllocError>
+        requires { IsOn self.old (D.disk device.old) }
+        ensures step { OnOk result ((added : List Told_by) × (answers.new.items ≡ answers.old.items ++ added) × Stepped (world self.old (D.disk device.old)) step.now added (world self.new (D.disk device.new))) }
+        ensures on { IsOn self.new (D.disk device.new) }
+        ensures same { IsSame (D.disk device.old) (D.disk device.new) }
     {
         match step {
             Step::Begin(actor, command) => self.begin(*actor, command, answers),
-            Step::Advance(actor) => self.advance(*actor, answers),
-            Step::Finish(actor) => self.finish(*actor, answers),
+            Step::Advance(actor) => self.advance(device, *actor, answers),
+            Step::Finish(actor) => self.finish(device, *actor, answers),
         }
     }
 
     /// All steps of a schedule, in order.
-    pub fn run_all(&mut self, steps: &[Step], answers: &mut Vec<Reply>) -> Result<(), AllocError>
-        requires first { AsksFirst self.old }
+    pub fn run_all<D: BlockDevice>(
+        &mut self,
+        device: &mut D,
+        steps: &[Step],
+        answers: &mut Vec<Reply>,
+    ) -> Result<(), AllocError>
+        requires on { IsOn self.old (D.disk device.old) }
         requires empty { answers.old.items ≡ [] }
-        ensures { OnOk result (Runs (world self.old) steps.now answers.new.items (world self.new)) }
+        ensures runs { OnOk result (Runs (world self.old (D.disk device.old)) steps.now answers.new.items (world self.new (D.disk device.new))) }
+        ensures on { IsOn self.new (D.disk device.new) }
+        ensures same { IsSame (D.disk device.old) (D.disk device.new) }
     {
         for step in steps {
-            self.step(step, answers)?;
+            self.step(device, step, answers)?;
         }
         Ok(())
     }
 
-    /// Spends what is left.
-    pub fn close(self) {
+    /// Spends what is left. Transfers whose tickets are in hand end as failed, with no answer.
+    pub fn close(self)
+        requires first { AsksFirst self }
+        requires own { OwnSeats (swap_of self) self.seats.items }
+    {
         let Desk {
             alloc: _,
-            book,
-            pass: _,
-            seats: _,
+            mut book,
+            mut pass,
+            mut seats,
         } = self;
+        while let Some(seat) = seats.pop() {
+            let Seat { actor: _, activity } = seat;
+            calls::give_up(&mut book, &mut pass, activity);
+        }
+        seats.destroy_empty();
         book.close();
     }
 }

@@ -2,18 +2,18 @@
 //! judged.
 
 ghost use Rattle.std.specs.Prelude.{◌≡◌, ℕ, option_map};
-ghost use Rattle.machine.specs.Turns.{judged, task_judged, shell_judged, with_group, with_file, with_amount, reads_file, writes_file};
+ghost use Rattle.driver.specs.Turns.{judged, task_judged, shell_judged, with_group, with_file, with_amount, reads_file, writes_file};
 ghost use Rattle.machine.specs.Tree.{find_group};
 ghost use Rattle.machine.specs.Control.{file_named, has_file};
 
 use crate::control_files::{file_named, parse_amount};
+use crate::turn::{Access, Doing};
 use book::{Book, Pass};
 use machine::command::{Actor, Command};
 use machine::control::ControlFile;
 use machine::event::Query;
 use machine::id::{GroupId, TaskId};
 use machine::refusal::Refusal;
-use machine::turn::{Access, Doing};
 
 /// What becomes of a command in its first turn.
 pub fn judge(book: &Book, pass: &mut Pass, actor: Actor, command: Command) -> Result<Doing, Refusal>

@@ -1,12 +1,39 @@
 //! The headline in the words of its users: laws of every step and of every run. Each is the contract
 //! of a function that does nothing.
 
-ghost use Rattle.driver.specs.Laws.{RunsAreLegal, CurrentCountsPages, EventsAreThoseCounted, ChargesStayWithinMax, OnlyAccessesCharge, KillsComeLast, ReadsGiveLastWrites, PagesShareNoFrame, GroupsAreThere};
+ghost use Rattle.driver.specs.Laws.{RunsAreLegal, RunsAreHonest, NoStrangers, ErrorsAreFailures, CurrentCountsPages, EventsAreThoseCounted, ChargesStayWithinMax, OnlyAccessesCharge, KillsComeLast, ReadsGiveLastWrites, PagesShareNoFrame, PagesShareNoBlock, BlocksAreThere, PagesShareNoTicket, PagesAreMemory, TransfersStayCharged, WriteOutsStayCharged, GroupsAreThere};
 
 /// The history of every run leads from the opening to the run's state, one step of the plain machine
 /// an entry.
 pub fn runs_are_legal()
     ensures { RunsAreLegal }
+{}
+
+/// Every page that was read in during a run brought what was last written, the device being one that
+/// has the swap blocks and keeps its promise.
+pub fn runs_are_honest()
+    ensures { RunsAreHonest }
+{}
+
+/// No command of a run is told that its ticket is none of its own.
+pub fn no_strangers()
+    ensures { NoStrangers }
+{}
+
+/// As many answers at most tell of an error of the device as calls of it have failed. So a device
+/// without faults gives none.
+pub fn errors_are_failures()
+    ensures { ErrorsAreFailures }
+{}
+
+/// A page counts as charged while it is in transfer, in either direction.
+pub fn transfers_stay_charged()
+    ensures { TransfersStayCharged }
+{}
+
+/// Beginning to write a page out leaves the count of every group as it was.
+pub fn write_outs_stay_charged()
+    ensures { WriteOutsStayCharged }
 {}
 
 /// `memory.current` counts the pages with frames at or under the group.
@@ -46,6 +73,26 @@ pub fn reads_give_last_writes()
 /// Whatever state a run's history leads to, no two pages have one frame.
 pub fn pages_share_no_frame()
     ensures { PagesShareNoFrame }
+{}
+
+/// Whatever state a run's history leads to, no two anonymous pages have one swap block.
+pub fn pages_share_no_block()
+    ensures { PagesShareNoBlock }
+{}
+
+/// Whatever state a run's history leads to, each swap block of a page is one of those that there are.
+pub fn blocks_are_there()
+    ensures { BlocksAreThere }
+{}
+
+/// Whatever state a run's history leads to, no two pages are in transfer under one ticket.
+pub fn pages_share_no_ticket()
+    ensures { PagesShareNoTicket }
+{}
+
+/// Whatever state a run's history leads to, each page is memory of tasks.
+pub fn pages_are_memory()
+    ensures { PagesAreMemory }
 {}
 
 /// Whatever state a run's history leads to, the group of each page and of each live task is there.

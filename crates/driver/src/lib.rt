@@ -1,8 +1,8 @@
-//! Schedules: one turn of one actor after another, over a book.
+//! Schedules: one turn of one actor after another, over a book and a block device.
 //!
 //! [`run`] takes any list of steps, in any order of actors, and gives the answers of the plain
-//! machine to it, in order. A command goes through the states of the table of turns ([`automaton`]):
-//! what it asks of the book, and what it makes of the reply.
+//! machine to it, in order. A command goes through the states of the table of turns ([`turn`]): what
+//! it asks of the book or of the device, and what it makes of the answer ([`automaton`]).
 #![tactic(auto)]
 
 pub use machine::command::{Actor, Answer, Command, Reply, Step, Word};
@@ -10,9 +10,11 @@ pub use machine::config::Config;
 pub use schedule::run;
 
 pub mod automaton;
+mod calls;
 mod control_files;
 mod desk;
 mod judge;
 pub mod laws;
 mod schedule;
 mod seats;
+pub mod turn;

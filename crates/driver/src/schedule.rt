@@ -1,45 +1,46 @@
 //! A whole schedule.
 
-ghost use Rattle.std.specs.Prelude.{◌≡◌, ◌⊎◌, true, false, IfOk, IfErr};
-ghost use Rattle.machine.specs.Schedule.{is_config, Schedules};
+ghost use Rattle.std.specs.Prelude.{◌≡◌, ◌⊎◌, ◌+◌, ◌≤◌, true, false, length, IfOk, IfErr};
+ghost use Rattle.driver.specs.Schedule.{Schedules, fits, errors};
 
 use crate::desk::Desk;
-use book::Book;
+use crate::laws;
+use block_store::BlockDevice;
 use machine::command::{Reply, Step};
 use machine::config::Config;
 use machine::refusal::Refusal;
 use std::alloc::Global;
 
-/// The answers to a list of steps, in order: those of the plain machine.
+/// The answers to a list of steps, in order: those of the plain machine over this device, whose first
+/// blocks are its swap: what they held is lost.
 ///
-/// `Invalid` where the configuration is out of its limits, and otherwise `NoMemory` where memory is
-/// wanted, for what is no command's answer, and refused.
-pub fn run(alloc: Global, config: Config, steps: &[Step]) -> Result<Vec<Reply>, Refusal>
-    ensures schedules { IfOk result (λ answers. Schedules config steps.now answers.items) }
-    ensures sized { IfOk result (λ answers. is_config config ≡ true) }
-    ensures err { IfErr result (λ cause. (cause ≡ Refusal.Invalid) × (is_config config ≡ false) ⊎ (cause ≡ Refusal.NoMemory) × (is_config config ≡ true)) }
+/// `Invalid` where the configuration is out of its limits or the device has too few blocks, and
+/// otherwise `NoMemory` where memory is wanted, for what is no command's answer, and refused.
+pub fn run<D: BlockDevice>(
+    alloc: Global,
+    config: Config,
+    device: &mut D,
+    steps: &[Step],
+) -> Result<Vec<Reply>, Refusal>
+    ensures schedules { IfOk result (λ answers. Schedules config (D.disk device.old) steps.now answers.items (D.disk device.new)) }
+    ensures sized { IfOk result (λ answers. fits config (D.disk device.old) ≡ true) }
+    ensures errors { IfOk result (λ answers. errors answers.items + (D.disk device.old).failures ≤ (D.disk device.new).failures) }
+    ensures err { IfErr result (λ cause. (cause ≡ Refusal.Invalid) × (fits config (D.disk device.old) ≡ false) ⊎ (cause ≡ Refusal.NoMemory) × (fits config (D.disk device.old) ≡ true)) }
+    ensures blocks { length (D.disk device.new).contents ≡ length (D.disk device.old).contents }
+    ensures limit { (D.disk device.new).fault_limit ≡ (D.disk device.old).fault_limit }
 {
-    let mut book = Book::open(alloc, config)?;
-    match book.pass() {
-        Err(_) => {
-            book.close();
-            Err(Refusal::NoMemory)
-        }
-        Ok(pass) => {
-            let mut desk = Desk {
-                alloc,
-                book,
-                pass,
-                seats: Vec::new(alloc),
-            };
-            let mut answers = Vec::new(alloc);
-            let ran = desk.run_all(steps, &mut answers);
-            desk.book.history_is_right();
-            desk.close();
-            match ran {
-                Ok(()) => Ok(answers),
-                Err(_) => Err(Refusal::NoMemory),
-            }
-        }
+    if device.blocks() < config.swap {
+        return Err(Refusal::Invalid);
+    }
+    let mut desk = Desk::open(alloc, config)?;
+    let mut answers = Vec::new(alloc);
+    let ran = desk.run_all(device, steps, &mut answers);
+    desk.book.history_is_right();
+    laws::runs_are_honest();
+    laws::errors_are_failures();
+    desk.close();
+    match ran {
+        Ok(()) => Ok(answers),
+        Err(_) => Err(Refusal::NoMemory),
     }
 }

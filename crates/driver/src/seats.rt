@@ -1,11 +1,12 @@
 //! The seats: what each actor is at, by first appearance.
 
-ghost use Rattle.std.specs.Prelude.{◌≡◌, ◌<◌, ◌≤◌, ◌++◌, ◌∷◌, [], length, vec_len, OnOk, true, false};
-ghost use Rattle.machine.specs.Schedule.{number_of, with_activity, activity_of, said_at, answer_by, outcome_of, left_of, is_end};
+ghost use Rattle.std.specs.Prelude.{◌≡◌, ℕ, ◌<◌, ◌≤◌, ◌++◌, ◌∷◌, [], length, vec_len, OnOk, OnErr, true, false};
+ghost use Rattle.driver.specs.Schedule.{number_of, with_activity, activity_of, said_at, answer_by, outcome_of, left_of, is_end};
+ghost use Rattle.driver.specs.Tickets.{OwnTurned, OwnActivity, OwnSeats, IsSpendableDoing};
 ghost use Rattle.driver.specs.Seats.{place_of, is_under_way, IsTaken};
 
-use machine::command::{Actor, Answer, Reply, Word};
-use machine::turn::{Activity, Outcome, Seat, Turned};
+use crate::turn::{Activity, Doing, Outcome, Seat, Turned};
+use machine::command::{Actor, Answer, Command, Reply, Word};
 use std::alloc::AllocError;
 use std::mem;
 
@@ -71,6 +72,8 @@ pub fn take(seats: &mut Vec<Seat>, actor: Actor) -> Activity
     ensures was { result ≡ activity_of actor seats.old.items }
     ensures rested { result ≡ Activity.Rests → seats.new.items ≡ seats.old.items }
     ensures taken { IsTaken actor seats.old.items seats.new.items }
+    ensures held { (swap : ℕ) → OwnSeats swap seats.old.items → OwnActivity swap result }
+    ensures own { (swap : ℕ) → OwnSeats swap seats.old.items → OwnSeats swap seats.new.items }
 {
     let place = place_of(seats, actor);
     if place == seats.len() {
@@ -79,27 +82,62 @@ pub fn take(seats: &mut Vec<Seat>, actor: Actor) -> Activity
     exchange(seats, place, actor, Activity::Rests)
 }
 
-/// Puts the actor, who has a seat, at this.
-pub fn put(seats: &mut Vec<Seat>, actor: Actor, activity: Activity)
-    requires { place_of actor seats.old.items < length seats.old.items }
-    ensures { seats.new.items ≡ with_activity actor activity seats.old.items }
+/// Spends what an actor with nothing under way was at.
+fn let_go(activity: Activity)
+    requires { is_under_way activity ≡ false }
 {
-    let place = place_of(seats, actor);
-    exchange(seats, place, actor, activity);
+    match activity {
+        Activity::Rests | Activity::Begun(_) => {}
+        Activity::Does(doing) => never(doing),
+    }
 }
 
-/// Puts the actor at this, with a seat of its own where it has none. It fails only where memory is
-/// wanted and refused.
-pub fn seat(seats: &mut Vec<Seat>, actor: Actor, activity: Activity) -> Result<(), AllocError>
-    ensures { OnOk result (seats.new.items ≡ with_activity actor activity seats.old.items) }
+/// Spends a command that can't be there.
+fn never(doing: Doing)
+    requires { IsSpendableDoing doing }
+{
+    match doing {
+        Doing::Read(_, ticket) | Doing::Arrive(_, ticket) | Doing::FetchFail(ticket) => {
+            ticket.discard();
+        }
+        Doing::Write(_, ticket) | Doing::Leave(_, ticket) | Doing::LeaveFail(ticket) => {
+            ticket.discard();
+        }
+        Doing::Try(_) | Doing::MakeRoom(_, _) | Doing::SetMax { group: _, max: _ } => {}
+        Doing::Lower(_) | Doing::Spawn { task: _, group: _ } | Doing::Exit(_) => {}
+        Doing::Mkdir(_) | Doing::Show(_) => {}
+    }
+}
+
+/// Puts the actor, who has a seat and nothing under way, at this.
+pub fn put(seats: &mut Vec<Seat>, actor: Actor, activity: Activity)
+    requires seated { place_of actor seats.old.items < length seats.old.items }
+    requires free { is_under_way (activity_of actor seats.old.items) ≡ false }
+    ensures put { seats.new.items ≡ with_activity actor activity seats.old.items }
+    ensures own { (swap : ℕ) → OwnSeats swap seats.old.items → OwnActivity swap activity → OwnSeats swap seats.new.items }
+{
+    let place = place_of(seats, actor);
+    let_go(exchange(seats, place, actor, activity));
+}
+
+/// Begins the command of an actor who has nothing under way, and gives it a seat of its own where it
+/// has none. It fails only where memory is wanted and refused.
+pub fn seat(seats: &mut Vec<Seat>, actor: Actor, command: Command) -> Result<(), AllocError>
+    requires { is_under_way (activity_of actor seats.old.items) ≡ false }
+    ensures seated { OnOk result (seats.new.items ≡ with_activity actor (Activity.Begun command) seats.old.items) }
+    ensures own { (swap : ℕ) → OwnSeats swap seats.old.items → OwnSeats swap seats.new.items }
+    ensures err { OnErr result (seats.new.items ≡ seats.old.items) }
 {
     seats.reserve(1)?;
     let place = place_of(seats, actor);
     if place == seats.len() {
-        seats.push_reserved(Seat { actor, activity });
+        seats.push_reserved(Seat {
+            actor,
+            activity: Activity::Begun(command),
+        });
         return Ok(());
     }
-    exchange(seats, place, actor, activity);
+    let_go(exchange(seats, place, actor, Activity::Begun(command)));
     Ok(())
 }
 
@@ -107,6 +145,7 @@ pub fn seat(seats: &mut Vec<Seat>, actor: Actor, activity: Activity) -> Result<(
 pub fn settle(turned: Turned) -> (Outcome, Activity)
     ensures shows { result.0 ≡ outcome_of turned }
     ensures leaves { result.1 ≡ left_of turned }
+    ensures own { (swap : ℕ) → OwnTurned swap turned → OwnActivity swap result.1 }
 {
     match turned {
         Turned::Goes(doing) => (Outcome::Goes, Activity::Does(doing)),

@@ -6,10 +6,11 @@ pub record FrameOf : Type 0 where
   pub number : ℕ
   pub bytes : List ℕ
 
--- the numbers of the free frames, and how many frames there are
+-- the numbers of the free frames, how many frames there are, and how many spares are in
 pub record PoolOf : Type 0 where
   pub free : List ℕ
   pub frames : ℕ
+  pub spares : ℕ
 
 -- how often a frame is among the free ones: 1 or 0
 abbrev pub free_count : List ℕ → ℕ → ℕ
@@ -25,3 +26,8 @@ pub record IsPool (free : List ℕ) (frames room : ℕ) : Type 0 where
   pub within : length free ≤ frames
   pub all_fit : frames ≤ room
   pub countable : frames < 4294967296
+
+-- and of its spares: at most one a frame is in, and there is room for so many
+pub record AreSpares (spares frames room : ℕ) : Type 0 where
+  pub within : spares ≤ frames
+  pub all_fit : frames ≤ room

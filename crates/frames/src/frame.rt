@@ -69,6 +69,21 @@ impl Frame {
         self.bytes[offset] = byte;
     }
 
+    /// All bytes, to be read.
+    pub fn bytes(&self) -> &[u8; FRAME_BYTES]
+        ensures { result.now ≡ self.now.bytes }
+    {
+        &self.bytes
+    }
+
+    /// Other bytes in place of all of them (kernel: `copy_highpage`).
+    pub fn fill(&mut self, bytes: &[u8; FRAME_BYTES])
+        ensures bytes { self.new.bytes ≡ bytes.now }
+        ensures number { self.new.number ≡ self.old.number }
+    {
+        *self.bytes = *bytes;
+    }
+
     /// Zeros in place of all bytes (kernel: `clear_highpage`).
     pub fn clear(&mut self)
         ensures zeros { (o : ℕ) → slice_index self.new.bytes o ≡ 0 }

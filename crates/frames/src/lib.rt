@@ -6,6 +6,8 @@
 
 pub use frame::{FRAME_BYTES, Frame};
 pub use pool::Pool;
+pub use spare::Spare;
 
 mod frame;
 mod pool;
+mod spare;

@@ -4,6 +4,7 @@ ghost use Rattle.std.specs.Prelude.{◌≡◌, ℕ, ◌+◌, ◌<◌, ◌≤◌,
 ghost use Rattle.frames.specs.Pool.{free_count, numbers_of};
 
 use crate::frame::Frame;
+use crate::spare::Spare;
 use machine::id::FrameId;
 use std::alloc::{AllocError, Global};
 use std::marker::Model;
@@ -13,19 +14,20 @@ use std::marker::Model;
 #[must_use]
 pub struct Pool {
     free: Vec<Frame>,
+    spares: Vec<Spare>,
     /// How many frames there are, free ones and others. Their numbers are those below it.
     frames: u32,
 }
 
 impl Model for Pool {
-    ghost use Rattle.std.specs.Prelude.{vec_capacity};
-    ghost use Rattle.frames.specs.Pool.{PoolOf, IsPool, numbers_of};
+    ghost use Rattle.std.specs.Prelude.{vec_capacity, length};
+    ghost use Rattle.frames.specs.Pool.{PoolOf, IsPool, AreSpares, numbers_of};
 
     ghost Value = { PoolOf };
 
-    ghost view = { λ p. record { free = numbers_of p.free.items; frames = p.frames } };
+    ghost view = { λ p. record { free = numbers_of p.free.items; frames = p.frames; spares = length p.spares.items } };
 
-    ghost invariant = { λ p. IsPool (numbers_of p.free.items) p.frames (vec_capacity p.free) };
+    ghost invariant = { λ p. IsPool (numbers_of p.free.items) p.frames (vec_capacity p.free) × AreSpares (length p.spares.items) p.frames (vec_capacity p.spares) };
 }
 
 impl Pool {
@@ -36,13 +38,20 @@ impl Pool {
         ensures none_beyond { IfOk result (λ p. (n : ℕ) → frames ≤ n → free_count p.free n ≡ 0) }
         ensures all { IfOk result (λ p. length p.free ≡ frames) }
         ensures frames { IfOk result (λ p. p.frames ≡ frames) }
+        ensures spares { IfOk result (λ p. p.spares ≡ frames) }
     {
-        let mut free = Vec::with_capacity(alloc, frames as usize)?;
-        if let Err(error) = fill(alloc, &mut free, frames) {
-            end_all(free);
-            return Err(error);
+        let free = new_frames(alloc, frames)?;
+        match new_spares(alloc, frames) {
+            Ok(spares) => Ok(Pool {
+                free,
+                spares,
+                frames,
+            }),
+            Err(error) => {
+                end_all(free);
+                Err(error)
+            }
         }
-        Ok(Pool { free, frames })
     }
 
     /// How many frames are free.
@@ -60,6 +69,7 @@ impl Pool {
         ensures counts { IfSome result (λ f. (n : ℕ) → free_count self.old.free n ≡ free_count self.new.free n + (if f.number == n then 1 else 0)) }
         ensures fewer { OnSome result (length self.old.free ≡ length self.new.free + 1) }
         ensures frames { self.new.frames ≡ self.old.frames }
+        ensures spares { self.new.spares ≡ self.old.spares }
 
         // The frame is no longer free, so that no two frames that are out have one number.
         ensures out { IfSome result (λ f. free_count self.new.free f.number ≡ 0) }
@@ -75,17 +85,56 @@ impl Pool {
         ensures counts { (n : ℕ) → free_count self.new.free n ≡ free_count self.old.free n + (if frame.number == n then 1 else 0) }
         ensures more { length self.new.free ≡ length self.old.free + 1 }
         ensures frames { self.new.frames ≡ self.old.frames }
+        ensures spares { self.new.spares ≡ self.old.spares }
     {
         self.free.push_reserved(frame);
     }
 
-    /// The end of the pool, once all of its frames are free.
+    /// A spare, if one is in. Its bytes are what its last user left. It goes back by
+    /// [`Pool::give_spare`].
+    pub fn take_spare(&mut self) -> Option<Spare>
+        ensures none { IfNone result (self.old.spares ≡ 0) }
+        ensures kept { IfNone result (self.new ≡ self.old) }
+        ensures taken { OnSome result (self.old ≡ record self.new { spares = self.new.spares + 1 }) }
+    {
+        self.spares.pop()
+    }
+
+    /// Takes a spare back, where one is out. This takes no memory.
+    pub fn give_spare(&mut self, spare: Spare)
+        requires { self.old.spares < self.old.frames }
+        ensures { self.new ≡ record self.old { spares = self.old.spares + 1 } }
+    {
+        self.spares.push_reserved(spare);
+    }
+
+    /// The end of the pool, once all of its frames are free. Spares may be out.
     pub fn close(self)
         requires all { length self.free ≡ self.frames }
     {
-        let Pool { free, frames: _ } = self;
+        let Pool {
+            free,
+            spares,
+            frames: _,
+        } = self;
         end_all(free);
+        discard_all(spares);
     }
+}
+
+/// New frames, numbered from 0 on. Where the memory ends, those made by then are given back.
+fn new_frames(alloc: Global, count: u32) -> Result<Vec<Frame>, AllocError>
+    ensures once { IfOk result (λ free. (n : ℕ) → n < count → free_count (numbers_of free.items) n ≡ 1) }
+    ensures none_beyond { IfOk result (λ free. (n : ℕ) → count ≤ n → free_count (numbers_of free.items) n ≡ 0) }
+    ensures all { IfOk result (λ free. length (numbers_of free.items) ≡ count) }
+    ensures room { IfOk result (λ free. count ≤ vec_capacity free) }
+{
+    let mut free = Vec::with_capacity(alloc, count as usize)?;
+    if let Err(error) = fill(alloc, &mut free, count) {
+        end_all(free);
+        return Err(error);
+    }
+    Ok(free)
 }
 
 /// Adds new frames to an empty list that has room for them: those below `frames`. After an error it
@@ -110,4 +159,39 @@ fn end_all(mut free: Vec<Frame>) {
         frame.end();
     }
     free.destroy_empty();
+}
+
+/// New spares. Where the memory ends, those made by then are given back.
+fn new_spares(alloc: Global, count: u32) -> Result<Vec<Spare>, AllocError>
+    ensures all { IfOk result (λ spares. length spares.items ≡ count) }
+    ensures room { IfOk result (λ spares. count ≤ vec_capacity spares) }
+{
+    let mut spares = Vec::with_capacity(alloc, count as usize)?;
+    if let Err(error) = fill_spares(alloc, &mut spares, count) {
+        discard_all(spares);
+        return Err(error);
+    }
+    Ok(spares)
+}
+
+/// Adds so many new spares to an empty list that has room for them. After an error it has some of
+/// them.
+fn fill_spares(alloc: Global, spares: &mut Vec<Spare>, count: u32) -> Result<(), AllocError>
+    requires empty { vec_len spares.old ≡ 0 }
+    requires room { count ≤ vec_capacity spares.old }
+    ensures all { OnOk result (length spares.new.items ≡ count) }
+    ensures room { count ≤ vec_capacity spares.new }
+{
+    for _number in 0..count {
+        let spare = Spare::new(alloc)?;
+        spares.push_reserved(spare);
+    }
+    Ok(())
+}
+
+fn discard_all(mut spares: Vec<Spare>) {
+    while let Some(spare) = spares.pop() {
+        spare.discard();
+    }
+    spares.destroy_empty();
 }

@@ -1,5 +1,5 @@
--- One call of the book: a cause to refuse, no room in the trace, want of memory, or a step.
-use Rattle.std.specs.Prelude.{is_none, ◌≡◌, ℕ, ◌+◌, ◌&&◌, nat_lt, Bool, true, false, MatchBool, if◌then◌else◌, List, [], ◌∷◌, length, Option, Some, None}
+-- One call of the book: a ticket that is not the caller's, a cause to refuse, no room in the trace, want of memory, or a step.
+use Rattle.std.specs.Prelude.{is_none, ◌≡◌, ℕ, ◌+◌, ◌==◌, ◌&&◌, nat_lt, Bool, true, false, MatchBool, if◌then◌else◌, List, [], ◌∷◌, length, Option, Some, None}
 use Rattle.machine.specs.declared.record.Life.{Life}
 use Rattle.machine.specs.declared.record.Life.TheVariants.{Live, Exited, Killed}
 use Rattle.machine.specs.declared.record.Task.{Task}
@@ -10,16 +10,16 @@ use Rattle.machine.specs.declared.event.Event.TheVariants as event
 use Rattle.machine.specs.declared.reply.Reply.{Reply}
 use Rattle.machine.specs.declared.reply.Reply.TheVariants as reply
 use Rattle.machine.specs.declared.refusal.Refusal.{Refusal}
-use Rattle.machine.specs.declared.refusal.Refusal.TheVariants.{TraceFull, NoMemory}
+use Rattle.machine.specs.declared.refusal.Refusal.TheVariants.{Stranger, TraceFull, NoMemory}
 use Rattle.machine.specs.declared.entry.Entry.{Entry}
-use Rattle.machine.specs.Pages.{in_transfer}
+use Rattle.machine.specs.Pages.{is_coming_in, is_going_out, in_transfer}
 use Rattle.machine.specs.Tasks.{task_at}
 use Rattle.machine.specs.State.{Opening, State, first_state, over_in, is_frame_free}
 use Rattle.machine.specs.Access.{Meeting, meets, charges, is_fetch}
 use Rattle.machine.specs.Refusals.{refusal}
 use Rattle.machine.specs.Reclaim.{has_takeable, stands, target_of}
 use Rattle.machine.specs.Step.{Step}
-use Rattle.machine.specs.History.{entries_by}
+use Rattle.machine.specs.History.{taker, entries_by}
 
 -- a state with its history, and how many passes were given out
 pub record Past : Type 0 where
@@ -29,6 +29,20 @@ pub record Past : Type 0 where
 
 abbrev pub first_past : Opening → Past
 first_past opening = record { state = first_state opening; history = []; passes = 0 }
+
+-- ---- strangers
+
+abbrev pub is_worker : ℕ → Option ℕ → Bool
+is_worker worker None = false
+is_worker worker (Some taken_by) = taken_by == worker
+
+-- the ticket of an ending is in flight, in its direction, and the caller took it. All other events have no ticket
+abbrev pub knows_ticket : State → List Entry → ℕ → Event → Bool
+knows_ticket s history worker (event.Arrived ticket bytes) = is_coming_in s.pages ticket.0 && is_worker worker (taker ticket.0 history)
+knows_ticket s history worker (event.FetchFailed ticket) = is_coming_in s.pages ticket.0 && is_worker worker (taker ticket.0 history)
+knows_ticket s history worker (event.Left ticket) = is_going_out s.pages ticket.0 && is_worker worker (taker ticket.0 history)
+knows_ticket s history worker (event.LeaveFailed ticket) = is_going_out s.pages ticket.0 && is_worker worker (taker ticket.0 history)
+knows_ticket s history worker what = true
 
 -- ---- what an access will be
 
@@ -52,7 +66,7 @@ task_grows s t (Some task) place op = life_grows s t place op task task.life
 
 -- ---- room in the trace
 
--- a transfer begins with an entry and keeps one for its end. An access begins one where its charge is granted
+-- a transfer begins with an entry and keeps one for its end, which so needs none more. An access begins one where its charge is granted
 abbrev pub meeting_need : State → ℕ → Meeting → ℕ
 meeting_need s g meeting = if is_fetch meeting && meeting_grows s g meeting then 2 else 1
 
@@ -69,6 +83,10 @@ task_need s t (Some task) place op = life_need s t place op task task.life
 abbrev pub need : State → Event → ℕ
 need s (event.Access t place op) = task_need s t.0 (task_at s.tasks t.0) place op
 need s (event.Relieve cause) = if stands s cause && has_takeable s (target_of cause) then 2 else 1
+need s (event.Arrived ticket bytes) = 0
+need s (event.FetchFailed ticket) = 0
+need s (event.Left ticket) = 0
+need s (event.LeaveFailed ticket) = 0
 need s what = 1
 
 -- the entries, those kept for the ends of transfers, and the need pass the limit. (Excludes a machine that answers TraceFull while there is room.)
@@ -111,48 +129,7 @@ abbrev pub JudgedBy : Past → ℕ → Event → Option Refusal → Reply → Pa
 JudgedBy old worker what (Some why) answer new = Refuses old why answer new
 JudgedBy old worker what None answer new = MatchBool (is_trace_full old what) (Refuses old TraceFull answer new) (Served old worker what answer new)
 
--- the causes in order, then the trace's room, then memory
+-- a ticket that is not the caller's comes first, then the causes in order, then the trace's room, then memory
 abbrev pub Called : Past → ℕ → Event → Reply → Past → Type 0
-Called old worker what answer new = JudgedBy old worker what (refusal old.state what) answer new
-
--- ---- the replies that an event can have at all while there is no swap, so that no caller writes an arm for any other
-
-abbrev pub IsAccessReply : Reply → Type 0
-IsAccessReply (reply.Done byte hit) = Unit {0}
-IsAccessReply (reply.Over g) = Unit {0}
-IsAccessReply reply.NoFrame = Unit {0}
-IsAccessReply reply.Killed = Unit {0}
-IsAccessReply (reply.Refused why) = Unit {0}
-IsAccessReply said = ⊥
-
-abbrev pub IsReliefReply : Reply → Type 0
-IsReliefReply reply.Room = Unit {0}
-IsReliefReply (reply.KilledTask t) = Unit {0}
-IsReliefReply reply.NoVictim = Unit {0}
-IsReliefReply (reply.Refused why) = Unit {0}
-IsReliefReply said = ⊥
-
-abbrev pub IsOkReply : Reply → Type 0
-IsOkReply reply.Ok = Unit {0}
-IsOkReply (reply.Refused why) = Unit {0}
-IsOkReply said = ⊥
-
-abbrev pub IsExitReply : Reply → Type 0
-IsExitReply reply.Ok = Unit {0}
-IsExitReply reply.Killed = Unit {0}
-IsExitReply (reply.Refused why) = Unit {0}
-IsExitReply said = ⊥
-
-abbrev pub IsShownReply : Reply → Type 0
-IsShownReply (reply.Shown numbers) = Unit {0}
-IsShownReply (reply.Refused why) = Unit {0}
-IsShownReply said = ⊥
-
-abbrev pub Replies : Event → Reply → Type 0
-Replies (event.Access t place op) said = IsAccessReply said
-Replies (event.Relieve cause) said = IsReliefReply said
-Replies (event.Spawn t g) said = IsOkReply said
-Replies (event.Exit t) said = IsExitReply said
-Replies (event.Mkdir path) said = IsOkReply said
-Replies (event.Set g what) said = IsOkReply said
-Replies (event.Show what) said = IsShownReply said
+Called old worker what answer new =
+    MatchBool (knows_ticket old.state old.history worker what) (JudgedBy old worker what (refusal old.state what) answer new) (Refuses old Stranger answer new)

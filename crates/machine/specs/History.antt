@@ -1,5 +1,5 @@
 -- Histories of the machine, the newest entry first: the bytes that they say (what a read gives: the last write), and their order.
-use Rattle.std.specs.Prelude.{◌≡◌, ℕ, ◌+◌, ◌==◌, ◌&&◌, Bool, true, false, List, [], ◌∷◌, length, filter}
+use Rattle.std.specs.Prelude.{◌≡◌, ℕ, ◌+◌, ◌<◌, ◌==◌, ◌&&◌, Bool, true, false, if◌then◌else◌, List, [], ◌∷◌, length, filter, slice_index, Option, Some, None}
 use Rattle.machine.specs.declared.event.Place.{Place}
 use Rattle.machine.specs.declared.event.Place.TheVariants.{Virtual}
 use Rattle.machine.specs.declared.event.Op.TheVariants.{Read, Write}
@@ -8,6 +8,7 @@ use Rattle.machine.specs.declared.event.Event.TheVariants as event
 use Rattle.machine.specs.declared.reply.Reply.{Reply}
 use Rattle.machine.specs.declared.reply.Reply.TheVariants as reply
 use Rattle.machine.specs.declared.entry.Entry.{Entry}
+use Rattle.machine.specs.Access.{page_size}
 
 -- ---- places of bytes
 
@@ -20,6 +21,10 @@ spot_of t (Virtual v offset) = InTask t v offset
 
 abbrev pub is_spot : Spot → Spot → Bool
 is_spot (InTask t v o) (InTask t' v' o') = (t == t') && ((v == v') && (o == o'))
+
+-- the same page of the same task, at another offset
+abbrev pub at_offset : ℕ → Spot → Spot
+at_offset o (InTask t v offset) = InTask t v o
 
 -- ---- the last write
 
@@ -51,7 +56,7 @@ abbrev pub last : List Entry → Spot → ℕ
 last [] spot = 0
 last (entry ∷ earlier) spot = follow (says entry.event entry.reply spot) (last earlier) spot
 
--- ---- right
+-- ---- right and honest
 
 -- a read gave the byte last written before it
 abbrev pub IsRight : List Entry → Event → Reply → Type 0
@@ -61,6 +66,51 @@ IsRight earlier what answer = Unit {0}
 abbrev pub Right : List Entry → Type 0
 Right [] = Unit {0}
 Right (entry ∷ earlier) = Right earlier × IsRight earlier entry.event entry.reply
+
+-- where a read-in began: the byte that was accessed, and the entries before
+pub record Fetched : Type 0 where
+  pub spot : Spot
+  pub earlier : List Entry
+
+abbrev pub fetched_by : ℕ → Event → Reply → List Entry → Option Fetched → Option Fetched
+fetched_by ticket (event.Access t place op) (reply.Fetch n) earlier others =
+    if n.0 == ticket then Some (record { spot = spot_of t.0 place; earlier = earlier }) else others
+fetched_by ticket what answer earlier others = others
+
+-- the latest entry that began a read-in under this ticket
+abbrev pub fetch_of : ℕ → List Entry → Option Fetched
+fetch_of ticket [] = None
+fetch_of ticket (entry ∷ earlier) = fetched_by ticket entry.event entry.reply earlier (fetch_of ticket earlier)
+
+abbrev pub HoldsLast : List ℕ → Option Fetched → Type 0
+HoldsLast bytes None = ⊥
+HoldsLast bytes (Some fetch) = (o : ℕ) → o < page_size → slice_index bytes o ≡ last fetch.earlier (at_offset o fetch.spot)
+
+-- what arrived is what was last written when the read-in began; nobody writes to a page in transfer
+abbrev pub IsHonest : List Entry → Event → Type 0
+IsHonest earlier (event.Arrived ticket bytes) = HoldsLast bytes (fetch_of ticket.0 earlier)
+IsHonest earlier what = Unit {0}
+
+-- every arrival brought what was last written: the device kept its promise
+abbrev pub Honest : List Entry → Type 0
+Honest [] = Unit {0}
+Honest (entry ∷ earlier) = Honest earlier × IsHonest earlier entry.event
+
+-- ---- who took a ticket
+
+abbrev pub ticket_given : Reply → Option ℕ
+ticket_given (reply.Fetch n) = Some n.0
+ticket_given (reply.Out n) = Some n.0
+ticket_given answer = None
+
+abbrev pub taker_or : ℕ → Option ℕ → ℕ → Option ℕ → Option ℕ
+taker_or ticket None worker others = others
+taker_or ticket (Some n) worker others = if n == ticket then Some worker else others
+
+-- the worker that was given the ticket of this number last
+abbrev pub taker : ℕ → List Entry → Option ℕ
+taker ticket [] = None
+taker ticket (entry ∷ earlier) = taker_or ticket (ticket_given entry.reply) entry.worker.0 (taker ticket earlier)
 
 -- ---- trace order
 

@@ -17,5 +17,3 @@ pub mod History
 pub mod Call
 pub mod Legal
 pub mod Control
-pub mod Turns
-pub mod Schedule

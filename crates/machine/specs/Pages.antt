@@ -113,6 +113,22 @@ is_swap_taken pages b = any_there (λ page. is_anon page.content && is_number (b
 abbrev pub is_ticket_taken : Pages → ℕ → Bool
 is_ticket_taken pages n = any_there (λ page. is_number (ticket_at page.residence) n) pages
 
+-- the page is being read in under this ticket, or written out
+abbrev pub is_coming_at : ℕ → Residence → Bool
+is_coming_at n (Coming frame block ticket) = ticket == n
+is_coming_at n residence = false
+
+abbrev pub is_going_at : ℕ → Residence → Bool
+is_going_at n (Going frame block ticket) = ticket == n
+is_going_at n residence = false
+
+-- the ticket is in flight, in that direction
+abbrev pub is_coming_in : Pages → ℕ → Bool
+is_coming_in pages n = any_there (λ page. is_coming_at n page.residence) pages
+
+abbrev pub is_going_out : Pages → ℕ → Bool
+is_going_out pages n = any_there (λ page. is_going_at n page.residence) pages
+
 -- the home block of a file's page: home blocks follow the swap blocks, in the files' order
 abbrev pub home_block : ℕ → List ℕ → ℕ → ℕ → ℕ
 home_block swap sizes file page = swap + sum (take file sizes) + page

@@ -28,7 +28,7 @@ is_transfer_under s target page = is_in_transfer page && under s.tree target pag
 abbrev pub has_transfer : State → ℕ → Bool
 has_transfer s target = any_there (is_transfer_under s target) s.pages
 
--- nothing can be reclaimed for the target, now or at the end of a transfer
+-- nothing can be reclaimed for the target, now or at the end of a transfer under it
 abbrev pub is_idle : State → ℕ → Bool
 is_idle s target = not (has_takeable s target) && not (has_transfer s target)
 

@@ -75,6 +75,10 @@ spawn_refusal s t g = group_refusal s.tree g (first_cause (bars_tasks s.tree g) 
 
 abbrev pub refusal : State → Event → Option Refusal
 refusal s (event.Access t place op) = task_refusal (task_at s.tasks t.0) (first_cause (not (is_place s.opening place)) BadPlace None)
+refusal s (event.Arrived ticket bytes) = None
+refusal s (event.FetchFailed ticket) = None
+refusal s (event.Left ticket) = None
+refusal s (event.LeaveFailed ticket) = None
 refusal s (event.Relieve cause) = None
 refusal s (event.Spawn t g) = spawn_refusal s t.0 g.0
 refusal s (event.Exit t) = task_refusal (task_at s.tasks t.0) None

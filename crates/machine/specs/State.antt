@@ -1,5 +1,5 @@
 -- The state of the plain machine: what the opening fixed, and its tables. Nothing in it is counted, linked or kept twice.
-use Rattle.std.specs.Prelude.{ℕ, nat_lt, Bool, false, List, [], ◌∷◌, Option}
+use Rattle.std.specs.Prelude.{ℕ, ◌&&◌, nat_lt, nat_le, Bool, false, List, [], ◌∷◌, Option}
 use Rattle.machine.specs.declared.amount.Amount.{Amount}
 use Rattle.machine.specs.declared.record.Mapping.{Mapping}
 use Rattle.machine.specs.declared.config.Config.{Config}
@@ -20,7 +20,11 @@ pub record Opening : Type 0 where
 
 -- the opening that a configuration asks for
 abbrev pub opening_of : Config → Opening
-opening_of config = record { frames = config.frames; swap = 0; files = []; limit = config.trace; recursive = false }
+opening_of config = record { frames = config.frames; swap = config.swap; files = []; limit = config.trace; recursive = false }
+
+-- within the limits: 1 to 65,536 frames, at most 65,536 swap blocks, and a trace of 1 to 1,048,576 entries
+abbrev pub is_config : Config → Bool
+is_config config = (nat_le 1 config.frames && nat_le config.frames 65536) && (nat_le config.swap 65536 && (nat_le 1 config.trace && nat_le config.trace 1048576))
 
 -- the groups, their settings, the pages, the tasks, what the tasks' virtual pages show, and the events that were counted
 pub record State : Type 0 where

@@ -25,7 +25,7 @@ use Rattle.machine.specs.declared.reply.Reply.TheVariants as reply
 use Rattle.machine.specs.Slots.{Changes}
 use Rattle.machine.specs.Names.{parent_path}
 use Rattle.machine.specs.Tree.{Node, find_group}
-use Rattle.machine.specs.Pages.{Content, Memory, OfFile, Residence, Held, Coming, Going, Page, is_anon, in_transfer_at, page_at, home_block, is_frame_taken, is_swap_taken, is_ticket_taken}
+use Rattle.machine.specs.Pages.{Content, Memory, OfFile, Residence, Held, Coming, Going, Away, Page, is_anon, in_transfer_at, page_at, home_block, is_frame_taken, is_swap_taken, is_ticket_taken}
 use Rattle.machine.specs.declared.record.Limits.{Limits}
 use Rattle.machine.specs.Counts.{no_limits, limits_at, Counted, local, total, counts_by}
 use Rattle.machine.specs.Tasks.{task_at, SetsTask, group_of_task, mapping, mappers, without_task, without_place}
@@ -208,6 +208,36 @@ abbrev pub RelieveStep : State → Cause → Reply → State → Type 0
 RelieveStep old cause answer new =
     MatchBool (stands old cause) (ReclaimStep old (target_of cause) (KillStep old (target_of cause) answer new) answer new) (Only old reply.Room answer new)
 
+-- ---- ends of transfers
+
+-- an anonymous page that nothing maps is gone; any other stands there
+abbrev pub or_gone : List Mapping → ℕ → Page → Option Page
+or_gone mappings p page = if is_anon page.content && (mappers mappings p == 0) then None else Some page
+
+-- the page stands in its frame, and is what it was
+abbrev pub in_frame : List Mapping → ℕ → Page → ℕ → ℕ → Option Page
+in_frame mappings p page frame block = or_gone mappings p (record page { residence = Held frame })
+
+-- the page stands on its block alone. A file's page has no record then
+abbrev pub on_block_of : Content → List Mapping → ℕ → Page → ℕ → Option Page
+on_block_of Memory mappings p page block = or_gone mappings p (record page { residence = Away block })
+on_block_of (OfFile file q) mappings p page block = None
+
+abbrev pub on_block : List Mapping → ℕ → Page → ℕ → ℕ → Option Page
+on_block mappings p page frame block = on_block_of page.content mappings p page block
+
+-- the transfer of one page ends, and this is what the page comes to. (Excludes a page that is on its block after a failed write-out.)
+pub record EndsTransfer (old : State) (from : ℕ → ℕ → Residence) (to : List Mapping → ℕ → Page → ℕ → ℕ → Option Page) (answer : Reply) (new : State) : Type 0 where
+  pub p : ℕ
+  pub page : Page
+  pub frame : ℕ
+  pub block : ℕ
+  pub there : page_at old.pages p ≡ Some page
+  pub moves : page.residence ≡ from frame block
+  pub placed : Changes old.pages new.pages p (to old.mappings p page frame block)
+  pub answers : answer ≡ reply.Ok
+  pub state : new ≡ record old { pages = new.pages }
+
 -- ---- groups
 
 abbrev pub new_node : List Node → List ℕ → Node
@@ -229,6 +259,10 @@ shown_of s (query.EventsLocal g) = shown.Events (counts_by (local s.counted g.0)
 abbrev pub Step : State → Event → Reply → State → Type 0
 Step old (event.Access t place op) answer new =
     TaskStep old (task_at old.tasks t.0) (λ task. MeetStep old t.0 task.group.0 place op (meets old t.0 place op) answer new) answer new
+Step old (event.Arrived ticket bytes) answer new = EndsTransfer old (λ frame block. Coming frame block ticket.0) in_frame answer new
+Step old (event.FetchFailed ticket) answer new = EndsTransfer old (λ frame block. Coming frame block ticket.0) on_block answer new
+Step old (event.Left ticket) answer new = EndsTransfer old (λ frame block. Going frame block ticket.0) on_block answer new
+Step old (event.LeaveFailed ticket) answer new = EndsTransfer old (λ frame block. Going frame block ticket.0) in_frame answer new
 Step old (event.Relieve cause) answer new = RelieveStep old cause answer new
 Step old (event.Spawn t g) reply.Ok new = SetsTask old.tasks t.0 g.0 Live new.tasks × (new ≡ record old { tasks = new.tasks })
 Step old (event.Exit t) answer new = TaskStep old (task_at old.tasks t.0) (λ task. Exits old t.0 answer new) answer new

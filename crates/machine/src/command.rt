@@ -83,6 +83,10 @@ pub enum Word {
     Killed,
     /// The actor has no command.
     Idle,
+    /// `busy`: the page is in transfer, or a page under the group is and may come free.
+    Busy,
+    /// `EIO`: a call of the device failed.
+    Io,
     /// `ENOMEM`: nothing can be reclaimed and there is nobody to kill.
     OutOfMemory,
     /// 1,000 turns brought no answer. The command stays under way.

@@ -1,7 +1,8 @@
 //! What is asked of the machine, as it stands in a history.
 
 use crate::amount::Amount;
-use crate::id::{GroupId, TaskId};
+use crate::bytes::PageBytes;
+use crate::id::{GroupId, TaskId, TicketId};
 use crate::text::Text;
 
 /// Where an access goes.
@@ -54,6 +55,14 @@ pub enum Query {
 pub enum Event {
     /// A task reads or writes a byte (kernel: `handle_mm_fault` and the access that is tried again).
     Access { task: TaskId, place: Place, op: Op },
+    /// A page was read in, with these bytes (kernel: the end of `swap_readpage`).
+    Arrived { ticket: TicketId, bytes: PageBytes },
+    /// A page could not be read.
+    FetchFailed(TicketId),
+    /// A page was written out (kernel: `end_swap_bio_write`).
+    Left(TicketId),
+    /// A page could not be written.
+    LeaveFailed(TicketId),
     /// Room is wanted (kernel: a turn of `try_to_free_mem_cgroup_pages`, or `mem_cgroup_out_of_memory`).
     Relieve(Cause),
     /// A new task of a group.

@@ -6,6 +6,7 @@
 #![tactic(auto)]
 
 pub mod amount;
+pub mod bytes;
 pub mod command;
 pub mod config;
 pub mod control;
@@ -17,4 +18,3 @@ pub mod record;
 pub mod refusal;
 pub mod reply;
 pub mod text;
-pub mod turn;

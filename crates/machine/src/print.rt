@@ -9,6 +9,8 @@ impl fmt::Display for Word {
         match self {
             Word::Killed => f.write_str("killed"),
             Word::Idle => f.write_str("idle"),
+            Word::Busy => f.write_str("busy"),
+            Word::Io => f.write_str("EIO"),
             Word::OutOfMemory => f.write_str("ENOMEM"),
             Word::TurnLimit => f.write_str("turn limit"),
             Word::Underway => f.write_str("Underway"),

@@ -18,6 +18,8 @@ pub enum Refusal {
     TraceFull,
     /// Memory was wanted and refused.
     NoMemory,
+    /// The ticket is none of a transfer in flight here, or another pass took it.
+    Stranger,
     /// There is no such virtual page, or no such offset in it.
     BadPlace,
     /// `EINVAL`: a path that is none, a task's number out of range, an amount, a file's mode, a
@@ -37,6 +39,7 @@ impl Refusal {
             Refusal::NumberUsed => "NumberUsed",
             Refusal::TraceFull => "TraceFull",
             Refusal::NoMemory => "NoMemory",
+            Refusal::Stranger => "Stranger",
             Refusal::BadPlace => "BadPlace",
             Refusal::Invalid => "EINVAL",
         }

@@ -13,13 +13,12 @@ pub enum Shown {
     Events(EventCounts),
 }
 
-/// The answer to one event. Without swap no page can be taken or be in transfer, and no event is
-/// answered by `Fetch`, `Busy`, `Dropped`, `Out` or `Wait`.
+/// The answer to one event. There are no pages of files yet, so that none is answered by `Dropped`.
 #[derive(Clone, Copy, Debug, PartialEq, Eq)]
 pub enum Reply {
     /// The byte read or written, and the frame that was hit.
     Done { byte: u8, hit: Option<FrameId> },
-    /// The page is being read in.
+    /// The page is being read in, under this ticket.
     Fetch(TicketId),
     /// No charge: this is the lowest group without room.
     Over(GroupId),
@@ -34,7 +33,7 @@ pub enum Reply {
     Room,
     /// A clean file page was let go.
     Dropped,
-    /// A page is being written out.
+    /// A page is being written out, under this ticket.
     Out(TicketId),
     /// A page is in transfer, and may come free.
     Wait,

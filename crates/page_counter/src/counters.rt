@@ -1,6 +1,6 @@
 //! The counters of all groups.
 
-ghost use Rattle.std.specs.Prelude.{◌≡◌, ◌+◌, ◌<◌, ◌≤◌, ◌++◌, ◌∷◌, ℕ, List, [], length, slice_index, slice_set, Some, None, true, false, IfOk, OnOk, IfErr, OnErr, IsOk, IsSome};
+ghost use Rattle.std.specs.Prelude.{◌≡◌, ◌+◌, ◌<◌, ◌≤◌, ◌++◌, ◌∷◌, ℕ, List, [], length, slice_index, slice_set, Some, None, true, false, option_map, IfOk, OnOk, IfErr, OnErr, IsOk, IsSome};
 ghost use Rattle.machine.specs.Amounts.{exceeds};
 ghost use Rattle.machine.specs.Counts.{no_limits, limits_at, over_at};
 ghost use Rattle.machine.specs.Tree.{IsTree, IsAbove, node_at, is_live, has_children, share};
@@ -161,6 +161,16 @@ impl Counters {
         self.usage[group.0 as usize]
     }
 
+    /// The lowest group from this one up whose max one page more would pass, if there is one: the one
+    /// that [`Counters::try_charge`] would name (kernel: mem_cgroup_margin).
+    pub fn over(&self, group: GroupId) -> Option<GroupId>
+        requires live { is_live self.now.tree group.0 ≡ true }
+        ensures { option_map (λ g. g.0) result ≡ over_in self.now group.0 }
+    {
+        self.lineage.is_lineage();
+        first_full(&self.lineage, &self.limits, &self.usage, group)
+    }
+
     /// Charges a page to the group and to each group above it (kernel: page_counter_try_charge).
     ///
     /// `Over` where that would pass a max, with the lowest group whose max it is. Then nothing is
@@ -234,6 +244,29 @@ fn is_full(usage: u64, max: Amount) -> bool
         Amount::Max => false,
         Amount::Pages(pages) => usage >= pages,
     }
+}
+
+/// The lowest group from this one up that is full.
+fn first_full(
+    lineage: &Lineage,
+    limits: &[Limits],
+    usage: &[u64],
+    group: GroupId,
+) -> Option<GroupId>
+    requires tree { IsTree lineage.now.tree }
+    requires limits { length limits.now ≡ length lineage.now.tree }
+    requires usage { length usage.now ≡ length lineage.now.tree }
+    requires there { group.0 < length lineage.now.tree }
+    ensures { option_map (λ g. g.0) result ≡ over_at lineage.now.tree limits.now (λ a. slice_index usage.now a) (Some group.0) }
+{
+    let mut at = Some(group);
+    while let Some(here) = at {
+        if is_full(usage[here.0 as usize], limits[here.0 as usize].max) {
+            return Some(here);
+        }
+        at = lineage.parent(here);
+    }
+    None
 }
 
 /// Adds one to the count of each group from this one up, or nothing where one of them is full.

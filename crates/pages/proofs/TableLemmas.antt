@@ -1,13 +1,12 @@
 -- Look-ups in the tables that places stand for, after a change at one number.
-use Rattle.std.proofs.Common.{◌≡◌, ◌≢◌, ◌<◌, ℕ, zero, suc, ◌==◌, ◌&&◌, cond, if◌then◌else◌, List, [], ◌∷◌, length, map, get_or, set, Option, Some, None, refl, sym, ap, ◌∙◌, subst, inl, inr, arith}
-use Rattle.std.specs.Prelude.{option_map, slice_index, IfSome, IsSome}
+use Rattle.std.proofs.Common.{◌≡◌, ◌≢◌, ◌<◌, ℕ, zero, suc, ◌==◌, ◌&&◌, cond, if◌then◌else◌, List, [], ◌∷◌, length, map, get_or, set, Option, Some, None, is_some, refl, sym, ap, ◌∙◌, inl, inr, arith}
+use Rattle.std.specs.Prelude.{option_map, slice_index, IsSome}
 use Rattle.std.proofs.lemmas.Bool.Decides.{eqb_tells}
-use Rattle.std.proofs.lemmas.List.{get_or-set_same, get_or-set_other, get_or_past, length-map}
+use Rattle.std.proofs.lemmas.List.{get_or-set_same, get_or-set_other, get_or_past}
+use Rattle.slab.specs.Slab.{Slab, get, Updates}
 use Rattle.machine.specs.Slots.{at, Changes}
-use Rattle.machine.specs.Pages.{Pages}
-use Rattle.pages.specs.declared.Held.{Held}
-use Rattle.pages.specs.PageTable.{byte_of, byte_in, IsHeldMemory, AreHeld}
-use Rattle.pages.specs.Records.{page_of, WritesByte}
+use Rattle.pages.specs.PageTable.{byte_of, byte_in}
+use Rattle.pages.specs.Records.{WritesByte}
 
 module _ {A : Type 0} where
   -- what stands at a place is replaced
@@ -16,6 +15,17 @@ module _ {A : Type 0} where
     changed = get_or-set_same slots k to None within;
     others = λ m differs. get_or-set_other slots k m to None differs;
   }
+
+  -- what is changed twice at one place
+  pub Changes-twice : (old between new : List (Option A)) (k : ℕ) (first to : Option A) → Changes old between k first → Changes between new k to → Changes old new k to
+  Changes-twice old between new k first to before after = record {
+    changed = after.changed;
+    others = λ m differs. after.others m differs ∙ before.others m differs;
+  }
+
+  -- something stands at a place, so there is that place
+  pub place_within : (slots : List (Option A)) (k : ℕ) → IsSome (at slots k) → k < length slots
+  place_within slots k there = grind (arith, get_or_past)
 
 module _ {A B : Type 0} (f : A → B) where
   pub at-map : (slots : List (Option A)) (k : ℕ) → get_or (map (option_map f) slots) k None ≡ option_map f (get_or slots k None)
@@ -35,6 +45,27 @@ module _ {A B : Type 0} (f : A → B) where
   map-set [] k to same = refl
   map-set (slot ∷ slots) zero to same = ap (λ v. v ∷ map (option_map f) slots) same
   map-set (slot ∷ slots) (suc k) to same = ap (λ rest. option_map f slot ∷ rest) (map-set slots k to same)
+
+  pub is_some-map : (slot : Option A) → is_some (option_map f slot) ≡ is_some slot
+  is_some-map None = refl
+  is_some-map (Some a) = refl
+
+module _ {T A : Type 0} where
+  -- a number and its place change alike
+  pub taken-changes : (numbers later : Slab T) (old new : List (Option A)) (p : ℕ) (value : Option T) (to : Option A) → Updates numbers later p value → Changes old new p to → is_some value ≡ is_some to → ((n : ℕ) → is_some (get numbers n) ≡ is_some (at old n)) → (n : ℕ) → is_some (get later n) ≡ is_some (at new n)
+  taken-changes numbers later old new p value to updates changes same taken n =
+      elim (eqb_tells n p) [
+        | inl here ↦ ap is_some (ap (get later) here.1 ∙ updates.changed) ∙ same ∙ sym (ap is_some (ap (at new) here.1 ∙ changes.changed))
+        | inr apart ↦ ap is_some (updates.others n apart.1) ∙ taken n ∙ sym (ap is_some (changes.others n apart.1))
+      ]
+
+none_of : {A B : Type 0} (number : Option A) (slot : Option B) → is_some number ≡ is_some slot → number ≡ None → slot ≡ None
+none_of number None same free = refl
+none_of number (Some b) same free = absurd (let is = sym (ap is_some free) ∙ same in cc)
+
+-- at a number that is free nothing stands
+pub free-vacant : {T A : Type 0} (numbers : Slab T) (old : List (Option A)) (p : ℕ) → ((n : ℕ) → is_some (get numbers n) ≡ is_some (at old n)) → get numbers p ≡ None → at old p ≡ None
+free-vacant numbers old p taken free = none_of (get numbers p) (at old p) (taken p) free
 
 pub byte_in-changes : (old new : List (Option (List ℕ))) (p : ℕ) (to : Option (List ℕ)) → Changes old new p to → (q o : ℕ) → byte_in new q o ≡ (if q == p then byte_of to o else byte_in old q o)
 byte_in-changes old new p to changes q o =
@@ -70,17 +101,3 @@ byte_in-written old new p after offset byte changes writes q o =
           ])
       | inr differs ↦ rw differs.0 refl
     ]
-
--- a page that the table shows has its place
-pub place_within : (slots : List (Option Held)) (pages : Pages) (p : ℕ) → map (option_map page_of) slots ≡ pages → IsSome (at pages p) → p < length slots
-place_within slots pages p is there =
-    let shown : p < length pages = grind (arith, get_or_past) in
-    omega (arith, ap length is, length-map slots (option_map page_of))
-
--- what stands at each place is memory in a frame
-held_at : (slot : Option Held) → IfSome (option_map page_of slot) IsHeldMemory
-held_at None = tt
-held_at (Some held) = record { is = refl; anonymous = refl; held = refl; settled = refl }
-
-pub AreHeld-slots : (slots : List (Option Held)) → AreHeld (map (option_map page_of) slots)
-AreHeld-slots slots p = subst (λ page. IfSome page IsHeldMemory) (sym (at-map page_of slots p)) (held_at (get_or slots p None))

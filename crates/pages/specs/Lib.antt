@@ -1,2 +1,4 @@
+pub mod Tickets
 pub mod PageTable
+pub mod Transfers
 pub mod Records

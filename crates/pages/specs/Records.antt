@@ -1,18 +1,25 @@
--- What a table of pages stands for: the numbers that pages have, and what the pages own.
-use Rattle.std.specs.Prelude.{◌≡◌, ◌≢◌, ℕ, ◌-◌, ◌≤◌, leb, List, Option, length, map, option_map, is_some, if◌then◌else◌}
+-- What a table of pages stands for: the numbers that pages have, what the pages own, and the transfers in flight.
+use Rattle.std.specs.Prelude.{◌≡◌, ◌≢◌, ℕ, ◌-◌, ◌<◌, ◌≤◌, leb, List, [], Option, length, map, option_map, is_some, if◌then◌else◌}
 use Rattle.slab.specs.Slab.{Slab, get, slab_len}
 use Rattle.machine.specs.Slots.{at}
-use Rattle.machine.specs.Pages.{Page}
-use Rattle.machine.specs.Step.{new_page}
-use Rattle.pages.specs.declared.Held.{Held}
-use Rattle.pages.specs.PageTable.{PageTable, byte_of}
+use Rattle.machine.specs.Pages.{Held, Coming, Going, Away, Page}
+use Rattle.pages.specs.declared.flight.Flight.{Flight}
+use Rattle.pages.specs.declared.kept.Kept.{Kept}
+use Rattle.pages.specs.declared.kept.Kept.TheVariants as kept
+use Rattle.pages.specs.PageTable.{PageTable, anon_page, byte_of, AreInFlight}
 
--- the page that a frame and a charge make
-abbrev pub page_of : Held → Page
-page_of held = new_page held.charge held.frame.number
+-- the page that owns these
+abbrev pub page_of : Kept → Page
+page_of (kept.Held frame charge) = anon_page charge (Held frame.number)
+page_of (kept.Coming frame charge slot ticket) = anon_page charge (Coming frame.number slot ticket.0)
+page_of (kept.Going frame charge slot ticket) = anon_page charge (Going frame.number slot ticket.0)
+page_of (kept.Away group slot) = anon_page group.0 (Away slot)
 
-abbrev pub bytes_of : Held → List ℕ
-bytes_of held = held.frame.bytes
+abbrev pub bytes_of : Kept → List ℕ
+bytes_of (kept.Held frame charge) = frame.bytes
+bytes_of (kept.Coming frame charge slot ticket) = frame.bytes
+bytes_of (kept.Going frame charge slot ticket) = frame.bytes
+bytes_of (kept.Away group slot) = []
 
 -- one byte of a page is written, and no other changes
 pub record WritesByte (old new : Option (List ℕ)) (offset byte : ℕ) : Type 0 where
@@ -24,15 +31,20 @@ module _ {T : Type 0} where
   abbrev pub room_of : Slab T → ℕ → ℕ
   room_of numbers places = if leb numbers.capacity places then numbers.capacity - slab_len numbers else 0
 
-  -- the numbers, what the pages own, and how many places there is memory for
-  abbrev pub table_of : Slab T → List (Option Held) → ℕ → PageTable
-  table_of numbers held places = record {
-    pages = map (option_map page_of) held;
-    bytes = map (option_map bytes_of) held;
+  -- the numbers, what the pages own, how many places there is memory for, and the transfers
+  abbrev pub table_of : Slab T → List (Option Kept) → ℕ → Slab Flight → PageTable
+  table_of numbers owned places transfers = record {
+    pages = map (option_map page_of) owned;
+    bytes = map (option_map bytes_of) owned;
     room = room_of numbers places;
+    flights = transfers.slots;
+    tickets = transfers.capacity - slab_len transfers;
   }
 
-  -- a number is taken exactly where something stands at its place, and no place is beyond the numbers
-  pub record IsTable (numbers : Slab T) (held : List (Option Held)) : Type 0 where
-    pub taken : (n : ℕ) → is_some (get numbers n) ≡ is_some (at held n)
-    pub within : length held ≤ numbers.capacity
+  -- a number is taken exactly where something stands at its place, and no place is beyond the numbers;
+  -- the transfers are those of the pages that are in transfer, and the number of each fits 32 bits
+  pub record IsTable (numbers : Slab T) (owned : List (Option Kept)) (transfers : Slab Flight) : Type 0 where
+    pub taken : (n : ℕ) → is_some (get numbers n) ≡ is_some (at owned n)
+    pub within : length owned ≤ numbers.capacity
+    pub in_flight : AreInFlight (map (option_map page_of) owned) transfers.slots
+    pub countable : transfers.capacity < 4294967296

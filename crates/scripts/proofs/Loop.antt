@@ -1,5 +1,5 @@
 -- Reading lines one after the other, as a loop does.
-use Rattle.std.proofs.Common.{◌≡◌, ℕ, ◌+◌, ◌-◌, ◌<◌, ◌≤◌, Bool, true, false, ◌||◌, List, [], ◌∷◌, ◌++◌, length, take, drop, get_or, Some, None, refl, sym, ap, ◌∙◌, subst, arith, inl, inr}
+use Rattle.std.proofs.Common.{◌≡◌, ℕ, ◌+◌, ◌-◌, ◌<◌, ◌≤◌, Bool, true, false, ◌||◌, List, [], ◌∷◌, ◌++◌, length, take, drop, get_or, Option, Some, None, refl, sym, ap, ◌∙◌, subst, arith, inl, inr}
 use Rattle.std.specs.List.{list_any, filter_map, flat_map}
 use Rattle.std.specs.Str.Lines.{lines}
 use Rattle.std.proofs.lemmas.Bool.{cases_lt}
@@ -10,14 +10,13 @@ use Rattle.std.proofs.lemmas.List.Sums.{fold_push}
 use Rattle.std.proofs.lemmas.List.Folds.{list_any-append}
 use Rattle.std.proofs.lemmas.Grind.{common_steps}
 use Rattle.machine.specs.declared.command.Step.{Step}
-use Rattle.scripts.specs.declared.forms.Word.{Word}
+use Rattle.scripts.specs.declared.forms.DeviceCall.TheVariants as call
 use Rattle.scripts.specs.declared.fault.Cause.{Cause}
 use Rattle.scripts.specs.declared.meaning.Item.{Item}
-use Rattle.scripts.specs.declared.meaning.Item.TheVariants as item
 use Rattle.scripts.specs.Words.{words_of}
 use Rattle.scripts.specs.Faults.{fault}
 use Rattle.scripts.specs.Meaning.{meaning}
-use Rattle.scripts.specs.Script.{items_of, config_after, default_config, config_of, steps_of_item, steps_of, is_command, header_word, before_of, fault_at, IsFaultless, IsFirstFault}
+use Rattle.scripts.specs.Script.{items_of, config_after, default_config, config_of, fails, faults_of, steps_of_item, steps_of, is_command, header_word, before_of, fault_at, IsFaultless, IsFirstFault}
 use Rattle.scripts.specs.Reading.{Known, known, at_start, after, option_list}
 
 -- the first n of the lines are read and faultless, and these are left
@@ -27,17 +26,13 @@ pub record SoFar (ls left : List (List ℕ)) (n : ℕ) (k : Known) : Type 0 wher
   pub known_is : k ≡ known (items_of (take n ls))
   pub clean : (i : ℕ) → i < n → fault_at ls i ≡ None
 
-header_one : (i : Item) → filter_map header_word (i ∷ []) ≡ option_list (header_word i)
-header_one item.Nothing = refl
-header_one (item.Frames n) = refl
-header_one (item.Trace n) = refl
-header_one (item.Does actor what) = refl
-header_one (item.Begins actor what) = refl
-header_one (item.Advances actor) = refl
-header_one (item.Finishes actor) = refl
+-- what a function finds in one item, by what it finds there
+found_one : {A : Type 0} (f : Item → Option A) (i : Item) (o : Option A) → f i ≡ o → filter_map f (i ∷ []) ≡ option_list (f i)
+found_one f i None e = rw e refl
+found_one f i (Some x) e = rw e refl
 
-headers_push : (is : List Item) (i : Item) → filter_map header_word (is ++ i ∷ []) ≡ filter_map header_word is ++ option_list (header_word i)
-headers_push is i = filter_map-append header_word is (i ∷ []) ∙ ap (λ (ws : List Word). filter_map header_word is ++ ws) (header_one i)
+found_push : {A : Type 0} (f : Item → Option A) (is : List Item) (i : Item) → filter_map f (is ++ i ∷ []) ≡ filter_map f is ++ option_list (f i)
+found_push {A} f is i = filter_map-append f is (i ∷ []) ∙ ap (λ (xs : List A). filter_map f is ++ xs) (found_one f i (f i) refl)
 
 or_false : (b c : Bool) → (b || (c || false)) ≡ (b || c)
 or_false true c = refl
@@ -52,7 +47,8 @@ steps_push is i = flat_map-append steps_of_item is (i ∷ []) ∙ ap (λ (ss : L
 
 -- one more line of known meaning
 known_push : (is : List Item) (i : Item) → known (is ++ i ∷ []) ≡ after (known is) i
-known_push is i = rw (commands_push is i, headers_push is i, fold_push config_after default_config is i, steps_push is i) refl
+known_push is i =
+    rw (commands_push is i, found_push header_word is i, fold_push config_after default_config is i, found_push (fails call.Read) is i, found_push (fails call.Write) is i, steps_push is i) refl
 
 -- before the first line
 pub starts : (ls : List (List ℕ)) → SoFar ls ls 0 at_start
@@ -108,6 +104,8 @@ faults ls left n k line more cause so_far e faulty =
 pub record IsRead (ls : List (List ℕ)) (k : Known) : Type 0 where
   pub faultless : IsFaultless ls
   pub config : k.config ≡ config_of (items_of ls)
+  pub read_faults : k.read_faults ≡ faults_of call.Read (items_of ls)
+  pub write_faults : k.write_faults ≡ faults_of call.Write (items_of ls)
   pub steps : k.steps ≡ steps_of (items_of ls)
 
 -- where nothing is left, all is read
@@ -121,5 +119,7 @@ ends ls rest n k so_far e =
     record {
       faultless = λ i h. so_far.clean i (omega (arith, all, h));
       config = ap (λ (x : Known). x.config) known_all;
+      read_faults = ap (λ (x : Known). x.read_faults) known_all;
+      write_faults = ap (λ (x : Known). x.write_faults) known_all;
       steps = ap (λ (x : Known). x.steps) known_all;
     }

@@ -10,10 +10,10 @@ use Rattle.scripts.specs.declared.fault.Cause.TheVariants.{NotText, UnknownWord,
 use Rattle.scripts.specs.declared.forms.Word.{Word}
 use Rattle.scripts.specs.declared.forms.Speaker.TheVariants as speaker
 use Rattle.scripts.specs.declared.forms.Kind.{Kind}
-use Rattle.scripts.specs.declared.forms.Kind.TheVariants.{Number, Path, Actor, Any, Line}
+use Rattle.scripts.specs.declared.forms.Kind.TheVariants.{Number, Path, Actor, Call, Any, Line}
 use Rattle.scripts.specs.declared.forms.Manner.{Manner}
 use Rattle.scripts.specs.declared.forms.Manner.TheVariants as manner
-use Rattle.scripts.specs.Forms.{form_of, word_named, same_word, takes_line, may_stand, actor_named}
+use Rattle.scripts.specs.Forms.{form_of, word_named, same_word, takes_line, may_stand, actor_named, call_named}
 use Rattle.scripts.specs.Context.{Before}
 use Rattle.scripts.specs.Words.{words_of}
 
@@ -25,19 +25,21 @@ abbrev pub is_within : ℕ → ℕ → Option ℕ → Bool
 is_within least most None = false
 is_within least most (Some n) = nat_le least n && nat_le n most
 
--- an argument is an actor, a task's number or a name, where its place asks for one
-abbrev pub actor_fits : Kind → List ℕ → Bool
-actor_fits (Number least most) word = true
-actor_fits Path word = true
-actor_fits Actor word = is_numeral word || is_some (actor_named word)
-actor_fits Any word = true
-actor_fits Line word = true
+-- an argument is an actor, a task's number or a name, or a call of the device, where its place asks for one
+abbrev pub word_fits : Kind → List ℕ → Bool
+word_fits (Number least most) word = true
+word_fits Path word = true
+word_fits Actor word = is_numeral word || is_some (actor_named word)
+word_fits Call word = is_some (call_named word)
+word_fits Any word = true
+word_fits Line word = true
 
 -- an argument is a number as its place asks for, where its place asks for one
 abbrev pub number_fits : Kind → List ℕ → Bool
 number_fits (Number least most) word = is_within least most (number_below (2 ^ 32) word)
 number_fits Path word = true
 number_fits Actor word = is_some (actor_named word) || is_some (number_below (2 ^ 32) word)
+number_fits Call word = true
 number_fits Any word = true
 number_fits Line word = true
 
@@ -46,6 +48,7 @@ abbrev pub name_fits : Kind → List ℕ → Bool
 name_fits (Number least most) word = true
 name_fits Path word = is_path word
 name_fits Actor word = true
+name_fits Call word = true
 name_fits Any word = true
 name_fits Line word = true
 
@@ -65,7 +68,7 @@ first_of (c ∷ cs) = if c.0 then Some c.1 else first_of cs
 abbrev pub word_faults : Before → Manner → Option (List ℕ) → Word → List (List ℕ) → List (Bool × Cause)
 word_faults before how task word arguments =
     let form = form_of word in
-    (not (may_stand how word) || not (all_fit actor_fits form.arguments arguments), UnknownWord)
+    (not (may_stand how word) || not (all_fit word_fits form.arguments arguments), UnknownWord)
     ∷ (nat_lt (length arguments) (length form.arguments), MissingArgument)
     ∷ (nat_lt (length form.arguments) (length arguments), ExtraArgument)
     ∷ (not (task_fits task) || not (all_fit number_fits form.arguments arguments), BadNumber)

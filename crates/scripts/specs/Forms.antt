@@ -10,6 +10,8 @@ use Rattle.scripts.specs.declared.forms.Speaker.TheVariants as speaker
 use Rattle.scripts.specs.declared.forms.Form.{Form}
 use Rattle.scripts.specs.declared.forms.Kind.{Kind}
 use Rattle.scripts.specs.declared.forms.Kind.TheVariants as kind
+use Rattle.scripts.specs.declared.forms.DeviceCall.{DeviceCall}
+use Rattle.scripts.specs.declared.forms.DeviceCall.TheVariants as call
 use Rattle.scripts.specs.declared.forms.Manner.{Manner}
 use Rattle.scripts.specs.declared.forms.Manner.TheVariants as manner
 
@@ -28,6 +30,10 @@ row f = record { name = f.name.now; speaker = f.speaker; arguments = f.arguments
 
 abbrev pub header : List ℕ → List Kind → Row
 header name arguments = record { name = name; speaker = speaker.Shell; arguments = arguments; header = true; once = true; begun = false }
+
+-- of the header, any number of times
+abbrev pub header_many : List ℕ → List Kind → Row
+header_many name arguments = record { name = name; speaker = speaker.Shell; arguments = arguments; header = true; once = false; begun = false }
 
 abbrev pub shell : List ℕ → List Kind → Row
 shell name arguments = record { name = name; speaker = speaker.Shell; arguments = arguments; header = false; once = false; begun = true }
@@ -48,7 +54,9 @@ byte = kind.Number 0 255
 -- the table
 abbrev pub form_of : Word → Row
 form_of word.Frames = header (codes "frames") (kind.Number 1 65536 ∷ [])
+form_of word.Swap = header (codes "swap") (kind.Number 0 65536 ∷ [])
 form_of word.Trace = header (codes "trace") (kind.Number 1 1048576 ∷ [])
+form_of word.Fault = header_many (codes "fault") (kind.Call ∷ kind.Number 1 4294967295 ∷ [])
 form_of word.Group = shell (codes "group") (kind.Path ∷ [])
 form_of word.Task = shell (codes "task") (number ∷ kind.Path ∷ [])
 form_of word.Set = shell (codes "set") (kind.Path ∷ kind.Any ∷ kind.Any ∷ [])
@@ -61,7 +69,7 @@ form_of word.Step = part (codes "step") (kind.Actor ∷ [])
 form_of word.Finish = part (codes "finish") (kind.Actor ∷ [])
 
 abbrev pub words : List Word
-words = word.Frames ∷ word.Trace ∷ word.Group ∷ word.Task ∷ word.Set ∷ word.Cat ∷ word.Write ∷ word.Read ∷ word.Exit ∷ word.Begin ∷ word.Step ∷ word.Finish ∷ []
+words = word.Frames ∷ word.Swap ∷ word.Trace ∷ word.Fault ∷ word.Group ∷ word.Task ∷ word.Set ∷ word.Cat ∷ word.Write ∷ word.Read ∷ word.Exit ∷ word.Begin ∷ word.Step ∷ word.Finish ∷ []
 
 abbrev pub same_speaker : Speaker → Speaker → Bool
 same_speaker speaker.Shell speaker.Shell = true
@@ -96,20 +104,29 @@ actor_named text =
     else if bytes_eq text (codes "control") then Some actor.Control
     else None
 
+-- the call of the device that has this name
+abbrev pub call_named : List ℕ → Option DeviceCall
+call_named text =
+    if bytes_eq text (codes "read") then Some call.Read
+    else if bytes_eq text (codes "write") then Some call.Write
+    else None
+
 -- a number for each word, by which words are told apart
 abbrev pub place : Word → ℕ
 place word.Frames = 0
-place word.Trace = 1
-place word.Group = 2
-place word.Task = 3
-place word.Set = 4
-place word.Cat = 5
-place word.Write = 6
-place word.Read = 7
-place word.Exit = 8
-place word.Begin = 9
-place word.Step = 10
-place word.Finish = 11
+place word.Swap = 1
+place word.Trace = 2
+place word.Fault = 3
+place word.Group = 4
+place word.Task = 5
+place word.Set = 6
+place word.Cat = 7
+place word.Write = 8
+place word.Read = 9
+place word.Exit = 10
+place word.Begin = 11
+place word.Step = 12
+place word.Finish = 13
 
 abbrev pub same_word : Word → Word → Bool
 same_word v w = place v == place w

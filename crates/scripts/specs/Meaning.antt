@@ -13,7 +13,9 @@ use Rattle.scripts.specs.declared.meaning.Item.TheVariants as item
 use Rattle.scripts.specs.declared.forms.Word.{Word}
 use Rattle.scripts.specs.declared.forms.Word.TheVariants as word
 use Rattle.scripts.specs.declared.forms.Speaker.TheVariants as speaker
-use Rattle.scripts.specs.Forms.{word_named, takes_line, actor_named}
+use Rattle.scripts.specs.declared.forms.DeviceCall.{DeviceCall}
+use Rattle.scripts.specs.declared.forms.DeviceCall.TheVariants as call
+use Rattle.scripts.specs.Forms.{word_named, takes_line, actor_named, call_named}
 use Rattle.scripts.specs.Faults.{is_comment}
 
 -- the number that a word writes, below a limit; 0 of a word that writes none, which a faultless line has not
@@ -37,13 +39,19 @@ actor_of (Some task) = actor.Task (number_value task)
 abbrev pub actor_value : List ℕ → Actor
 actor_value word = unwrap_or (actor_named word) (actor.Task (number_value word))
 
+-- the call of the device that a word names; a read of a word that names none, which a faultless line has not
+abbrev pub call_value : List ℕ → DeviceCall
+call_value word = unwrap_or (call_named word) call.Read
+
 abbrev pub access_to : List ℕ → List ℕ → Op → Command
 access_to page offset op = command.Access (Virtual (number_value page) (number_value offset)) op
 
 -- of a line with this word and these arguments, behind a task's number where there is one; what `begin` says, the line behind it tells
 abbrev pub word_means : Option (List ℕ) → Word → List (List ℕ) → Item
 word_means task word.Frames a = item.Frames (number_value (at a 0))
+word_means task word.Swap a = item.Swap (number_value (at a 0))
 word_means task word.Trace a = item.Trace (number_value (at a 0))
+word_means task word.Fault a = item.Fails (call_value (at a 0)) (number_value (at a 1))
 word_means task word.Group a = item.Does (actor_of task) (command.Group (at a 0))
 word_means task word.Task a = item.Does (actor_of task) (command.Task (number_value (at a 0)) (at a 1))
 word_means task word.Set a = item.Does (actor_of task) (command.Set (at a 0) (at a 1) (at a 2))

@@ -8,6 +8,8 @@ use Rattle.scripts.specs.declared.meaning.Item.{Item}
 use Rattle.scripts.specs.declared.meaning.Item.TheVariants as item
 use Rattle.scripts.specs.declared.forms.Word.{Word}
 use Rattle.scripts.specs.declared.forms.Word.TheVariants as word
+use Rattle.scripts.specs.declared.forms.DeviceCall.{DeviceCall}
+use Rattle.scripts.specs.declared.forms.DeviceCall.TheVariants as call
 use Rattle.scripts.specs.declared.fault.Cause.{Cause}
 use Rattle.scripts.specs.declared.fault.ScriptFault.{ScriptFault}
 use Rattle.scripts.specs.declared.fault.ScriptFault.TheVariants as script_fault
@@ -24,12 +26,14 @@ items_of ls = map (λ l. meaning (words_of l)) ls
 
 -- what holds where the header says nothing
 abbrev pub default_config : Config
-default_config = record { frames = 64; trace = 65536 }
+default_config = record { frames = 64; swap = 0; trace = 65536 }
 
 abbrev pub config_after : Config → Item → Config
 config_after c (item.Frames n) = record c { frames = n }
+config_after c (item.Swap n) = record c { swap = n }
 config_after c (item.Trace n) = record c { trace = n }
 config_after c item.Nothing = c
+config_after c (item.Fails what n) = c
 config_after c (item.Does actor what) = c
 config_after c (item.Begins actor what) = c
 config_after c (item.Advances actor) = c
@@ -37,6 +41,16 @@ config_after c (item.Finishes actor) = c
 
 abbrev pub config_of : List Item → Config
 config_of is = fold config_after default_config is
+
+-- which call of the kind is to fail, where the line says so of one
+abbrev pub fails : DeviceCall → Item → Option ℕ
+fails call.Read (item.Fails call.Read n) = Some n
+fails call.Write (item.Fails call.Write n) = Some n
+fails what i = None
+
+-- the calls of the kind that are to fail, in the order of the lines
+abbrev pub faults_of : DeviceCall → List Item → List ℕ
+faults_of what is = filter_map (fails what) is
 
 -- what is done is begun and finished
 abbrev pub steps_of_item : Item → List Step
@@ -46,7 +60,9 @@ steps_of_item (item.Advances actor) = step.Advance actor ∷ []
 steps_of_item (item.Finishes actor) = step.Finish actor ∷ []
 steps_of_item item.Nothing = []
 steps_of_item (item.Frames n) = []
+steps_of_item (item.Swap n) = []
 steps_of_item (item.Trace n) = []
+steps_of_item (item.Fails what n) = []
 
 abbrev pub steps_of : List Item → List Step
 steps_of is = flat_map steps_of_item is
@@ -60,11 +76,15 @@ is_command (item.Advances actor) = true
 is_command (item.Finishes actor) = true
 is_command item.Nothing = false
 is_command (item.Frames n) = false
+is_command (item.Swap n) = false
 is_command (item.Trace n) = false
+is_command (item.Fails what n) = false
 
 abbrev pub header_word : Item → Option Word
 header_word (item.Frames n) = Some word.Frames
+header_word (item.Swap n) = Some word.Swap
 header_word (item.Trace n) = Some word.Trace
+header_word (item.Fails what n) = Some word.Fault
 header_word item.Nothing = None
 header_word (item.Does actor what) = None
 header_word (item.Begins actor what) = None

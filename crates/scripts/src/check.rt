@@ -5,19 +5,20 @@ ghost use Rattle.std.specs.List.{list_all, zip};
 ghost use Rattle.std.specs.Option.{option_map};
 ghost use Rattle.scripts.specs.Forms.{form_of};
 ghost use Rattle.scripts.specs.Context.{before};
-ghost use Rattle.scripts.specs.Faults.{actor_fits, number_fits, name_fits, task_fits, first_of, word_faults, now};
+ghost use Rattle.scripts.specs.Faults.{word_fits, number_fits, name_fits, task_fits, first_of, word_faults, now};
 
 use crate::context::Context;
 use crate::fault::Cause;
-use crate::forms::{Kind, Manner, Word, actor_named, may_stand};
+use crate::forms::{Kind, Manner, Word, actor_named, call_named, may_stand};
 use text_forms::name::is_path;
 use text_forms::number::{is_digits, number_of};
 
-fn actor_fits(kind: Kind, word: &str) -> bool
-    ensures { result ≡ actor_fits kind word.now }
+fn word_fits(kind: Kind, word: &str) -> bool
+    ensures { result ≡ word_fits kind word.now }
 {
     match kind {
         Kind::Actor => is_digits(word) || actor_named(word).is_some(),
+        Kind::Call => call_named(word).is_some(),
         Kind::Number { .. } | Kind::Path | Kind::Any | Kind::Line => true,
     }
 }
@@ -31,7 +32,7 @@ fn number_fits(kind: Kind, word: &str) -> bool
             None => false,
         },
         Kind::Actor => actor_named(word).is_some() || number_of(word).is_some(),
-        Kind::Path | Kind::Any | Kind::Line => true,
+        Kind::Path | Kind::Call | Kind::Any | Kind::Line => true,
     }
 }
 
@@ -40,7 +41,7 @@ fn name_fits(kind: Kind, word: &str) -> bool
 {
     match kind {
         Kind::Path => is_path(word),
-        Kind::Number { .. } | Kind::Actor | Kind::Any | Kind::Line => true,
+        Kind::Number { .. } | Kind::Actor | Kind::Call | Kind::Any | Kind::Line => true,
     }
 }
 
@@ -53,13 +54,13 @@ fn task_fits(task: Option<&str>) -> bool
     }
 }
 
-fn actors_fit(kinds: &[Kind], words: &[&str]) -> bool
-    ensures { result ≡ list_all (λ p. actor_fits p.0 p.1.now) (zip kinds.now words.now) }
+fn words_fit(kinds: &[Kind], words: &[&str]) -> bool
+    ensures { result ≡ list_all (λ p. word_fits p.0 p.1.now) (zip kinds.now words.now) }
 {
     kinds
         .iter()
         .zip(words)
-        .all(|(kind, word)| actor_fits(*kind, word))
+        .all(|(kind, word)| word_fits(*kind, word))
 }
 
 fn numbers_fit(kinds: &[Kind], words: &[&str]) -> bool
@@ -92,7 +93,7 @@ pub fn fault_of_word(
     ensures count { IfNone result (length arguments.now ≡ length (form_of word).arguments) }
 {
     let kinds = word.form().arguments;
-    if !may_stand(manner, word) || !actors_fit(kinds, arguments) {
+    if !may_stand(manner, word) || !words_fit(kinds, arguments) {
         return Some(Cause::UnknownWord);
     }
     if arguments.len() < kinds.len() {

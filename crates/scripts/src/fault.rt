@@ -13,7 +13,7 @@ pub enum Cause {
     #[error("not text")]
     NotText,
     /// No line begins with the word, or none has it behind a task's number or behind `begin`. Or a
-    /// word that has to be an actor is none.
+    /// word that has to be an actor, or a call of the device, is none.
     #[error("unknown word")]
     UnknownWord,
     /// Fewer words than the line's first asks for.

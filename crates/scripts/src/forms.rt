@@ -3,7 +3,7 @@
 ghost use Rattle.std.specs.Prelude.{◌≡◌};
 ghost use Rattle.std.specs.Option.{option_copied};
 ghost use Rattle.scripts.specs.declared.forms.Word.{Word};
-ghost use Rattle.scripts.specs.Forms.{row, header, shell, task, part, form_of, is_named, word_named, is_line, takes_line, may_stand, actor_named};
+ghost use Rattle.scripts.specs.Forms.{row, header, header_many, shell, task, part, form_of, is_named, word_named, is_line, takes_line, may_stand, actor_named, call_named};
 
 use machine::command::Actor;
 
@@ -25,6 +25,8 @@ pub enum Kind {
     Path,
     /// An actor: a task's number, or a name.
     Actor,
+    /// A call of the device.
+    Call,
     /// Any word.
     Any,
     /// All that follows, which is a line of its own. It is the word's one argument.
@@ -40,11 +42,20 @@ pub enum Manner {
     Begun,
 }
 
+/// A call of the device.
+#[derive(Clone, Copy, Debug, PartialEq, Eq)]
+pub enum DeviceCall {
+    Read,
+    Write,
+}
+
 /// A word that says what a line does.
 #[derive(Clone, Copy, Debug, PartialEq, Eq)]
 pub enum Word {
     Frames,
+    Swap,
     Trace,
+    Fault,
     Group,
     Task,
     Set,
@@ -78,9 +89,20 @@ const FRAMES: Kind = Kind::Number {
     most: 65_536,
 };
 
+const BLOCKS: Kind = Kind::Number {
+    least: 0,
+    most: 65_536,
+};
+
 const ENTRIES: Kind = Kind::Number {
     least: 1,
     most: 1_048_576,
+};
+
+/// Which call of its kind, counted from 1.
+const COUNT: Kind = Kind::Number {
+    least: 1,
+    most: u32::MAX,
 };
 
 const NUMBER: Kind = Kind::Number {
@@ -93,9 +115,11 @@ const BYTE: Kind = Kind::Number {
     most: 255,
 };
 
-const WORDS: [Word; 12] = [
+const WORDS: [Word; 14] = [
     Word::Frames,
+    Word::Swap,
     Word::Trace,
+    Word::Fault,
     Word::Group,
     Word::Task,
     Word::Set,
@@ -117,6 +141,20 @@ fn header(name: &'static str, arguments: &'static [Kind]) -> Form
         arguments,
         header: true,
         once: true,
+        begun: false,
+    }
+}
+
+/// Of the header, as often as you like.
+fn header_many(name: &'static str, arguments: &'static [Kind]) -> Form
+    ensures { row result ≡ header_many name.now arguments.now }
+{
+    Form {
+        name,
+        speaker: Speaker::Shell,
+        arguments,
+        header: true,
+        once: false,
         begun: false,
     }
 }
@@ -176,7 +214,9 @@ impl Word {
     {
         match self {
             Word::Frames => header("frames", &[FRAMES]),
+            Word::Swap => header("swap", &[BLOCKS]),
             Word::Trace => header("trace", &[ENTRIES]),
+            Word::Fault => header_many("fault", &[Kind::Call, COUNT]),
             Word::Group => shell("group", &[Kind::Path]),
             Word::Task => shell("task", &[NUMBER, Kind::Path]),
             Word::Set => shell("set", &[Kind::Path, Kind::Any, Kind::Any]),
@@ -246,6 +286,17 @@ pub fn actor_named(text: &str) -> Option<Actor>
     match text {
         "shell" => Some(Actor::Shell),
         "control" => Some(Actor::Control),
+        _ => None,
+    }
+}
+
+/// The call of the device that has this name.
+pub fn call_named(text: &str) -> Option<DeviceCall>
+    ensures { result ≡ call_named text.now }
+{
+    match text {
+        "read" => Some(DeviceCall::Read),
+        "write" => Some(DeviceCall::Write),
         _ => None,
     }
 }

@@ -16,5 +16,5 @@ mod script;
 mod words;
 
 pub use fault::{Cause, ScriptFault};
-pub use forms::{Form, Kind, Speaker, Word, each_word_is_found};
+pub use forms::{DeviceCall, Form, Kind, Speaker, Word, each_word_is_found};
 pub use script::{Mode, Script, one_answer, read};

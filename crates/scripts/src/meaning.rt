@@ -4,9 +4,9 @@ ghost use Rattle.std.specs.Prelude.{◌≡◌, map, length, IfOk};
 ghost use Rattle.std.specs.Option.{option_map};
 ghost use Rattle.scripts.specs.Forms.{form_of};
 ghost use Rattle.scripts.specs.Faults.{now};
-ghost use Rattle.scripts.specs.Meaning.{number_value, byte_value, actor_of, actor_value, access_to, word_means, begun};
+ghost use Rattle.scripts.specs.Meaning.{number_value, byte_value, actor_of, actor_value, call_value, access_to, word_means, begun};
 
-use crate::forms::{Word, actor_named};
+use crate::forms::{DeviceCall, Word, actor_named, call_named};
 use machine::command::{Actor, Command};
 use machine::event::{Op, Place};
 use machine::text::Text;
@@ -20,8 +20,12 @@ pub enum Item {
     Nothing,
     /// So many page frames.
     Frames(u32),
+    /// So many swap blocks.
+    Swap(u32),
     /// So many entries of the trace.
     Trace(u32),
+    /// This call of the device fails, counted from 1 among those of its kind.
+    Fails(DeviceCall, u32),
     /// The actor does this, from its beginning to its end.
     Does(Actor, Command),
     /// The actor begins this.
@@ -68,6 +72,12 @@ fn actor_value(word: &str) -> Actor
     actor_named(word).unwrap_or(Actor::Task(number_value(word)))
 }
 
+fn call_value(word: &str) -> DeviceCall
+    ensures { result ≡ call_value word.now }
+{
+    call_named(word).unwrap_or(DeviceCall::Read)
+}
+
 fn access_to(page: &str, offset: &str, op: Op) -> Command
     ensures { result ≡ access_to page.now offset.now op }
 {
@@ -90,7 +100,12 @@ pub fn item_of_word(
 {
     let command = match word {
         Word::Frames => return Ok(Item::Frames(number_value(arguments[0]))),
+        Word::Swap => return Ok(Item::Swap(number_value(arguments[0]))),
         Word::Trace => return Ok(Item::Trace(number_value(arguments[0]))),
+        Word::Fault => {
+            let call = call_value(arguments[0]);
+            return Ok(Item::Fails(call, number_value(arguments[1])));
+        }
         Word::Group => Command::Group(text_of(alloc, arguments[0])?),
         Word::Task => Command::Task {
             task: number_value(arguments[0]),

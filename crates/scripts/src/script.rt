@@ -3,16 +3,17 @@
 ghost use Rattle.std.specs.Prelude.{◌≡◌, ◌⊎◌, ℕ, List, IfOk, IfErr, OnOk};
 ghost use Rattle.std.specs.Str.Lines.{lines};
 ghost use Rattle.scripts.specs.declared.fault.Cause.{Cause};
+ghost use Rattle.scripts.specs.declared.forms.DeviceCall.TheVariants.{Read, Write};
 ghost use Rattle.scripts.specs.Words.{words_of};
 ghost use Rattle.scripts.specs.Faults.{fault};
 ghost use Rattle.scripts.specs.Meaning.{meaning};
 ghost use Rattle.scripts.specs.Lines.{Adds};
-ghost use Rattle.scripts.specs.Script.{items_of, config_of, steps_of, IsFaultless, IsFirstFault, NamesFirstFault};
-ghost use Rattle.scripts.specs.Reading.{known_by, at_start, with_step, after};
+ghost use Rattle.scripts.specs.Script.{items_of, config_of, faults_of, steps_of, IsFaultless, IsFirstFault, NamesFirstFault};
+ghost use Rattle.scripts.specs.Reading.{known_by, at_start, with_fault, with_step, after};
 
 use crate::context::Context;
 use crate::fault::{LineError, ScriptFault};
-use crate::forms::Word;
+use crate::forms::{DeviceCall, Word};
 use crate::line::read_line;
 use crate::lines::first_line;
 use crate::meaning::Item;
@@ -22,6 +23,7 @@ use std::alloc::{AllocError, Global};
 
 const DEFAULT_CONFIG: Config = Config {
     frames: 64,
+    swap: 0,
     trace: 65_536,
 };
 
@@ -37,6 +39,10 @@ pub enum Mode {
 pub struct Script {
     /// What the header fixes.
     pub config: Config,
+    /// Which reads of the device fail, counted from 1, in the order of the header's lines.
+    pub read_faults: Vec<u64>,
+    /// Which writes, likewise.
+    pub write_faults: Vec<u64>,
     /// What the other lines ask for, in their order.
     pub steps: Vec<Step>,
 }
@@ -59,9 +65,22 @@ impl Reading {
             },
             script: Script {
                 config: DEFAULT_CONFIG,
+                read_faults: Vec::new(alloc),
+                write_faults: Vec::new(alloc),
                 steps: Vec::new(alloc),
             },
         }
+    }
+
+    fn add_fault(&mut self, call: DeviceCall, number: u32) -> Result<(), AllocError>
+        ensures { OnOk result (known_by self.new ≡ with_fault (known_by self.old) call number) }
+    {
+        self.context.given.push(Word::Fault)?;
+        match call {
+            DeviceCall::Read => self.script.read_faults.push(u64::from(number))?,
+            DeviceCall::Write => self.script.write_faults.push(u64::from(number))?,
+        }
+        Ok(())
     }
 
     fn add_step(&mut self, step: Step) -> Result<(), AllocError>
@@ -81,10 +100,15 @@ impl Reading {
                 self.context.given.push(Word::Frames)?;
                 self.script.config.frames = frames;
             }
+            Item::Swap(swap) => {
+                self.context.given.push(Word::Swap)?;
+                self.script.config.swap = swap;
+            }
             Item::Trace(trace) => {
                 self.context.given.push(Word::Trace)?;
                 self.script.config.trace = trace;
             }
+            Item::Fails(call, number) => self.add_fault(call, number)?,
             Item::Does(actor, command) => {
                 self.add_step(Step::Begin(actor, command))?;
                 self.add_step(Step::Finish(actor))?;
@@ -110,6 +134,8 @@ impl Reading {
 fn read_schedule(alloc: Global, text: &[u8]) -> Result<Script, ScriptFault>
     ensures faultless { IfOk result (λ _. IsFaultless (lines text.now)) }
     ensures config { IfOk result (λ s. s.config ≡ config_of (items_of (lines text.now))) }
+    ensures read_faults { IfOk result (λ s. s.read_faults.items ≡ faults_of Read (items_of (lines text.now))) }
+    ensures write_faults { IfOk result (λ s. s.write_faults.items ≡ faults_of Write (items_of (lines text.now))) }
     ensures steps { IfOk result (λ s. s.steps.items ≡ steps_of (items_of (lines text.now))) }
     ensures fault { IfErr result (λ e. NamesFirstFault e (lines text.now)) }
 {
@@ -137,6 +163,8 @@ fn read_schedule(alloc: Global, text: &[u8]) -> Result<Script, ScriptFault>
 pub fn read(alloc: Global, text: &[u8], mode: Mode) -> Result<Script, ScriptFault>
     ensures faultless { IfOk result (λ _. IsFaultless (lines text.now)) }
     ensures config { IfOk result (λ s. s.config ≡ config_of (items_of (lines text.now))) }
+    ensures read_faults { IfOk result (λ s. s.read_faults.items ≡ faults_of Read (items_of (lines text.now))) }
+    ensures write_faults { IfOk result (λ s. s.write_faults.items ≡ faults_of Write (items_of (lines text.now))) }
     ensures steps { IfOk result (λ s. s.steps.items ≡ steps_of (items_of (lines text.now))) }
     ensures fault { IfErr result (λ e. NamesFirstFault e (lines text.now)) }
 {

@@ -5,9 +5,11 @@ mod fault;
 
 ghost use Rattle.std.specs.Prelude.{◌≤◌};
 
+use block_store::MemDevice;
 use fault::Fault;
 use machine::command::Reply;
-use scripts::Mode;
+use machine::refusal::Refusal;
+use scripts::{Mode, Script};
 use std::alloc::Global;
 use std::io::{BufWriter, Read, Write};
 
@@ -30,10 +32,22 @@ fn read_bytes<R: Read>(alloc: Global, script: &mut R) -> Result<Vec<u8>, Fault> 
     Ok(bytes)
 }
 
+/// The run of a script over a new device, which has the script's swap blocks and its faults.
+fn run(alloc: Global, script: &Script) -> Result<Vec<Reply>, Fault> {
+    let mut device = MemDevice::new(
+        alloc,
+        script.config.swap,
+        &script.read_faults,
+        &script.write_faults,
+    )
+    .map_err(|_| Fault::Run(Refusal::NoMemory))?;
+    driver::run(alloc, script.config, &mut device, &script.steps).map_err(Fault::Run)
+}
+
 fn answers<R: Read>(alloc: Global, script: &mut R) -> Result<Vec<Reply>, Fault> {
     let bytes = read_bytes(alloc, script)?;
     let script = scripts::read(alloc, &bytes, Mode::Schedule).map_err(Fault::Script)?;
-    driver::run(alloc, script.config, &script.steps).map_err(Fault::Run)
+    run(alloc, &script)
 }
 
 fn print_all<W: Write>(alloc: Global, answers: &[Reply], out: &mut W) -> Result<(), Fault> {

@@ -1,18 +1,35 @@
-use Rattle.std.proofs.Common.{◌≡◌, ◌∙◌, ◌+◌, List, ap, subst}
-use Rattle.machine.specs.declared.turn.Seat.{Seat}
-use Rattle.machine.specs.Call.{Past}
-use Rattle.machine.specs.Schedule.{World, first_world, Runs}
+use Rattle.std.proofs.Common.{◌≡◌, inr, true, refl, subst, arith}
+use Rattle.block_store.specs.Device.{Disk}
+use Rattle.driver.specs.Schedule.{World, first_world, Runs, fits}
 use Rattle.driver.specs.Desks.{world}
+use Rattle.driver.proofs.Runs.{opened_on, fitting}
 use Rattle.driver.proofs.schedule.run.Goals as goal
 
-pub returns-in-Ok-ran-clause-schedules : goal.returns-in-Ok-ran-clause-schedules
-returns-in-Ok-ran-clause-schedules c =
-    let opened : World = record { past = c.pass.new.self; seats = c.new.result.items } in
-    let first : opened ≡ first_world c.args.config =
-    ap (λ (p : Past). record { past = p; seats = c.new.result.items }) (c.in-Ok.ensures.ok ∙ ap (λ (p : Past). record p { passes = p.passes + 1 }) c.in_ok-book.ensures.opens)
-    ∙ ap (λ (ss : List Seat). record (first_world c.args.config) { seats = ss }) c.new.ensures.items in
-    record {
-      end = world c.run_all-ran.new.self;
-      runs = subst (λ (w : World). Runs w c.args.steps.now c.run_all-ran.new.answers.items (world c.run_all-ran.new.self)) first c.in-Ok-ran.ensures;
-      right = c.history_is_right.ensures.right;
-    }
+pub run_all-ran-requires-clause-on : goal.run_all-ran-requires-clause-on
+run_all-ran-requires-clause-on g c =
+    let disk : Disk = g.D.BlockDevice.disk c.args.device.now in
+    opened_on c.in_ok-desk.desk c.args.config disk (c.in_ok-desk.ensures.opens disk) c.in_ok-desk.ensures.asks (omega (arith, c.if-blocks-config.false, c.blocks-2.ensures))
+
+pub returns-in-Ok-clause-schedules : goal.returns-in-Ok-clause-schedules
+returns-in-Ok-clause-schedules g c =
+    let before : Disk = g.D.BlockDevice.disk c.args.device.now in
+    let end : World = world c.run_all-ran.new.self (g.D.BlockDevice.disk c.run_all-ran.new.device) in
+    let From : World → Type 0 = λ w. Runs w c.args.steps.now c.run_all-ran.new.answers.items end in
+    let ran : Runs (first_world c.args.config before) c.args.steps.now c.run_all-ran.new.answers.items end = subst From (c.in_ok-desk.ensures.opens before) c.in-Ok.ensures.runs in
+    let fit : fits c.args.config before ≡ true = fitting c.args.config before c.in_ok-desk.ensures.sized (omega (arith, c.if-blocks-config.false, c.blocks-2.ensures)) in
+    let honest = c.runs_are_honest.ensures c.args.config before c.args.steps.now c.run_all-ran.new.answers.items end fit ran in
+    record { end = end; runs = ran; device = refl; honest = honest; right = c.history_is_right.ensures.right honest }
+
+pub returns-in-Ok-clause-errors : goal.returns-in-Ok-clause-errors
+returns-in-Ok-clause-errors g c =
+    let before : Disk = g.D.BlockDevice.disk c.args.device.now in
+    let end : World = world c.run_all-ran.new.self (g.D.BlockDevice.disk c.run_all-ran.new.device) in
+    let From : World → Type 0 = λ w. Runs w c.args.steps.now c.run_all-ran.new.answers.items end in
+    let ran : Runs (first_world c.args.config before) c.args.steps.now c.run_all-ran.new.answers.items end = subst From (c.in_ok-desk.ensures.opens before) c.in-Ok.ensures.runs in
+    c.errors_are_failures.ensures c.args.config before c.args.steps.now c.run_all-ran.new.answers.items end ran
+
+pub returns-in-Ok-clause-sized : goal.returns-in-Ok-clause-sized
+returns-in-Ok-clause-sized g c = fitting c.args.config (g.D.BlockDevice.disk c.args.device.now) c.in_ok-desk.ensures.sized (omega (arith, c.if-blocks-config.false, c.blocks-2.ensures))
+
+pub returns-in-Err-clause-err : goal.returns-in-Err-clause-err
+returns-in-Err-clause-err g c = inr (refl, fitting c.args.config (g.D.BlockDevice.disk c.args.device.now) c.in_ok-desk.ensures.sized (omega (arith, c.if-blocks-config.false, c.blocks-2.ensures)))

@@ -1,6 +1,6 @@
 use Rattle.std.proofs.Common.{◌≡◌, ◌∙◌, ◌<◌, length, ap, arith, sym}
-use Rattle.machine.specs.declared.turn.Activity.{Activity}
-use Rattle.machine.specs.declared.turn.Seat.{Seat}
+use Rattle.driver.specs.declared.turn.Activity.{Activity}
+use Rattle.driver.specs.declared.turn.Seat.{Seat}
 use Rattle.driver.specs.Seats.{place_of, is_under_way}
 use Rattle.driver.proofs.SeatLists.{activity_of-none, exchanged-was}
 use Rattle.driver.proofs.seats.is_under_way.Goals as goal

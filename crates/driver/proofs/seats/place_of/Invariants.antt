@@ -1,5 +1,5 @@
 use Rattle.std.proofs.Common.{length, drop, ◌-◌, ◌≡◌, ◌≤◌, ◌+◌}
-use Rattle.machine.specs.Schedule.{number_of}
+use Rattle.driver.specs.Schedule.{number_of}
 use Rattle.driver.specs.Seats.{place_of}
 use Rattle.driver.proofs.seats.place_of.Given as goal
 

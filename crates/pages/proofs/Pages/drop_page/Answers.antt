@@ -1,18 +1,23 @@
-use Rattle.std.proofs.Common.{◌<◌, length, None, ap}
+use Rattle.std.proofs.Common.{None, refl, arith}
 use Rattle.pages.specs.Records.{page_of, bytes_of}
-use Rattle.pages.proofs.TableLemmas.{Changes-map, Changes-set, byte_in-changes, place_within}
+use Rattle.pages.proofs.TableLemmas.{Changes-map, byte_in-changes, taken-changes}
+use Rattle.pages.proofs.FlightLemmas.{AreInFlight-apart, AreMemory-owned, IsSettled-still}
 use Rattle.pages.proofs.Pages.drop_page.Goals as goal
 
+pub invariant_of-self : goal.invariant_of-self
+invariant_of-self c =
+    let is = c.self.invariant in
+    let requires = rw (← c.self.view_is) at c.requires in
+    let gone = c.take_at.ensures.gone in
+    record {
+      taken = taken-changes _ _ _ _ c.args.page.0 None None c.remove.ensures.updates gone refl is.taken;
+      within = omega arith;
+      in_flight = AreInFlight-apart _ _ c.args.page.0 None (Changes-map page_of _ _ _ None gone) c.self.inside.flights.slots is.in_flight (IsSettled-still _ requires.3) (λ n. refl) (AreMemory-owned c.take_at.new.slots.items);
+      countable = is.countable;
+    }
+
 pub returns-clause-gone : goal.returns-clause-gone
-returns-clause-gone c =
-    let slots = c.self.inside.held.items in
-    let p = c.args.page.0 in
-    let within : p < length slots = place_within slots _ p (ap (λ table. table.pages) c.self.view_is) c.requires in
-    rw (c.take.ensures.after, ← c.self.view_is) (Changes-map page_of _ _ p None (Changes-set slots p None within))
+returns-clause-gone c = rw (← c.self.view_is) (Changes-map page_of _ _ _ None c.take_at.ensures.gone)
 
 pub returns-clause-bytes : goal.returns-clause-bytes
-returns-clause-bytes c =
-    let slots = c.self.inside.held.items in
-    let p = c.args.page.0 in
-    let within : p < length slots = place_within slots _ p (ap (λ table. table.pages) c.self.view_is) c.requires in
-    rw (c.take.ensures.after, ← c.self.view_is) (byte_in-changes _ _ p None (Changes-map bytes_of _ _ p None (Changes-set slots p None within)))
+returns-clause-bytes c = rw (← c.self.view_is) (byte_in-changes _ _ _ None (Changes-map bytes_of _ _ _ None c.take_at.ensures.gone))

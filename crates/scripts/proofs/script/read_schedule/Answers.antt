@@ -26,6 +26,16 @@ returns-clause-config c =
     let empty : length c.loop-rest.rest.now ≡ 0 = search rules in
     (ends (lines c.args.text.now) c.loop-rest.rest.now c.loop-rest.number (known_by c.loop-rest.reading) c.loop-rest.invariant.0 empty).config
 
+pub returns-clause-read_faults : goal.returns-clause-read_faults
+returns-clause-read_faults c =
+    let empty : length c.loop-rest.rest.now ≡ 0 = search rules in
+    (ends (lines c.args.text.now) c.loop-rest.rest.now c.loop-rest.number (known_by c.loop-rest.reading) c.loop-rest.invariant.0 empty).read_faults
+
+pub returns-clause-write_faults : goal.returns-clause-write_faults
+returns-clause-write_faults c =
+    let empty : length c.loop-rest.rest.now ≡ 0 = search rules in
+    (ends (lines c.args.text.now) c.loop-rest.rest.now c.loop-rest.number (known_by c.loop-rest.reading) c.loop-rest.invariant.0 empty).write_faults
+
 pub returns-clause-steps : goal.returns-clause-steps
 returns-clause-steps c =
     let empty : length c.loop-rest.rest.now ≡ 0 = search rules in

@@ -1,141 +1,107 @@
-use Rattle.std.proofs.Common.{◌≡◌, ◌∙◌, ℕ, List, None, Some, length, refl, sym, ap, subst, arith, true}
-use Rattle.std.proofs.Common.{◌==◌, cond, Option}
-use Rattle.frames.specs.Pool.{PoolOf}
-use Rattle.page_counter.specs.Counts.{Counts, Charges}
-use Rattle.pages.specs.PageTable.{byte_in}
+use Rattle.std.proofs.Common.{◌≡◌, ◌∙◌, ◌==◌, cond, None, Some, refl, ap, subst, arith}
 use Rattle.machine.specs.Slots.{Changes}
-use Rattle.machine.specs.Tree.{is_live}
-use Rattle.machine.specs.Pages.{Pages, page_at}
+use Rattle.machine.specs.Pages.{page_at, is_in_transfer}
 use Rattle.machine.specs.Step.{new_page}
-use Rattle.book.specs.Holdings.{HoldingsOf}
-use Rattle.book.proofs.BalanceLemmas.{balanced-hold, balanced-same, frame-in}
-use Rattle.book.proofs.HoldingLemmas.{root-small, over-counted, charge-out, counted-back, counted-more, view_of, same-view}
+use Rattle.pages.specs.PageTable.{PageTable, byte_in}
+use Rattle.book.proofs.CountLemmas.{charge-usage}
+use Rattle.book.proofs.HoldingLemmas.{kept-step, holding-step, relists-same, same-view}
+use Rattle.book.proofs.GrantLemmas.{room-free, few-charged, over-granted, none-free, granted, granted-out, granted-frame, granted-free, holding-back}
 use Rattle.book.proofs.holdings.Holdings.hold.Goals as goal
 
-pub try_charge-requires-clause-room : goal.try_charge-requires-clause-room
-try_charge-requires-clause-room c =
-    let h = c.self.inside in
-    root-small h.counters h.pages.pages h.pool.frames (length h.pool.free) c.are_counted.ensures.lineage c.self.invariant.counted c.self.invariant.balanced.all c.self.invariant.few
+pub take_room-requires-clause-few : goal.take_room-requires-clause-few
+take_room-requires-clause-few c = few-charged c.self.inside c.self.invariant c.are_counted.ensures.lineage
 
-pub uncharge-requires : goal.uncharge-requires
-uncharge-requires c =
-    record { out = charge-out c.self.inside.counters c.try_charge.new.self c.args.group.0 c.in-Ok.charge c.self.inside.pages.pages c.in-Ok.ensures.group c.are_held.ensures c.self.invariant.counted c.in-Ok.ensures.counted }
-
-pub uncharge-requires-then-is_err : goal.uncharge-requires-then-is_err
-uncharge-requires-then-is_err c =
-    record { out = charge-out c.self.inside.counters c.try_charge.new.self c.args.group.0 c.in-Ok.charge c.self.inside.pages.pages c.in-Ok.ensures.group c.are_held.ensures c.self.invariant.counted c.in-Ok.ensures.counted }
-
-pub returns-in-Err-clause-grants : goal.returns-in-Err-clause-grants
-returns-in-Err-clause-grants c =
-    let h = c.self.inside in
-    let live = subst (λ (v : HoldingsOf). is_live v.kin c.args.group.0 ≡ true) (sym c.self.view_is) c.requires.live in
+pub returns-in-Over-clause-grants : goal.returns-in-Over-clause-grants
+returns-in-Over-clause-grants c =
+    let live = rw (← c.self.view_is) at c.requires.live in
+    let over = c.in-Over.ensures in
     rw (← c.self.view_is) (
-      over-counted h.counters h.pages.pages c.args.group.0 c.are_counted.ensures.lineage c.self.invariant.counted live ∙ c.in-Err.ensures.over,
-      ap (λ (k : Counts). view_of k (record { pages = h.pages.pages; bytes = h.pages.bytes }) h.pool.frames) c.in-Err.ensures.err,
+      over-granted c.self.inside c.self.invariant c.args.group.0 _ c.are_counted.ensures.lineage live over.0,
+      rw (over.1, over.2) refl,
     )
 
-pub invariant_of-self-in_default : goal.invariant_of-self-in_default
-invariant_of-self-in_default c =
-    let h = c.self.inside in
-    record {
-      balanced = rw c.in_default.ensures.kept c.self.invariant.balanced;
-      counted = counted-back h.counters c.try_charge.new.self c.uncharge.new.self c.args.group.0 h.pages.pages c.in-Ok.ensures.charged
-          (subst (λ g. Charges c.uncharge.new.self c.try_charge.new.self g) c.in-Ok.ensures.group c.uncharge.ensures.uncharged) c.self.invariant.counted;
-      few = rw c.in_default.ensures.kept c.self.invariant.few;
-    }
-
-pub returns-in_default-clause-grants : goal.returns-in_default-clause-grants
-returns-in_default-clause-grants c =
-    let h = c.self.inside in
-    let live = subst (λ (v : HoldingsOf). is_live v.kin c.args.group.0 ≡ true) (sym c.self.view_is) c.requires.live in
-    let up = c.in-Ok.ensures.charged.groups in
-    let down = c.uncharge.ensures.uncharged.groups in
-    let all = c.self.invariant.balanced.all in
-    let none = c.in_default.ensures.none in
+pub returns-in-NoFrame-clause-grants : goal.returns-in-NoFrame-clause-grants
+returns-in-NoFrame-clause-grants c =
+    let live = rw (← c.self.view_is) at c.requires.live in
+    let none = c.in-NoFrame.ensures in
     rw (← c.self.view_is) (
-      over-counted h.counters h.pages.pages c.args.group.0 c.are_counted.ensures.lineage c.self.invariant.counted live ∙ c.in-Ok.ensures.under,
-      omega (arith, all, none),
-      same-view h.counters c.uncharge.new.self (record { pages = h.pages.pages; bytes = h.pages.bytes }) h.pool.frames h.pages.pages h.pages.bytes c.take.new.self.frames
-          (sym down.tree ∙ up.tree) (sym down.limits ∙ up.limits) (sym down.room ∙ up.room) refl refl (ap (λ (p : PoolOf). p.frames) c.in_default.ensures.kept),
+      over-granted c.self.inside c.self.invariant c.args.group.0 _ c.are_counted.ensures.lineage live none.0,
+      none-free c.self.inside c.self.invariant none.1,
+      rw (none.2, none.3) refl,
     )
+
+pub give_room-requires-clause-charged : goal.give_room-requires-clause-charged
+give_room-requires-clause-charged c = granted-out c.self.inside c.self.invariant c.take_room.new.counters c.take_room.new.pool _ _ _ c.in-Granted.ensures
 
 pub invariant_of-self-then-is_err : goal.invariant_of-self-then-is_err
-invariant_of-self-then-is_err c =
-    let h = c.self.inside in
-    let taken = c.in-Some.ensures in
-    let given = c.give.ensures in
-    let frames : c.give.new.self.frames ≡ h.pool.frames = given.frames ∙ taken.frames in
-    record {
-      balanced = rw (frames, c.reserve.ensures.pages) (balanced-same h.pool.frames h.pool.free c.take.new.self.free c.give.new.self.free h.pages.pages c.in-Some.frame.number taken.counts taken.fewer given.counts given.more c.self.invariant.balanced);
-      counted = rw c.reserve.ensures.pages
-          (counted-back h.counters c.try_charge.new.self c.uncharge-then-is_err.new.self c.args.group.0 h.pages.pages c.in-Ok.ensures.charged
-          (subst (λ g. Charges c.uncharge-then-is_err.new.self c.try_charge.new.self g) c.in-Ok.ensures.group c.uncharge-then-is_err.ensures.uncharged) c.self.invariant.counted);
-      few = rw frames c.self.invariant.few;
-    }
-
-pub returns-then-is_err-clause-err : goal.returns-then-is_err-clause-err
-returns-then-is_err-clause-err c =
-    let h = c.self.inside in
-    let up = c.in-Ok.ensures.charged.groups in
-    let down = c.uncharge-then-is_err.ensures.uncharged.groups in
-    rw (← c.self.view_is)
-    (same-view h.counters c.uncharge-then-is_err.new.self (record { pages = h.pages.pages; bytes = h.pages.bytes }) h.pool.frames c.reserve.new.pages.pages c.reserve.new.pages.bytes c.give.new.self.frames
-    (sym down.tree ∙ up.tree) (sym down.limits ∙ up.limits) (sym down.room ∙ up.room) c.reserve.ensures.pages c.reserve.ensures.bytes (c.give.ensures.frames ∙ c.in-Some.ensures.frames))
+invariant_of-self-then-is_err c = holding-back c.self.inside c.self.invariant c.take_room.new.counters c.take_room.new.pool _ _ _ c.in-Granted.ensures _ _ _ c.reserve_page.ensures.pages c.give_room.ensures.frame c.give_room.ensures.uncharged
 
 pub returns-then-is_err-clause-wanted : goal.returns-then-is_err-clause-wanted
 returns-then-is_err-clause-wanted c =
-    let h = c.self.inside in
-    let live = subst (λ (v : HoldingsOf). is_live v.kin c.args.group.0 ≡ true) (sym c.self.view_is) c.requires.live in
-    let all = c.self.invariant.balanced.all in
-    let fewer = c.in-Some.ensures.fewer in
-    rw (← c.self.view_is)
-    (record {
-      under = over-counted h.counters h.pages.pages c.args.group.0 c.are_counted.ensures.lineage c.self.invariant.counted live ∙ c.in-Ok.ensures.under;
-      free = omega (arith, all, fewer);
-    })
+    let live = rw (← c.self.view_is) at c.requires.live in
+    rw (← c.self.view_is) (granted c.self.inside c.self.invariant c.take_room.new.counters c.take_room.new.pool _ _ _ c.in-Granted.ensures c.are_counted.ensures.lineage live)
+
+pub push-requires : goal.push-requires
+push-requires c =
+    let some = granted-free c.self.inside c.self.invariant c.take_room.new.counters c.take_room.new.pool _ _ _ c.in-Granted.ensures in
+    record { room = (room-free c.self.inside c.self.invariant some).0 }
 
 pub invariant_of-self-2 : goal.invariant_of-self-2
 invariant_of-self-2 c =
     let h = c.self.inside in
-    let live = subst (λ (v : HoldingsOf). is_live v.kin c.args.group.0 ≡ true) (sym c.self.view_is) c.requires.live in
-    let taken = c.in-Some.ensures in
-    let f = c.in-Some.frame.number in
-    let p = c.hold.result.0 in
+    let live = rw (← c.self.view_is) at c.requires.live in
+    let p = c.hold-page.result.0 in
     let g = c.args.group.0 in
-    let free = subst (λ (ps : Pages). page_at ps p ≡ None) c.reserve.ensures.pages c.hold.ensures.free in
-    let placed = subst (λ (ps : Pages). Changes ps c.hold.new.self.pages p (Some (new_page g f))) c.reserve.ensures.pages (subst (λ x. Changes c.reserve.new.pages.pages c.hold.new.self.pages p (Some (new_page x f))) c.in-Ok.ensures.group c.hold.ensures.placed) in
-    record {
-      balanced = rw taken.frames (balanced-hold h.pool.frames h.pool.free c.take.new.self.free h.pages.pages c.hold.new.self.pages p g f free placed taken.counts taken.fewer c.self.invariant.balanced);
-      counted = counted-more h.counters c.try_charge.new.self g f p h.pages.pages c.hold.new.self.pages c.are_counted.ensures.lineage.earlier_parents c.in-Ok.ensures.charged live free placed c.self.invariant.counted;
-      few = rw taken.frames c.self.invariant.few;
-    }
+    let f = c.in-Granted.frame.number in
+    let room = c.in-Granted.ensures in
+    let pages = c.hold-page.new.self.pages in
+    let free = subst (λ (t : PageTable). page_at t.pages p ≡ None) c.reserve_page.ensures.pages c.hold-page.ensures.free in
+    let placed = subst (λ x. Changes h.pages.pages pages p (Some (new_page x f))) room.group (subst (λ (t : PageTable). Changes t.pages pages p (Some (new_page c.in-Granted.charge f))) c.reserve_page.ensures.pages c.hold-page.ensures.placed) in
+    let tickets : c.hold-page.new.self.tickets ≡ h.pages.tickets = c.hold-page.ensures.tickets ∙ ap (λ (t : PageTable). t.tickets) c.reserve_page.ensures.pages in
+    let spares = room.frame.spares in
+    let more = c.push.ensures.more in
+    holding-step h _ p None (Some (new_page g f))
+    (record {
+      stood = free;
+      changes = placed;
+      kept = kept-step h.counters c.take_room.new.counters h.pool c.take_room.new.pool h.slots h.slots h.pages.pages pages p None (Some (new_page g f)) free placed room.frame.frames
+          (record { counts = λ n. (let k = room.frame.counts n in omega (arith, k)); len = (let k = room.frame.fewer in omega (arith, k)) })
+          refl (record { counts = λ n. refl; len = refl })
+          (record { tree = room.charged.groups.tree; usage = λ a lt. (let u = charge-usage h.counters c.take_room.new.counters g a room.charged lt in omega (arith, u)); live = live })
+          c.self.invariant.kept;
+      frames = room.frame.frames;
+      held = record { once = λ n. (let k = c.push.ensures.counts n in omega (arith, k)); len = omega (arith, more) };
+      moving = relists-same is_in_transfer h.moving.numbers p None (Some (new_page g f)) refl;
+      held_room = c.push.ensures.room;
+      moving_room = refl;
+      spares = omega (arith, spares);
+      tickets = omega (arith, tickets);
+    })
+    c.self.invariant
 
 pub returns-clause-grants : goal.returns-clause-grants
 returns-clause-grants c =
     let h = c.self.inside in
-    let live = subst (λ (v : HoldingsOf). is_live v.kin c.args.group.0 ≡ true) (sym c.self.view_is) c.requires.live in
-    let taken = c.in-Some.ensures in
-    let f = c.in-Some.frame.number in
-    let p = c.hold.result.0 in
+    let live = rw (← c.self.view_is) at c.requires.live in
+    let p = c.hold-page.result.0 in
     let g = c.args.group.0 in
-    let free = subst (λ (ps : Pages). page_at ps p ≡ None) c.reserve.ensures.pages c.hold.ensures.free in
-    let placed = subst (λ (ps : Pages). Changes ps c.hold.new.self.pages p (Some (new_page g f))) c.reserve.ensures.pages (subst (λ x. Changes c.reserve.new.pages.pages c.hold.new.self.pages p (Some (new_page x f))) c.in-Ok.ensures.group c.hold.ensures.placed) in
-    let up = c.in-Ok.ensures.charged.groups in
-    let all = c.self.invariant.balanced.all in
-    let fewer = taken.fewer in
-    let frame = frame-in h.pool.frames h.pool.free c.take.new.self.free h.pages.pages f taken.counts c.self.invariant.balanced in
+    let f = c.in-Granted.frame.number in
+    let room = c.in-Granted.ensures in
+    let pages = c.hold-page.new.self.pages in
+    let free = subst (λ (t : PageTable). page_at t.pages p ≡ None) c.reserve_page.ensures.pages c.hold-page.ensures.free in
+    let placed = subst (λ x. Changes h.pages.pages pages p (Some (new_page x f))) room.group (subst (λ (t : PageTable). Changes t.pages pages p (Some (new_page c.in-Granted.charge f))) c.reserve_page.ensures.pages c.hold-page.ensures.placed) in
+    let frame = granted-frame h c.self.invariant c.take_room.new.counters c.take_room.new.pool _ _ _ room in
+    let groups = room.charged.groups in
     rw (← c.self.view_is) (
-      record {
-        under = over-counted h.counters h.pages.pages g c.are_counted.ensures.lineage c.self.invariant.counted live ∙ c.in-Ok.ensures.under;
-        free = omega (arith, all, fewer);
-      },
+      granted h c.self.invariant c.take_room.new.counters c.take_room.new.pool _ _ _ room c.are_counted.ensures.lineage live,
       record {
         frame = f;
         slot_free = free;
         in_range = frame.0;
         unused = frame.1;
         placed = placed;
-        bytes = λ q o. c.hold.ensures.bytes q o ∙ ap (λ (bs : List (Option (List ℕ))). cond (q == p) (cond (c.args.offset == o) c.args.byte 0) (byte_in bs q o)) c.reserve.ensures.bytes;
-        others = same-view h.counters c.try_charge.new.self (record { pages = c.hold.new.self.pages; bytes = c.hold.new.self.bytes }) h.pool.frames c.hold.new.self.pages c.hold.new.self.bytes c.take.new.self.frames up.tree up.limits up.room refl refl taken.frames;
+        bytes = λ q o. c.hold-page.ensures.bytes q o ∙ ap (λ (t : PageTable). cond (q == p) (cond (c.args.offset == o) c.args.byte 0) (byte_in t.bytes q o)) c.reserve_page.ensures.pages;
+        flights = c.hold-page.ensures.flights ∙ ap (λ (t : PageTable). t.flights) c.reserve_page.ensures.pages;
+        others = same-view h (record h { pages = c.hold-page.new.self; counters = c.take_room.new.counters; pool = c.take_room.new.pool; held = c.push.new.self }) groups.tree groups.limits groups.room room.frame.frames refl;
       },
     )

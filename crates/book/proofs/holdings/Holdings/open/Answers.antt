@@ -1,16 +1,38 @@
-use Rattle.std.proofs.Common.{◌<◌, sym, subst}
-use Rattle.book.specs.Keeping.{IsBalanced}
+use Rattle.std.proofs.Common.{◌≡◌, ap, arith}
+use Rattle.machine.specs.Slots.{count_there}
+use Rattle.machine.specs.Pages.{has_frame, has_this_frame, has_swap, is_held, is_in_transfer}
+use Rattle.book.specs.Keeping.{has_this_block, is_going}
 use Rattle.book.proofs.BalanceLemmas.{balanced-open}
-use Rattle.book.proofs.HoldingLemmas.{counted-open}
+use Rattle.book.proofs.CountLemmas.{counted-open}
+use Rattle.book.proofs.HoldingLemmas.{listed-open}
 use Rattle.book.proofs.holdings.Holdings.open.Goals as goal
 
 pub invariant_of-result : goal.invariant_of-result
 invariant_of-result c =
-    let pool = c.in_ok-pool.pool in
-    let made = c.in_ok-pool.ensures in
-    let pages = c.new-2.result.pages in
+    let pool = c.in-Ok.pool in
+    let made = c.in-Ok.ensures in
+    let slots = c.in_ok-slots.slots in
+    let cut = c.in_ok-slots.ensures in
+    let pages = c.in-Ok-new.pages in
+    let none = c.in-Ok-new.ensures.pages in
+    let frames = made.frames in
+    let spares = made.spares in
+    let fits = c.ranges.frames.fits in
+    let held_room = c.in_ok-held.ensures.room in
+    let moving_room = c.in_ok-moving.ensures.room in
+    let tickets = c.in-Ok-new.ensures.tickets in
+    let going : count_there is_going pages.pages ≡ 0 = ap (count_there is_going) none in
     record {
-      balanced = subst (λ n. IsBalanced n pool.free pages) (sym made.frames) (balanced-open c.args.frames pool.free pages c.new-2.ensures.pages made.once made.none_beyond made.all);
-      counted = counted-open c.in_ok-counters.counters pages c.new-2.ensures.pages c.in_ok-counters.ensures.usage;
-      few = subst (λ n. n < 4294967296) (sym made.frames) c.ranges.frames.fits;
+      kept = record {
+        frames = rw frames (balanced-open has_this_frame has_frame c.args.frames pool.free pages.pages none made.once made.none_beyond made.all);
+        blocks = rw cut.blocks (balanced-open has_this_block has_swap c.args.swap slots.free pages.pages none cut.once cut.none_beyond cut.all);
+        counted = counted-open c.in_ok-counters.counters pages.pages none c.in_ok-counters.ensures.usage;
+      };
+      few = omega (arith, frames, fits);
+      held = listed-open is_held _ _ c.in_ok-held.ensures.numbers none;
+      moving = listed-open is_in_transfer _ _ c.in_ok-moving.ensures.numbers none;
+      held_room = omega (arith, frames, held_room);
+      moving_room = omega (arith, frames, moving_room);
+      spares = omega (arith, frames, spares, going);
+      tickets = omega (arith, frames, tickets);
     }

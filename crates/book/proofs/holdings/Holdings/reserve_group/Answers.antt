@@ -1,18 +1,13 @@
-use Rattle.book.proofs.HoldingLemmas.{counted-same}
+use Rattle.book.proofs.CountLemmas.{counted-same}
+use Rattle.book.proofs.HoldingLemmas.{holding-counted}
 use Rattle.book.proofs.holdings.Holdings.reserve_group.Goals as goal
 
 pub invariant_of-self : goal.invariant_of-self
 invariant_of-self c =
-    record {
-      balanced = c.self.invariant.balanced;
-      counted = counted-same c.self.inside.counters c.reserve.new.self c.self.inside.pages.pages c.reserve.ensures.tree c.reserve.ensures.usage c.self.invariant.counted;
-      few = c.self.invariant.few;
-    }
+    let h = c.self.inside in
+    holding-counted h c.reserve.new.self (counted-same h.counters c.reserve.new.self h.pages.pages c.reserve.ensures.tree c.reserve.ensures.usage c.self.invariant.kept.counted) c.self.invariant
 
 pub invariant_of-self-2 : goal.invariant_of-self-2
 invariant_of-self-2 c =
-    record {
-      balanced = c.self.invariant.balanced;
-      counted = counted-same c.self.inside.counters c.reserve.new.self c.self.inside.pages.pages c.reserve.ensures.tree c.reserve.ensures.usage c.self.invariant.counted;
-      few = c.self.invariant.few;
-    }
+    let h = c.self.inside in
+    holding-counted h c.reserve.new.self (counted-same h.counters c.reserve.new.self h.pages.pages c.reserve.ensures.tree c.reserve.ensures.usage c.self.invariant.kept.counted) c.self.invariant

@@ -13,6 +13,7 @@ use Rattle.book.specs.Parts.{contents_of}
 use Rattle.book.proofs.KinLemmas.{kin-push, live-push}
 use Rattle.book.proofs.TallyLemmas.{tells-on}
 use Rattle.book.proofs.ServeLemmas.{serves-mkdir}
+use Rattle.book.proofs.StateLemmas.{open-push}
 use Rattle.book.proofs.page_state.State.mkdir_below.Goals as goal
 
 pub invariant_of-self-2 : goal.invariant_of-self-2
@@ -27,10 +28,12 @@ invariant_of-self-2 c =
     record {
       sized = c.self.invariant.sized;
       frames = c.add_group.ensures.frames ∙ ap (λ (h : HoldingsOf). h.frames) same ∙ c.self.invariant.frames;
+      swap = c.add_group.ensures.swap ∙ ap (λ (h : HoldingsOf). h.swap) same ∙ c.self.invariant.swap;
       held_kin = rw (kin, c.in_ok-group.ensures.ok) (kin-push s.holdings.kin s.tree c.args.parent.0 (new_node s.tree path) c.self.invariant.held_kin parent refl);
       counted_kin = rw (counted, c.in_ok-group.ensures.ok) (kin-push s.events.tree s.tree c.args.parent.0 (new_node s.tree path) c.self.invariant.counted_kin parent refl);
       mapped = subst (λ (ps : Pages). AreMapped ps s.spaces.tasks s.spaces.mappings) (sym (ap (λ (st : Stored). st.pages) stored)) c.self.invariant.mapped;
       homes = λ t alive. rw c.in_ok-group.ensures.ok (live-push s.tree (new_node s.tree path) (group_of_task s.spaces.tasks t) (c.self.invariant.homes t alive));
+      open_groups = open-push s.holdings.limits c.add_group.new.self.limits c.self.invariant.open_groups (c.add_group.ensures.limits ∙ ap (λ (h : HoldingsOf). h.limits ++ no_limits ∷ []) same);
     }
 
 pub returns-clause-serves : goal.returns-clause-serves
@@ -41,9 +44,10 @@ returns-clause-serves c =
     let stored = c.add_group.ensures.stored ∙ ap (λ (h : HoldingsOf). h.stored) same in
     let limits = c.add_group.ensures.limits ∙ ap (λ (h : HoldingsOf). h.limits ++ no_limits ∷ []) same in
     rw (← c.self.view_is)
-    (serves-mkdir old _ c.args.path.now
+    (λ worker. serves-mkdir old _ worker c.args.path.now
     (ap (λ (t : List Node). record (old.tables) { tree = t; limits = c.add_group.new.self.limits; pages = c.add_group.new.self.stored.pages }) c.in_ok-group.ensures.ok
     ∙ ap (λ (ls : List Limits). record (old.tables) { tree = s.tree ++ new_node s.tree c.args.path.now ∷ []; limits = ls; pages = c.add_group.new.self.stored.pages }) limits
     ∙ ap (λ (st : Stored). record (old.tables) { tree = s.tree ++ new_node s.tree c.args.path.now ∷ []; limits = s.holdings.limits ++ no_limits ∷ []; pages = st.pages }) stored)
     (ap (λ (st : Stored). st.bytes) stored)
+    (ap (λ (st : Stored). st.flights) stored)
     (tells-on s.events c.add_reserved.new.self (λ cs. cs) (λ cs told. c.add_reserved.ensures.told cs (c.in_ok-reserve.ensures.told cs told))))

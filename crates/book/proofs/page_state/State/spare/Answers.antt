@@ -1,11 +1,10 @@
-use Rattle.std.proofs.Common.{◌≡◌, ◌++◌, ◌∷◌, [], ℕ, List, true, None, refl, sym, subst, ◌∙◌}
+use Rattle.std.proofs.Common.{◌≡◌, ◌++◌, ◌∷◌, [], ℕ, List, true, false, None, refl, sym, subst, ◌∙◌}
 use Rattle.machine.specs.declared.record.Key.TheVariants as key
 use Rattle.machine.specs.Counts.{Counted}
-use Rattle.machine.specs.Reclaim.{stands, target_of}
+use Rattle.machine.specs.Reclaim.{stands, target_of, has_takeable, has_transfer}
 use Rattle.machine.specs.Step.{count_of}
 use Rattle.machine.specs.Victim.{IsVictim}
 use Rattle.events.specs.Tallies.{Tells}
-use Rattle.pages.specs.PageTable.{AreHeld}
 use Rattle.book.specs.Contents.{Contents, AreFew}
 use Rattle.book.specs.Parts.{contents_of}
 use Rattle.book.proofs.ServeLemmas.{serves-no_victim}
@@ -27,8 +26,10 @@ pub returns : goal.returns
 returns c =
     let s = c.self.inside in
     rw (← c.self.view_is)
-    (serves-no_victim (contents_of s) _ c.args.cause refl (subst AreHeld c.pages.ensures.pages c.are_held.ensures)
+    (λ worker. serves-no_victim (contents_of s) _ worker c.args.cause
     (subst (λ (s : Contents). stands s.tables c.args.cause ≡ true) (sym c.self.view_is) c.requires.wanted)
+    (subst (λ (s : Contents). has_takeable s.tables (target_of c.args.cause) ≡ false) (sym c.self.view_is) c.requires.untakeable)
+    (subst (λ (s : Contents). has_transfer s.tables (target_of c.args.cause) ≡ false) (sym c.self.view_is) c.requires.settled)
     (subst (λ (s : Contents). IsVictim s.tables.tree s.tables.tasks s.tables.mappings (target_of c.args.cause) None) (sym c.self.view_is) c.requires.nobody)
-    refl refl
+    refl refl refl
     (tells-on s.events c.count.new.self _ (subst (λ (g : ℕ). (cs : List Counted) → Tells s.events cs → Tells c.count.new.self (cs ++ count_of g key.Oom ∷ [])) c.target.ensures c.count.ensures.told)))

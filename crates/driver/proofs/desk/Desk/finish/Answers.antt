@@ -2,22 +2,22 @@ use Rattle.std.proofs.Common.{◌∙◌, ◌+◌, ◌++◌, List, [], ◌∷◌,
 use Rattle.machine.specs.declared.command.Reply.{Reply}
 use Rattle.machine.specs.declared.command.Answer.TheVariants.{Word}
 use Rattle.machine.specs.declared.command.Word.TheVariants.{TurnLimit}
-use Rattle.machine.specs.Schedule.{said_at, all_said, answer_by}
+use Rattle.driver.specs.Schedule.{said_at, all_said, answer_by}
 use Rattle.driver.specs.Desks.{world}
-use Rattle.driver.proofs.Runs.{Goings-more, all_said-more}
+use Rattle.driver.proofs.Runs.{Goings-more, all_said-more, same-refl, same-more}
 use Rattle.driver.proofs.desk.Desk.finish.Goals as goal
 
 pub loop-turn-init : goal.loop-turn-init
-loop-turn-init c = record { first = c.requires; goes = ([], refl, sym (append-nil c.args.answers.now.items), refl) }
+loop-turn-init g c = record { on = c.requires; same = same-refl _; goes = ([], refl, sym (append-nil c.args.answers.now.items), refl) }
 
 pub returns-then-ends-clause-finishes : goal.returns-then-ends-clause-finishes
-returns-then-ends-clause-finishes c =
+returns-then-ends-clause-finishes g c =
     let k = c.loop-turn.invariant.goes in (
       all_said c.args.actor k.0 ++ said_at c.args.actor c.in_ok-outcome.outcome,
       c.in_ok-say.ensures ∙ (ap (λ (rs : List Reply). rs ++ said_at c.args.actor c.in_ok-outcome.outcome) k.2 ∙ append_assoc c.args.answers.now.items (all_said c.args.actor k.0) (said_at c.args.actor c.in_ok-outcome.outcome)),
       (
         k.0,
-        world c.loop-turn.self,
+        world c.loop-turn.self (g.D.BlockDevice.disk c.loop-turn.device),
         k.3,
         inl (record {
           last = c.in_ok-outcome.outcome;
@@ -30,10 +30,11 @@ returns-then-ends-clause-finishes c =
     )
 
 pub loop-turn-preserved : goal.loop-turn-preserved
-loop-turn-preserved c =
+loop-turn-preserved g c =
     let k = c.loop-turn.invariant.goes in
     record {
-      first = c.in_ok-outcome.ensures.first;
+      on = c.in_ok-outcome.ensures.on;
+      same = same-more _ _ _ c.loop-turn.invariant.same c.in_ok-outcome.ensures.same;
       goes = (
         k.0 ++ c.in_ok-outcome.outcome ∷ [],
         length-append k.0 (c.in_ok-outcome.outcome ∷ []) ∙ ap (λ n. n + 1) k.1,
@@ -44,13 +45,13 @@ loop-turn-preserved c =
     }
 
 pub returns-clause-finishes : goal.returns-clause-finishes
-returns-clause-finishes c =
+returns-clause-finishes g c =
     let k = c.loop-turn.invariant.goes in (
       all_said c.args.actor k.0 ++ answer_by c.args.actor (Word TurnLimit),
       c.in_ok-answer.ensures ∙ (ap (λ (rs : List Reply). rs ++ answer_by c.args.actor (Word TurnLimit)) k.2 ∙ append_assoc c.args.answers.now.items (all_said c.args.actor k.0) (answer_by c.args.actor (Word TurnLimit))),
       (
         k.0,
-        world c.loop-turn.self,
+        world c.loop-turn.self (g.D.BlockDevice.disk c.loop-turn.device),
         k.3,
         inr (record { spent = omega (arith, k.1, c.loop-turn-test.false, c.loop-turn.auto._turn-end); stays = refl; answers_are = refl }),
       ),

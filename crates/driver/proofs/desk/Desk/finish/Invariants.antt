@@ -1,11 +1,13 @@
 use Rattle.std.proofs.Common.{◌≡◌, ◌++◌, List, length}
-use Rattle.machine.specs.declared.turn.Outcome.{Outcome}
-use Rattle.machine.specs.Schedule.{Goings, all_said}
-use Rattle.driver.specs.Desks.{world, Asks}
+use Rattle.driver.specs.declared.turn.Outcome.{Outcome}
+use Rattle.driver.specs.Schedule.{Goings, all_said}
+use Rattle.driver.specs.Desks.{world, IsOn, IsSame}
 use Rattle.driver.proofs.desk.Desk.finish.Given as goal
 
 abbrev pub invariant-loop-turn : goal.invariant-loop-turn
-invariant-loop-turn l = record {
-  first : Asks l.self;
-  goes : (earlier : List Outcome) × (length earlier ≡ l._turn) × (l.answers.items ≡ l.fn.answers.items ++ all_said l.fn.actor earlier) × Goings (world l.fn.self) l.fn.actor earlier (world l.self);
+invariant-loop-turn g l = record {
+  on : IsOn l.self (g.D.BlockDevice.disk l.device);
+  same : IsSame (g.D.BlockDevice.disk l.fn.device) (g.D.BlockDevice.disk l.device);
+  goes : (earlier : List Outcome) × (length earlier ≡ l._turn) × (l.answers.items ≡ l.fn.answers.items ++ all_said l.fn.actor earlier)
+      × Goings (world l.fn.self (g.D.BlockDevice.disk l.fn.device)) l.fn.actor earlier (world l.self (g.D.BlockDevice.disk l.device));
 }

@@ -5,5 +5,8 @@ use Rattle.frames.proofs.pool.Pool.open.Goals as goal
 
 pub invariant_of-result : goal.invariant_of-result
 invariant_of-result c =
-    let filled = c.in_default.ensures in
-    IsPool-filled (numbers_of c.fill.new.free.items) c.args.frames _ filled.once filled.none_beyond filled.all c.fill.ensures.room (omega arith)
+    let filled = c.in_ok-free.ensures in
+    let spares = c.in-Ok.ensures in (
+      IsPool-filled (numbers_of c.in_ok-free.free.items) c.args.frames _ filled.once filled.none_beyond filled.all filled.room (omega arith),
+      record { within = omega (arith, spares.all); all_fit = spares.room },
+    )

@@ -1,0 +1,214 @@
+-- One call: what it answers, and the book after it.
+use Rattle.std.proofs.Common.{◌≡◌, ℕ, ◌+◌, ◌<◌, ◌≤◌, true, false, List, [], ◌∷◌, ◌++◌, None, refl, sym, ap, ◌∙◌, subst, arith, length, length-append, add-one}
+use Rattle.std.specs.Prelude.{slice_index, slice_set, reverse, nat_lt, vec_len, vec_capacity}
+use Rattle.std.proofs.lemmas.List.{reverse-append, length-reverse, length-set}
+use Rattle.std.proofs.lemmas.List.Sums.{length-filter, count_by-le-length}
+use Rattle.std.proofs.lemmas.Bool.Decides.{nat_tests}
+use Rattle.machine.specs.declared.entry.Entry.{Entry}
+use Rattle.machine.specs.declared.refusal.Refusal.TheVariants.{Stranger}
+use Rattle.machine.specs.declared.event.Event.{Event}
+use Rattle.machine.specs.declared.event.Event.TheVariants as event
+use Rattle.machine.specs.declared.event.Query.TheVariants as query
+use Rattle.machine.specs.declared.reply.Reply.{Reply}
+use Rattle.machine.specs.declared.reply.Reply.TheVariants as reply
+use Rattle.machine.specs.declared.id.WorkerId.{WorkerId}
+use Rattle.machine.specs.Pages.{in_transfer}
+use Rattle.machine.specs.Counts.{Counted}
+use Rattle.machine.specs.State.{Opening, State}
+use Rattle.machine.specs.Refusals.{refusal}
+use Rattle.machine.specs.Step.{Step}
+use Rattle.machine.specs.History.{is_by, entries_by}
+use Rattle.machine.specs.Call.{Past, knows_ticket, need, is_trace_full, entry_of, Answers, Served, Called}
+use Rattle.book.specs.declared.book.Book.TheInside.{Inside}
+use Rattle.book.specs.Contents.{Contents, counting, counted_after}
+use Rattle.book.specs.Serves.{Serves, IsAsked, is_refused}
+use Rattle.book.specs.Told.{group_in, counted_in, state_of, IsHistory}
+use Rattle.book.specs.Books.{past_of, IsBook}
+use Rattle.book.proofs.HistoryLemmas.{Extending, steps_on, extends}
+
+-- ---- the tables, whatever was counted
+
+-- what is refused does not depend on what was counted
+pub refusal-counting : (s : State) (c : List Counted) (what : Event) → refusal (counting s c) what ≡ refusal s what
+refusal-counting s c (event.Access t place op) = refl
+refusal-counting s c (event.Arrived ticket bytes) = refl
+refusal-counting s c (event.FetchFailed ticket) = refl
+refusal-counting s c (event.Left ticket) = refl
+refusal-counting s c (event.LeaveFailed ticket) = refl
+refusal-counting s c (event.Relieve why) = refl
+refusal-counting s c (event.Spawn t g) = refl
+refusal-counting s c (event.Exit t) = refl
+refusal-counting s c (event.Mkdir path) = refl
+refusal-counting s c (event.Set g what) = refl
+refusal-counting s c (event.Show (query.Current g)) = refl
+refusal-counting s c (event.Show (query.Max g)) = refl
+refusal-counting s c (event.Show (query.Events g)) = refl
+refusal-counting s c (event.Show (query.EventsLocal g)) = refl
+
+-- and so with what is needed
+pub need-counting : (s : State) (c : List Counted) (what : Event) → need (counting s c) what ≡ need s what
+need-counting s c what = refl
+
+-- ---- answers of a call
+
+-- an event without a ticket is nobody's
+pub asked-knows : (s : State) (history : List Entry) (worker : ℕ) (what : Event) → IsAsked what → knows_ticket s history worker what ≡ true
+asked-knows s history worker (event.Arrived ticket bytes) asked = absurd asked
+asked-knows s history worker (event.FetchFailed ticket) asked = absurd asked
+asked-knows s history worker (event.Left ticket) asked = absurd asked
+asked-knows s history worker (event.LeaveFailed ticket) asked = absurd asked
+asked-knows s history worker what asked = refl
+
+pub called-stranger : (old : Past) (worker : ℕ) (what : Event) → knows_ticket old.state old.history worker what ≡ false → Called old worker what (reply.Refused Stranger) old
+called-stranger old worker what strange = rw strange (refl, refl)
+
+-- what is served, where it is no refusal
+served : (old : Past) (worker : ℕ) (what : Event) (answer : Reply) (new : Past) → is_refused answer ≡ false → Answers old worker what answer new → Served old worker what answer new
+served old worker what (reply.Refused why) new e h = cc
+served old worker what answer new e h = h
+
+called-served : (old new : Past) (worker : ℕ) (what : Event) (answer : Reply) → knows_ticket old.state old.history worker what ≡ true → refusal old.state what ≡ None → is_trace_full old what ≡ false → is_refused answer ≡ false
+    → Answers old worker what answer new → Called old worker what answer new
+called-served old new worker what answer known none room given h = rw known (rw none (rw room (served old worker what answer new given h)))
+
+-- ---- in a book
+
+abbrev pub history_of : Inside → List Entry
+history_of b = reverse b.entries.items
+
+-- the newest entry stands first
+reverse-entries : (entries : List Entry) (counts : List ℕ) (worker : ℕ) (what : Event) (answer : Reply) → slice_index counts worker ≡ length (entries_by worker (reverse entries))
+    → reverse (entries ++ record { worker = record { 0 = worker }; count = slice_index counts worker + 1; event = what; reply = answer } ∷ []) ≡ entry_of worker (reverse entries) what answer ∷ reverse entries
+reverse-entries entries counts worker what answer counted =
+    reverse-append entries (record { worker = record { 0 = worker }; count = slice_index counts worker + 1; event = what; reply = answer } ∷ [])
+    ∙ ap (λ (n : ℕ). record { worker = record { 0 = worker }; count = n + 1; event = what; reply = answer } ∷ reverse entries) counted
+
+-- no worker has more entries than there are
+few_by : (history : List Entry) (worker : ℕ) → length (entries_by worker history) ≤ length history
+few_by history worker = let same = length-filter (is_by worker) history in let le = count_by-le-length (is_by worker) history in omega (arith, same, le)
+
+pub few_of : (b : Inside) → IsBook b → b.state.tables.opening.limit ≤ 1048576 → (worker : ℕ) → slice_index b.counts.items worker ≤ 1048576
+few_of b is limit worker =
+    let counted = is.told.counted worker in
+    let few = few_by (history_of b) worker in
+    let all = length-reverse b.entries.items in
+    let within = is.within in
+    omega (arith, counted, few, all, within, limit)
+
+-- each entry counts at most two events
+pub few-counted : (history : List Entry) → length (counted_in history) ≤ length history + length history
+few-counted [] = omega arith
+few-counted (entry ∷ earlier) = by_entry (group_in earlier) (counted_in earlier) entry.event entry.reply (few-counted earlier)
+  where
+    longer : length (entry ∷ earlier) ≡ length earlier + 1
+    longer = sym (add-one (length earlier))
+
+    none : (c : List Counted) → length c ≤ length earlier + length earlier → length c ≤ length (entry ∷ earlier) + length (entry ∷ earlier)
+    none c le = omega (arith, le, longer)
+
+    some : (c d : List Counted) → length d ≤ 2 → length c ≤ length earlier + length earlier → length (c ++ d) ≤ length (entry ∷ earlier) + length (entry ∷ earlier)
+    some c d two le = let both = length-append c d in omega (arith, both, two, le, longer)
+
+    by_entry : (group_of : ℕ → ℕ) (c : List Counted) (what : Event) (answer : Reply) → length c ≤ length earlier + length earlier → length (counted_after group_of c what answer) ≤ length (entry ∷ earlier) + length (entry ∷ earlier)
+    by_entry group_of c (event.Access t place op) (reply.Over g) le = some c _ (omega arith) le
+    by_entry group_of c (event.Relieve cause) (reply.KilledTask t) le = some c _ (omega arith) le
+    by_entry group_of c (event.Relieve cause) reply.NoVictim le = some c _ (omega arith) le
+    by_entry group_of c what answer le = none c le
+
+-- ---- room
+
+not_full : (limit wanted : ℕ) → wanted ≤ limit → nat_lt limit wanted ≡ false
+not_full limit wanted le = grind (arith, nat_tests, le)
+
+fits : (limit wanted : ℕ) → nat_lt limit wanted ≡ false → wanted ≤ limit
+fits limit wanted e = grind (arith, nat_tests, e)
+
+-- where an entry extends the history, all entries and all transfers in flight have room
+module _ (b : Inside) (new : Contents) (worker : ℕ) (what : Event) (answer : Reply) (h : Extending b.state new (history_of b) b.counts.items worker what answer) where
+  pub fits_more : length b.entries.items + 1 + in_transfer new.tables.pages ≤ b.state.tables.opening.limit
+  fits_more =
+      let s = state_of b.state (history_of b) in
+      let full = fits b.state.tables.opening.limit (length (history_of b) + in_transfer b.state.tables.pages + need s what) h.room in
+      let needs = need-counting b.state.tables (counted_in (history_of b)) what in
+      let kept = h.serves.kept in
+      let all = length-reverse b.entries.items in
+      omega (arith, full, needs, kept, all)
+
+  pub has_room : IsBook b → vec_len b.entries < vec_capacity b.entries
+  has_room is =
+      let fits = fits_more in
+      let room = is.room in
+      let ok = b.entries.ok.0 in
+      omega (arith, fits, room, ok)
+
+-- what is asked of a book, as its callers see it
+module _ (b : Inside) (past : Past) (is : IsBook b) (view_is : past_of b ≡ past) (new : Contents) (worker : ℕ) (passed : worker < past.passes) (what : Event) where
+  passed_in : worker < length b.counts.items
+  passed_in = subst (λ (p : Past). worker < p.passes) (sym view_is) passed
+
+  -- an event without a ticket extends the history, where nothing refuses it and there is room
+  pub asks : (answer : Reply) → IsAsked what → refusal b.state.tables what ≡ None → is_trace_full past what ≡ false → Serves b.state worker what answer new → Extending b.state new (history_of b) b.counts.items worker what answer
+  asks answer asked none room serves =
+      record {
+        told = is.told;
+        passed = passed_in;
+        known = asked-knows (state_of b.state (history_of b)) (history_of b) worker what asked;
+        none = refusal-counting b.state.tables (counted_in (history_of b)) what ∙ none;
+        room = subst (λ (p : Past). is_trace_full p what ≡ false) (sym view_is) room;
+        serves = serves;
+      }
+
+  -- an ending extends the history, as it needs no room but that which was kept for it
+  pub ends : knows_ticket past.state past.history worker what ≡ true → refusal (state_of b.state (history_of b)) what ≡ None → need (state_of b.state (history_of b)) what ≡ 0
+      → Serves b.state worker what reply.Ok new → Extending b.state new (history_of b) b.counts.items worker what reply.Ok
+  ends known none free serves =
+      record {
+        told = is.told;
+        passed = passed_in;
+        known = subst (λ (p : Past). knows_ticket p.state p.history worker what ≡ true) (sym view_is) known;
+        none = none;
+        room = not_full b.state.tables.opening.limit (length (history_of b) + in_transfer b.state.tables.pages + need (state_of b.state (history_of b)) what)
+            (let within = is.within in let all = length-reverse b.entries.items in omega (arith, within, all, free));
+        serves = serves;
+      }
+
+-- ---- the book after it
+
+-- the worker's entry stands at the end, and all else as it was
+pub record Appends (b c : Inside) (w : WorkerId) (what : Event) (answer : Reply) : Type 0 where
+  pub entries : c.entries.items ≡ b.entries.items ++ record { worker = w; count = slice_index b.counts.items w.0 + 1; event = what; reply = answer } ∷ []
+  pub room : vec_capacity c.entries ≡ vec_capacity b.entries
+  pub counts : c.counts.items ≡ slice_set b.counts.items w.0 (slice_index b.counts.items w.0 + 1)
+
+module _ (b c : Inside) (w : WorkerId) (what : Event) (answer : Reply) (is : IsBook b) (h : Extending b.state c.state (history_of b) b.counts.items w.0 what answer) (appends : Appends b c w what answer) where
+  history_is : history_of c ≡ entry_of w.0 (history_of b) what answer ∷ history_of b
+  history_is = ap reverse appends.entries ∙ reverse-entries b.entries.items b.counts.items w.0 what answer (is.told.counted w.0)
+
+  pub told_more : IsHistory c.state (history_of c) c.counts.items
+  told_more =
+      subst (λ (h : List Entry). IsHistory c.state h c.counts.items) (sym history_is)
+      (subst (λ (counts : List ℕ). IsHistory c.state (entry_of w.0 (history_of b) what answer ∷ history_of b) counts) (sym appends.counts) (extends b.state c.state (history_of b) b.counts.items w.0 what answer h))
+
+  pub longer : length (history_of c) ≡ length b.entries.items + 1
+  longer = let more = ap length history_is in let all = length-reverse b.entries.items in let one = add-one (length (history_of b)) in omega (arith, more, all, one)
+
+  answers_more : Answers (past_of b) w.0 what answer (past_of c)
+  answers_more =
+      record {
+        steps = subst (λ (h : List Entry). Step (state_of b.state (history_of b)) what answer (state_of c.state h)) (sym history_is) (steps_on b.state c.state (history_of b) b.counts.items w.0 what answer h);
+        history = history_is;
+        passes = ap length appends.counts ∙ length-set b.counts.items w.0 (slice_index b.counts.items w.0 + 1);
+      }
+
+  pub called_more : Called (past_of b) w.0 what answer (past_of c)
+  called_more = called-served (past_of b) (past_of c) w.0 what answer h.known h.none h.room h.serves.given answers_more
+
+  pub book_more : IsBook c
+  book_more =
+      let same = ap (λ (o : Opening). o.limit) h.serves.opening in
+      record {
+        told = told_more;
+        within = (let more = ap length appends.entries ∙ length-append b.entries.items _ in let fits = fits_more b c.state w.0 what answer h in omega (arith, more, fits, same));
+        room = (let room = is.room in let kept = appends.room in omega (arith, room, kept, same));
+        few = (let few = is.few in let kept = ap length appends.counts ∙ length-set b.counts.items w.0 _ in omega (arith, few, kept));
+      }

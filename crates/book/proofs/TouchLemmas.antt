@@ -1,0 +1,278 @@
+-- What a task's write to its page, a page made for it, and its begin are to the plain machine.
+use Rattle.std.proofs.Common.{◌≡◌, ◌≢◌, inl, inr, ℕ, ◌≤◌, ◌==◌, ◌&&◌, ◌||◌, Bool, true, false, cond, if◌then◌else◌, List, [], ◌∷◌, ◌++◌, Option, Some, None, refl, sym, ap, ◌∙◌, arith}
+use Rattle.std.specs.Prelude.{nat_lt, is_some}
+use Rattle.std.proofs.lemmas.Bool.Decides.{nat_tests}
+use Rattle.machine.specs.declared.record.Life.TheVariants.{Live}
+use Rattle.machine.specs.declared.record.Task.{Task}
+use Rattle.machine.specs.declared.record.Mapping.{Mapping}
+use Rattle.machine.specs.declared.event.Place.TheVariants.{Virtual}
+use Rattle.machine.specs.declared.event.Op.TheVariants.{Write}
+use Rattle.machine.specs.declared.event.Event.TheVariants as event
+use Rattle.machine.specs.declared.reply.Reply.TheVariants as reply
+use Rattle.machine.specs.Slots.{at, Changes, there_and}
+use Rattle.machine.specs.Pages.{Held, Coming, Page, Pages, page_at, is_in_transfer, in_transfer}
+use Rattle.machine.specs.Counts.{Counted}
+use Rattle.machine.specs.Tasks.{Tasks, task_at, is_live_task, lives, SetsTask, group_of, group_of_task, mapped_at, mappers, mapping}
+use Rattle.machine.specs.State.{State, over_in, is_frame_free}
+use Rattle.machine.specs.Access.{meets}
+use Rattle.machine.specs.Step.{MeetStep, MakesPage, IsFreeFrame, new_page}
+use Rattle.machine.specs.History.{Spot, InTask, Byte, Nothing, follow, says_if}
+use Rattle.machine.proofs.TreeLemmas.{eq_cases}
+use Rattle.machine.proofs.SlotLemmas.{one_if}
+use Rattle.machine.proofs.MappingLemmas.{mapped_at-mappers, mapped_at-one, mapped_at-push, mapped_at-push_other}
+use Rattle.pages.specs.PageTable.{byte_in, Stands, anon_page}
+use Rattle.events.specs.Tallies.{Tells}
+use Rattle.book.specs.Contents.{Contents, counting, byte_shown, byte_at, byte_at_spot, is_in_memory, is_known, knows, StaysComing, AreMapped, is_there}
+use Rattle.book.specs.Serves.{Serves}
+use Rattle.book.proofs.TransferLemmas.{same_true, true_same, false_other, both_true, unlike, in_transfer-changes}
+use Rattle.book.proofs.ServeLemmas.{flights-kept, live_step, granted_step, access-needs}
+
+-- tests that hold together are one
+alike : (a b : Bool) → (a ≡ true → b ≡ true) → (b ≡ true → a ≡ true) → a ≡ b
+alike true b f g = sym (f refl)
+alike false true f g = g refl
+alike false false f g = refl
+
+follow_if : (test : Bool) (b : ℕ) (before : Spot → ℕ) (spot : Spot) → follow (says_if test (Byte b)) before spot ≡ cond test b (before spot)
+follow_if true b before spot = refl
+follow_if false b before spot = refl
+
+assoc : (x y z : Bool) → ((x && y) && z) ≡ (x && (y && z))
+assoc true y z = refl
+assoc false y z = refl
+
+-- a byte that an access does not reach is as it was
+unwritten : (x y z : Bool) (b : ℕ) (before : Spot → ℕ) (spot : Spot) (n : ℕ) → ((x && y) ≡ true → ⊥) → n ≡ before spot → n ≡ follow (says_if (x && (y && z)) (Byte b)) before spot
+unwritten true true z b before spot n never e = absurd (never refl)
+unwritten true false z b before spot n never e = e
+unwritten false y z b before spot n never e = e
+
+silent_elsewhere : (x y z : Bool) (b : ℕ) → ((x && y) ≡ true → ⊥) → says_if (x && (y && z)) (Byte b) ≡ Nothing
+silent_elsewhere true true z b never = absurd (never refl)
+silent_elsewhere true false z b never = refl
+silent_elsewhere false y z b never = refl
+
+-- a byte of the page that an access reaches
+written_at : (d x y z : Bool) (b n : ℕ) (before : Spot → ℕ) (spot : Spot) → d ≡ (x && y) → n ≡ before spot → cond (d && z) b n ≡ follow (says_if (x && (y && z)) (Byte b)) before spot
+written_at d x y z b n before spot is e =
+    ap (λ t. cond (t && z) b n) is ∙ ap (λ t. cond t b n) (assoc x y z) ∙ ap (cond (x && (y && z)) b) e ∙ sym (follow_if (x && (y && z)) b before spot)
+
+some_inj : {x y : ℕ} → Some x ≡ Some y → x ≡ y
+some_inj e = cc
+
+unlike_held : {P : Type 0} (slot : Option Page) (g f g' f' b' n' : ℕ) → slot ≡ Some (anon_page g (Held f)) → slot ≡ Some (anon_page g' (Coming f' b' n')) → P
+unlike_held slot g f g' f' b' n' is also = unlike (there_and is_in_transfer slot) (ap (there_and is_in_transfer) also) (ap (there_and is_in_transfer) is)
+
+pub serves-hit_write : (old new : Contents) (worker t v o b p g f : ℕ) (task : Task) → AreMapped old.tables.pages old.tables.tasks old.tables.mappings
+    → task_at old.tables.tasks t ≡ Some task → task.life ≡ Live → mapped_at old.tables.mappings t v ≡ Some p → Stands old.tables.pages p g (Held f)
+    → new.tables ≡ old.tables → ((q k : ℕ) → byte_in new.bytes q k ≡ (if (q == p) && (o == k) then b else byte_in old.bytes q k)) → new.flights ≡ old.flights
+    → ((c : List Counted) → Tells old.tallies c → Tells new.tallies c)
+    → Serves old worker (event.Access (record { 0 = t }) (Virtual v o) (Write b)) (reply.Done b (Some (record { 0 = f }))) new
+serves-hit_write old new worker t v o b p g f task mapped is living shown page tables bytes flights tells =
+    record {
+      steps = λ c told. live_step (counting old.tables c) _ task _ _ _ is living (meets_page c);
+      tallied = tells;
+      groups = λ u. ap (λ (s : State). group_of_task s.tasks u) tables;
+      reads = tt;
+      bytes = λ u w k alive within known. inr (
+        sym (ap (λ (s : State). is_known s.pages (mapped_at s.mappings u w)) tables) ∙ known,
+        ap (λ (s : State). byte_shown new.bytes (mapped_at s.mappings u w) k) tables ∙ at_place u w k (mapped_at old.tables.mappings u w) refl,
+      );
+      coming = λ u w q g' f' b' n alive there stands.
+          (let before : mapped_at old.tables.mappings u w ≡ Some q = sym (ap (λ (s : State). mapped_at s.mappings u w) tables) ∙ there in
+          let stood : Stands old.tables.pages q g' (Coming f' b' n) = sym (ap (λ (s : State). page_at s.pages q) tables) ∙ stands in
+          inr (record {
+            shown = before;
+            stands = stood;
+            quiet = λ k. silent_elsewhere (t == u) (v == w) (o == k) b
+                (λ hit. let same : q ≡ p = some_inj (sym before ∙ here u w hit) in unlike_held (page_at old.tables.pages p) g f g' f' b' n page (ap (page_at old.tables.pages) (sym same) ∙ stood));
+            other = refl;
+          }));
+      flights = flights-kept old new worker (reply.Done b (Some (record { 0 = f }))) refl flights;
+      living = λ u h. sym (ap (λ (s : State). lives s.tasks u) tables) ∙ h;
+      kept = (let same = ap (λ (s : State). in_transfer s.pages) tables in let one = access-needs old.tables t (Virtual v o) (Write b) in omega (arith, same, one));
+      given = refl;
+      opening = ap (λ (s : State). s.opening) tables;
+    }
+  where
+    once : mappers old.tables.mappings p ≤ 1
+    once = let most = mapped.most p in let there : is_there (page_at old.tables.pages p) ≡ 1 = ap is_there page in omega (arith, most, there)
+
+    alone : nat_lt 1 (mappers old.tables.mappings p) ≡ false
+    alone = not_more (mappers old.tables.mappings p) once
+      where
+        not_more : (n : ℕ) → n ≤ 1 → nat_lt 1 n ≡ false
+        not_more n le = grind (arith, nat_tests, le)
+
+    same_pages : new.tables.pages ≡ old.tables.pages
+    same_pages = ap (λ (s : State). s.pages) tables
+
+    written : Changes old.tables.pages new.tables.pages p (Some (anon_page g (Held f)))
+    written = record { changed = ap (λ (ps : Pages). page_at ps p) same_pages ∙ page; others = λ q other. ap (λ (ps : Pages). page_at ps q) same_pages }
+
+    meets_page : (c : List Counted) → MeetStep (counting old.tables c) t task.group.0 (Virtual v o) (Write b) (meets (counting old.tables c) t (Virtual v o) (Write b)) (reply.Done b (Some (record { 0 = f }))) (counting new.tables c)
+    meets_page c = rw shown (rw page (rw alone (refl, refl, written, ap (λ (s : State). counting s c) tables ∙ ap (λ (ps : Pages). record (counting old.tables c) { pages = ps }) (sym same_pages))))
+
+    here : (u w : ℕ) → ((t == u) && (v == w)) ≡ true → mapped_at old.tables.mappings u w ≡ Some p
+    here u w hit =
+        let both = both_true (t == u) (v == w) hit in
+        ap (λ (x : ℕ). mapped_at old.tables.mappings x w) (sym (same_true t u both.0)) ∙ ap (mapped_at old.tables.mappings t) (sym (same_true v w both.1)) ∙ shown
+
+    at_place : (u w k : ℕ) (m : Option ℕ) → mapped_at old.tables.mappings u w ≡ m
+        → byte_shown new.bytes m k ≡ follow (says_if ((t == u) && ((v == w) && (o == k))) (Byte b)) (byte_at_spot old) (InTask u w k)
+    at_place u w k None e =
+        unwritten (t == u) (v == w) (o == k) b (byte_at_spot old) (InTask u w k) _ (λ hit. let wrong : None ≡ Some p = sym e ∙ here u w hit in cc)
+        (ap (λ m. byte_shown old.bytes m k) (sym e))
+    at_place u w k (Some q) e =
+        bytes q k
+        ∙ written_at (q == p) (t == u) (v == w) (o == k) b (byte_in old.bytes q k) (byte_at_spot old) (InTask u w k)
+        (alike (q == p) ((t == u) && (v == w))
+        (λ hit. mapped_at-one old.tables.mappings t v u w p once shown (e ∙ ap Some (same_true q p hit)))
+        (λ hit. true_same q p (some_inj (sym e ∙ here u w hit))))
+        (ap (λ m. byte_shown old.bytes m k) (sym e))
+
+pub serves-made : (old new : Contents) (worker t v o b p f : ℕ) (task : Task) → AreMapped old.tables.pages old.tables.tasks old.tables.mappings
+    → task_at old.tables.tasks t ≡ Some task → task.life ≡ Live → mapped_at old.tables.mappings t v ≡ None
+    → over_in old.tables task.group.0 ≡ None → is_frame_free old.tables ≡ true → IsFreeFrame old.tables f → page_at old.tables.pages p ≡ None
+    → Changes old.tables.pages new.tables.pages p (Some (new_page task.group.0 f))
+    → new.tables ≡ record old.tables { pages = new.tables.pages; mappings = old.tables.mappings ++ mapping t v p ∷ [] }
+    → ((q k : ℕ) → byte_in new.bytes q k ≡ (if q == p then (if o == k then b else 0) else byte_in old.bytes q k)) → new.flights ≡ old.flights
+    → ((c : List Counted) → Tells old.tallies c → Tells new.tallies c)
+    → Serves old worker (event.Access (record { 0 = t }) (Virtual v o) (Write b)) (reply.Done b None) new
+serves-made old new worker t v o b p f task mapped is living none under free frame slot placed tables bytes flights tells =
+    record {
+      steps = λ c told. live_step (counting old.tables c) _ task _ _ _ is living (makes c);
+      tallied = tells;
+      groups = λ u. ap (λ (s : State). group_of_task s.tasks u) tables;
+      reads = tt;
+      bytes = λ u w k alive within known. inr (
+        known_at u w ((t == u) && (v == w)) refl (sym (ap (λ (s : State). is_known new.tables.pages (mapped_at s.mappings u w)) tables) ∙ known),
+        ap (λ (s : State). byte_shown new.bytes (mapped_at s.mappings u w) k) tables ∙ at_place u w k ((t == u) && (v == w)) refl,
+      );
+      coming = λ u w q g' f' b' n alive there stands. inr (coming_at u w q g' f' b' n (sym (ap (λ (s : State). mapped_at s.mappings u w) tables) ∙ there) stands ((t == u) && (v == w)) refl);
+      flights = flights-kept old new worker (reply.Done b None) refl flights;
+      living = λ u h. sym (ap (λ (s : State). lives s.tasks u) tables) ∙ h;
+      kept =
+          (let same = in_transfer-changes old.tables.pages new.tables.pages p (Some (new_page task.group.0 f)) placed in
+          let was : one_if (there_and is_in_transfer (page_at old.tables.pages p)) ≡ 0 = ap (λ (slot : Option Page). one_if (there_and is_in_transfer slot)) slot in
+          let one = access-needs old.tables t (Virtual v o) (Write b) in omega (arith, same, was, one));
+      given = refl;
+      opening = ap (λ (s : State). s.opening) tables;
+    }
+  where
+    pushed : List Mapping
+    pushed = old.tables.mappings ++ mapping t v p ∷ []
+
+    made : (c : List Counted) → MakesPage (counting old.tables c) t v task.group.0 (Write b) old.tables.mappings (reply.Done b None) (counting new.tables c)
+    made c = record { page = p; frame = f; slot_free = slot; frame_free = record { in_range = frame.in_range; unused = frame.unused }; placed = placed; answers = refl; state = ap (λ (s : State). counting s c) tables }
+
+    makes : (c : List Counted) → MeetStep (counting old.tables c) t task.group.0 (Virtual v o) (Write b) (meets (counting old.tables c) t (Virtual v o) (Write b)) (reply.Done b None) (counting new.tables c)
+    makes c = rw none (granted_step (counting old.tables c) _ _ _ _ _ under free (made c))
+
+    unmade : (q : ℕ) → 1 ≤ mappers old.tables.mappings q → q ≢ p
+    unmade q some same =
+        absurd (let zero_there : is_there (page_at old.tables.pages q) ≡ 0 = ap (λ (x : ℕ). is_there (page_at old.tables.pages x)) same ∙ ap is_there slot in let most = mapped.most q in omega (arith, zero_there, most, some))
+
+    at_old : (u w k : ℕ) (m : Option ℕ) → mapped_at old.tables.mappings u w ≡ m → byte_shown new.bytes m k ≡ byte_shown old.bytes m k
+    at_old u w k None e = refl
+    at_old u w k (Some q) e = bytes q k ∙ ap (λ x. cond x (if o == k then b else 0) (byte_in old.bytes q k)) (false_other q p (unmade q (mapped_at-mappers old.tables.mappings u w q e)))
+
+    unshown : (u w : ℕ) → ((t == u) && (v == w)) ≡ true → mapped_at old.tables.mappings u w ≡ None
+    unshown u w hit =
+        let ts = same_true t u (both_true (t == u) (v == w) hit).0 in
+        let vs = same_true v w (both_true (t == u) (v == w) hit).1 in
+        ap (λ (x : ℕ). mapped_at old.tables.mappings x w) (sym ts) ∙ ap (mapped_at old.tables.mappings t) (sym vs) ∙ none
+
+    shows : (u w : ℕ) → ((t == u) && (v == w)) ≡ true → mapped_at pushed u w ≡ Some p
+    shows u w hit =
+        let ts = same_true t u (both_true (t == u) (v == w) hit).0 in
+        let vs = same_true v w (both_true (t == u) (v == w) hit).1 in
+        ap (λ (x : ℕ). mapped_at pushed x w) (sym ts) ∙ ap (mapped_at pushed t) (sym vs) ∙ mapped_at-push old.tables.mappings t v p none
+
+    at_place : (u w k : ℕ) (test : Bool) → ((t == u) && (v == w)) ≡ test
+        → byte_shown new.bytes (mapped_at pushed u w) k ≡ follow (says_if ((t == u) && ((v == w) && (o == k))) (Byte b)) (byte_at_spot old) (InTask u w k)
+    at_place u w k true hit =
+        ap (λ m. byte_shown new.bytes m k) (shows u w hit) ∙ bytes p k ∙ ap (λ x. cond x (if o == k then b else 0) (byte_in old.bytes p k)) (true_same p p refl)
+        ∙ written_at true (t == u) (v == w) (o == k) b 0 (byte_at_spot old) (InTask u w k) (sym hit) (sym (ap (λ m. byte_shown old.bytes m k) (unshown u w hit)))
+    at_place u w k false miss =
+        ap (λ m. byte_shown new.bytes m k) (mapped_at-push_other old.tables.mappings t v p u w miss) ∙ at_old u w k (mapped_at old.tables.mappings u w) refl
+        ∙ unwritten (t == u) (v == w) (o == k) b (byte_at_spot old) (InTask u w k) _ (λ hit. let wrong : true ≡ false = sym hit ∙ miss in cc) refl
+
+    known_old : (u w : ℕ) (m : Option ℕ) → mapped_at old.tables.mappings u w ≡ m → is_known new.tables.pages m ≡ true → is_known old.tables.pages m ≡ true
+    known_old u w None e known = refl
+    known_old u w (Some q) e known = sym (ap (there_and (λ (page : Page). is_in_memory page.residence)) (placed.others q (unmade q (mapped_at-mappers old.tables.mappings u w q e)))) ∙ known
+
+    known_at : (u w : ℕ) (test : Bool) → ((t == u) && (v == w)) ≡ test → is_known new.tables.pages (mapped_at pushed u w) ≡ true → knows old u w ≡ true
+    known_at u w true hit known = ap (is_known old.tables.pages) (unshown u w hit)
+    known_at u w false miss known =
+        known_old u w (mapped_at old.tables.mappings u w) refl (sym (ap (is_known new.tables.pages) (mapped_at-push_other old.tables.mappings t v p u w miss)) ∙ known)
+
+    coming_at : (u w q g' f' b' n : ℕ) → mapped_at pushed u w ≡ Some q → Stands new.tables.pages q g' (Coming f' b' n) → (test : Bool) → ((t == u) && (v == w)) ≡ test
+        → StaysComing old (event.Access (record { 0 = t }) (Virtual v o) (Write b)) (reply.Done b None) u w q g' f' b' n
+    coming_at u w q g' f' b' n there stands true hit =
+        let same : q ≡ p = some_inj (sym there ∙ shows u w hit) in
+        unlike_held (page_at new.tables.pages p) task.group.0 f g' f' b' n placed.changed (ap (page_at new.tables.pages) (sym same) ∙ stands)
+    coming_at u w q g' f' b' n there stands false miss =
+        let before : mapped_at old.tables.mappings u w ≡ Some q = sym (mapped_at-push_other old.tables.mappings t v p u w miss) ∙ there in
+        record {
+          shown = before;
+          stands = sym (placed.others q (unmade q (mapped_at-mappers old.tables.mappings u w q before))) ∙ stands;
+          quiet = λ k. silent_elsewhere (t == u) (v == w) (o == k) b (λ hit. unlike ((t == u) && (v == w)) hit miss);
+          other = refl;
+        }
+
+-- ---- tasks begin
+
+unmapped_of : (pages : Pages) (tasks : Tasks) (mappings : List Mapping) → AreMapped pages tasks mappings → (t v : ℕ) → task_at tasks t ≡ None → mapped_at mappings t v ≡ None
+unmapped_of pages tasks mappings mapped t v none = at (mapped_at mappings t v) refl
+  where
+    at : (o : Option ℕ) → mapped_at mappings t v ≡ o → o ≡ None
+    at None is = refl
+    at (Some p) is = absurd (let owned = mapped.owned t v p is in let unowned : is_some (task_at tasks t) ≡ false = ap is_some none in cc)
+
+pub serves-spawn : (old new : Contents) (worker t g : ℕ) → AreMapped old.tables.pages old.tables.tasks old.tables.mappings → task_at old.tables.tasks t ≡ None
+    → SetsTask old.tables.tasks t g Live new.tables.tasks → new.tables ≡ record old.tables { tasks = new.tables.tasks } → new.bytes ≡ old.bytes → new.flights ≡ old.flights
+    → ((c : List Counted) → Tells old.tallies c → Tells new.tallies c)
+    → Serves old worker (event.Spawn (record { 0 = t }) (record { 0 = g })) reply.Ok new
+serves-spawn old new worker t g mapped none sets tables bytes flights tells =
+    record {
+      steps = λ c told. (sets, ap (λ (s : State). counting s c) tables);
+      tallied = tells;
+      groups = λ u.
+          elim (eq_cases t u) [
+            | inl same ↦ ap group_of (ap (at new.tables.tasks) (sym same) ∙ sets.changed) ∙ ap (λ b. cond b g (group_of_task old.tables.tasks u)) (sym (true_same t u same))
+            | inr other ↦ ap group_of (sets.others u (λ e. other (sym e))) ∙ ap (λ b. cond b g (group_of_task old.tables.tasks u)) (sym (false_other t u other))
+          ];
+      reads = tt;
+      bytes = λ u v o alive within known. inr (
+        sym (ap (λ (s : State). is_known s.pages (mapped_at s.mappings u v)) tables) ∙ known,
+        ap (λ (s : State). byte_shown new.bytes (mapped_at s.mappings u v) o) tables ∙ ap (λ bs. byte_shown bs (mapped_at old.tables.mappings u v) o) bytes ∙ said u v o,
+      );
+      coming = λ u v q g' f' b' n alive there stands.
+          (let before : mapped_at old.tables.mappings u v ≡ Some q = sym (ap (λ (s : State). mapped_at s.mappings u v) tables) ∙ there in
+          inr (record {
+            shown = before;
+            stands = sym (ap (λ (s : State). page_at s.pages q) tables) ∙ stands;
+            quiet = λ k. ap (λ b. says_if b (Byte 0)) (false_other t u (λ same. absurd (let wrong : None ≡ Some q = sym (unshown u v same) ∙ before in cc)));
+            other = refl;
+          }));
+      flights = flights-kept old new worker reply.Ok refl flights;
+      living = λ u h.
+          elim (eq_cases t u) [
+            | inl same ↦ ap (λ b. b || lives old.tables.tasks u) (true_same t u same)
+            | inr other ↦ ap (λ b. b || lives old.tables.tasks u) (false_other t u other) ∙ sym (ap (there_and is_live_task) (sets.others u (λ e. other (sym e)))) ∙ h
+          ];
+      kept = (let same = ap (λ (s : State). in_transfer s.pages) tables in omega (arith, same));
+      given = refl;
+      opening = ap (λ (s : State). s.opening) tables;
+    }
+  where
+    unshown : (u v : ℕ) → t ≡ u → mapped_at old.tables.mappings u v ≡ None
+    unshown u v same = unmapped_of old.tables.pages old.tables.tasks old.tables.mappings mapped u v (ap (at old.tables.tasks) (sym same) ∙ none)
+
+    said : (u v o : ℕ) → byte_at old u v o ≡ follow (says_if (t == u) (Byte 0)) (byte_at_spot old) (InTask u v o)
+    said u v o =
+        elim (eq_cases t u) [
+          | inl same ↦ ap (λ m. byte_shown old.bytes m o) (unshown u v same) ∙ ap (λ b. follow (says_if b (Byte 0)) (byte_at_spot old) (InTask u v o)) (sym (true_same t u same))
+          | inr other ↦ ap (λ b. follow (says_if b (Byte 0)) (byte_at_spot old) (InTask u v o)) (sym (false_other t u other))
+        ]

@@ -1,0 +1,39 @@
+use Rattle.std.proofs.Common.{◌≡◌, ◌∙◌, ◌<◌, ◌+◌, ◌==◌, cond, refl, sym, ap, subst, arith}
+use Rattle.machine.specs.Pages.{Going}
+use Rattle.frames.specs.Pool.{PoolOf}
+use Rattle.block_store.specs.Slots.{slot_count}
+use Rattle.book.specs.Keeping.{IsHolding}
+use Rattle.book.proofs.HoldingLemmas.{block-out, under-ticket}
+use Rattle.book.proofs.GrantLemmas.{room-moving}
+use Rattle.book.proofs.SettleLemmas.{holding-held}
+use Rattle.book.proofs.holdings.Holdings.leave_failed.Goals as goal
+
+pub give-requires-clause-out : goal.give-requires-clause-out
+give-requires-clause-out c =
+    let h = c.self.inside in
+    let w = rw (← c.self.view_is) at c.requires in
+    let slot : c.fail_out-slot.result.0 ≡ w.3 = c.fail_out-slot.ensures.slot w.0 w.1 w.2 w.3 w.4 in
+    subst (λ x. slot_count h.slots.free x ≡ 0) (sym slot) (block-out h.counters h.pool h.slots h.pages.pages w.0 w.1 (Going w.2 w.3 c.args.ticket.number) w.3 w.4 refl c.self.invariant.kept).0
+
+pub give-requires-clause-in_range : goal.give-requires-clause-in_range
+give-requires-clause-in_range c =
+    let h = c.self.inside in
+    let w = rw (← c.self.view_is) at c.requires in
+    let slot : c.fail_out-slot.result.0 ≡ w.3 = c.fail_out-slot.ensures.slot w.0 w.1 w.2 w.3 w.4 in
+    subst (λ x. x < h.slots.blocks) (sym slot) (block-out h.counters h.pool h.slots h.pages.pages w.0 w.1 (Going w.2 w.3 c.args.ticket.number) w.3 w.4 refl c.self.invariant.kept).1
+
+pub push-requires : goal.push-requires
+push-requires c =
+    let h = c.self.inside in
+    let w = rw (← c.self.view_is) at c.requires in
+    record { room = room-moving h c.self.invariant w.0 w.1 (Going w.2 w.3 c.args.ticket.number) w.4 refl }
+
+pub invariant_of-self : goal.invariant_of-self
+invariant_of-self c =
+    let h = c.self.inside in
+    let w = rw (← c.self.view_is) at c.requires in
+    let same = c.page_of_ticket-page.ensures w.0 (under-ticket h.pages.pages w.0 w.1 c.args.ticket.number c.number.result.0 (Going w.2 w.3 c.args.ticket.number) w.4 refl c.number.ensures) in
+    let slot : c.fail_out-slot.result.0 ≡ w.3 = c.fail_out-slot.ensures.slot w.0 w.1 w.2 w.3 w.4 in
+    subst (λ (pool : PoolOf). IsHolding (record h { pages = c.fail_out-slot.new.self; pool = pool; slots = c.give.new.self; held = c.push.new.self; moving = c.remove.new.self })) (sym c.give_spare.ensures)
+    (holding-held h c.self.invariant w.0 w.1 c.args.ticket.number w.2 w.3 c.page_of_ticket-page.result.0 (Going w.2 w.3 c.args.ticket.number) same w.4 refl refl refl c.fail_out-slot.new.self c.give.new.self c.push.new.self c.remove.new.self (h.pool.spares + 1) (c.fail_out-slot.ensures.ends w.0 w.1 w.2 w.3 w.4).ends
+    (λ m. c.give.ensures.counts m ∙ ap (λ x. slot_count h.slots.free m + cond (x == m) 1 0) slot) c.give.ensures.more c.give.ensures.blocks (omega arith) c.push.ensures.counts c.push.ensures.more c.push.ensures.room c.remove.ensures.counts c.remove.ensures.fewer c.remove.ensures.room)

@@ -1,0 +1,50 @@
+use Rattle.std.proofs.Common.{◌≡◌, ◌<◌, ◌+◌, Some, refl, sym, subst, arith}
+use Rattle.machine.specs.Pages.{Going, Away}
+use Rattle.frames.specs.Pool.{PoolOf, free_count}
+use Rattle.page_counter.specs.Counts.{Charges, IsOut}
+use Rattle.pages.specs.PageTable.{anon_page}
+use Rattle.book.specs.Room.{LacksFrame}
+use Rattle.book.specs.Keeping.{IsHolding}
+use Rattle.book.proofs.CountLemmas.{page-out}
+use Rattle.book.proofs.HoldingLemmas.{frame-out, under-ticket}
+use Rattle.book.proofs.GrantLemmas.{stands-live}
+use Rattle.book.proofs.SettleLemmas.{holding-away}
+use Rattle.book.proofs.holdings.Holdings.left.Goals as goal
+
+pub give_room-requires-clause-out : goal.give_room-requires-clause-out
+give_room-requires-clause-out c =
+    let h = c.self.inside in
+    let w = rw (← c.self.view_is) at c.requires in
+    let frame : c.end_out-frame.result.0.number ≡ w.2 = c.end_out-frame.ensures.frame w.0 w.1 w.2 w.3 w.4 in
+    subst (λ x. free_count h.pool.free x ≡ 0) (sym frame) (frame-out h.counters h.pool h.slots h.pages.pages w.0 w.1 (Going w.2 w.3 c.args.ticket.number) w.2 w.4 refl c.self.invariant.kept).0
+
+pub give_room-requires-clause-in_range : goal.give_room-requires-clause-in_range
+give_room-requires-clause-in_range c =
+    let h = c.self.inside in
+    let w = rw (← c.self.view_is) at c.requires in
+    let frame : c.end_out-frame.result.0.number ≡ w.2 = c.end_out-frame.ensures.frame w.0 w.1 w.2 w.3 w.4 in
+    subst (λ x. x < h.pool.frames) (sym frame) (frame-out h.counters h.pool h.slots h.pages.pages w.0 w.1 (Going w.2 w.3 c.args.ticket.number) w.2 w.4 refl c.self.invariant.kept).1
+
+pub give_room-requires-clause-charged : goal.give_room-requires-clause-charged
+give_room-requires-clause-charged c =
+    let h = c.self.inside in
+    let w = rw (← c.self.view_is) at c.requires in
+    let charge : c.end_out-frame.result.1 ≡ w.1 = c.end_out-frame.ensures.charge w.0 w.1 w.2 w.3 w.4 in
+    let ends = (c.end_out-frame.ensures.ends w.0 w.1 w.2 w.3 w.4).ends in
+    subst (λ x. IsOut h.counters x) (sym charge)
+    (page-out h.counters h.pages.pages c.end_out-frame.new.self.pages w.0 (anon_page w.1 (Going w.2 w.3 c.args.ticket.number)) (Some (anon_page w.1 (Away w.3))) c.are_counted.ensures.lineage.earlier_parents w.4 refl ends.placed refl
+    (stands-live h.counters h.pages.pages w.0 w.1 (Going w.2 w.3 c.args.ticket.number) w.4 c.self.invariant.kept.counted) c.self.invariant.kept.counted)
+
+pub invariant_of-self : goal.invariant_of-self
+invariant_of-self c =
+    let h = c.self.inside in
+    let w = rw (← c.self.view_is) at c.requires in
+    let same = c.page_of_ticket-page.ensures w.0 (under-ticket h.pages.pages w.0 w.1 c.args.ticket.number c.number.result.0 (Going w.2 w.3 c.args.ticket.number) w.4 refl c.number.ensures) in
+    let frame : c.end_out-frame.result.0.number ≡ w.2 = c.end_out-frame.ensures.frame w.0 w.1 w.2 w.3 w.4 in
+    let charge : c.end_out-frame.result.1 ≡ w.1 = c.end_out-frame.ensures.charge w.0 w.1 w.2 w.3 w.4 in
+    let ends = (c.end_out-frame.ensures.ends w.0 w.1 w.2 w.3 w.4).ends in
+    let back = subst (λ x. LacksFrame c.give_room.new.pool h.pool x) frame c.give_room.ensures.frame in
+    let spares = back.spares in
+    let uncharged = subst (λ x. Charges c.give_room.new.counters h.counters x) charge c.give_room.ensures.uncharged in
+    subst (λ (pool : PoolOf). IsHolding (record h { pages = c.end_out-frame.new.self; pool = pool; counters = c.give_room.new.counters; moving = c.remove.new.self })) (sym c.give_spare.ensures)
+    (holding-away h c.self.invariant w.0 w.1 c.args.ticket.number w.2 w.3 c.page_of_ticket-page.result.0 (Going w.2 w.3 c.args.ticket.number) same w.4 refl refl refl c.end_out-frame.new.self c.give_room.new.pool c.give_room.new.counters c.remove.new.self (c.give_room.new.pool.spares + 1) ends back uncharged (omega (arith, spares)) c.remove.ensures.counts c.remove.ensures.fewer c.remove.ensures.room)

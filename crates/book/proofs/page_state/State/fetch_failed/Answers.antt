@@ -1,0 +1,112 @@
+use Rattle.std.proofs.Common.{◌≡◌, ◌∙◌, ℕ, true, false, List, Option, refl, sym, ap, subst}
+use Rattle.std.specs.Prelude.{IsSome}
+use Rattle.machine.specs.declared.event.Event.TheVariants as event
+use Rattle.machine.specs.declared.record.Limits.{Limits}
+use Rattle.machine.specs.declared.amount.Amount.TheVariants.{Pages as PagesOf}
+use Rattle.machine.specs.Slots.{at as at_flight, there_and}
+use Rattle.machine.specs.State.{State}
+use Rattle.pages.specs.declared.flight.Flight.{Flight}
+use Rattle.machine.specs.Tree.{Node}
+use Rattle.machine.specs.Counts.{limits_at}
+use Rattle.machine.specs.Pages.{Coming, Away, is_in_transfer, is_coming_in}
+use Rattle.pages.specs.PageTable.{anon_page, is_under_ticket}
+use Rattle.book.specs.Holdings.{HoldingsOf, with_stored}
+use Rattle.book.specs.Contents.{Contents, counting}
+use Rattle.book.specs.Kin.{AreKin}
+use Rattle.book.specs.Parts.{contents_of}
+use Rattle.book.proofs.TransferLemmas.{unlike, coming-stands, coming-under, coming-at}
+use Rattle.book.proofs.MoveLemmas.{ends-on_block, serves-end, mapped-ended, settled-then, bytes-others}
+use Rattle.book.proofs.page_state.State.fetch_failed.Goals as goal
+
+pub page_under-page-requires : goal.page_under-page-requires
+page_under-page-requires c =
+    let s = c.self.inside in
+    let n = c.args.ticket.number in
+    let are = c.are_counted.ensures.flights in
+    let flies = subst (λ (s : Contents). is_coming_in s.tables.pages n ≡ true) (sym c.self.view_is) c.requires in
+    let found = coming-stands s.holdings.stored.pages s.holdings.stored.flights are n flies in
+    rw (← c.self.view_is, c.number.ensures)
+    (found.0, coming-under s.holdings.stored.pages found.0 found.1 found.2 found.3 n found.4)
+
+pub fetch_failed-requires : goal.fetch_failed-requires
+fetch_failed-requires c =
+    let s = c.self.inside in
+    let n = c.args.ticket.number in
+    let are = c.are_counted.ensures.flights in
+    let flies = subst (λ (s : Contents). is_coming_in s.tables.pages n ≡ true) (sym c.self.view_is) c.requires in
+    coming-stands s.holdings.stored.pages s.holdings.stored.flights are n flies
+
+pub drop_unmapped-requires-clause-there : goal.drop_unmapped-requires-clause-there
+drop_unmapped-requires-clause-there c =
+    let s = c.self.inside in
+    let n = c.args.ticket.number in
+    let are = c.are_counted.ensures.flights in
+    let flies = subst (λ (s : Contents). is_coming_in s.tables.pages n ≡ true) (sym c.self.view_is) c.requires in
+    let p = c.page_under-page.result.0 in
+    let under = subst (λ (m : ℕ). is_under_ticket s.holdings.stored.pages p m ≡ true) c.number.ensures
+    (subst (λ (s : Contents). is_under_ticket s.tables.pages p c.number.result.0 ≡ true) (sym c.self.view_is) c.page_under-page.ensures) in
+    let at = coming-at s.holdings.stored.pages s.holdings.stored.flights are p n flies under in
+    let settles = c.fetch_failed.ensures.settles p at.0 at.1 at.2 at.3 in
+    subst IsSome (sym settles.placed.changed) refl
+
+pub drop_unmapped-requires-clause-settled : goal.drop_unmapped-requires-clause-settled
+drop_unmapped-requires-clause-settled c =
+    let s = c.self.inside in
+    let n = c.args.ticket.number in
+    let are = c.are_counted.ensures.flights in
+    let flies = subst (λ (s : Contents). is_coming_in s.tables.pages n ≡ true) (sym c.self.view_is) c.requires in
+    let p = c.page_under-page.result.0 in
+    let under = subst (λ (m : ℕ). is_under_ticket s.holdings.stored.pages p m ≡ true) c.number.ensures
+    (subst (λ (s : Contents). is_under_ticket s.tables.pages p c.number.result.0 ≡ true) (sym c.self.view_is) c.page_under-page.ensures) in
+    let at = coming-at s.holdings.stored.pages s.holdings.stored.flights are p n flies under in
+    let settles = c.fetch_failed.ensures.settles p at.0 at.1 at.2 at.3 in
+    ap (there_and is_in_transfer) settles.placed.changed
+
+pub invariant_of-self : goal.invariant_of-self
+invariant_of-self c =
+    let s = c.self.inside in
+    let n = c.args.ticket.number in
+    let are = c.are_counted.ensures.flights in
+    let flies = subst (λ (s : Contents). is_coming_in s.tables.pages n ≡ true) (sym c.self.view_is) c.requires in
+    let p = c.page_under-page.result.0 in
+    let under = subst (λ (m : ℕ). is_under_ticket s.holdings.stored.pages p m ≡ true) c.number.ensures
+    (subst (λ (s : Contents). is_under_ticket s.tables.pages p c.number.result.0 ≡ true) (sym c.self.view_is) c.page_under-page.ensures) in
+    let at = coming-at s.holdings.stored.pages s.holdings.stored.flights are p n flies under in
+    let settles = c.fetch_failed.ensures.settles p at.0 at.1 at.2 at.3 in
+    let same = c.drop_unmapped.ensures.others ∙ ap (λ (h : HoldingsOf). with_stored h c.drop_unmapped.new.holdings.stored) settles.others in
+    let placed = settled-then s.holdings.stored.pages c.fetch_failed.new.self.stored.pages c.drop_unmapped.new.holdings.stored.pages s.spaces.mappings p at.0 (Away at.2) settles.placed c.drop_unmapped.ensures.pages in
+    record {
+      sized = c.self.invariant.sized;
+      frames = ap (λ (h : HoldingsOf). h.frames) same ∙ c.self.invariant.frames;
+      swap = ap (λ (h : HoldingsOf). h.swap) same ∙ c.self.invariant.swap;
+      held_kin = subst (λ (k : List Node). AreKin k s.tree) (sym (ap (λ (h : HoldingsOf). h.kin) same)) c.self.invariant.held_kin;
+      counted_kin = c.self.invariant.counted_kin;
+      mapped = mapped-ended s.holdings.stored.pages c.drop_unmapped.new.holdings.stored.pages s.spaces.tasks s.spaces.mappings p at.0 (anon_page at.0 (Coming at.1 at.2 n)) (Away at.2) c.self.invariant.mapped at.3 placed;
+      homes = c.self.invariant.homes;
+      open_groups = subst (λ (ls : List Limits). (g : ℕ) → (limits_at ls g).min ≡ PagesOf 0) (sym (ap (λ (h : HoldingsOf). h.limits) same)) c.self.invariant.open_groups;
+    }
+
+pub returns : goal.returns
+returns c =
+    let s = c.self.inside in
+    let n = c.args.ticket.number in
+    let are = c.are_counted.ensures.flights in
+    let flies = subst (λ (s : Contents). is_coming_in s.tables.pages n ≡ true) (sym c.self.view_is) c.requires in
+    let p = c.page_under-page.result.0 in
+    let under = subst (λ (m : ℕ). is_under_ticket s.holdings.stored.pages p m ≡ true) c.number.ensures
+    (subst (λ (s : Contents). is_under_ticket s.tables.pages p c.number.result.0 ≡ true) (sym c.self.view_is) c.page_under-page.ensures) in
+    let at = coming-at s.holdings.stored.pages s.holdings.stored.flights are p n flies under in
+    let settles = c.fetch_failed.ensures.settles p at.0 at.1 at.2 at.3 in
+    let now = c.drop_unmapped.new.holdings.stored in
+    let old : Contents = contents_of s in
+    let same = c.drop_unmapped.ensures.others ∙ ap (λ (h : HoldingsOf). with_stored h now) settles.others in
+    let placed = settled-then s.holdings.stored.pages c.fetch_failed.new.self.stored.pages now.pages s.spaces.mappings p at.0 (Away at.2) settles.placed c.drop_unmapped.ensures.pages in
+    let tables = ap (λ (h : HoldingsOf). record (old.tables) { limits = h.limits; pages = now.pages }) same in
+    let mid = c.fetch_failed.ensures.bytes p at.0 at.1 at.2 at.3 in
+    rw (← c.self.view_is)
+    (λ worker. serves-end old _ worker p at.0 n (Coming at.1 at.2 n) (Away at.2) (event.FetchFailed (record { 0 = n })) at.3 (refl {a = true}) (refl {a = false}) tables placed
+    (record { changed = ap (λ (fs : List (Option Flight)). at_flight fs n) c.drop_unmapped.ensures.flights ∙ settles.unlisted.changed; others = λ m other. ap (λ (fs : List (Option Flight)). at_flight fs m) c.drop_unmapped.ensures.flights ∙ settles.unlisted.others m other })
+    (λ q o other. bytes-others c.fetch_failed.new.self.stored.bytes now.bytes s.spaces.mappings p c.drop_unmapped.ensures.bytes q o other ∙ mid q o other)
+    (λ counted told. ends-on_block (counting old.tables counted) _ p at.0 at.1 at.2 (λ f b. Coming f b n) at.3 placed (ap (λ (x : State). counting x counted) tables))
+    (λ counted told. told) tt (λ spot. refl) (λ u g. refl)
+    (λ t v o shown there. unlike false there refl))

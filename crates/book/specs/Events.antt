@@ -1,0 +1,42 @@
+-- What stands in a history of an event and of a reply: a ticket by its number.
+use Rattle.machine.specs.declared.event.Event.{Event as Plain_event}
+use Rattle.machine.specs.declared.event.Event.TheVariants as plain
+use Rattle.machine.specs.declared.reply.Reply.{Reply as Plain_reply}
+use Rattle.machine.specs.declared.reply.Reply.TheVariants as said
+use Rattle.machine.specs.declared.refusal.Refusal.TheVariants.{Stranger}
+use Rattle.book.specs.declared.event.Event.{Event}
+use Rattle.book.specs.declared.event.Event.TheVariants as event
+use Rattle.book.specs.declared.event.Reply.{Reply}
+use Rattle.book.specs.declared.event.Reply.TheVariants as reply
+
+-- an arrival stands with the bytes that were read
+abbrev pub event_of : Event → Plain_event
+event_of (event.Access task place op) = plain.Access task place op
+event_of (event.Arrived ticket) = plain.Arrived (record { 0 = ticket.number }) ticket.bytes
+event_of (event.FetchFailed ticket) = plain.FetchFailed (record { 0 = ticket.number })
+event_of (event.Left ticket) = plain.Left (record { 0 = ticket.number })
+event_of (event.LeaveFailed ticket) = plain.LeaveFailed (record { 0 = ticket.number })
+event_of (event.Relieve cause) = plain.Relieve cause
+event_of (event.Spawn task group) = plain.Spawn task group
+event_of (event.Exit task) = plain.Exit task
+event_of (event.Mkdir path) = plain.Mkdir path
+event_of (event.Set group setting) = plain.Set group setting
+event_of (event.Show query) = plain.Show query
+
+abbrev pub reply_of : Reply → Plain_reply
+reply_of (reply.Done byte hit) = said.Done byte hit
+reply_of (reply.Fetch ticket) = said.Fetch (record { 0 = ticket.number })
+reply_of (reply.Over group) = said.Over group
+reply_of reply.NoFrame = said.NoFrame
+reply_of reply.Busy = said.Busy
+reply_of reply.Killed = said.Killed
+reply_of reply.Ok = said.Ok
+reply_of reply.Room = said.Room
+reply_of (reply.Out ticket) = said.Out (record { 0 = ticket.number })
+reply_of reply.Wait = said.Wait
+reply_of (reply.KilledTask task) = said.KilledTask task
+reply_of reply.NoVictim = said.NoVictim
+reply_of (reply.Shown numbers) = said.Shown numbers
+reply_of (reply.Refused why) = said.Refused why
+reply_of (reply.StrangeIn ticket) = said.Refused Stranger
+reply_of (reply.StrangeOut ticket) = said.Refused Stranger

@@ -1,0 +1,15 @@
+-- What a contract sees of a queue of pages.
+use Rattle.std.specs.Prelude.{ℕ, ◌==◌, List, map, count_by}
+use Rattle.machine.specs.declared.id.PageId.{PageId}
+
+-- the pages' numbers, the first of the queue first, and for how many of them there is memory
+pub record QueueOf : Type 0 where
+  pub numbers : List ℕ
+  pub room : ℕ
+
+abbrev pub numbers_of : List PageId → List ℕ
+numbers_of pages = map (λ (p : PageId). p.0) pages
+
+-- how often a page is among them
+abbrev pub page_count : List ℕ → ℕ → ℕ
+page_count numbers p = count_by (λ m. m == p) numbers

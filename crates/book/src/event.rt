@@ -1,0 +1,72 @@
+//! What is asked of a book and what it answers, with the tickets of transfers by value.
+
+use machine::event::{Cause, Op, Place, Query, Setting};
+use machine::id::{FrameId, GroupId, TaskId};
+use machine::refusal::Refusal;
+use machine::reply::Shown;
+use machine::text::Text;
+use pages::{InTicket, OutTicket};
+
+/// One event. It is a [`machine::event::Event`], with the ticket itself where that has the ticket's
+/// number.
+#[must_use]
+pub enum Event {
+    /// A task reads or writes a byte.
+    Access { task: TaskId, place: Place, op: Op },
+    /// The ticket's block was read into it.
+    Arrived(InTicket),
+    /// The ticket's block could not be read.
+    FetchFailed(InTicket),
+    /// The ticket's block was written.
+    Left(OutTicket),
+    /// The ticket's block could not be written.
+    LeaveFailed(OutTicket),
+    /// Room is wanted.
+    Relieve(Cause),
+    /// A new task of a group.
+    Spawn { task: TaskId, group: GroupId },
+    /// A task ends by itself.
+    Exit(TaskId),
+    /// A new group, by its path.
+    Mkdir(Text),
+    /// A control file is written.
+    Set { group: GroupId, setting: Setting },
+    /// A control file's numbers are asked for.
+    Show(Query),
+}
+
+/// The answer to one event. It is a [`machine::reply::Reply`], with the ticket itself where that has
+/// the ticket's number. A ticket that is none of the caller's is handed back.
+#[must_use]
+pub enum Reply {
+    /// The byte read or written, and the frame that was hit.
+    Done { byte: u8, hit: Option<FrameId> },
+    /// The page is being read in: whoever asked reads the ticket's block, and ends the transfer.
+    Fetch(InTicket),
+    /// No charge: this is the lowest group without room.
+    Over(GroupId),
+    /// No charge: no frame is free.
+    NoFrame,
+    /// The page is in transfer.
+    Busy,
+    /// The task itself was killed before.
+    Killed,
+    Ok,
+    /// There is room.
+    Room,
+    /// A page is being written out: whoever asked writes the ticket's block, and ends the transfer.
+    Out(OutTicket),
+    /// A page is in transfer, and may come free.
+    Wait,
+    /// Relief killed this task.
+    KilledTask(TaskId),
+    /// Relief found nobody to kill.
+    NoVictim,
+    Shown(Shown),
+    /// Nothing was done, for this cause.
+    Refused(Refusal),
+    /// `Stranger`: the ticket is none of the caller's transfers in flight.
+    StrangeIn(InTicket),
+    /// `Stranger`, as above.
+    StrangeOut(OutTicket),
+}

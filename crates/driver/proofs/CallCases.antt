@@ -1,0 +1,236 @@
+-- What one call of the book leaves, and what a command makes of its reply.
+use Rattle.std.proofs.Common.{◌≡◌, ℕ, ◌==◌, ◌&&◌, ◌||◌, not, Bool, true, false, List, length, Option, Some, None, refl, sym, ap, ◌∙◌, subst}
+use Rattle.std.specs.Prelude.{MatchBool, is_some, nat_le, nat_lt}
+use Rattle.machine.specs.declared.record.Life.{Life}
+use Rattle.machine.specs.declared.record.Life.TheVariants.{Live, Exited, Killed}
+use Rattle.machine.specs.declared.record.Task.{Task}
+use Rattle.machine.specs.declared.event.Op.{Op}
+use Rattle.machine.specs.declared.event.Op.TheVariants.{Read, Write}
+use Rattle.machine.specs.declared.event.Query.{Query}
+use Rattle.machine.specs.declared.event.Query.TheVariants as query
+use Rattle.machine.specs.declared.event.Event.{Event}
+use Rattle.machine.specs.declared.event.Event.TheVariants as event
+use Rattle.machine.specs.declared.reply.Reply.{Reply}
+use Rattle.machine.specs.declared.reply.Reply.TheVariants as reply
+use Rattle.machine.specs.declared.refusal.Refusal.{Refusal}
+use Rattle.machine.specs.declared.refusal.Refusal.TheVariants.{Stranger, Exists, NoEntry, Busy, NoSpace, NumberUsed, BadPlace, Invalid, TraceFull}
+use Rattle.machine.specs.declared.command.Word.{Word}
+use Rattle.machine.specs.declared.command.Word.TheVariants as word
+use Rattle.machine.specs.Names.{is_path, parent_path}
+use Rattle.machine.specs.Tree.{Node, is_live, chain, live_groups, find_group}
+use Rattle.machine.specs.Tasks.{Tasks, task_at, live_tasks}
+use Rattle.machine.specs.State.{State}
+use Rattle.machine.specs.Access.{is_place}
+use Rattle.machine.specs.Refusals.{refusal, first_cause, bars_children, bars_tasks, number_refusal, life_refusal, task_refusal, below_refusal, mkdir_refusal, file_refusal, show_refusal}
+use Rattle.machine.specs.Call.{Past, Answers, Refuses, Served, JudgedBy, Called, knows_ticket, is_trace_full}
+use Rattle.pages.specs.Tickets.{TicketOf}
+use Rattle.book.specs.declared.event.Reply.{Reply as Book_reply}
+use Rattle.book.specs.declared.event.Reply.TheVariants as said
+use Rattle.book.specs.Events.{reply_of}
+use Rattle.driver.specs.declared.turn.Access.{Access}
+use Rattle.driver.specs.declared.turn.Onward.{Onward}
+use Rattle.driver.specs.declared.turn.Onward.TheVariants as onward
+use Rattle.driver.specs.declared.turn.Doing.TheVariants as doing
+use Rattle.driver.specs.declared.turn.Asked.{Asked}
+use Rattle.driver.specs.declared.turn.Asked.TheVariants as asked
+use Rattle.driver.specs.declared.turn.Turned.{Turned}
+use Rattle.driver.specs.declared.turn.Turned.TheVariants.{Goes}
+use Rattle.driver.specs.Turns.{Tried, MadeRoom, MaxSet, Lowered, Made, Ended, WasShown, Closed, Told, ends_with, ends_refused, byte_answer, goes_on}
+use Rattle.driver.specs.Schedule.{outcome_of, left_of}
+use Rattle.driver.proofs.Keeps.{number_at, Fine, FineOutcome}
+
+-- ---- no cause is that of a stranger
+
+abbrev NoStranger : Option Refusal → Type 0
+NoStranger cause = cause ≡ Some Stranger → ⊥
+
+no_cause : NoStranger None
+no_cause e = cc
+
+causes : (b : Bool) (why : Refusal) (others : Option Refusal) → NoStranger (Some why) → NoStranger others → NoStranger (first_cause b why others)
+causes true why others f g = f
+causes false why others f g = g
+
+file_causes : (tree : List Node) (g : ℕ) → NoStranger (file_refusal tree g)
+file_causes tree g = causes (not (is_live tree g) || (g == 0)) NoEntry None (λ e. cc) no_cause
+
+show_causes : (s : State) (what : Query) → NoStranger (show_refusal s what)
+show_causes s (query.Current g) = file_causes s.tree g.0
+show_causes s (query.Max g) = file_causes s.tree g.0
+show_causes s (query.Events g) = file_causes s.tree g.0
+show_causes s (query.EventsLocal g) = file_causes s.tree g.0
+
+life_causes : (life : Life) (others : Option Refusal) → NoStranger others → NoStranger (life_refusal life others)
+life_causes Live others h = h
+life_causes Exited others h = λ e. cc
+life_causes Killed others h = no_cause
+
+task_causes : (slot : Option Task) (others : Option Refusal) → NoStranger others → NoStranger (task_refusal slot others)
+task_causes None others h = λ e. cc
+task_causes (Some task) others h = life_causes task.life others h
+
+number_causes : (tasks : Tasks) (t : ℕ) → NoStranger (number_refusal tasks t)
+number_causes tasks t =
+    causes (not (nat_le 1 t && nat_le t 65535)) Invalid _ (λ e. cc)
+    (causes (is_some (task_at tasks t)) NumberUsed _ (λ e. cc) (causes (nat_le 1024 (live_tasks tasks)) NoSpace None (λ e. cc) no_cause))
+
+below_causes : (tree : List Node) (barred : ℕ → Bool) (path : List ℕ) (parent : Option ℕ) → NoStranger (below_refusal tree barred path parent)
+below_causes tree barred path None = λ e. cc
+below_causes tree barred path (Some parent) =
+    causes (is_some (find_group tree path)) Exists _ (λ e. cc)
+    (causes (barred parent) Busy _ (λ e. cc) (causes (nat_le 256 (live_groups tree) || nat_lt 16 (length (chain tree (Some parent)))) NoSpace None (λ e. cc) no_cause))
+
+mkdir_causes : (tree : List Node) (barred : ℕ → Bool) (path : List ℕ) → NoStranger (mkdir_refusal tree barred path)
+mkdir_causes tree barred path = causes (not (is_path path)) Invalid _ (λ e. cc) (below_causes tree barred path (find_group tree (parent_path path)))
+
+refusal_causes : (s : State) (what : Event) → NoStranger (refusal s what)
+refusal_causes s (event.Access t place op) = task_causes (task_at s.tasks t.0) _ (causes (not (is_place s.opening place)) BadPlace None (λ e. cc) no_cause)
+refusal_causes s (event.Arrived ticket bytes) = no_cause
+refusal_causes s (event.FetchFailed ticket) = no_cause
+refusal_causes s (event.Left ticket) = no_cause
+refusal_causes s (event.LeaveFailed ticket) = no_cause
+refusal_causes s (event.Relieve why) = no_cause
+refusal_causes s (event.Spawn t g) = causes (not (is_live s.tree g.0)) NoEntry _ (λ e. cc) (causes (bars_tasks s.tree g.0) Busy _ (λ e. cc) (number_causes s.tasks t.0))
+refusal_causes s (event.Exit t) = task_causes (task_at s.tasks t.0) None no_cause
+refusal_causes s (event.Mkdir path) = mkdir_causes s.tree (bars_children s.tasks) path
+refusal_causes s (event.Set g setting) = file_causes s.tree g.0
+refusal_causes s (event.Show what) = show_causes s what
+
+-- ---- a call whose ticket is known
+
+-- nothing was done, for a cause that is not a stranger's
+pub record IsRefused (old : Past) (answer : Reply) (new : Past) : Type 0 where
+  pub why : Refusal
+  pub refused : answer ≡ reply.Refused why
+  pub known : why ≡ Stranger → ⊥
+  pub same : new ≡ old
+
+-- one entry more
+pub record IsServed (old : Past) (worker : ℕ) (what : Event) (answer : Reply) (new : Past) : Type 0 where
+  pub unrefused : refusal old.state what ≡ None
+  pub room : is_trace_full old what ≡ false
+  pub done : (why : Refusal) → answer ≡ reply.Refused why → ⊥
+  pub answers : Answers old worker what answer new
+
+pub data Comes (old : Past) (worker : ℕ) (what : Event) (answer : Reply) (new : Past) : Type 0 where
+  ByRefusal : IsRefused old answer new → Comes old worker what answer new
+  ByEntry : IsServed old worker what answer new → Comes old worker what answer new
+
+served_comes : (old new : Past) (worker : ℕ) (what : Event) (answer : Reply) → refusal old.state what ≡ None → is_trace_full old what ≡ false → Served old worker what answer new → Comes old worker what answer new
+served_comes old new worker what (reply.Refused why) none room h = ByRefusal (record { why = why; refused = refl; known = λ e. (let is = h.0 in cc); same = h.2 })
+served_comes old new worker what answer none room h = ByEntry (record { unrefused = none; room = room; done = λ why e. cc; answers = h })
+
+pub called_comes : (old new : Past) (worker : ℕ) (what : Event) (answer : Reply) → knows_ticket old.state old.history worker what ≡ true → Called old worker what answer new → Comes old worker what answer new
+called_comes old new worker what answer known called = by_known (knows_ticket old.state old.history worker what) known called
+  where
+    by_room : (full : Bool) → is_trace_full old what ≡ full → refusal old.state what ≡ None → MatchBool full (Refuses old TraceFull answer new) (Served old worker what answer new) → Comes old worker what answer new
+    by_room true is none h = ByRefusal (record { why = TraceFull; refused = h.0; known = λ e. cc; same = h.1 })
+    by_room false is none h = served_comes old new worker what answer none is h
+
+    by_cause : (cause : Option Refusal) → refusal old.state what ≡ cause → JudgedBy old worker what cause answer new → Comes old worker what answer new
+    by_cause (Some why) is h = ByRefusal (record { why = why; refused = h.0; known = λ e. refusal_causes old.state what (is ∙ ap (λ (w : Refusal). Some w) e); same = h.1 })
+    by_cause None is h = by_room (is_trace_full old what) refl is h
+
+    by_known : (b : Bool) → b ≡ true → MatchBool b (JudgedBy old worker what (refusal old.state what) answer new) (Refuses old Stranger answer new) → Comes old worker what answer new
+    by_known true is h = by_cause (refusal old.state what) refl h
+    by_known false is h = cc
+
+-- ---- what is made of a reply
+
+-- a ticket is taken up only from the reply that gave it
+pub data Next (answered : Book_reply) (turned : Turned) : Type 0 where
+  Handless : number_at (left_of turned) ≡ None → FineOutcome (outcome_of turned) → Next answered turned
+  Reads : (access : Access) (ticket : TicketOf) → answered ≡ said.Fetch ticket → turned ≡ Goes (doing.Read access ticket) → Next answered turned
+  Writes : (on : Onward) (ticket : TicketOf) → answered ≡ said.Out ticket → turned ≡ Goes (doing.Write on ticket) → Next answered turned
+
+module _ (answered : Book_reply) (turned : Turned) where
+  handless : (is : Turned) → turned ≡ is → number_at (left_of is) ≡ None → FineOutcome (outcome_of is) → Next answered turned
+  handless is e none fine = Handless (ap (λ (t : Turned). number_at (left_of t)) e ∙ none) (subst (λ (t : Turned). FineOutcome (outcome_of t)) (sym e) fine)
+
+  says_word : (what : Word) → turned ≡ ends_with what → (what ≡ word.Refused Stranger → ⊥) → Next answered turned
+  says_word what e fine = handless (ends_with what) e refl (λ f. fine (cc))
+
+  says_refused : (why : Refusal) → reply_of answered ≡ reply.Refused why → (reply_of answered ≡ reply.Refused Stranger → ⊥) → turned ≡ ends_refused why → Next answered turned
+  says_refused why is known e = says_word (word.Refused why) e (λ f. known (is ∙ refusal_is f))
+    where
+      refusal_is : word.Refused why ≡ word.Refused Stranger → reply.Refused why ≡ reply.Refused Stranger
+      refusal_is f = cc
+
+fine_byte : (op : Op) (byte : ℕ) → Fine (byte_answer op byte)
+fine_byte Read byte = λ e. cc
+fine_byte (Write b) byte = λ e. cc
+
+goes_on_handless : (on : Onward) → number_at (left_of (Goes (goes_on on))) ≡ None
+goes_on_handless (onward.Try access) = refl
+goes_on_handless (onward.Lower g) = refl
+
+abbrev KnownReply : Book_reply → Type 0
+KnownReply answered = reply_of answered ≡ reply.Refused Stranger → ⊥
+
+tried_next : (access : Access) (answered : Book_reply) (turned : Turned) → Tried access answered turned → KnownReply answered → Next answered turned
+tried_next access (said.Done byte hit) turned h known = handless _ turned _ h refl (fine_byte access.op byte)
+tried_next access (said.Fetch ticket) turned h known = Reads access ticket refl h
+tried_next access (said.Over g) turned h known = handless _ turned _ h refl tt
+tried_next access said.NoFrame turned h known = handless _ turned _ h refl tt
+tried_next access said.Busy turned h known = says_word _ turned word.Busy h (λ e. cc)
+tried_next access said.Killed turned h known = says_word _ turned word.Killed h (λ e. cc)
+tried_next access (said.Refused why) turned h known = says_refused _ turned why refl known h
+tried_next access answered turned h known = absurd h
+
+room_next : (access : Access) (answered : Book_reply) (turned : Turned) → MadeRoom access answered turned → KnownReply answered → Next answered turned
+room_next access said.Room turned h known = handless _ turned _ h refl tt
+room_next access (said.Out ticket) turned h known = Writes (onward.Try access) ticket refl h
+room_next access said.Wait turned h known = says_word _ turned word.Busy h (λ e. cc)
+room_next access (said.KilledTask t) turned h known = handless _ turned _ h refl tt
+room_next access said.NoVictim turned h known = says_word _ turned word.OutOfMemory h (λ e. cc)
+room_next access (said.Refused why) turned h known = says_refused _ turned why refl known h
+room_next access answered turned h known = absurd h
+
+set_next : (g : ℕ) (answered : Book_reply) (turned : Turned) → MaxSet g answered turned → KnownReply answered → Next answered turned
+set_next g said.Ok turned h known = handless _ turned _ h refl tt
+set_next g (said.Refused why) turned h known = says_refused _ turned why refl known h
+set_next g answered turned h known = absurd h
+
+lower_next : (g : ℕ) (answered : Book_reply) (turned : Turned) → Lowered g answered turned → KnownReply answered → Next answered turned
+lower_next g said.Room turned h known = handless _ turned _ h refl (λ e. cc)
+lower_next g (said.Out ticket) turned h known = Writes _ ticket refl h
+lower_next g said.Wait turned h known = says_word _ turned word.Busy h (λ e. cc)
+lower_next g (said.KilledTask t) turned h known = handless _ turned _ h refl tt
+lower_next g said.NoVictim turned h known = handless _ turned _ h refl (λ e. cc)
+lower_next g (said.Refused why) turned h known = says_refused _ turned why refl known h
+lower_next g answered turned h known = absurd h
+
+made_next : (answered : Book_reply) (turned : Turned) → Made answered turned → KnownReply answered → Next answered turned
+made_next said.Ok turned h known = handless _ turned _ h refl (λ e. cc)
+made_next (said.Refused why) turned h known = says_refused _ turned why refl known h
+made_next answered turned h known = absurd h
+
+ended_next : (answered : Book_reply) (turned : Turned) → Ended answered turned → KnownReply answered → Next answered turned
+ended_next said.Ok turned h known = handless _ turned _ h refl (λ e. cc)
+ended_next said.Killed turned h known = says_word _ turned word.Killed h (λ e. cc)
+ended_next (said.Refused why) turned h known = says_refused _ turned why refl known h
+ended_next answered turned h known = absurd h
+
+shown_next : (answered : Book_reply) (turned : Turned) → WasShown answered turned → KnownReply answered → Next answered turned
+shown_next (said.Shown numbers) turned h known = handless _ turned _ h refl (λ e. cc)
+shown_next (said.Refused why) turned h known = says_refused _ turned why refl known h
+shown_next answered turned h known = absurd h
+
+closed_next : (onwards : Turned) (answered : Book_reply) (turned : Turned) → number_at (left_of onwards) ≡ None → FineOutcome (outcome_of onwards) → Closed onwards answered turned → KnownReply answered → Next answered turned
+closed_next onwards said.Ok turned none fine h known = handless _ turned onwards h none fine
+closed_next onwards (said.StrangeIn ticket) turned none fine h known = absurd (known refl)
+closed_next onwards (said.StrangeOut ticket) turned none fine h known = absurd (known refl)
+closed_next onwards answered turned none fine h known = absurd h
+
+pub told_next : (remembers : Asked) (answered : Book_reply) (turned : Turned) → Told remembers answered turned → (reply_of answered ≡ reply.Refused Stranger → ⊥) → Next answered turned
+told_next (asked.Try access) answered turned h known = tried_next access answered turned h known
+told_next (asked.MakeRoom access) answered turned h known = room_next access answered turned h known
+told_next (asked.SetMax g) answered turned h known = set_next g.0 answered turned h known
+told_next (asked.Lower g) answered turned h known = lower_next g.0 answered turned h known
+told_next asked.Make answered turned h known = made_next answered turned h known
+told_next asked.Exit answered turned h known = ended_next answered turned h known
+told_next asked.Show answered turned h known = shown_next answered turned h known
+told_next (asked.Arrive access) answered turned h known = closed_next _ answered turned refl tt h known
+told_next asked.FetchFail answered turned h known = closed_next _ answered turned refl (λ e. cc) h known
+told_next (asked.Leave on) answered turned h known = closed_next _ answered turned (goes_on_handless on) tt h known
+told_next asked.LeaveFail answered turned h known = closed_next _ answered turned refl (λ e. cc) h known

@@ -1,0 +1,343 @@
+-- Each error of the device that is answered is a call of it that failed.
+use Rattle.std.proofs.Common.{◌≡◌, inl, inr, ℕ, ◌+◌, ◌≤◌, Bool, true, false, List, [], ◌∷◌, ◌++◌, Option, Some, None, refl, ap, arith}
+use Rattle.std.specs.Prelude.{◌⊎◌, if◌then◌else◌, Result, Ok, Err}
+use Rattle.std.proofs.lemmas.List.Sums.{sum_by-append}
+use Rattle.machine.specs.declared.amount.Amount.{Amount}
+use Rattle.machine.specs.declared.event.Op.{Op}
+use Rattle.machine.specs.declared.event.Op.TheVariants.{Read, Write}
+use Rattle.machine.specs.declared.command.Actor.{Actor}
+use Rattle.machine.specs.declared.command.Actor.TheVariants as actor
+use Rattle.machine.specs.declared.command.Command.{Command}
+use Rattle.machine.specs.declared.command.Command.TheVariants as command
+use Rattle.machine.specs.declared.command.Step.{Step as Line}
+use Rattle.machine.specs.declared.command.Step.TheVariants.{Begin, Advance, Finish}
+use Rattle.machine.specs.declared.command.Answer.TheVariants as answer
+use Rattle.machine.specs.declared.command.Word.TheVariants as word
+use Rattle.machine.specs.declared.command.Reply.{Reply as Told_by}
+use Rattle.machine.specs.declared.control.ControlFile.{ControlFile}
+use Rattle.machine.specs.declared.control.ControlFile.TheVariants as file
+use Rattle.machine.specs.declared.refusal.Refusal.TheVariants.{NoEntry}
+use Rattle.machine.specs.Tree.{Node, find_group}
+use Rattle.machine.specs.Control.{file_named, has_file, amount_of}
+use Rattle.machine.specs.Call.{Past}
+use Rattle.block_store.specs.declared.device.Fault.{Fault}
+use Rattle.block_store.specs.Device.{Disk, ReadsBlock, WritesBlock}
+use Rattle.pages.specs.Tickets.{TicketOf}
+use Rattle.book.specs.declared.event.Event.{Event}
+use Rattle.book.specs.declared.event.Reply.{Reply}
+use Rattle.book.specs.declared.event.Reply.TheVariants as reply
+use Rattle.driver.specs.declared.turn.Access.{Access}
+use Rattle.driver.specs.declared.turn.Onward.{Onward}
+use Rattle.driver.specs.declared.turn.Onward.TheVariants as onward
+use Rattle.driver.specs.declared.turn.Doing.{Doing}
+use Rattle.driver.specs.declared.turn.Doing.TheVariants as doing
+use Rattle.driver.specs.declared.turn.Asked.{Asked}
+use Rattle.driver.specs.declared.turn.Asked.TheVariants as asked
+use Rattle.driver.specs.declared.turn.Want.{Want}
+use Rattle.driver.specs.declared.turn.Want.TheVariants as want
+use Rattle.driver.specs.declared.turn.Turned.{Turned}
+use Rattle.driver.specs.declared.turn.Turned.TheVariants.{Goes, Kills, Ends}
+use Rattle.driver.specs.declared.turn.Outcome.{Outcome}
+use Rattle.driver.specs.declared.turn.Activity.{Activity}
+use Rattle.driver.specs.declared.turn.Activity.TheVariants.{Rests, Begun, Does}
+use Rattle.driver.specs.declared.turn.Seat.{Seat}
+use Rattle.driver.specs.Turns.{wants, byte_answer, goes_on, Tried, MadeRoom, MaxSet, Lowered, Made, Ended, WasShown, Closed, Told, ReadsIn, WritesOut, after_read, after_write, Judged, with_group, with_file, with_amount, reads_file, writes_file, task_judged, shell_judged, judged}
+use Rattle.driver.specs.Schedule.{World, is_of, activity_of, with_activity, outcome_of, left_of, WantTurn, DoingTurn, JudgedTurn, ActivityTurn, said_at, all_said, Goings, EndsIn, RunsOut, Begins, Stepped, Runs, is_error, errors}
+use Rattle.driver.specs.Laws.{ErrorsAreFailures}
+use Rattle.machine.proofs.SlotLemmas.{one_if}
+
+-- ---- what is owed
+
+-- a failed call of the device that is not answered yet
+abbrev owed_at : Doing → ℕ
+owed_at (doing.FetchFail ticket) = 1
+owed_at (doing.LeaveFail ticket) = 1
+owed_at others = 0
+
+abbrev owed : Activity → ℕ
+owed Rests = 0
+owed (Begun what) = 0
+owed (Does doing) = owed_at doing
+
+abbrev all_owed : List Seat → ℕ
+all_owed [] = 0
+all_owed (seat ∷ seats) = owed seat.activity + all_owed seats
+
+-- what a turn leaves owed, or answers
+abbrev cost : Turned → ℕ
+cost (Goes doing) = owed_at doing
+cost (Kills t doing) = owed_at doing
+cost (Ends said) = one_if (is_error said)
+
+abbrev owed_asked : Asked → ℕ
+owed_asked asked.FetchFail = 1
+owed_asked asked.LeaveFail = 1
+owed_asked others = 0
+
+-- ---- what a command makes of a reply
+
+byte-cost : (op : Op) (byte : ℕ) → cost (Ends (byte_answer op byte)) ≡ 0
+byte-cost Read byte = refl
+byte-cost (Write b) byte = refl
+
+on-cost : (on : Onward) → cost (Goes (goes_on on)) ≡ 0
+on-cost (onward.Try access) = refl
+on-cost (onward.Lower g) = refl
+
+tried-cost : (access : Access) (said : Reply) (turned : Turned) → Tried access said turned → cost turned ≡ 0
+tried-cost access (reply.Done byte hit) turned h = rw h (byte-cost access.op byte)
+tried-cost access (reply.Fetch ticket) turned h = rw h refl
+tried-cost access (reply.Over g) turned h = rw h refl
+tried-cost access reply.NoFrame turned h = rw h refl
+tried-cost access reply.Busy turned h = rw h refl
+tried-cost access reply.Killed turned h = rw h refl
+tried-cost access (reply.Refused why) turned h = rw h refl
+tried-cost access said turned h = absurd h
+
+room-cost : (access : Access) (said : Reply) (turned : Turned) → MadeRoom access said turned → cost turned ≡ 0
+room-cost access reply.Room turned h = rw h refl
+room-cost access (reply.Out ticket) turned h = rw h refl
+room-cost access reply.Wait turned h = rw h refl
+room-cost access (reply.KilledTask t) turned h = rw h refl
+room-cost access reply.NoVictim turned h = rw h refl
+room-cost access (reply.Refused why) turned h = rw h refl
+room-cost access said turned h = absurd h
+
+max-cost : (g : ℕ) (said : Reply) (turned : Turned) → MaxSet g said turned → cost turned ≡ 0
+max-cost g reply.Ok turned h = rw h refl
+max-cost g (reply.Refused why) turned h = rw h refl
+max-cost g said turned h = absurd h
+
+lowered-cost : (g : ℕ) (said : Reply) (turned : Turned) → Lowered g said turned → cost turned ≡ 0
+lowered-cost g reply.Room turned h = rw h refl
+lowered-cost g (reply.Out ticket) turned h = rw h refl
+lowered-cost g reply.Wait turned h = rw h refl
+lowered-cost g (reply.KilledTask t) turned h = rw h refl
+lowered-cost g reply.NoVictim turned h = rw h refl
+lowered-cost g (reply.Refused why) turned h = rw h refl
+lowered-cost g said turned h = absurd h
+
+made-cost : (said : Reply) (turned : Turned) → Made said turned → cost turned ≡ 0
+made-cost reply.Ok turned h = rw h refl
+made-cost (reply.Refused why) turned h = rw h refl
+made-cost said turned h = absurd h
+
+ended-cost : (said : Reply) (turned : Turned) → Ended said turned → cost turned ≡ 0
+ended-cost reply.Ok turned h = rw h refl
+ended-cost reply.Killed turned h = rw h refl
+ended-cost (reply.Refused why) turned h = rw h refl
+ended-cost said turned h = absurd h
+
+shown-cost : (said : Reply) (turned : Turned) → WasShown said turned → cost turned ≡ 0
+shown-cost (reply.Shown numbers) turned h = rw h refl
+shown-cost (reply.Refused why) turned h = rw h refl
+shown-cost said turned h = absurd h
+
+closed-cost : (onwards : Turned) (said : Reply) (turned : Turned) → Closed onwards said turned → cost turned ≤ cost onwards
+closed-cost onwards reply.Ok turned h = rw h (omega arith)
+closed-cost onwards (reply.StrangeIn ticket) turned h = rw h (omega arith)
+closed-cost onwards (reply.StrangeOut ticket) turned h = rw h (omega arith)
+closed-cost onwards said turned h = absurd h
+
+none-cost : (turned : Turned) → cost turned ≡ 0 → cost turned ≤ 0
+none-cost turned e = omega (arith, e)
+
+told-cost : (remembers : Asked) (said : Reply) (turned : Turned) → Told remembers said turned → cost turned ≤ owed_asked remembers
+told-cost (asked.Try access) said turned h = none-cost turned (tried-cost access said turned h)
+told-cost (asked.MakeRoom access) said turned h = none-cost turned (room-cost access said turned h)
+told-cost (asked.SetMax g) said turned h = none-cost turned (max-cost g.0 said turned h)
+told-cost (asked.Lower g) said turned h = none-cost turned (lowered-cost g.0 said turned h)
+told-cost asked.Make said turned h = none-cost turned (made-cost said turned h)
+told-cost asked.Exit said turned h = none-cost turned (ended-cost said turned h)
+told-cost asked.Show said turned h = none-cost turned (shown-cost said turned h)
+told-cost (asked.Arrive access) said turned h = closed-cost (Goes (doing.Try access)) said turned h
+told-cost asked.FetchFail said turned h = closed-cost (Ends (answer.Word word.Io)) said turned h
+told-cost (asked.Leave on) said turned h = let none = on-cost on in let most = closed-cost (Goes (goes_on on)) said turned h in omega (arith, none, most)
+told-cost asked.LeaveFail said turned h = closed-cost (Ends (answer.Word word.Io)) said turned h
+
+-- ---- the device's answer
+
+read-cost : (old new : Disk) (access : Access) (ticket : TicketOf) (turned : Turned) → ReadsIn old access ticket turned new → cost turned + old.failures ≤ new.failures
+read-cost old new access ticket turned h = by_answer h.answered h.reads h.goes
+  where
+    by_answer : (answered : Result (Unit {0}) Fault) → ReadsBlock old ticket.block answered h.filled.bytes new → turned ≡ Goes (after_read access answered h.filled) → cost turned + old.failures ≤ new.failures
+    by_answer (Ok done) reads e = let same : new.failures ≡ old.failures = ap (λ (d : Disk). d.failures) reads.1 in rw e (omega (arith, same))
+    by_answer (Err fault) reads e = let more : new.failures ≡ old.failures + 1 = ap (λ (d : Disk). d.failures) reads in rw e (omega (arith, more))
+
+write-cost : (old new : Disk) (on : Onward) (ticket : TicketOf) (turned : Turned) → WritesOut old on ticket turned new → cost turned + old.failures ≤ new.failures
+write-cost old new on ticket turned h = by_answer h.answered h.writes h.goes
+  where
+    by_answer : (answered : Result (Unit {0}) Fault) → WritesBlock old ticket.block ticket.bytes answered new → turned ≡ Goes (after_write on answered ticket) → cost turned + old.failures ≤ new.failures
+    by_answer (Ok done) writes e = let same : new.failures ≡ old.failures = ap (λ (d : Disk). d.failures) writes in rw e (omega (arith, same))
+    by_answer (Err fault) writes e = rw e (omega (arith, writes.1))
+
+-- ---- one turn
+
+want-cost : (past past' : Past) (old new : Disk) (wanted : Want) (turned : Turned) (most : ℕ) → ((remembers : Asked) (what : Event) → wanted ≡ want.Call remembers what → owed_asked remembers ≤ most)
+    → WantTurn past old wanted turned past' new → cost turned + old.failures ≤ most + new.failures
+want-cost past past' old new (want.Call remembers what) turned most within turn =
+    let told : cost turned ≤ owed_asked remembers = told-cost remembers turn.0.said turned turn.0.told in
+    let same : new.failures ≡ old.failures = ap (λ (d : Disk). d.failures) turn.1 in
+    let le : owed_asked remembers ≤ most = within remembers what refl in
+    omega (arith, told, same, le)
+want-cost past past' old new (want.Read access ticket) turned most within turn = let read = read-cost old new access ticket turned turn.0 in omega (arith, read)
+want-cost past past' old new (want.Write on ticket) turned most within turn = let write = write-cost old new on ticket turned turn.0 in omega (arith, write)
+
+-- no more is owed while the book is asked than before
+owed_of : Want → ℕ
+owed_of (want.Call remembers what) = owed_asked remembers
+owed_of wanted = 0
+
+wants-owed : (now : Doing) (remembers : Asked) (what : Event) → wants now ≡ want.Call remembers what → owed_asked remembers ≤ owed_at now
+unfolding owed_of
+wants-owed now remembers what e = let asked_now : owed_of (wants now) ≡ owed_asked remembers = ap owed_of e in let le = by_doing now in omega (arith, asked_now, le)
+  where
+    by_doing : (d : Doing) → owed_of (wants d) ≤ owed_at d
+    by_doing (doing.FetchFail ticket) = omega arith
+    by_doing (doing.LeaveFail ticket) = omega arith
+    by_doing others = omega arith
+
+doing-cost : (old new : World) (who : Actor) (now : Doing) (outcome : Outcome) (turn : DoingTurn old who now outcome new) → cost turn.turned + old.disk.failures ≤ owed_at now + new.disk.failures
+doing-cost old new who now outcome turn = want-cost old.past new.past old.disk new.disk (wants now) turn.turned (owed_at now) (wants-owed now) turn.turns
+
+-- a command that has had no turn owes nothing
+abbrev owed_judged : Judged → ℕ
+owed_judged (Ok now) = owed_at now
+owed_judged (Err why) = 0
+
+group-owed : (found : Option ℕ) (next : ℕ → Judged) → ((g : ℕ) → owed_judged (next g) ≡ 0) → owed_judged (with_group found next) ≡ 0
+group-owed None next none = refl
+group-owed (Some g) next none = none g
+
+file-owed : (g : ℕ) (found : Option ControlFile) (next : ControlFile → Judged) → ((f : ControlFile) → owed_judged (next f) ≡ 0) → owed_judged (with_file g found next) ≡ 0
+file-owed g None next none = refl
+file-owed g (Some f) next none = by_test (has_file g f)
+  where
+    by_test : (b : Bool) → owed_judged (if b then next f else Err NoEntry) ≡ 0
+    by_test true = none f
+    by_test false = refl
+
+amount-owed : (found : Option Amount) (next : Amount → Judged) → ((a : Amount) → owed_judged (next a) ≡ 0) → owed_judged (with_amount found next) ≡ 0
+amount-owed None next none = refl
+amount-owed (Some a) next none = none a
+
+reads-owed : (g : ℕ) (f : ControlFile) → owed_judged (reads_file g f) ≡ 0
+reads-owed g file.Current = refl
+reads-owed g file.Max = refl
+reads-owed g file.Events = refl
+reads-owed g file.EventsLocal = refl
+
+writes-owed : (g : ℕ) (text : List ℕ) (f : ControlFile) → owed_judged (writes_file g text f) ≡ 0
+writes-owed g text file.Current = refl
+writes-owed g text file.Events = refl
+writes-owed g text file.EventsLocal = refl
+writes-owed g text file.Max = amount-owed (amount_of text) _ (λ a. refl)
+
+task-owed : (t : ℕ) (what : Command) → owed_judged (task_judged t what) ≡ 0
+task-owed t (command.Access place op) = refl
+task-owed t command.Exit = refl
+task-owed t others = refl
+
+shell-owed : (tree : List Node) (what : Command) → owed_judged (shell_judged tree what) ≡ 0
+shell-owed tree (command.Access place op) = refl
+shell-owed tree command.Exit = refl
+shell-owed tree (command.Group path) = refl
+shell-owed tree (command.Task t path) = group-owed (find_group tree path) _ (λ g. refl)
+shell-owed tree (command.Set path name text) = group-owed (find_group tree path) _ (λ g. file-owed g (file_named name) _ (writes-owed g text))
+shell-owed tree (command.Cat path name) = group-owed (find_group tree path) _ (λ g. file-owed g (file_named name) _ (reads-owed g))
+
+judged-owed : (tree : List Node) (who : Actor) (what : Command) → owed_judged (judged tree who what) ≡ 0
+judged-owed tree (actor.Task t) what = task-owed t what
+judged-owed tree actor.Shell what = shell-owed tree what
+judged-owed tree actor.Control what = shell-owed tree what
+
+-- ---- all seats
+
+owed-with_activity : (who : Actor) (now : Activity) (seats : List Seat) → all_owed (with_activity who now seats) + owed (activity_of who seats) ≡ all_owed seats + owed now
+owed-with_activity who now [] = omega arith
+owed-with_activity who now (seat ∷ seats) = at (is_of who seat) (owed-with_activity who now seats)
+  where
+    at : (b : Bool) → all_owed (with_activity who now seats) + owed (activity_of who seats) ≡ all_owed seats + owed now
+        → all_owed (if b then record { actor = seat.actor; activity = now } ∷ seats else seat ∷ with_activity who now seats) + owed (if b then seat.activity else activity_of who seats)
+        ≡ owed seat.activity + all_owed seats + owed now
+    at true ih = omega arith
+    at false ih = omega (arith, ih)
+
+errors-append : (xs ys : List Told_by) → errors (xs ++ ys) ≡ errors xs + errors ys
+errors-append xs ys = sum_by-append (λ (told : Told_by). one_if (is_error told.answer)) xs ys
+
+-- the errors answered, and those owed, are no more than the failures
+record Bound (old : World) (answers : List Told_by) (new : World) : Type 0 where
+  pub within : errors answers + all_owed new.seats + old.disk.failures ≤ all_owed old.seats + new.disk.failures
+
+bound-same : (old new : World) (answers : List Told_by) → new ≡ old → errors answers ≡ 0 → Bound old answers new
+bound-same old new answers e none =
+    let seats : all_owed new.seats ≡ all_owed old.seats = ap (λ (w : World). all_owed w.seats) e in
+    let failures : new.disk.failures ≡ old.disk.failures = ap (λ (w : World). w.disk.failures) e in
+    record { within = omega (arith, seats, failures, none) }
+
+bound-then : (old mid new : World) (xs ys : List Told_by) → Bound old xs mid → Bound mid ys new → Bound old (xs ++ ys) new
+bound-then old mid new xs ys a b = let sum = errors-append xs ys in record { within = omega (arith, sum, a.within, b.within) }
+
+said-cost : (who : Actor) (turned : Turned) → errors (said_at who (outcome_of turned)) + owed (left_of turned) ≡ cost turned
+said-cost who (Goes now) = omega arith
+said-cost who (Kills t now) = omega arith
+said-cost who (Ends said) = alone (one_if (is_error said))
+  where
+    alone : (n : ℕ) → 0 + n + 0 ≡ n
+    alone n = omega arith
+
+bound-doing : (old new : World) (who : Actor) (now : Doing) (outcome : Outcome) → owed_at now ≡ owed (activity_of who old.seats) → DoingTurn old who now outcome new → Bound old (said_at who outcome) new
+bound-doing old new who now outcome is turn =
+    let paid = doing-cost old new who now outcome turn in
+    let seats : all_owed new.seats + owed (activity_of who old.seats) ≡ all_owed old.seats + owed (left_of turn.turned) = rw turn.leaves (owed-with_activity who (left_of turn.turned) old.seats) in
+    let shown : errors (said_at who outcome) + owed (left_of turn.turned) ≡ cost turn.turned = rw turn.shows (said-cost who turn.turned) in
+    record { within = omega (arith, paid, seats, is, shown) }
+
+-- an activity that owed nothing is set down for another that owes nothing
+bound-set : (old new : World) (who : Actor) (now : Activity) (answers : List Told_by) → owed now ≡ 0 → owed (activity_of who old.seats) ≡ 0 → errors answers ≡ 0
+    → new ≡ record old { seats = with_activity who now old.seats } → Bound old answers new
+bound-set old new who now answers free was none e =
+    let failures : new.disk.failures ≡ old.disk.failures = ap (λ (w : World). w.disk.failures) e in
+    let seats : all_owed new.seats + owed (activity_of who old.seats) ≡ all_owed old.seats + owed now =
+    (let both = owed-with_activity who now old.seats in let same : all_owed new.seats ≡ all_owed (with_activity who now old.seats) = ap (λ (w : World). all_owed w.seats) e in omega (arith, both, same)) in
+    record { within = omega (arith, none, was, free, failures, seats) }
+
+bound-judged : (old new : World) (who : Actor) (found : Judged) (outcome : Outcome) → owed_judged found ≡ 0 → owed (activity_of who old.seats) ≡ 0 → JudgedTurn old who found outcome new → Bound old (said_at who outcome) new
+bound-judged old new who (Err why) outcome free was turn = bound-set old new who Rests (said_at who outcome) refl was (ap (λ o. errors (said_at who o)) turn.0) turn.1
+bound-judged old new who (Ok now) outcome free was turn = bound-doing old new who now outcome (let f = free in let w = was in omega (arith, f, w)) turn
+
+bound-turn : (old new : World) (who : Actor) (what : Activity) (outcome : Outcome) → activity_of who old.seats ≡ what → ActivityTurn old who what outcome new → Bound old (said_at who outcome) new
+bound-turn old new who Rests outcome is turn = bound-same old new (said_at who outcome) turn.1 (ap (λ o. errors (said_at who o)) turn.0)
+bound-turn old new who (Begun what) outcome is turn = bound-judged old new who (judged old.past.state.tree who what) outcome (judged-owed old.past.state.tree who what) (ap owed is) turn
+bound-turn old new who (Does now) outcome is turn = bound-doing old new who now outcome (let e : owed (activity_of who old.seats) ≡ owed_at now = ap owed is in omega (arith, e)) turn
+
+-- ---- runs
+
+bound-goings : (old new : World) (who : Actor) (outcomes : List Outcome) → Goings old who outcomes new → Bound old (all_said who outcomes) new
+bound-goings old new who [] goes = bound-same old new [] goes refl
+bound-goings old new who (outcome ∷ outcomes) goes =
+    bound-then old goes.0 new (said_at who outcome) (all_said who outcomes) (bound-turn old goes.0 who (activity_of who old.seats) outcome refl goes.1) (bound-goings goes.0 new who outcomes goes.3)
+
+bound-finish : (old mid new : World) (who : Actor) (earlier : List Outcome) (answers : List Told_by) → Bound old (all_said who earlier) mid → EndsIn mid who earlier answers new ⊎ RunsOut mid who earlier answers new
+    → Bound old answers new
+bound-finish old mid new who earlier answers h (inl ends) =
+    rw ends.answers_are (bound-then old mid new (all_said who earlier) (said_at who ends.last) h (bound-turn mid new who (activity_of who mid.seats) ends.last refl ends.turn))
+bound-finish old mid new who earlier answers h (inr out) = rw out.answers_are (bound-then old mid new (all_said who earlier) _ h (bound-same mid new _ out.stays refl))
+
+bound-begin : (old new : World) (who : Actor) (what : Command) (at : Activity) (answers : List Told_by) → activity_of who old.seats ≡ at → Begins old who what at answers new → Bound old answers new
+bound-begin old new who what Rests answers is h = bound-set old new who (Begun what) answers refl (ap owed is) (ap errors h.0) h.1
+bound-begin old new who what (Begun other) answers is h = bound-same old new answers h.1 (ap errors h.0)
+bound-begin old new who what (Does now) answers is h = bound-same old new answers h.1 (ap errors h.0)
+
+bound-step : (old new : World) (line : Line) (answers : List Told_by) → Stepped old line answers new → Bound old answers new
+bound-step old new (Begin who what) answers h = bound-begin old new who what (activity_of who old.seats) answers refl h
+bound-step old new (Advance who) answers h = rw h.2 (bound-turn old new who (activity_of who old.seats) h.0 refl h.1)
+bound-step old new (Finish who) answers h = bound-finish old h.1 new who h.0 answers (bound-goings old h.1 who h.0 h.2) h.3
+
+bound-runs : (old new : World) (lines : List Line) (answers : List Told_by) → Runs old lines answers new → Bound old answers new
+bound-runs old new [] answers h = bound-same old new answers h.1 (ap errors h.0)
+bound-runs old new (line ∷ lines) answers h = rw h.5 (bound-then old h.2 new h.0 h.1 (bound-step old h.2 line h.0 h.3) (bound-runs h.2 new lines h.1 h.4))
+
+pub errors_are_failures : ErrorsAreFailures
+errors_are_failures config before lines answers end runs = let bound = bound-runs _ end lines answers runs in let within = bound.within in omega (arith, within)

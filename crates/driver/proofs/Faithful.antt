@@ -1,0 +1,506 @@
+-- What the device holds of each page that has no frame, and what each actor brings in or takes out: so that a run is honest.
+use Rattle.std.proofs.Common.{◌≡◌, inl, inr, ℕ, ◌<◌, ◌≤◌, ◌==◌, Bool, true, false, cond, List, [], length, Option, Some, None, refl, sym, ap, ◌∙◌, subst, arith, get_or-set_other}
+use Rattle.std.specs.Prelude.{◌&&◌, Result, Ok, Err, slice_index, nat_le}
+use Rattle.std.proofs.Math.ListN.{length-set}
+use Rattle.std.proofs.lemmas.List.{get_or-set_same}
+use Rattle.std.proofs.lemmas.Bool.Decides.{nat_tests}
+use Rattle.machine.specs.declared.config.Config.{Config}
+use Rattle.machine.specs.declared.refusal.Refusal.TheVariants.{Stranger}
+use Rattle.machine.specs.declared.command.Actor.{Actor}
+use Rattle.machine.specs.declared.entry.Entry.{Entry}
+use Rattle.machine.specs.declared.id.TicketId.{TicketId}
+use Rattle.machine.specs.declared.event.Place.TheVariants.{Virtual}
+use Rattle.machine.specs.declared.event.Event.{Event as Plain_event}
+use Rattle.machine.specs.declared.event.Event.TheVariants as plain
+use Rattle.machine.specs.declared.reply.Reply.{Reply as Plain_reply}
+use Rattle.machine.specs.declared.reply.Reply.TheVariants as reply
+use Rattle.machine.specs.Pages.{Residence, Held, Coming, Going, Away, Page, page_at, is_held_at, block_at, ticket_at, is_ticket_taken}
+use Rattle.machine.specs.Tasks.{mapped_at}
+use Rattle.machine.specs.State.{Opening, opening_of, is_config}
+use Rattle.machine.specs.Access.{page_size}
+use Rattle.machine.specs.History.{InTask, spot_of, Nothing, says, follow, last, Fetched, fetched_by, fetch_of, HoldsLast, IsHonest, Honest, ticket_given}
+use Rattle.machine.specs.Call.{Past}
+use Rattle.machine.specs.Legal.{Legal}
+use Rattle.block_store.specs.declared.device.Fault.{Fault}
+use Rattle.block_store.specs.Device.{Disk, held, KeepsOthers, ReadsBlock, WritesBlock}
+use Rattle.pages.specs.Tickets.{TicketOf}
+use Rattle.book.specs.declared.event.Event.{Event}
+use Rattle.book.specs.declared.event.Event.TheVariants as event
+use Rattle.book.specs.declared.event.Reply.{Reply}
+use Rattle.book.specs.Events.{event_of, reply_of}
+use Rattle.book.specs.Replies.{Gives, GivesOut}
+use Rattle.driver.specs.declared.turn.Access.{Access}
+use Rattle.driver.specs.declared.turn.Onward.{Onward}
+use Rattle.driver.specs.declared.turn.Asked.{Asked}
+use Rattle.driver.specs.declared.turn.Doing.{Doing}
+use Rattle.driver.specs.declared.turn.Want.{Want}
+use Rattle.driver.specs.declared.turn.Want.TheVariants as want
+use Rattle.driver.specs.declared.turn.Turned.{Turned}
+use Rattle.driver.specs.declared.turn.Outcome.{Outcome}
+use Rattle.driver.specs.declared.turn.Seat.{Seat}
+use Rattle.driver.specs.declared.turn.Activity.{Activity}
+use Rattle.driver.specs.declared.turn.Activity.TheVariants.{Rests, Begun, Does}
+use Rattle.driver.specs.Turns.{wants, ReadsIn, WritesOut, after_read, after_write}
+use Rattle.driver.specs.Schedule.{World, first_world, activity_of, with_activity, left_of, Asks, WantTurn, DoingTurn, fits}
+use Rattle.driver.specs.Laws.{RunsAreHonest}
+use Rattle.driver.proofs.Effects.{AllLive, Fetches, Goes, Stood, InFrame, ItStays, ItFetches, ItLeaves, ItFails, ItGoes, Effect, step_effect}
+use Rattle.driver.proofs.MoveLemmas.{some_inj, never_some, unlike, same_true, own_number}
+use Rattle.driver.proofs.SoundLemmas.{pages_share_no_block, blocks_are_there, pages_share_no_ticket, pages_are_memory}
+use Rattle.driver.proofs.Keeps.{number_asked, number_wanted, number_at, is_idle, idle_none, FineOutcome, IsAt, runs_keep}
+use Rattle.driver.proofs.CallCases.{IsRefused, IsServed, Comes, ByRefusal, ByEntry, called_comes, Next, Handless, Reads, Writes, told_next}
+use Rattle.driver.proofs.Tickets.{IsGoing, KeepsAsked, KeepsWanted, KeepsAt, at_flies, flies_taken, asked_known, not_out, still_known, Tickets, seats_all, tickets_rest, tickets_turn, tickets_first, own_keeps, others_differ}
+
+-- ---- words
+
+-- these are the bytes of the page that is written out under this number, at each place that shows it
+abbrev pub PlacesHold : Past → ℕ → List ℕ → Type 0
+PlacesHold past number bytes =
+    (p f b t v o : ℕ) (page : Page) → page_at past.state.pages p ≡ Some page → page.residence ≡ Going f b number → mapped_at past.state.mappings t v ≡ Some p → o < page_size
+    → slice_index bytes o ≡ last past.history (InTask t v o)
+
+-- what an ending brings: the bytes of its block; or that its block holds the page
+abbrev pub BringsAsked : Past → List (List ℕ) → Event → Type 0
+BringsAsked past contents (event.Arrived ticket) = ticket.bytes ≡ held contents ticket.block
+BringsAsked past contents (event.Left ticket) = PlacesHold past ticket.number (held contents ticket.block)
+BringsAsked past contents what = Unit {0}
+
+abbrev pub BringsWanted : Past → List (List ℕ) → Want → Type 0
+BringsWanted past contents (want.Call remembers what) = BringsAsked past contents what
+BringsWanted past contents (want.Read access ticket) = Unit {0}
+BringsWanted past contents (want.Write on ticket) = PlacesHold past ticket.number ticket.bytes
+
+abbrev pub BringsAt : Past → List (List ℕ) → Activity → Type 0
+BringsAt past contents Rests = Unit {0}
+BringsAt past contents (Begun what) = Unit {0}
+BringsAt past contents (Does doing) = BringsWanted past contents (wants doing)
+
+-- the block that holds a page's bytes
+abbrev pub stored_at : Residence → Option ℕ
+stored_at (Coming frame block ticket) = Some block
+stored_at (Away block) = Some block
+stored_at residence = None
+
+-- it holds what was last written at each place that shows the page
+abbrev pub IsStored : Past → List (List ℕ) → Type 0
+IsStored past contents =
+    (t v p b o : ℕ) (page : Page) → mapped_at past.state.mappings t v ≡ Some p → page_at past.state.pages p ≡ Some page → stored_at page.residence ≡ Some b → o < page_size
+    → slice_index (held contents b) o ≡ last past.history (InTask t v o)
+
+-- the block of a page that is being read in holds what was last written when that began
+abbrev pub IsFetched : Past → List (List ℕ) → Type 0
+IsFetched past contents =
+    (p f b n : ℕ) (page : Page) → page_at past.state.pages p ≡ Some page → page.residence ≡ Coming f b n → HoldsLast (held contents b) (fetch_of n past.history)
+
+-- what is known of a past and of a device
+pub record Holds (opening : Opening) (past : Past) (contents : List (List ℕ)) : Type 0 where
+  pub live : AllLive past.state.mappings past.state.tasks
+  pub legal : Legal opening past.history past.state
+  pub honest : Honest past.history
+  pub room : opening.swap ≤ length contents
+  pub stored : IsStored past contents
+  pub fetched : IsFetched past contents
+
+-- what one turn leaves of that
+pub record TurnsFaithful (opening : Opening) (old : Past) (contents : List (List ℕ)) (want : Want) (turned : Turned) (new : Past) (contents' : List (List ℕ)) : Type 0 where
+  pub holds : Holds opening new contents'
+  pub own : BringsAt new contents' (left_of turned)
+  pub others : (at : Activity) → ((n : ℕ) → number_at at ≡ Some n → number_wanted want ≡ Some n → ⊥) → KeepsAt old at → BringsAt old contents at → BringsAt new contents' at
+
+-- ---- small facts
+
+stored_frameless : (r : Residence) (b : ℕ) → stored_at r ≡ Some b → is_held_at r ≡ false
+stored_frameless (Held f) b e = cc
+stored_frameless (Coming f b' n) b e = refl
+stored_frameless (Going f b' n) b e = refl
+stored_frameless (Away b') b e = refl
+
+stored_block : (r : Residence) (b : ℕ) → stored_at r ≡ Some b → block_at r ≡ Some b
+stored_block (Held f) b e = cc
+stored_block (Coming f b' n) b e = e
+stored_block (Going f b' n) b e = cc
+stored_block (Away b') b e = e
+
+-- a page of a number is one
+one_page : (past : Past) (p q : ℕ) (page other : Page) → p ≡ q → page_at past.state.pages p ≡ Some page → page_at past.state.pages q ≡ Some other → page ≡ other
+one_page past p q page other same there there' = some_inj (sym there ∙ ap (page_at past.state.pages) same ∙ there')
+
+-- a residence that is two is none
+coming_going : {P : Type 0} (r : Residence) (f b n f' b' n' : ℕ) → r ≡ Coming f b n → r ≡ Going f' b' n' → P
+coming_going r f b n f' b' n' e e' = cc
+
+coming_held : {P : Type 0} (r : Residence) (f b n f' : ℕ) → r ≡ Coming f b n → r ≡ Held f' → P
+coming_held r f b n f' e e' = cc
+
+coming_away : {P : Type 0} (r : Residence) (f b n b' : ℕ) → r ≡ Coming f b n → r ≡ Away b' → P
+coming_away r f b n b' e e' = cc
+
+going_held : {P : Type 0} (r : Residence) (f b n f' : ℕ) → r ≡ Going f b n → r ≡ Held f' → P
+going_held r f b n f' e e' = cc
+
+going_away : {P : Type 0} (r : Residence) (f b n b' : ℕ) → r ≡ Going f b n → r ≡ Away b' → P
+going_away r f b n b' e e' = cc
+
+-- an event without a ticket brings nothing
+asked_none : (past : Past) (contents : List (List ℕ)) (what : Event) → number_asked what ≡ None → BringsAsked past contents what
+asked_none past contents (event.Arrived ticket) e = cc
+asked_none past contents (event.Left ticket) e = cc
+asked_none past contents what e = tt
+
+wanted_none : (past : Past) (contents : List (List ℕ)) (want : Want) → number_wanted want ≡ None → BringsWanted past contents want
+wanted_none past contents (want.Call remembers what) e = asked_none past contents what e
+wanted_none past contents (want.Read access ticket) e = tt
+wanted_none past contents (want.Write on ticket) e = cc
+
+pub brings_none : (past : Past) (contents : List (List ℕ)) (at : Activity) → number_at at ≡ None → BringsAt past contents at
+brings_none past contents Rests e = tt
+brings_none past contents (Begun what) e = tt
+brings_none past contents (Does doing) e = wanted_none past contents (wants doing) e
+
+-- a book's event that is an end of a write-out
+left_event : (what : Event) (ticket : TicketId) → event_of what ≡ plain.Left ticket → (own : TicketOf) × (what ≡ event.Left own) × (own.number ≡ ticket.0)
+left_event (event.Left own) ticket e = (own, refl, number e)
+  where
+    number : plain.Left (record { 0 = own.number }) ≡ plain.Left ticket → own.number ≡ ticket.0
+    number f = ap (λ (t : TicketId). t.0) (let same : record { 0 = own.number } ≡ ticket = cc in same)
+left_event what ticket e = cc
+
+-- an entry that gives no such ticket begins no such read-in
+fetch_other : (n : ℕ) (what : Plain_event) (answer : Plain_reply) (earlier : List Entry) (others : Option Fetched) → (ticket_given answer ≡ Some n → ⊥) → fetched_by n what answer earlier others ≡ others
+fetch_other n (plain.Access t place op) (reply.Fetch m) earlier others other =
+    elim (m.0 == n) as (λ b. (m.0 == n) ≡ b → cond b (Some (record { spot = spot_of t.0 place; earlier = earlier })) others ≡ others) [
+      | true ↦ λ is. absurd (other (ap (λ (x : ℕ). Some x) (same_true m.0 n is)))
+      | false ↦ λ is. refl
+    ] refl
+fetch_other n what answer earlier others other = refl
+
+-- ---- an entry more
+
+module _ (opening : Opening) (old new : Past) (contents : List (List ℕ)) (what : Event) (answered : Reply)
+    (h : Holds opening old contents) (keeps : KeepsAsked old what) (brings : BringsAsked old contents what) (went : IsServed old 0 (event_of what) (reply_of answered) new) where
+  effect : Effect old.state (event_of what) (reply_of answered) new.state
+  effect = step_effect old.state new.state h.live (event_of what) (reply_of answered) went.unrefused went.answers.steps
+
+  legal_on : Legal opening new.history new.state
+  legal_on = rw went.answers.history (old.state, h.legal, record { known = asked_known old what keeps; unrefused = went.unrefused; room = went.room; steps = went.answers.steps })
+
+  last_on : (t v o : ℕ) → says (event_of what) (reply_of answered) (InTask t v o) ≡ Nothing → last new.history (InTask t v o) ≡ last old.history (InTask t v o)
+  last_on t v o silent = ap (λ (es : List Entry). last es (InTask t v o)) went.answers.history ∙ ap (λ s. follow s (last old.history) (InTask t v o)) silent
+
+  fetch_on : (n : ℕ) → (ticket_given (reply_of answered) ≡ Some n → ⊥) → fetch_of n new.history ≡ fetch_of n old.history
+  fetch_on n other = ap (fetch_of n) went.answers.history ∙ fetch_other n (event_of what) (reply_of answered) old.history (fetch_of n old.history) other
+
+  -- a ticket in flight is not given out
+  not_given : (p n : ℕ) (page : Page) → page_at old.state.pages p ≡ Some page → ticket_at page.residence ≡ Some n → ticket_given (reply_of answered) ≡ Some n → ⊥
+  not_given p n page there ticket given = unlike (is_ticket_taken old.state.pages n) (flies_taken old n (record { p = p; page = page; there = there; ticket = ticket })) (effect.fresh n given)
+
+  -- a place of a page without a frame of its own showed it before, and its bytes are what they were
+  place_on : (t v p : ℕ) (page : Page) → mapped_at new.state.mappings t v ≡ Some p → page_at new.state.pages p ≡ Some page → is_held_at page.residence ≡ false
+      → (mapped_at old.state.mappings t v ≡ Some p) × ((o : ℕ) → last new.history (InTask t v o) ≡ last old.history (InTask t v o))
+  place_on t v p page mapped there away = let before = effect.places.place t v p page mapped there away in (before.0, λ o. last_on t v o (before.1 o))
+
+  -- the page of an ending in hand is the one of that number
+  going_block : (ticket : TicketOf) (p f b : ℕ) (before : Page) → IsGoing old ticket → page_at old.state.pages p ≡ Some before → before.residence ≡ Going f b ticket.number → b ≡ ticket.block
+  going_block ticket p f b before own there going =
+      let same : p ≡ own.p = pages_share_no_ticket opening old.history old.state h.legal p own.p ticket.number before own.page there own.there (ap ticket_at going) (ap ticket_at own.going) in
+      let is : before ≡ own.page = one_page old p own.p before own.page same there own.there in
+      some_inj (sym (ap block_at going) ∙ ap (λ (x : Page). block_at x.residence) is ∙ ap block_at own.going)
+
+  stored_on : IsStored new contents
+  stored_on t v p b o page mapped there stands within = by_stood (effect.pages.stood p page there)
+    where
+      place : (mapped_at old.state.mappings t v ≡ Some p) × ((o : ℕ) → last new.history (InTask t v o) ≡ last old.history (InTask t v o))
+      place = place_on t v p page mapped there (stored_frameless page.residence b stands)
+
+      before_stored : (before : Page) → page_at old.state.pages p ≡ Some before → stored_at before.residence ≡ Some b → slice_index (held contents b) o ≡ last new.history (InTask t v o)
+      before_stored before at block = h.stored t v p b o before place.0 at block within ∙ sym (place.1 o)
+
+      by_left : (k : Goes old.state (event_of what) p page.residence) → (own : TicketOf) → what ≡ event.Left own → own.number ≡ k.ticket.0 → k.block ≡ b → slice_index (held contents b) o ≡ last new.history (InTask t v o)
+      by_left k own is number block =
+          let hold : PlacesHold old own.number (held contents own.block) = subst (λ (e : Event). BringsAsked old contents e) is brings in
+          let kept : IsGoing old own = subst (λ (e : Event). KeepsAsked old e) is keeps in
+          let going : k.before.residence ≡ Going k.frame k.block own.number = k.going ∙ ap (λ n. Going k.frame k.block n) (sym number) in
+          let same : own.block ≡ b = sym (going_block own p k.frame k.block k.before kept k.there going) ∙ block in
+          ap (λ x. slice_index (held contents x) o) (sym same) ∙ hold p k.frame k.block t v o k.before k.there going place.0 within ∙ sym (place.1 o)
+
+      by_stood : Stood old.state (event_of what) (reply_of answered) p page.residence → slice_index (held contents b) o ≡ last new.history (InTask t v o)
+      by_stood (InFrame f e) = never_some (stored_at page.residence) (ap stored_at e) stands
+      by_stood (ItStays k) = before_stored k.before k.there (sym (ap stored_at k.same) ∙ stands)
+      by_stood (ItFetches k) = before_stored k.before k.there (ap stored_at k.away ∙ sym (ap stored_at k.coming) ∙ stands)
+      by_stood (ItLeaves k) = never_some (stored_at page.residence) (ap stored_at k.going) stands
+      by_stood (ItFails k) = before_stored k.before k.there (ap stored_at k.coming ∙ sym (ap stored_at k.away) ∙ stands)
+      by_stood (ItGoes k) = let left = left_event what k.ticket k.is in by_left k left.0 left.1 left.2 (some_inj (sym (ap stored_at k.away) ∙ stands))
+
+  fetched_on : IsFetched new contents
+  fetched_on p f b n page there coming = by_stood (effect.pages.stood p page there)
+    where
+      by_fetch : (k : Fetches old.state (event_of what) (reply_of answered) p page.residence) → HoldsLast (held contents b) (fetch_of n new.history)
+      by_fetch k =
+          let both : Coming k.frame k.block k.ticket.0 ≡ Coming f b n = sym k.coming ∙ coming in
+          let block : k.block ≡ b = some_inj (ap block_at both) in
+          let number : k.ticket.0 ≡ n = some_inj (ap ticket_at both) in
+          let began : fetch_of n new.history ≡ Some (record { spot = InTask k.task.0 k.v k.offset; earlier = old.history }) =
+          ap (fetch_of n) went.answers.history
+          ∙ ap (λ (e : Plain_event). fetched_by n e (reply_of answered) old.history (fetch_of n old.history)) k.is
+          ∙ ap (λ (r : Plain_reply). fetched_by n (plain.Access k.task (Virtual k.v k.offset) k.op) r old.history (fetch_of n old.history)) k.answers
+          ∙ ap (λ (x : Bool). cond x (Some (record { spot = InTask k.task.0 k.v k.offset; earlier = old.history })) (fetch_of n old.history)) (ap (λ (m : ℕ). m == n) number ∙ own_number n) in
+          subst (λ (x : Option Fetched). HoldsLast (held contents b) x) (sym began)
+          (λ o within. h.stored k.task.0 k.v p b o k.before k.mapped k.there (ap stored_at k.away ∙ ap (λ (x : ℕ). Some x) block) within)
+
+      by_stood : Stood old.state (event_of what) (reply_of answered) p page.residence → HoldsLast (held contents b) (fetch_of n new.history)
+      by_stood (InFrame f' e) = coming_held page.residence f b n f' coming e
+      by_stood (ItStays k) =
+          let before : k.before.residence ≡ Coming f b n = sym k.same ∙ coming in
+          subst (λ (x : Option Fetched). HoldsLast (held contents b) x) (sym (fetch_on n (not_given p n k.before k.there (ap ticket_at before)))) (h.fetched p f b n k.before k.there before)
+      by_stood (ItFetches k) = by_fetch k
+      by_stood (ItLeaves k) = coming_going page.residence f b n k.frame k.block k.ticket.0 coming k.going
+      by_stood (ItFails k) = coming_away page.residence f b n k.block coming k.away
+      by_stood (ItGoes k) = coming_away page.residence f b n k.block coming k.away
+
+  honest_event : (e : Event) → KeepsAsked old e → BringsAsked old contents e → IsHonest old.history (event_of e)
+  honest_event (event.Arrived ticket) kept brought =
+      subst (λ (bytes : List ℕ). HoldsLast bytes (fetch_of ticket.number old.history)) (sym brought) (h.fetched kept.p kept.frame ticket.block ticket.number kept.page kept.there kept.coming)
+  honest_event e kept brought = tt
+
+  honest_on : Honest new.history
+  honest_on = rw went.answers.history (h.honest, honest_event what keeps brings)
+
+  -- a ticket in another's hand, or one that is taken up now
+  hold_on : (number : ℕ) (bytes : List ℕ) → (ticket_given (reply_of answered) ≡ Some number → ⊥) → PlacesHold old number bytes → PlacesHold new number bytes
+  hold_on number bytes other hold p f b t v o page there going mapped within = by_stood (effect.pages.stood p page there)
+    where
+      place : (mapped_at old.state.mappings t v ≡ Some p) × ((o : ℕ) → last new.history (InTask t v o) ≡ last old.history (InTask t v o))
+      place = place_on t v p page mapped there (ap is_held_at going)
+
+      by_stood : Stood old.state (event_of what) (reply_of answered) p page.residence → slice_index bytes o ≡ last new.history (InTask t v o)
+      by_stood (InFrame f' e) = going_held page.residence f b number f' going e
+      by_stood (ItStays k) = hold p f b t v o k.before k.there (sym k.same ∙ going) place.0 within ∙ sym (place.1 o)
+      by_stood (ItFetches k) = coming_going page.residence k.frame k.block k.ticket.0 f b number k.coming going
+      by_stood (ItLeaves k) =
+          let number_is : k.ticket.0 ≡ number = some_inj (ap ticket_at (sym k.going ∙ going)) in
+          absurd (other (ap ticket_given k.answers ∙ ap (λ (x : ℕ). Some x) number_is))
+      by_stood (ItFails k) = going_away page.residence f b number k.block going k.away
+      by_stood (ItGoes k) = going_away page.residence f b number k.block going k.away
+
+  asked_on : (e : Event) → ((n : ℕ) → number_asked e ≡ Some n → ticket_given (reply_of answered) ≡ Some n → ⊥) → BringsAsked old contents e → BringsAsked new contents e
+  asked_on (event.Arrived ticket) other brought = brought
+  asked_on (event.Left ticket) other brought = hold_on ticket.number (held contents ticket.block) (other ticket.number refl) brought
+  asked_on e other brought = tt
+
+  wanted_on : (w : Want) → ((n : ℕ) → number_wanted w ≡ Some n → ticket_given (reply_of answered) ≡ Some n → ⊥) → BringsWanted old contents w → BringsWanted new contents w
+  wanted_on (want.Call remembers e) other brought = asked_on e other brought
+  wanted_on (want.Read access ticket) other brought = tt
+  wanted_on (want.Write on ticket) other brought = hold_on ticket.number ticket.bytes (other ticket.number refl) brought
+
+  at_on : (at : Activity) → ((n : ℕ) → number_at at ≡ Some n → ticket_given (reply_of answered) ≡ Some n → ⊥) → BringsAt old contents at → BringsAt new contents at
+  at_on Rests other brought = tt
+  at_on (Begun e) other brought = tt
+  at_on (Does doing) other brought = wanted_on (wants doing) other brought
+
+  flies_ungiven : (at : Activity) → KeepsAt old at → (n : ℕ) → number_at at ≡ Some n → ticket_given (reply_of answered) ≡ Some n → ⊥
+  flies_ungiven at kept n number given = let flies = at_flies old at n kept number in not_given flies.p n flies.page flies.there flies.ticket given
+
+  holds_on : Holds opening new contents
+  holds_on = record { live = effect.places.live; legal = legal_on; honest = honest_on; room = h.room; stored = stored_on; fetched = fetched_on }
+
+  -- the bytes of a page that begins to be written out
+  sends : (ticket : TicketOf) → GivesOut new 0 ticket → PlacesHold new ticket.number ticket.bytes
+  sends ticket given p f b t v o page there going mapped within =
+      let same : p ≡ given.p = pages_share_no_ticket opening new.history new.state legal_on p given.p ticket.number page given.page there given.there (ap ticket_at going) (ap ticket_at given.going) in
+      given.bytes honest_on t v o within (effect.places.live t v p mapped) (mapped ∙ ap (λ (x : ℕ). Some x) same)
+
+  own_on : (turned : Turned) → Gives new 0 answered → Next answered turned → BringsAt new contents (left_of turned)
+  own_on turned gives (Handless none fine) = brings_none new contents (left_of turned) none
+  own_on turned gives (Reads access ticket is goes) = subst (λ (t : Turned). BringsAt new contents (left_of t)) (sym goes) tt
+  own_on turned gives (Writes on ticket is goes) =
+      subst (λ (t : Turned). BringsAt new contents (left_of t)) (sym goes) (sends ticket (subst (λ (r : Reply). Gives new 0 r) is gives))
+
+  pub faithful_on : (w : Want) (turned : Turned) → Gives new 0 answered → Next answered turned → TurnsFaithful opening old contents w turned new contents
+  faithful_on w turned gives next =
+      record { holds = holds_on; own = own_on turned gives next; others = λ at differ kept brought. at_on at (flies_ungiven at kept) brought }
+
+-- ---- a call of the device
+
+-- a write to the block of a page that is written out
+module _ (opening : Opening) (past : Past) (contents contents' : List (List ℕ)) (h : Holds opening past contents) (ticket : TicketOf) (going : IsGoing past ticket) (kept : KeepsOthers contents contents' ticket.block) where
+  -- changes no other page's
+  held_other : (p b : ℕ) (page : Page) → page_at past.state.pages p ≡ Some page → block_at page.residence ≡ Some b → (page ≡ going.page → ⊥) → held contents' b ≡ held contents b
+  held_other p b page there block differs =
+      kept.others b
+      (λ same.
+      let block' : block_at going.page.residence ≡ Some b = ap block_at going.going ∙ ap (λ (x : ℕ). Some x) (sym same) in
+      let memory = pages_are_memory opening past.history past.state h.legal in
+      let one : p ≡ going.p = pages_share_no_block opening past.history past.state h.legal p going.p b page going.page there going.there (memory p page there) (memory going.p going.page going.there) block block' in
+      differs (one_page past p going.p page going.page one there going.there))
+
+  stored_written : IsStored past contents'
+  stored_written t v p b o page mapped there stands within =
+      ap (λ bytes. slice_index bytes o)
+      (held_other p b page there (stored_block page.residence b stands)
+      (λ is. never_some (stored_at page.residence) (ap (λ (x : Page). stored_at x.residence) is ∙ ap stored_at going.going) stands))
+      ∙ h.stored t v p b o page mapped there stands within
+
+  fetched_written : IsFetched past contents'
+  fetched_written p f b n page there coming =
+      subst (λ (bytes : List ℕ). HoldsLast bytes (fetch_of n past.history))
+      (sym (held_other p b page there (ap block_at coming) (λ is. coming_going page.residence f b n going.frame ticket.block ticket.number coming (ap (λ (x : Page). x.residence) is ∙ going.going))))
+      (h.fetched p f b n page there coming)
+
+  holds_written : Holds opening past contents'
+  holds_written = record { live = h.live; legal = h.legal; honest = h.honest; room = (let room = h.room in let blocks = kept.blocks in omega (arith, room, blocks)); stored = stored_written; fetched = fetched_written }
+
+  asked_written : (e : Event) → ((n : ℕ) → number_asked e ≡ Some n → Some ticket.number ≡ Some n → ⊥) → KeepsAsked past e → BringsAsked past contents e → BringsAsked past contents' e
+  asked_written (event.Arrived own) differ coming brought =
+      brought
+      ∙ sym (held_other coming.p own.block coming.page coming.there (ap block_at coming.coming)
+      (λ is. coming_going coming.page.residence coming.frame own.block own.number going.frame ticket.block ticket.number coming.coming (ap (λ (x : Page). x.residence) is ∙ going.going)))
+  asked_written (event.Left own) differ leaving brought =
+      subst (PlacesHold past own.number)
+      (sym (held_other leaving.p own.block leaving.page leaving.there (ap block_at leaving.going)
+      (λ is. differ own.number refl (sym (ap ticket_at going.going) ∙ sym (ap (λ (x : Page). ticket_at x.residence) is) ∙ ap ticket_at leaving.going))))
+      brought
+  asked_written e differ kept' brought = tt
+
+  wanted_written : (w : Want) → ((n : ℕ) → number_wanted w ≡ Some n → Some ticket.number ≡ Some n → ⊥) → KeepsWanted past w → BringsWanted past contents w → BringsWanted past contents' w
+  wanted_written (want.Call remembers e) differ kept' brought = asked_written e differ kept' brought
+  wanted_written (want.Read access own) differ kept' brought = tt
+  wanted_written (want.Write on own) differ kept' brought = brought
+
+  at_written : (at : Activity) → ((n : ℕ) → number_at at ≡ Some n → Some ticket.number ≡ Some n → ⊥) → KeepsAt past at → BringsAt past contents at → BringsAt past contents' at
+  at_written Rests differ kept' brought = tt
+  at_written (Begun e) differ kept' brought = tt
+  at_written (Does doing) differ kept' brought = wanted_written (wants doing) differ kept' brought
+
+keeps_others : (disk disk' : Disk) (block : ℕ) (bytes : List ℕ) (answered : Result (Unit {0}) Fault) → WritesBlock disk block bytes answered disk' → KeepsOthers disk.contents disk'.contents block
+keeps_others disk disk' block bytes (Ok done) writes =
+    subst (λ (d : Disk). KeepsOthers disk.contents d.contents block) (sym writes)
+    (record { blocks = length-set disk.contents block bytes; others = λ k differs. get_or-set_other disk.contents block k bytes [] differs })
+keeps_others disk disk' block bytes (Err fault) writes = writes.0
+
+module _ (opening : Opening) (past : Past) (disk disk' : Disk) (h : Holds opening past disk.contents) where
+  writes_faithful : (on : Onward) (ticket : TicketOf) (turned : Turned) → IsGoing past ticket → PlacesHold past ticket.number ticket.bytes → WritesOut disk on ticket turned disk'
+      → TurnsFaithful opening past disk.contents (want.Write on ticket) turned past disk'.contents
+  writes_faithful on ticket turned going hold writes =
+      record {
+        holds = holds_written opening past disk.contents disk'.contents h ticket going kept;
+        own = subst (λ (t : Turned). BringsAt past disk'.contents (left_of t)) (sym writes.goes) (own writes.answered writes.writes);
+        others = λ at differ keeps brought. at_written opening past disk.contents disk'.contents h ticket going kept at differ keeps brought;
+      }
+    where
+      kept : KeepsOthers disk.contents disk'.contents ticket.block
+      kept = keeps_others disk disk' ticket.block ticket.bytes writes.answered writes.writes
+
+      there : ticket.block < length disk.contents
+      there =
+          let memory = pages_are_memory opening past.history past.state h.legal going.p going.page going.there in
+          let within : ticket.block < opening.swap = blocks_are_there opening past.history past.state h.legal going.p ticket.block going.page going.there memory (ap block_at going.going) in
+          let room = h.room in
+          omega (arith, within, room)
+
+      own : (answered : Result (Unit {0}) Fault) → WritesBlock disk ticket.block ticket.bytes answered disk' → BringsWanted past disk'.contents (wants (after_write on answered ticket))
+      own (Ok done) e =
+          let written : held disk'.contents ticket.block ≡ ticket.bytes = ap (λ (d : Disk). held d.contents ticket.block) e ∙ get_or-set_same disk.contents ticket.block ticket.bytes [] there in
+          subst (PlacesHold past ticket.number) (sym written) hold
+      own (Err fault) e = tt
+
+  -- a read changes nothing, but that it may fail
+  reads_faithful : (access : Access) (ticket : TicketOf) (turned : Turned) → ReadsIn disk access ticket turned disk' → TurnsFaithful opening past disk.contents (want.Read access ticket) turned past disk'.contents
+  reads_faithful access ticket turned reads =
+      subst (λ (c : List (List ℕ)). TurnsFaithful opening past disk.contents (want.Read access ticket) turned past c) (sym (same reads.answered reads.reads))
+      (record {
+        holds = h;
+        own = subst (λ (t : Turned). BringsAt past disk.contents (left_of t)) (sym reads.goes) (own reads.answered reads.reads);
+        others = λ at differ keeps brought. brought;
+      })
+    where
+      same : (answered : Result (Unit {0}) Fault) → ReadsBlock disk ticket.block answered reads.filled.bytes disk' → disk'.contents ≡ disk.contents
+      same (Ok done) e = ap (λ (d : Disk). d.contents) e.1
+      same (Err fault) e = ap (λ (d : Disk). d.contents) e
+
+      own : (answered : Result (Unit {0}) Fault) → ReadsBlock disk ticket.block answered reads.filled.bytes disk' → BringsWanted past disk.contents (wants (after_read access answered reads.filled))
+      own (Ok done) e = e.0 ∙ ap (held disk.contents) (sym (ap (λ (t : TicketOf). t.block) reads.same))
+      own (Err fault) e = tt
+
+-- ---- a turn
+
+module _ (opening : Opening) (old new : Past) (disk disk' : Disk) (h : Holds opening old disk.contents) where
+  asks_faithful : (remembers : Asked) (what : Event) (turned : Turned) → KeepsAsked old what → BringsAsked old disk.contents what → Asks old remembers what turned new
+      → TurnsFaithful opening old disk.contents (want.Call remembers what) turned new disk.contents
+  asks_faithful remembers what turned keeps brings asks = by_comes (called_comes old new 0 (event_of what) (reply_of asks.said) (asked_known old what keeps) asks.called)
+    where
+      own : IsRefused old (reply_of asks.said) new → Next asks.said turned → BringsAt old disk.contents (left_of turned)
+      own still (Handless none fine) = brings_none old disk.contents (left_of turned) none
+      own still (Reads access ticket is goes) = subst (λ (t : Turned). BringsAt old disk.contents (left_of t)) (sym goes) tt
+      own still (Writes on ticket is goes) = absurd (not_out old new h.live asks.said ticket still is)
+
+      by_comes : Comes old 0 (event_of what) (reply_of asks.said) new → TurnsFaithful opening old disk.contents (want.Call remembers what) turned new disk.contents
+      by_comes (ByRefusal still) =
+          subst (λ (p : Past). TurnsFaithful opening old disk.contents (want.Call remembers what) turned p disk.contents) (sym still.same)
+          (record {
+            holds = h;
+            own = own still (told_next remembers asks.said turned asks.told (still_known old new h.live asks.said still));
+            others = λ at differ kept brought. brought;
+          })
+      by_comes (ByEntry went) =
+          faithful_on opening old new disk.contents what asks.said h keeps brings went (want.Call remembers what) turned asks.gives (told_next remembers asks.said turned asks.told (went.done Stranger))
+
+  pub want_faithful : (w : Want) (turned : Turned) → KeepsWanted old w → BringsWanted old disk.contents w → WantTurn old disk w turned new disk' → TurnsFaithful opening old disk.contents w turned new disk'.contents
+  want_faithful (want.Call remembers what) turned keeps brings turn =
+      subst (λ (d : Disk). TurnsFaithful opening old disk.contents (want.Call remembers what) turned new d.contents) (sym turn.1) (asks_faithful remembers what turned keeps brings turn.0)
+  want_faithful (want.Read access ticket) turned keeps brings turn =
+      subst (λ (p : Past). TurnsFaithful opening old disk.contents (want.Read access ticket) turned p disk'.contents) (sym turn.1) (reads_faithful opening old disk disk' h access ticket turned turn.0)
+  want_faithful (want.Write on ticket) turned keeps brings turn =
+      subst (λ (p : Past). TurnsFaithful opening old disk.contents (want.Write on ticket) turned p disk'.contents) (sym turn.1)
+      (writes_faithful opening old disk disk' h on ticket turned keeps brings turn.0)
+
+-- ---- worlds
+
+pub record Faithful (opening : Opening) (w : World) : Type 0 where
+  pub tickets : Tickets w
+  pub holds : Holds opening w.past w.disk.contents
+  pub brings : (a : Actor) → BringsAt w.past w.disk.contents (activity_of a w.seats)
+
+module _ (opening : Opening) where
+  faithful_rest : (w : World) (who : Actor) (what : Activity) → is_idle what ≡ true → Faithful opening w → Faithful opening (record w { seats = with_activity who what w.seats })
+  faithful_rest w who what idle h =
+      record {
+        tickets = tickets_rest w who what idle h.tickets;
+        holds = h.holds;
+        brings = seats_all (BringsAt w.past w.disk.contents) who what w.seats (brings_none w.past w.disk.contents what (idle_none what idle)) (λ a differs. h.brings a);
+      }
+
+  own_brings : (w : World) (who : Actor) (now : Doing) → IsAt w who now → Faithful opening w → BringsWanted w.past w.disk.contents (wants now)
+  own_brings w who now (inl is) h = subst (λ (at : Activity). BringsAt w.past w.disk.contents at) is (h.brings who)
+  own_brings w who now (inr none) h = wanted_none w.past w.disk.contents (wants now) none
+
+  faithful_turn : (old new : World) (who : Actor) (now : Doing) (outcome : Outcome) → IsAt old who now → DoingTurn old who now outcome new → Faithful opening old → Faithful opening new × FineOutcome outcome
+  faithful_turn old new who now outcome at turn h =
+      let ticketed = tickets_turn old new who now outcome at turn h.tickets in
+      let turns = want_faithful opening old.past new.past old.disk new.disk h.holds (wants now) turn.turned (own_keeps old who now at h.tickets) (own_brings old who now at h) turn.turns in (
+        record {
+          tickets = ticketed.0;
+          holds = turns.holds;
+          brings = subst (λ (ss : List Seat). (a : Actor) → BringsAt new.past new.disk.contents (activity_of a ss)) (sym turn.leaves)
+              (seats_all (BringsAt new.past new.disk.contents) who (left_of turn.turned) old.seats turns.own
+              (λ a differs. turns.others (activity_of a old.seats) (others_differ old who now at h.tickets a differs) (h.tickets.keeps a) (h.brings a)));
+        },
+        ticketed.1,
+      )
+
+faithful_first : (config : Config) (disk : Disk) → fits config disk ≡ true → Faithful (opening_of config) (first_world config disk)
+faithful_first config disk fit =
+    record {
+      tickets = tickets_first config disk;
+      holds = record { live = λ t v p e. cc; legal = refl; honest = tt; room = within (both_fit (is_config config) (nat_le config.swap (length disk.contents)) fit); stored = λ t v p b o page mapped there stands within. cc; fetched = λ p f b n page there coming. cc };
+      brings = λ a. tt;
+    }
+  where
+    both_fit : (a b : Bool) → (a && b) ≡ true → b ≡ true
+    both_fit true b e = e
+    both_fit false b e = cc
+
+    within : nat_le config.swap (length disk.contents) ≡ true → config.swap ≤ length disk.contents
+    within e = grind (arith, nat_tests, e)
+
+pub runs_are_honest : RunsAreHonest
+runs_are_honest config before lines answers end fit runs =
+    (runs_keep (Faithful (opening_of config)) (faithful_rest (opening_of config)) (faithful_turn (opening_of config)) (first_world config before) end lines answers runs (faithful_first config before fit)).0.holds.honest

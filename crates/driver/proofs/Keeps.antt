@@ -1,0 +1,230 @@
+-- What each actor is at once one of them is at something else; and what every turn keeps, every run keeps.
+use Rattle.std.proofs.Common.{◌≡◌, inl, inr, ℕ, zero, suc, ◌==◌, Bool, true, false, List, [], ◌∷◌, ◌++◌, Option, Some, None, refl, sym, ap, ◌∙◌, subst}
+use Rattle.std.specs.Prelude.{◌⊎◌, if◌then◌else◌, Ok, Err, slice_get}
+use Rattle.machine.specs.declared.amount.Amount.{Amount}
+use Rattle.machine.specs.declared.refusal.Refusal.TheVariants.{Stranger, NoEntry}
+use Rattle.machine.specs.declared.command.Actor.{Actor}
+use Rattle.machine.specs.declared.command.Actor.TheVariants as actor
+use Rattle.machine.specs.declared.command.Command.{Command}
+use Rattle.machine.specs.declared.command.Command.TheVariants as command
+use Rattle.machine.specs.declared.command.Step.{Step as Line}
+use Rattle.machine.specs.declared.command.Step.TheVariants.{Begin, Advance, Finish}
+use Rattle.machine.specs.declared.command.Reply.{Reply as Told_by}
+use Rattle.machine.specs.declared.command.Word.TheVariants as word
+use Rattle.machine.specs.declared.command.Answer.{Answer}
+use Rattle.machine.specs.declared.command.Answer.TheVariants as answer
+use Rattle.machine.specs.declared.control.ControlFile.{ControlFile}
+use Rattle.machine.specs.declared.control.ControlFile.TheVariants as file
+use Rattle.machine.specs.Tree.{Node, find_group}
+use Rattle.machine.specs.Control.{file_named, has_file, amount_of}
+use Rattle.book.specs.declared.event.Event.{Event}
+use Rattle.book.specs.Events.{event_of}
+use Rattle.driver.specs.declared.turn.Doing.{Doing}
+use Rattle.driver.specs.declared.turn.Want.{Want}
+use Rattle.driver.specs.declared.turn.Want.TheVariants as want
+use Rattle.driver.specs.declared.turn.Outcome.{Outcome}
+use Rattle.driver.specs.declared.turn.Outcome.TheVariants.{Goes, Kills, Ends}
+use Rattle.driver.specs.declared.turn.Activity.{Activity}
+use Rattle.driver.specs.declared.turn.Activity.TheVariants.{Rests, Begun, Does}
+use Rattle.driver.specs.declared.turn.Seat.{Seat}
+use Rattle.driver.specs.Turns.{wants, Judged, judged, task_judged, shell_judged, with_group, with_file, with_amount, reads_file, writes_file}
+use Rattle.driver.specs.Schedule.{number_of, is_of, activity_of, with_activity, World, DoingTurn, JudgedTurn, ActivityTurn, said_at, all_said, answer_by, Goings, EndsIn, RunsOut, Begins, Stepped, Runs}
+use Rattle.driver.proofs.MoveLemmas.{same_true, true_same, false_other}
+use Rattle.driver.proofs.Effects.{ends}
+
+-- ---- seats
+
+pub activity_of-own : (a who : Actor) (what : Activity) (seats : List Seat) → number_of a ≡ number_of who → activity_of a (with_activity who what seats) ≡ what
+activity_of-own a who what [] e = rw (true_same (number_of who) (number_of a) (sym e)) refl
+activity_of-own a who what (seat ∷ seats) e = at (is_of who seat) refl (activity_of-own a who what seats e)
+  where
+    is_same : is_of a seat ≡ is_of who seat
+    is_same = ap (λ n. number_of seat.actor == n) e
+
+    at : (b : Bool) → is_of who seat ≡ b → activity_of a (with_activity who what seats) ≡ what
+        → activity_of a (if b then record { actor = seat.actor; activity = what } ∷ seats else seat ∷ with_activity who what seats) ≡ what
+    at true is ih = rw (is_same ∙ is) refl
+    at false is ih = rw (is_same ∙ is) ih
+
+pub activity_of-other : (a who : Actor) (what : Activity) (seats : List Seat) → (number_of a ≡ number_of who → ⊥) → activity_of a (with_activity who what seats) ≡ activity_of a seats
+activity_of-other a who what [] e = rw (false_other (number_of who) (number_of a) (λ same. e (sym same))) refl
+activity_of-other a who what (seat ∷ seats) e = at (is_of who seat) refl (activity_of-other a who what seats e)
+  where
+    at : (b : Bool) → is_of who seat ≡ b → activity_of a (with_activity who what seats) ≡ activity_of a seats
+        → activity_of a (if b then record { actor = seat.actor; activity = what } ∷ seats else seat ∷ with_activity who what seats) ≡ (if is_of a seat then seat.activity else activity_of a seats)
+    at true is ih =
+        let miss : is_of a seat ≡ false = false_other (number_of seat.actor) (number_of a) (λ same. e (sym same ∙ same_true (number_of seat.actor) (number_of who) is)) in
+        rw miss refl
+    at false is ih = ap (λ rest. if is_of a seat then seat.activity else rest) ih
+
+-- ---- tickets in hand
+
+-- the number of the ticket that goes with it
+abbrev pub number_asked : Event → Option ℕ
+number_asked what = ends (event_of what)
+
+abbrev pub number_wanted : Want → Option ℕ
+number_wanted (want.Call remembers what) = number_asked what
+number_wanted (want.Read access ticket) = Some ticket.number
+number_wanted (want.Write on ticket) = Some ticket.number
+
+abbrev pub number_at : Activity → Option ℕ
+number_at Rests = None
+number_at (Begun what) = None
+number_at (Does doing) = number_wanted (wants doing)
+
+-- no command is under way that has had a turn
+abbrev pub is_idle : Activity → Bool
+is_idle Rests = true
+is_idle (Begun what) = true
+is_idle (Does doing) = false
+
+pub idle_none : (what : Activity) → is_idle what ≡ true → number_at what ≡ None
+idle_none Rests e = refl
+idle_none (Begun what) e = refl
+idle_none (Does doing) e = cc
+
+-- ---- answers
+
+-- it is not that a ticket was none of its holder's
+abbrev pub Fine : Answer → Type 0
+Fine said = said ≡ answer.Word (word.Refused Stranger) → ⊥
+
+abbrev pub FineOutcome : Outcome → Type 0
+FineOutcome Goes = Unit {0}
+FineOutcome (Kills t) = Unit {0}
+FineOutcome (Ends said) = Fine said
+
+abbrev pub AllFine : List Told_by → Type 0
+AllFine [] = Unit {0}
+AllFine (told ∷ later) = Fine told.answer × AllFine later
+
+fine-append : (xs ys : List Told_by) → AllFine xs → AllFine ys → AllFine (xs ++ ys)
+fine-append [] ys a b = b
+fine-append (told ∷ xs) ys a b = (a.0, fine-append xs ys a.1 b)
+
+fine_said : (who : Actor) (outcome : Outcome) → FineOutcome outcome → AllFine (said_at who outcome)
+fine_said who Goes h = tt
+fine_said who (Kills t) h = (λ e. cc, tt)
+fine_said who (Ends said) h = (h, tt)
+
+pub fine_at : (answers : List Told_by) (k : ℕ) (told : Told_by) → AllFine answers → slice_get answers k ≡ Some told → Fine told.answer
+fine_at [] k told h e = cc
+fine_at (first ∷ later) zero told h e = subst (λ (t : Told_by). Fine t.answer) (same e) h.0
+  where
+    same : Some first ≡ Some told → first ≡ told
+    same e = cc
+fine_at (first ∷ later) (suc k) told h e = fine_at later k told h.1 e
+
+-- ---- first turns
+
+-- a command's first turn has no ticket, and its refusal is not that of a stranger
+abbrev pub Plain : Judged → Type 0
+Plain (Ok doing) = number_wanted (wants doing) ≡ None
+Plain (Err why) = why ≡ Stranger → ⊥
+
+pub judged-plain : (tree : List Node) (who : Actor) (what : Command) → Plain (judged tree who what)
+judged-plain tree who what = by_actor who
+  where
+    by_group : (found : Option ℕ) (next : ℕ → Judged) → ((g : ℕ) → Plain (next g)) → Plain (with_group found next)
+    by_group None next h = λ e. cc
+    by_group (Some g) next h = h g
+
+    by_has : (b : Bool) (next : Judged) → Plain next → Plain (if b then next else Err NoEntry)
+    by_has true next h = h
+    by_has false next h = λ e. cc
+
+    by_file : (g : ℕ) (found : Option ControlFile) (next : ControlFile → Judged) → ((f : ControlFile) → Plain (next f)) → Plain (with_file g found next)
+    by_file g None next h = λ e. cc
+    by_file g (Some f) next h = by_has (has_file g f) (next f) (h f)
+
+    by_amount : (found : Option Amount) (next : Amount → Judged) → ((amount : Amount) → Plain (next amount)) → Plain (with_amount found next)
+    by_amount None next h = λ e. cc
+    by_amount (Some amount) next h = h amount
+
+    reads : (g : ℕ) (f : ControlFile) → Plain (reads_file g f)
+    reads g file.Current = refl
+    reads g file.Max = refl
+    reads g file.Events = refl
+    reads g file.EventsLocal = refl
+
+    writes : (g : ℕ) (text : List ℕ) (f : ControlFile) → Plain (writes_file g text f)
+    writes g text file.Current = λ e. cc
+    writes g text file.Events = λ e. cc
+    writes g text file.EventsLocal = λ e. cc
+    writes g text file.Max = by_amount (amount_of text) _ (λ amount. refl)
+
+    by_shell : (what : Command) → Plain (shell_judged tree what)
+    by_shell (command.Access place op) = λ e. cc
+    by_shell command.Exit = λ e. cc
+    by_shell (command.Group path) = refl
+    by_shell (command.Task t path) = by_group (find_group tree path) _ (λ g. refl)
+    by_shell (command.Set path name text) = by_group (find_group tree path) _ (λ g. by_file g (file_named name) _ (writes g text))
+    by_shell (command.Cat path name) = by_group (find_group tree path) _ (λ g. by_file g (file_named name) _ (reads g))
+
+    by_task : (t : ℕ) (what : Command) → Plain (task_judged t what)
+    by_task t (command.Access place op) = refl
+    by_task t command.Exit = refl
+    by_task t others = λ e. cc
+
+    by_actor : (who : Actor) → Plain (judged tree who what)
+    by_actor (actor.Task t) = by_task t what
+    by_actor actor.Shell = by_shell what
+    by_actor actor.Control = by_shell what
+
+-- ---- runs
+
+-- the actor is at this, or it has no ticket
+abbrev pub IsAt : World → Actor → Doing → Type 0
+IsAt w who doing = (activity_of who w.seats ≡ Does doing) ⊎ (number_wanted (wants doing) ≡ None)
+
+module _ (P : World → Type 0)
+    (rests : (w : World) (who : Actor) (what : Activity) → is_idle what ≡ true → P w → P (record w { seats = with_activity who what w.seats }))
+    (turns : (old new : World) (who : Actor) (doing : Doing) (outcome : Outcome) → IsAt old who doing → DoingTurn old who doing outcome new → P old → P new × FineOutcome outcome) where
+  same_world : (old new : World) → new ≡ old → P old → P new
+  same_world old new e h = subst P (sym e) h
+
+  judged_keeps : (old new : World) (who : Actor) (found : Judged) (outcome : Outcome) → Plain found → JudgedTurn old who found outcome new → P old → P new × FineOutcome outcome
+  judged_keeps old new who (Err why) outcome plain turn h =
+      (same_world (record old { seats = with_activity who Rests old.seats }) new turn.1 (rests old who Rests refl h), subst FineOutcome (sym turn.0) (λ e. plain (cc)))
+  judged_keeps old new who (Ok doing) outcome plain turn h = turns old new who doing outcome (inr plain) turn h
+
+  turn_keeps : (old new : World) (who : Actor) (at : Activity) (outcome : Outcome) → activity_of who old.seats ≡ at → ActivityTurn old who at outcome new → P old → P new × FineOutcome outcome
+  turn_keeps old new who Rests outcome is turn h = (same_world old new turn.1 h, subst FineOutcome (sym turn.0) (λ e. cc))
+  turn_keeps old new who (Begun what) outcome is turn h = judged_keeps old new who (judged old.past.state.tree who what) outcome (judged-plain old.past.state.tree who what) turn h
+  turn_keeps old new who (Does doing) outcome is turn h = turns old new who doing outcome (inl is) turn h
+
+  goings_keep : (old new : World) (who : Actor) (outcomes : List Outcome) → Goings old who outcomes new → P old → P new × AllFine (all_said who outcomes)
+  goings_keep old new who [] goes h = (same_world old new goes h, tt)
+  goings_keep old new who (outcome ∷ outcomes) goes h =
+      let first = turn_keeps old goes.0 who (activity_of who old.seats) outcome refl goes.1 h in
+      let later = goings_keep goes.0 new who outcomes goes.3 first.0 in
+      (later.0, fine-append (said_at who outcome) (all_said who outcomes) (fine_said who outcome first.1) later.1)
+
+  finish_keeps : (mid new : World) (who : Actor) (earlier : List Outcome) (answers : List Told_by) → AllFine (all_said who earlier) → EndsIn mid who earlier answers new ⊎ RunsOut mid who earlier answers new → P mid
+      → P new × AllFine answers
+  finish_keeps mid new who earlier answers fine (inl ended) h =
+      let turn = turn_keeps mid new who (activity_of who mid.seats) ended.last refl ended.turn h in
+      (turn.0, subst AllFine (sym ended.answers_are) (fine-append (all_said who earlier) (said_at who ended.last) fine (fine_said who ended.last turn.1)))
+  finish_keeps mid new who earlier answers fine (inr out) h =
+      (same_world mid new out.stays h, subst AllFine (sym out.answers_are) (fine-append (all_said who earlier) (answer_by who (answer.Word word.TurnLimit)) fine (λ e. cc, tt)))
+
+  begin_keeps : (old new : World) (who : Actor) (what : Command) (at : Activity) (answers : List Told_by) → Begins old who what at answers new → P old → P new × AllFine answers
+  begin_keeps old new who what Rests answers begins h =
+      (same_world (record old { seats = with_activity who (Begun what) old.seats }) new begins.1 (rests old who (Begun what) refl h), subst AllFine (sym begins.0) tt)
+  begin_keeps old new who what (Begun other) answers begins h = (same_world old new begins.1 h, subst AllFine (sym begins.0) (λ e. cc, tt))
+  begin_keeps old new who what (Does doing) answers begins h = (same_world old new begins.1 h, subst AllFine (sym begins.0) (λ e. cc, tt))
+
+  step_keeps : (old new : World) (line : Line) (answers : List Told_by) → Stepped old line answers new → P old → P new × AllFine answers
+  step_keeps old new (Begin who what) answers step h = begin_keeps old new who what (activity_of who old.seats) answers step h
+  step_keeps old new (Advance who) answers step h =
+      let turn = turn_keeps old new who (activity_of who old.seats) step.0 refl step.1 h in (turn.0, subst AllFine (sym step.2) (fine_said who step.0 turn.1))
+  step_keeps old new (Finish who) answers step h =
+      let goes = goings_keep old step.1 who step.0 step.2 h in finish_keeps step.1 new who step.0 answers goes.1 step.3 goes.0
+
+  pub runs_keep : (old new : World) (lines : List Line) (answers : List Told_by) → Runs old lines answers new → P old → P new × AllFine answers
+  runs_keep old new [] answers runs h = (same_world old new runs.1 h, subst AllFine (sym runs.0) tt)
+  runs_keep old new (line ∷ lines) answers runs h =
+      let first = step_keeps old runs.2 line runs.0 runs.3 h in
+      let later = runs_keep runs.2 new lines runs.1 runs.4 first.0 in
+      (later.0, subst AllFine (sym runs.5) (fine-append runs.0 runs.1 first.1 later.1))

@@ -1,0 +1,179 @@
+-- Whose the tickets in hand are: the book gives out such as the worker took, of swap blocks, and a command goes on with what it was given.
+use Rattle.std.proofs.Common.{◌≡◌, ◌∙◌, ℕ, Bool, true, false, List, ap, sym, subst}
+use Rattle.std.specs.Prelude.{Option, Some, None, Result, Ok, Err, IfOk, if◌then◌else◌}
+use Rattle.std.specs.declared.alloc.AllocError.{AllocError}
+use Rattle.machine.specs.Pages.{Residence, block_at}
+use Rattle.machine.specs.Legal.{Legal}
+use Rattle.machine.specs.Call.{Past}
+use Rattle.book.specs.declared.event.Reply.{Reply}
+use Rattle.book.specs.declared.event.Reply.TheVariants as reply
+use Rattle.book.specs.Replies.{Gives}
+use Rattle.machine.specs.declared.amount.Amount.{Amount}
+use Rattle.machine.specs.declared.refusal.Refusal.TheVariants.{NoEntry}
+use Rattle.machine.specs.declared.command.Actor.{Actor}
+use Rattle.machine.specs.declared.command.Actor.TheVariants as actor
+use Rattle.machine.specs.declared.command.Command.{Command}
+use Rattle.machine.specs.declared.command.Command.TheVariants as command
+use Rattle.machine.specs.declared.command.Word.TheVariants as word
+use Rattle.machine.specs.declared.control.ControlFile.{ControlFile}
+use Rattle.machine.specs.declared.control.ControlFile.TheVariants as file
+use Rattle.machine.specs.Tree.{Node, find_group}
+use Rattle.machine.specs.Control.{file_named, has_file, amount_of}
+use Rattle.driver.specs.declared.turn.Access.{Access}
+use Rattle.driver.specs.declared.turn.Onward.{Onward}
+use Rattle.driver.specs.declared.turn.Onward.TheVariants as onward
+use Rattle.driver.specs.declared.turn.Doing.{Doing}
+use Rattle.driver.specs.declared.turn.Doing.TheVariants as doing
+use Rattle.driver.specs.declared.turn.Asked.{Asked}
+use Rattle.driver.specs.declared.turn.Asked.TheVariants as asked
+use Rattle.driver.specs.declared.turn.Turned.{Turned}
+use Rattle.driver.specs.declared.turn.Turned.TheVariants.{Goes}
+use Rattle.driver.specs.Turns.{ends_with, goes_on, Tried, MadeRoom, MaxSet, Lowered, Made, Ended, WasShown, Closed, Told, Judged, judged, task_judged, shell_judged, with_group, with_file, with_amount, reads_file, writes_file}
+use Rattle.driver.specs.Laws.{BlocksAreThere, PagesAreMemory}
+use Rattle.driver.specs.Tickets.{OwnReply, OwnDoing, OwnTurned}
+
+pub gives_own : (past : Past) (worker : ℕ) → worker ≡ 0 → Legal past.state.opening past.history past.state → BlocksAreThere → PagesAreMemory
+    → (said : Reply) → Gives past worker said → OwnReply past.state.opening.swap said
+gives_own past worker first legal there memory (reply.Fetch ticket) h =
+    record {
+      own = h.own ∙ first;
+      block = there past.state.opening past.history past.state legal h.p ticket.block h.page h.there (memory past.state.opening past.history past.state legal h.p h.page h.there) (ap (λ (r : Residence). block_at r) h.coming);
+    }
+gives_own past worker first legal there memory (reply.Out ticket) h =
+    record {
+      own = h.own ∙ first;
+      block = there past.state.opening past.history past.state legal h.p ticket.block h.page h.there (memory past.state.opening past.history past.state legal h.p h.page h.there) (ap (λ (r : Residence). block_at r) h.going);
+    }
+gives_own past worker first legal there memory said h = tt
+
+tried_own : (swap : ℕ) (access : Access) (said : Reply) (turned : Turned) → OwnReply swap said → Tried access said turned → OwnTurned swap turned
+tried_own swap access (reply.Done byte hit) turned own h = rw h tt
+tried_own swap access (reply.Fetch ticket) turned own h = rw h own
+tried_own swap access (reply.Over group) turned own h = rw h tt
+tried_own swap access reply.NoFrame turned own h = rw h tt
+tried_own swap access reply.Busy turned own h = rw h tt
+tried_own swap access reply.Killed turned own h = rw h tt
+tried_own swap access (reply.Refused why) turned own h = rw h tt
+tried_own swap access said turned own h = absurd h
+
+made_room_own : (swap : ℕ) (access : Access) (said : Reply) (turned : Turned) → OwnReply swap said → MadeRoom access said turned → OwnTurned swap turned
+made_room_own swap access reply.Room turned own h = rw h tt
+made_room_own swap access (reply.Out ticket) turned own h = rw h own
+made_room_own swap access reply.Wait turned own h = rw h tt
+made_room_own swap access (reply.KilledTask t) turned own h = rw h tt
+made_room_own swap access reply.NoVictim turned own h = rw h tt
+made_room_own swap access (reply.Refused why) turned own h = rw h tt
+made_room_own swap access said turned own h = absurd h
+
+max_set_own : (swap : ℕ) (g : ℕ) (said : Reply) (turned : Turned) → OwnReply swap said → MaxSet g said turned → OwnTurned swap turned
+max_set_own swap g reply.Ok turned own h = rw h tt
+max_set_own swap g (reply.Refused why) turned own h = rw h tt
+max_set_own swap g said turned own h = absurd h
+
+lowered_own : (swap : ℕ) (g : ℕ) (said : Reply) (turned : Turned) → OwnReply swap said → Lowered g said turned → OwnTurned swap turned
+lowered_own swap g reply.Room turned own h = rw h tt
+lowered_own swap g (reply.Out ticket) turned own h = rw h own
+lowered_own swap g reply.Wait turned own h = rw h tt
+lowered_own swap g (reply.KilledTask t) turned own h = rw h tt
+lowered_own swap g reply.NoVictim turned own h = rw h tt
+lowered_own swap g (reply.Refused why) turned own h = rw h tt
+lowered_own swap g said turned own h = absurd h
+
+made_own : (swap : ℕ) (said : Reply) (turned : Turned) → OwnReply swap said → Made said turned → OwnTurned swap turned
+made_own swap reply.Ok turned own h = rw h tt
+made_own swap (reply.Refused why) turned own h = rw h tt
+made_own swap said turned own h = absurd h
+
+ended_own : (swap : ℕ) (said : Reply) (turned : Turned) → OwnReply swap said → Ended said turned → OwnTurned swap turned
+ended_own swap reply.Ok turned own h = rw h tt
+ended_own swap reply.Killed turned own h = rw h tt
+ended_own swap (reply.Refused why) turned own h = rw h tt
+ended_own swap said turned own h = absurd h
+
+shown_own : (swap : ℕ) (said : Reply) (turned : Turned) → OwnReply swap said → WasShown said turned → OwnTurned swap turned
+shown_own swap (reply.Shown numbers) turned own h = rw h tt
+shown_own swap (reply.Refused why) turned own h = rw h tt
+shown_own swap said turned own h = absurd h
+
+closed_own : (swap : ℕ) (onwards : Turned) → OwnTurned swap onwards → (said : Reply) (turned : Turned) → OwnReply swap said → Closed onwards said turned → OwnTurned swap turned
+closed_own swap onwards here reply.Ok turned own h = rw h here
+closed_own swap onwards here (reply.StrangeIn ticket) turned own h = rw h tt
+closed_own swap onwards here (reply.StrangeOut ticket) turned own h = rw h tt
+closed_own swap onwards here said turned own h = absurd h
+
+goes_on_own : (swap : ℕ) (on : Onward) → OwnDoing swap (goes_on on)
+goes_on_own swap (onward.Try access) = tt
+goes_on_own swap (onward.Lower g) = tt
+
+pub told_own : (swap : ℕ) (remembers : Asked) (said : Reply) (turned : Turned) → OwnReply swap said → Told remembers said turned → OwnTurned swap turned
+told_own swap (asked.Try access) said turned own h = tried_own swap access said turned own h
+told_own swap (asked.MakeRoom access) said turned own h = made_room_own swap access said turned own h
+told_own swap (asked.SetMax g) said turned own h = max_set_own swap g.0 said turned own h
+told_own swap (asked.Lower g) said turned own h = lowered_own swap g.0 said turned own h
+told_own swap asked.Make said turned own h = made_own swap said turned own h
+told_own swap asked.Exit said turned own h = ended_own swap said turned own h
+told_own swap asked.Show said turned own h = shown_own swap said turned own h
+told_own swap (asked.Arrive access) said turned own h = closed_own swap (Goes (doing.Try access)) tt said turned own h
+told_own swap asked.FetchFail said turned own h = closed_own swap (ends_with word.Io) tt said turned own h
+told_own swap (asked.Leave on) said turned own h = closed_own swap (Goes (goes_on on)) (goes_on_own swap on) said turned own h
+told_own swap asked.LeaveFail said turned own h = closed_own swap (ends_with word.Io) tt said turned own h
+
+pub told_result_own : (swap : ℕ) (remembers : Asked) (said : Reply) (result : Result Turned AllocError) → OwnReply swap said → IfOk result (λ turned. Told remembers said turned)
+    → IfOk result (λ turned. OwnTurned swap turned)
+told_result_own swap remembers said (Ok turned) own h = told_own swap remembers said turned own h
+told_result_own swap remembers said (Err e) own h = tt
+
+-- ---- a command holds no ticket before its first turn
+
+module _ (swap : ℕ) where
+  abbrev pub OwnJudged : Judged → Type 0
+  OwnJudged found = IfOk found (λ next. OwnDoing swap next)
+
+  with_group_own : (found : Option ℕ) (next : ℕ → Judged) → ((g : ℕ) → OwnJudged (next g)) → OwnJudged (with_group found next)
+  with_group_own None next own = tt
+  with_group_own (Some g) next own = own g
+
+  with_file_own : (g : ℕ) (found : Option ControlFile) (next : ControlFile → Judged) → ((f : ControlFile) → OwnJudged (next f)) → OwnJudged (with_file g found next)
+  with_file_own g None next own = tt
+  with_file_own g (Some f) next own = at (has_file g f)
+    where
+      at : (b : Bool) → OwnJudged (if b then next f else Err NoEntry)
+      at true = own f
+      at false = tt
+
+  with_amount_own : (g : ℕ) (found : Option Amount) → OwnJudged (with_amount found (λ max. Ok (doing.SetMax (record { 0 = g }) max)))
+  with_amount_own g None = tt
+  with_amount_own g (Some amount) = tt
+
+  reads_own : (g : ℕ) (f : ControlFile) → OwnJudged (reads_file g f)
+  reads_own g file.Current = tt
+  reads_own g file.Max = tt
+  reads_own g file.Events = tt
+  reads_own g file.EventsLocal = tt
+
+  writes_own : (g : ℕ) (text : List ℕ) (f : ControlFile) → OwnJudged (writes_file g text f)
+  writes_own g text file.Current = tt
+  writes_own g text file.Events = tt
+  writes_own g text file.EventsLocal = tt
+  writes_own g text file.Max = with_amount_own g (amount_of text)
+
+  task_own : (t : ℕ) (what : Command) → OwnJudged (task_judged t what)
+  task_own t (command.Access place op) = tt
+  task_own t command.Exit = tt
+  task_own t others = tt
+
+  shell_own : (tree : List Node) (what : Command) → OwnJudged (shell_judged tree what)
+  shell_own tree (command.Access place op) = tt
+  shell_own tree command.Exit = tt
+  shell_own tree (command.Group path) = tt
+  shell_own tree (command.Task t path) = with_group_own (find_group tree path) _ (λ g. tt)
+  shell_own tree (command.Set path name text) = with_group_own (find_group tree path) _ (λ g. with_file_own g (file_named name) _ (writes_own g text))
+  shell_own tree (command.Cat path name) = with_group_own (find_group tree path) _ (λ g. with_file_own g (file_named name) _ (reads_own g))
+
+  judged_own : (tree : List Node) (who : Actor) (what : Command) → OwnJudged (judged tree who what)
+  judged_own tree (actor.Task t) what = task_own t what
+  judged_own tree actor.Shell what = shell_own tree what
+  judged_own tree actor.Control what = shell_own tree what
+
+  pub first_own : (tree : List Node) (who : Actor) (what : Command) (next : Doing) → Ok next ≡ judged tree who what → OwnDoing swap next
+  first_own tree who what next found = subst OwnJudged (sym found) (judged_own tree who what)

@@ -1,0 +1,435 @@
+-- Each ticket in an actor's hand is that of a page in transfer, was given to the run's worker, and is in no other's hand.
+use Rattle.std.proofs.Common.{◌≡◌, inl, inr, ℕ, zero, suc, ◌==◌, ◌&&◌, ◌||◌, Bool, true, false, cond, List, [], ◌∷◌, Option, Some, None, refl, sym, ap, ◌∙◌, subst}
+use Rattle.std.specs.Prelude.{◌⊎◌, Result, Ok, Err}
+use Rattle.machine.specs.declared.config.Config.{Config}
+use Rattle.machine.specs.declared.entry.Entry.{Entry}
+use Rattle.machine.specs.declared.event.Event.{Event as Plain_event}
+use Rattle.machine.specs.declared.reply.Reply.{Reply as Plain_reply}
+use Rattle.machine.specs.declared.reply.Reply.TheVariants as reply
+use Rattle.machine.specs.declared.refusal.Refusal.TheVariants.{Stranger}
+use Rattle.machine.specs.declared.command.Actor.{Actor}
+use Rattle.machine.specs.Slots.{at, there_and, any_there}
+use Rattle.machine.specs.Pages.{Coming, Going, Page, Pages, page_at, is_number, ticket_at, is_ticket_taken, is_coming_at, is_going_at, is_coming_in, is_going_out}
+use Rattle.machine.specs.History.{ticket_given, taker_or, taker}
+use Rattle.machine.specs.Call.{Past, is_worker, knows_ticket}
+use Rattle.machine.proofs.TreeLemmas.{eq_cases}
+use Rattle.block_store.specs.declared.device.Fault.{Fault}
+use Rattle.block_store.specs.Device.{Disk}
+use Rattle.pages.specs.Tickets.{TicketOf}
+use Rattle.book.specs.declared.event.Event.{Event}
+use Rattle.book.specs.declared.event.Event.TheVariants as event
+use Rattle.book.specs.declared.event.Reply.{Reply}
+use Rattle.book.specs.declared.event.Reply.TheVariants as said
+use Rattle.book.specs.Events.{event_of, reply_of}
+use Rattle.book.specs.Replies.{Gives, GivesIn, GivesOut}
+use Rattle.driver.specs.declared.turn.Access.{Access}
+use Rattle.driver.specs.declared.turn.Onward.{Onward}
+use Rattle.driver.specs.declared.turn.Asked.{Asked}
+use Rattle.driver.specs.declared.turn.Doing.{Doing}
+use Rattle.driver.specs.declared.turn.Want.{Want}
+use Rattle.driver.specs.declared.turn.Want.TheVariants as want
+use Rattle.driver.specs.declared.turn.Turned.{Turned}
+use Rattle.driver.specs.declared.turn.Outcome.{Outcome}
+use Rattle.driver.specs.declared.turn.Activity.{Activity}
+use Rattle.driver.specs.declared.turn.Activity.TheVariants.{Rests, Begun, Does}
+use Rattle.driver.specs.declared.turn.Seat.{Seat}
+use Rattle.driver.specs.Turns.{wants, ReadsIn, WritesOut, after_read, after_write}
+use Rattle.driver.specs.Schedule.{number_of, activity_of, with_activity, World, first_world, Asks, WantTurn, DoingTurn, outcome_of, left_of}
+use Rattle.driver.specs.Laws.{NoStrangers}
+use Rattle.driver.proofs.MoveLemmas.{never_some, unlike, own_number}
+use Rattle.driver.proofs.Effects.{ends, AllLive, Effect, step_effect}
+use Rattle.driver.proofs.Keeps.{activity_of-own, activity_of-other, number_asked, number_wanted, number_at, is_idle, idle_none, FineOutcome, fine_at, IsAt, runs_keep}
+use Rattle.driver.proofs.CallCases.{IsRefused, IsServed, Comes, ByRefusal, ByEntry, called_comes, Next, Handless, Reads, Writes, told_next}
+
+-- ---- words
+
+-- a page is being read in under this ticket, which was given to the run's worker
+pub record IsComing (past : Past) (ticket : TicketOf) : Type 0 where
+  pub p : ℕ
+  pub page : Page
+  pub frame : ℕ
+  pub there : page_at past.state.pages p ≡ Some page
+  pub coming : page.residence ≡ Coming frame ticket.block ticket.number
+  pub taken : taker ticket.number past.history ≡ Some 0
+
+-- or written out
+pub record IsGoing (past : Past) (ticket : TicketOf) : Type 0 where
+  pub p : ℕ
+  pub page : Page
+  pub frame : ℕ
+  pub there : page_at past.state.pages p ≡ Some page
+  pub going : page.residence ≡ Going frame ticket.block ticket.number
+  pub taken : taker ticket.number past.history ≡ Some 0
+
+abbrev pub KeepsAsked : Past → Event → Type 0
+KeepsAsked past (event.Arrived ticket) = IsComing past ticket
+KeepsAsked past (event.FetchFailed ticket) = IsComing past ticket
+KeepsAsked past (event.Left ticket) = IsGoing past ticket
+KeepsAsked past (event.LeaveFailed ticket) = IsGoing past ticket
+KeepsAsked past what = Unit {0}
+
+abbrev pub KeepsWanted : Past → Want → Type 0
+KeepsWanted past (want.Call remembers what) = KeepsAsked past what
+KeepsWanted past (want.Read access ticket) = IsComing past ticket
+KeepsWanted past (want.Write on ticket) = IsGoing past ticket
+
+abbrev pub KeepsAt : Past → Activity → Type 0
+KeepsAt past Rests = Unit {0}
+KeepsAt past (Begun what) = Unit {0}
+KeepsAt past (Does doing) = KeepsWanted past (wants doing)
+
+pub record Tickets (w : World) : Type 0 where
+  pub live : AllLive w.past.state.mappings w.past.state.tasks
+  pub keeps : (a : Actor) → KeepsAt w.past (activity_of a w.seats)
+  pub apart : (a b : Actor) (n : ℕ) → number_at (activity_of a w.seats) ≡ Some n → number_at (activity_of b w.seats) ≡ Some n → number_of a ≡ number_of b
+
+-- ---- small facts
+
+pub any_there-at : {T : Type 0} (test : T → Bool) (xs : List (Option T)) (n : ℕ) → there_and test (at xs n) ≡ true → any_there test xs ≡ true
+any_there-at test [] n e = e
+any_there-at test (x ∷ xs) zero e = rw e refl
+any_there-at test (x ∷ xs) (suc n) e = either (there_and test x) (any_there test xs) (any_there-at test xs n e)
+  where
+    either : (a b : Bool) → b ≡ true → (a || b) ≡ true
+    either true b e = refl
+    either false b e = e
+
+page_passes : (test : Page → Bool) (pages : Pages) (p : ℕ) (page : Page) → page_at pages p ≡ Some page → test page ≡ true → any_there test pages ≡ true
+page_passes test pages p page there passes = any_there-at test pages p (ap (there_and test) there ∙ passes)
+
+-- a ticket is no event's, so that nothing has to be kept for it
+asked_none : (past : Past) (what : Event) → number_asked what ≡ None → KeepsAsked past what
+asked_none past (event.Arrived ticket) e = cc
+asked_none past (event.FetchFailed ticket) e = cc
+asked_none past (event.Left ticket) e = cc
+asked_none past (event.LeaveFailed ticket) e = cc
+asked_none past what e = tt
+
+wanted_none : (past : Past) (want : Want) → number_wanted want ≡ None → KeepsWanted past want
+wanted_none past (want.Call remembers what) e = asked_none past what e
+wanted_none past (want.Read access ticket) e = cc
+wanted_none past (want.Write on ticket) e = cc
+
+at_none : (past : Past) (at : Activity) → number_at at ≡ None → KeepsAt past at
+at_none past Rests e = tt
+at_none past (Begun what) e = tt
+at_none past (Does doing) e = wanted_none past (wants doing) e
+
+-- a ticket in hand is in flight
+pub record InFlight (past : Past) (n : ℕ) : Type 0 where
+  pub p : ℕ
+  pub page : Page
+  pub there : page_at past.state.pages p ≡ Some page
+  pub ticket : ticket_at page.residence ≡ Some n
+
+coming_flies : (past : Past) (ticket : TicketOf) (n : ℕ) → IsComing past ticket → Some ticket.number ≡ Some n → InFlight past n
+coming_flies past ticket n h e = record { p = h.p; page = h.page; there = h.there; ticket = ap ticket_at h.coming ∙ e }
+
+going_flies : (past : Past) (ticket : TicketOf) (n : ℕ) → IsGoing past ticket → Some ticket.number ≡ Some n → InFlight past n
+going_flies past ticket n h e = record { p = h.p; page = h.page; there = h.there; ticket = ap ticket_at h.going ∙ e }
+
+asked_flies : (past : Past) (what : Event) (n : ℕ) → KeepsAsked past what → number_asked what ≡ Some n → InFlight past n
+asked_flies past (event.Arrived ticket) n h e = coming_flies past ticket n h e
+asked_flies past (event.FetchFailed ticket) n h e = coming_flies past ticket n h e
+asked_flies past (event.Left ticket) n h e = going_flies past ticket n h e
+asked_flies past (event.LeaveFailed ticket) n h e = going_flies past ticket n h e
+asked_flies past what n h e = cc
+
+wanted_flies : (past : Past) (want : Want) (n : ℕ) → KeepsWanted past want → number_wanted want ≡ Some n → InFlight past n
+wanted_flies past (want.Call remembers what) n h e = asked_flies past what n h e
+wanted_flies past (want.Read access ticket) n h e = coming_flies past ticket n h e
+wanted_flies past (want.Write on ticket) n h e = going_flies past ticket n h e
+
+pub at_flies : (past : Past) (at : Activity) (n : ℕ) → KeepsAt past at → number_at at ≡ Some n → InFlight past n
+at_flies past Rests n h e = cc
+at_flies past (Begun what) n h e = cc
+at_flies past (Does doing) n h e = wanted_flies past (wants doing) n h e
+
+pub flies_taken : (past : Past) (n : ℕ) → InFlight past n → is_ticket_taken past.state.pages n ≡ true
+flies_taken past n h = page_passes _ past.state.pages h.p h.page h.there (ap (λ (m : Option ℕ). is_number m n) h.ticket ∙ own_number n)
+
+-- ---- what goes on
+
+-- from one past to a later one: pages in transfer under these tickets stay, and who took a ticket
+pub record GoesOn (old new : Past) (left : Option ℕ) : Type 0 where
+  pub stays : (p n : ℕ) (page : Page) → page_at old.state.pages p ≡ Some page → ticket_at page.residence ≡ Some n → (left ≡ Some n → ⊥) → page_at new.state.pages p ≡ Some page
+  pub taken : (n : ℕ) → taker n old.history ≡ Some 0 → taker n new.history ≡ Some 0
+
+module _ (old new : Past) (left : Option ℕ) (goes : GoesOn old new left) where
+  coming_goes : (ticket : TicketOf) → (left ≡ Some ticket.number → ⊥) → IsComing old ticket → IsComing new ticket
+  coming_goes ticket other h =
+      record { p = h.p; page = h.page; frame = h.frame; there = goes.stays h.p ticket.number h.page h.there (ap ticket_at h.coming) other; coming = h.coming; taken = goes.taken ticket.number h.taken }
+
+  going_goes : (ticket : TicketOf) → (left ≡ Some ticket.number → ⊥) → IsGoing old ticket → IsGoing new ticket
+  going_goes ticket other h =
+      record { p = h.p; page = h.page; frame = h.frame; there = goes.stays h.p ticket.number h.page h.there (ap ticket_at h.going) other; going = h.going; taken = goes.taken ticket.number h.taken }
+
+  asked_goes : (what : Event) → ((n : ℕ) → number_asked what ≡ Some n → left ≡ Some n → ⊥) → KeepsAsked old what → KeepsAsked new what
+  asked_goes (event.Arrived ticket) other h = coming_goes ticket (other ticket.number refl) h
+  asked_goes (event.FetchFailed ticket) other h = coming_goes ticket (other ticket.number refl) h
+  asked_goes (event.Left ticket) other h = going_goes ticket (other ticket.number refl) h
+  asked_goes (event.LeaveFailed ticket) other h = going_goes ticket (other ticket.number refl) h
+  asked_goes what other h = tt
+
+  wanted_goes : (want : Want) → ((n : ℕ) → number_wanted want ≡ Some n → left ≡ Some n → ⊥) → KeepsWanted old want → KeepsWanted new want
+  wanted_goes (want.Call remembers what) other h = asked_goes what other h
+  wanted_goes (want.Read access ticket) other h = coming_goes ticket (other ticket.number refl) h
+  wanted_goes (want.Write on ticket) other h = going_goes ticket (other ticket.number refl) h
+
+  at_goes : (at : Activity) → ((n : ℕ) → number_at at ≡ Some n → left ≡ Some n → ⊥) → KeepsAt old at → KeepsAt new at
+  at_goes Rests other h = tt
+  at_goes (Begun what) other h = tt
+  at_goes (Does doing) other h = wanted_goes (wants doing) other h
+
+taker_entry : (given : Option ℕ) (n : ℕ) (others : Option ℕ) → others ≡ Some 0 → taker_or n given 0 others ≡ Some 0
+taker_entry None n others e = e
+taker_entry (Some m) n others e = by_test (m == n)
+  where
+    by_test : (b : Bool) → cond b (Some 0) others ≡ Some 0
+    by_test true = refl
+    by_test false = e
+
+taker_given : (given : Option ℕ) (n : ℕ) (others : Option ℕ) → given ≡ Some n → taker_or n given 0 others ≡ Some 0
+taker_given given n others e = rw e (ap (λ b. cond b (Some 0) others) (own_number n))
+
+-- ---- a turn
+
+-- what one turn leaves in the hand of its actor and in those of others
+pub record TurnsWell (old : Past) (want : Want) (turned : Turned) (new : Past) : Type 0 where
+  pub live : AllLive new.state.mappings new.state.tasks
+  pub own : KeepsAt new (left_of turned)
+  pub others : (at : Activity) → ((n : ℕ) → number_at at ≡ Some n → number_wanted want ≡ Some n → ⊥) → KeepsAt old at → KeepsAt new at
+  pub number : (n : ℕ) → number_at (left_of turned) ≡ Some n → (number_wanted want ≡ Some n) ⊎ ((at : Activity) → KeepsAt old at → number_at at ≡ Some n → ⊥)
+  pub fine : FineOutcome (outcome_of turned)
+
+known_coming : (past : Past) (ticket : TicketOf) → IsComing past ticket → (is_coming_in past.state.pages ticket.number && is_worker 0 (taker ticket.number past.history)) ≡ true
+known_coming past ticket h =
+    let flies : is_coming_in past.state.pages ticket.number ≡ true = page_passes _ past.state.pages h.p h.page h.there (ap (is_coming_at ticket.number) h.coming ∙ own_number ticket.number) in
+    let own : is_worker 0 (taker ticket.number past.history) ≡ true = ap (is_worker 0) h.taken in
+    rw (flies, own) refl
+
+known_going : (past : Past) (ticket : TicketOf) → IsGoing past ticket → (is_going_out past.state.pages ticket.number && is_worker 0 (taker ticket.number past.history)) ≡ true
+known_going past ticket h =
+    let flies : is_going_out past.state.pages ticket.number ≡ true = page_passes _ past.state.pages h.p h.page h.there (ap (is_going_at ticket.number) h.going ∙ own_number ticket.number) in
+    let own : is_worker 0 (taker ticket.number past.history) ≡ true = ap (is_worker 0) h.taken in
+    rw (flies, own) refl
+
+-- the ticket of an ending is known
+pub asked_known : (past : Past) (what : Event) → KeepsAsked past what → knows_ticket past.state past.history 0 (event_of what) ≡ true
+asked_known past (event.Arrived ticket) h = known_coming past ticket h
+asked_known past (event.FetchFailed ticket) h = known_coming past ticket h
+asked_known past (event.Left ticket) h = known_going past ticket h
+asked_known past (event.LeaveFailed ticket) h = known_going past ticket h
+asked_known past what h = refl
+
+module _ (old new : Past) (alive : AllLive old.state.mappings old.state.tasks) where
+  -- the past is the same: a turn of the device, or a refusal
+  same_turn : (want : Want) (turned : Turned) → new ≡ old → KeepsAt old (left_of turned) → ((n : ℕ) → number_at (left_of turned) ≡ Some n → number_wanted want ≡ Some n) → FineOutcome (outcome_of turned)
+      → TurnsWell old want turned new
+  same_turn want turned same own number fine =
+      record {
+        live = subst (λ (p : Past). AllLive p.state.mappings p.state.tasks) (sym same) alive;
+        own = subst (λ (p : Past). KeepsAt p (left_of turned)) (sym same) own;
+        others = λ at other h. subst (λ (p : Past). KeepsAt p at) (sym same) h;
+        number = λ n e. inl (number n e);
+        fine = fine;
+      }
+
+  effect_of : (what : Plain_event) (answer : Plain_reply) → IsServed old 0 what answer new → Effect old.state what answer new.state
+  effect_of what answer h = step_effect old.state new.state alive what answer h.unrefused h.answers.steps
+
+  goes_of : (what : Plain_event) (answer : Plain_reply) → IsServed old 0 what answer new → GoesOn old new (ends what)
+  goes_of what answer h =
+      record {
+        stays = (effect_of what answer h).pages.stays;
+        taken = λ n e. subst (λ (es : List Entry). taker n es ≡ Some 0) (sym h.answers.history) (taker_entry (ticket_given answer) n (taker n old.history) e);
+      }
+
+  not_fetch : (answered : Reply) (ticket : TicketOf) → IsRefused old (reply_of answered) new → answered ≡ said.Fetch ticket → ⊥
+  not_fetch answered ticket still is = absurd (never (sym still.refused ∙ ap reply_of is))
+    where
+      never : reply.Refused still.why ≡ reply.Fetch (record { 0 = ticket.number }) → ⊥
+      never e = cc
+
+  pub not_out : (answered : Reply) (ticket : TicketOf) → IsRefused old (reply_of answered) new → answered ≡ said.Out ticket → ⊥
+  not_out answered ticket still is = absurd (never (sym still.refused ∙ ap reply_of is))
+    where
+      never : reply.Refused still.why ≡ reply.Out (record { 0 = ticket.number }) → ⊥
+      never e = cc
+
+  pub still_known : (answered : Reply) → IsRefused old (reply_of answered) new → reply_of answered ≡ reply.Refused Stranger → ⊥
+  still_known answered still e = still.known (refused_inj (sym still.refused ∙ e))
+    where
+      refused_inj : reply.Refused still.why ≡ reply.Refused Stranger → still.why ≡ Stranger
+      refused_inj f = cc
+
+  -- the ticket that a reply gave is the turn's new one
+  module _ (remembers : Asked) (what : Event) (answered : Reply) (turned : Turned) (went : IsServed old 0 (event_of what) (reply_of answered) new) where
+    on_others : (at : Activity) → ((n : ℕ) → number_at at ≡ Some n → number_asked what ≡ Some n → ⊥) → KeepsAt old at → KeepsAt new at
+    on_others at other h = at_goes old new (ends (event_of what)) (goes_of (event_of what) (reply_of answered) went) at other h
+
+    given_taken : (n : ℕ) → ticket_given (reply_of answered) ≡ Some n → taker n new.history ≡ Some 0
+    given_taken n e = subst (λ (es : List Entry). taker n es ≡ Some 0) (sym went.answers.history) (taker_given (ticket_given (reply_of answered)) n (taker n old.history) e)
+
+    given_fresh : (n : ℕ) → ticket_given (reply_of answered) ≡ Some n → (at : Activity) → KeepsAt old at → number_at at ≡ Some n → ⊥
+    given_fresh n e at h number =
+        unlike (is_ticket_taken old.state.pages n) (flies_taken old n (at_flies old at n h number)) ((effect_of (event_of what) (reply_of answered) went).fresh n e)
+
+    on_turn : Gives new 0 answered → Next answered turned → TurnsWell old (want.Call remembers what) turned new
+    on_turn gives (Handless none fine) =
+        record {
+          live = (effect_of (event_of what) (reply_of answered) went).places.live;
+          own = at_none new (left_of turned) none;
+          others = on_others;
+          number = λ n e. never_some (number_at (left_of turned)) none e;
+          fine = fine;
+        }
+    on_turn gives (Reads access ticket is goes) =
+        let given : GivesIn new 0 ticket = subst (λ (r : Reply). Gives new 0 r) is gives in
+        let ticketed : ticket_given (reply_of answered) ≡ Some ticket.number = ap (λ (r : Reply). ticket_given (reply_of r)) is in
+        record {
+          live = (effect_of (event_of what) (reply_of answered) went).places.live;
+          own = subst (λ (t : Turned). KeepsAt new (left_of t)) (sym goes) (record { p = given.p; page = given.page; frame = given.frame; there = given.there; coming = given.coming; taken = given_taken ticket.number ticketed });
+          others = on_others;
+          number = λ n e. inr (given_fresh n (ticketed ∙ sym (ap (λ (t : Turned). number_at (left_of t)) goes) ∙ e));
+          fine = subst (λ (t : Turned). FineOutcome (outcome_of t)) (sym goes) tt;
+        }
+    on_turn gives (Writes on ticket is goes) =
+        let given : GivesOut new 0 ticket = subst (λ (r : Reply). Gives new 0 r) is gives in
+        let ticketed : ticket_given (reply_of answered) ≡ Some ticket.number = ap (λ (r : Reply). ticket_given (reply_of r)) is in
+        record {
+          live = (effect_of (event_of what) (reply_of answered) went).places.live;
+          own = subst (λ (t : Turned). KeepsAt new (left_of t)) (sym goes) (record { p = given.p; page = given.page; frame = given.frame; there = given.there; going = given.going; taken = given_taken ticket.number ticketed });
+          others = on_others;
+          number = λ n e. inr (given_fresh n (ticketed ∙ sym (ap (λ (t : Turned). number_at (left_of t)) goes) ∙ e));
+          fine = subst (λ (t : Turned). FineOutcome (outcome_of t)) (sym goes) tt;
+        }
+
+  still_turn : (remembers : Asked) (what : Event) (answered : Reply) (turned : Turned) → IsRefused old (reply_of answered) new → Next answered turned → TurnsWell old (want.Call remembers what) turned new
+  still_turn remembers what answered turned still (Handless none fine) =
+      same_turn (want.Call remembers what) turned still.same (at_none old (left_of turned) none) (λ n e. never_some (number_at (left_of turned)) none e) fine
+  still_turn remembers what answered turned still (Reads access ticket is goes) = absurd (not_fetch answered ticket still is)
+  still_turn remembers what answered turned still (Writes on ticket is goes) = absurd (not_out answered ticket still is)
+
+  asks_turn : (remembers : Asked) (what : Event) (turned : Turned) → KeepsAsked old what → Asks old remembers what turned new → TurnsWell old (want.Call remembers what) turned new
+  asks_turn remembers what turned keeps asks = by_comes (called_comes old new 0 (event_of what) (reply_of asks.said) (asked_known old what keeps) asks.called)
+    where
+      by_comes : Comes old 0 (event_of what) (reply_of asks.said) new → TurnsWell old (want.Call remembers what) turned new
+      by_comes (ByRefusal still) = still_turn remembers what asks.said turned still (told_next remembers asks.said turned asks.told (still_known asks.said still))
+      by_comes (ByEntry went) = on_turn remembers what asks.said turned went asks.gives (told_next remembers asks.said turned asks.told (went.done Stranger))
+
+  reads_turn : (disk disk' : Disk) (access : Access) (ticket : TicketOf) (turned : Turned) → IsComing old ticket → new ≡ old → ReadsIn disk access ticket turned disk' → TurnsWell old (want.Read access ticket) turned new
+  reads_turn disk disk' access ticket turned coming same reads =
+      same_turn (want.Read access ticket) turned same
+      (subst (λ (t : Turned). KeepsAt old (left_of t)) (sym reads.goes) (own reads.answered))
+      (λ n e. sym (number reads.answered) ∙ sym (ap (λ (t : Turned). number_at (left_of t)) reads.goes) ∙ e)
+      (subst (λ (t : Turned). FineOutcome (outcome_of t)) (sym reads.goes) tt)
+    where
+      filled : IsComing old reads.filled
+      filled =
+          subst (λ (t : TicketOf). IsComing old t) (sym reads.same)
+          (record { p = coming.p; page = coming.page; frame = coming.frame; there = coming.there; coming = coming.coming; taken = coming.taken })
+
+      own : (answered : Result (Unit {0}) Fault) → KeepsWanted old (wants (after_read access answered reads.filled))
+      own (Ok done) = filled
+      own (Err fault) = filled
+
+      number : (answered : Result (Unit {0}) Fault) → number_wanted (wants (after_read access answered reads.filled)) ≡ Some ticket.number
+      number (Ok done) = ap (λ (t : TicketOf). Some t.number) reads.same
+      number (Err fault) = ap (λ (t : TicketOf). Some t.number) reads.same
+
+  writes_turn : (disk disk' : Disk) (on : Onward) (ticket : TicketOf) (turned : Turned) → IsGoing old ticket → new ≡ old → WritesOut disk on ticket turned disk' → TurnsWell old (want.Write on ticket) turned new
+  writes_turn disk disk' on ticket turned going same writes =
+      same_turn (want.Write on ticket) turned same
+      (subst (λ (t : Turned). KeepsAt old (left_of t)) (sym writes.goes) (own writes.answered))
+      (λ n e. sym (number writes.answered) ∙ sym (ap (λ (t : Turned). number_at (left_of t)) writes.goes) ∙ e)
+      (subst (λ (t : Turned). FineOutcome (outcome_of t)) (sym writes.goes) tt)
+    where
+      own : (answered : Result (Unit {0}) Fault) → KeepsWanted old (wants (after_write on answered ticket))
+      own (Ok done) = going
+      own (Err fault) = going
+
+      number : (answered : Result (Unit {0}) Fault) → number_wanted (wants (after_write on answered ticket)) ≡ Some ticket.number
+      number (Ok done) = refl
+      number (Err fault) = refl
+
+  pub want_turn : (disk disk' : Disk) (want : Want) (turned : Turned) → KeepsWanted old want → WantTurn old disk want turned new disk' → TurnsWell old want turned new
+  want_turn disk disk' (want.Call remembers what) turned keeps turn = asks_turn remembers what turned keeps turn.0
+  want_turn disk disk' (want.Read access ticket) turned keeps turn = reads_turn disk disk' access ticket turned keeps turn.1 turn.0
+  want_turn disk disk' (want.Write on ticket) turned keeps turn = writes_turn disk disk' on ticket turned keeps turn.1 turn.0
+
+-- ---- worlds
+
+-- what holds of what an actor is at, and of what all others are at, holds of what all are at then
+pub seats_all : (R : Activity → Type 0) (who : Actor) (what : Activity) (seats : List Seat) → R what → ((a : Actor) → (number_of a ≡ number_of who → ⊥) → R (activity_of a seats)) → (a : Actor)
+    → R (activity_of a (with_activity who what seats))
+seats_all R who what seats own others a =
+    elim (eq_cases (number_of a) (number_of who)) [
+      | inl same ↦ subst R (sym (activity_of-own a who what seats same)) own
+      | inr differs ↦ subst R (sym (activity_of-other a who what seats differs)) (others a differs)
+    ]
+
+seats_apart : (who : Actor) (what : Activity) (seats : List Seat)
+    → ((a : Actor) (n : ℕ) → (number_of a ≡ number_of who → ⊥) → number_at what ≡ Some n → number_at (activity_of a seats) ≡ Some n → ⊥)
+    → ((a b : Actor) (n : ℕ) → number_at (activity_of a seats) ≡ Some n → number_at (activity_of b seats) ≡ Some n → number_of a ≡ number_of b)
+    → (a b : Actor) (n : ℕ) → number_at (activity_of a (with_activity who what seats)) ≡ Some n → number_at (activity_of b (with_activity who what seats)) ≡ Some n → number_of a ≡ number_of b
+seats_apart who what seats own apart a b n e f =
+    elim (eq_cases (number_of a) (number_of who)) [
+      | inl same ↦
+          elim (eq_cases (number_of b) (number_of who)) [
+            | inl same' ↦ same ∙ sym same'
+            | inr differs ↦ absurd (own b n differs (sym (ap number_at (activity_of-own a who what seats same)) ∙ e) (sym (ap number_at (activity_of-other b who what seats differs)) ∙ f))
+          ]
+      | inr differs ↦
+          elim (eq_cases (number_of b) (number_of who)) [
+            | inl same ↦ absurd (own a n differs (sym (ap number_at (activity_of-own b who what seats same)) ∙ f) (sym (ap number_at (activity_of-other a who what seats differs)) ∙ e))
+            | inr differs' ↦ apart a b n (sym (ap number_at (activity_of-other a who what seats differs)) ∙ e) (sym (ap number_at (activity_of-other b who what seats differs')) ∙ f)
+          ]
+    ]
+
+pub tickets_rest : (w : World) (who : Actor) (what : Activity) → is_idle what ≡ true → Tickets w → Tickets (record w { seats = with_activity who what w.seats })
+tickets_rest w who what idle h =
+    record {
+      live = h.live;
+      keeps = seats_all (KeepsAt w.past) who what w.seats (at_none w.past what (idle_none what idle)) (λ a differs. h.keeps a);
+      apart = seats_apart who what w.seats (λ a n differs e f. never_some (number_at what) (idle_none what idle) e) h.apart;
+    }
+
+-- the actor's own ticket, and that no other has it
+pub own_keeps : (w : World) (who : Actor) (now : Doing) → IsAt w who now → Tickets w → KeepsWanted w.past (wants now)
+own_keeps w who now (inl is) h = subst (λ (at : Activity). KeepsAt w.past at) is (h.keeps who)
+own_keeps w who now (inr none) h = wanted_none w.past (wants now) none
+
+pub others_differ : (w : World) (who : Actor) (now : Doing) → IsAt w who now → Tickets w → (a : Actor) → (number_of a ≡ number_of who → ⊥) → (n : ℕ) → number_at (activity_of a w.seats) ≡ Some n
+    → number_wanted (wants now) ≡ Some n → ⊥
+others_differ w who now (inl is) h a differs n e f = differs (h.apart a who n e (ap number_at is ∙ f))
+others_differ w who now (inr none) h a differs n e f = never_some (number_wanted (wants now)) none f
+
+pub turns_well : (old new : World) (who : Actor) (now : Doing) (outcome : Outcome) → IsAt old who now → (turn : DoingTurn old who now outcome new) → Tickets old → TurnsWell old.past (wants now) turn.turned new.past
+turns_well old new who now outcome at turn h = want_turn old.past new.past h.live old.disk new.disk (wants now) turn.turned (own_keeps old who now at h) turn.turns
+
+pub tickets_turn : (old new : World) (who : Actor) (now : Doing) (outcome : Outcome) → IsAt old who now → DoingTurn old who now outcome new → Tickets old → Tickets new × FineOutcome outcome
+tickets_turn old new who now outcome at turn h =
+    let well = turns_well old new who now outcome at turn h in (
+      record {
+        live = well.live;
+        keeps = subst (λ (ss : List Seat). (a : Actor) → KeepsAt new.past (activity_of a ss)) (sym turn.leaves)
+            (seats_all (KeepsAt new.past) who (left_of turn.turned) old.seats well.own (λ a differs. well.others (activity_of a old.seats) (others_differ old who now at h a differs) (h.keeps a)));
+        apart = subst (λ (ss : List Seat). (a b : Actor) (n : ℕ) → number_at (activity_of a ss) ≡ Some n → number_at (activity_of b ss) ≡ Some n → number_of a ≡ number_of b) (sym turn.leaves)
+            (seats_apart who (left_of turn.turned) old.seats
+            (λ a n differs e f.
+            elim (well.number n e) [
+              | inl wanted ↦ others_differ old who now at h a differs n f wanted
+              | inr fresh ↦ fresh (activity_of a old.seats) (h.keeps a) f
+            ])
+            h.apart);
+      },
+      subst FineOutcome (sym turn.shows) well.fine,
+    )
+
+pub tickets_first : (config : Config) (disk : Disk) → Tickets (first_world config disk)
+tickets_first config disk = record { live = λ t v p e. cc; keeps = λ a. tt; apart = λ a b n e f. cc }
+
+pub no_strangers : NoStrangers
+no_strangers config before lines answers end runs k told is =
+    fine_at answers k told (runs_keep Tickets tickets_rest tickets_turn (first_world config before) end lines answers runs (tickets_first config before)).1 is

@@ -1,0 +1,206 @@
+-- Schedules: a row of worlds, one step of the schedule between neighbours, over one book and one device. A step takes one actor's turns, or none.
+use Rattle.std.specs.Prelude.{◌≡◌, ◌⊎◌, ℕ, ◌+◌, ◌<◌, ◌==◌, ◌&&◌, nat_le, Bool, true, false, if◌then◌else◌, List, [], ◌∷◌, ◌++◌, length, count_by, Ok, Err}
+use Rattle.machine.specs.declared.config.Config.{Config}
+use Rattle.machine.specs.declared.command.Actor.{Actor}
+use Rattle.machine.specs.declared.command.Actor.TheVariants as actor
+use Rattle.machine.specs.declared.command.Command.{Command}
+use Rattle.machine.specs.declared.command.Step.{Step}
+use Rattle.machine.specs.declared.command.Step.TheVariants as step
+use Rattle.machine.specs.declared.command.Word.TheVariants as word
+use Rattle.machine.specs.declared.command.Answer.{Answer}
+use Rattle.machine.specs.declared.command.Answer.TheVariants as answer
+use Rattle.machine.specs.declared.command.Reply.{Reply as Told_by}
+use Rattle.block_store.specs.Device.{Disk}
+use Rattle.book.specs.declared.event.Event.{Event}
+use Rattle.book.specs.declared.event.Reply.{Reply}
+use Rattle.book.specs.Events.{event_of, reply_of}
+use Rattle.book.specs.Replies.{KeepsTicket, Gives}
+use Rattle.driver.specs.declared.turn.Asked.{Asked}
+use Rattle.driver.specs.declared.turn.Doing.{Doing}
+use Rattle.driver.specs.declared.turn.Want.{Want}
+use Rattle.driver.specs.declared.turn.Want.TheVariants as want
+use Rattle.driver.specs.declared.turn.Turned.{Turned}
+use Rattle.driver.specs.declared.turn.Turned.TheVariants as turned
+use Rattle.driver.specs.declared.turn.Outcome.{Outcome}
+use Rattle.driver.specs.declared.turn.Outcome.TheVariants.{Goes, Kills, Ends}
+use Rattle.driver.specs.declared.turn.Activity.{Activity}
+use Rattle.driver.specs.declared.turn.Activity.TheVariants.{Rests, Begun, Does}
+use Rattle.driver.specs.declared.turn.Seat.{Seat}
+use Rattle.machine.specs.State.{opening_of, is_config}
+use Rattle.machine.specs.History.{Honest, Right}
+use Rattle.machine.specs.Call.{Past, first_past, Called}
+use Rattle.driver.specs.Turns.{wants, Told, ReadsIn, WritesOut, Judged, judged, ends_refused}
+
+-- ---- what the actors are at
+
+-- different actors have different numbers; those below 3 are for actors that are no task
+abbrev pub number_of : Actor → ℕ
+number_of actor.Shell = 0
+number_of actor.Control = 1
+number_of (actor.Task n) = n + 3
+
+abbrev pub is_of : Actor → Seat → Bool
+is_of who seat = number_of seat.actor == number_of who
+
+-- what an actor is at
+abbrev pub activity_of : Actor → List Seat → Activity
+activity_of who [] = Rests
+activity_of who (seat ∷ seats) = if is_of who seat then seat.activity else activity_of who seats
+
+-- the seats once an actor is at this
+abbrev pub with_activity : Actor → Activity → List Seat → List Seat
+with_activity who what [] = record { actor = who; activity = what } ∷ []
+with_activity who what (seat ∷ seats) =
+    if is_of who seat then record { actor = seat.actor; activity = what } ∷ seats else seat ∷ with_activity who what seats
+
+-- a book, a device, and what each actor is at
+pub record World : Type 0 where
+  pub past : Past
+  pub disk : Disk
+  pub seats : List Seat
+
+-- the opening world: the run asks with one pass, and nobody has a command
+abbrev pub first_world : Config → Disk → World
+first_world config disk = record { past = record (first_past (opening_of config)) { passes = 1 }; disk = disk; seats = [] }
+
+-- ---- one turn
+
+abbrev pub outcome_of : Turned → Outcome
+outcome_of (turned.Goes doing) = Goes
+outcome_of (turned.Kills t doing) = Kills t
+outcome_of (turned.Ends said) = Ends said
+
+abbrev pub left_of : Turned → Activity
+left_of (turned.Goes doing) = Does doing
+left_of (turned.Kills t doing) = Does doing
+left_of (turned.Ends said) = Rests
+
+-- one event of the book, and what the command makes of its reply
+pub record Asks (old : Past) (remembers : Asked) (what : Event) (turned : Turned) (new : Past) : Type 0 where
+  pub said : Reply
+  pub called : Called old 0 (event_of what) (reply_of said) new
+  pub gives : Gives new 0 said
+  pub keeps : KeepsTicket 0 what said
+  pub told : Told remembers said turned
+
+-- a turn asks the book or the device, and leaves the other as it was
+abbrev pub WantTurn : Past → Disk → Want → Turned → Past → Disk → Type 0
+WantTurn past disk (want.Call remembers what) turned past' disk' = Asks past remembers what turned past' × (disk' ≡ disk)
+WantTurn past disk (want.Read access ticket) turned past' disk' = ReadsIn disk access ticket turned disk' × (past' ≡ past)
+WantTurn past disk (want.Write on ticket) turned past' disk' = WritesOut disk on ticket turned disk' × (past' ≡ past)
+
+-- a turn of a command that stands there
+pub record DoingTurn (old : World) (who : Actor) (doing : Doing) (outcome : Outcome) (new : World) : Type 0 where
+  pub turned : Turned
+  pub turns : WantTurn old.past old.disk (wants doing) turned new.past new.disk
+  pub shows : outcome ≡ outcome_of turned
+  pub leaves : new.seats ≡ with_activity who (left_of turned) old.seats
+
+abbrev pub JudgedTurn : World → Actor → Judged → Outcome → World → Type 0
+JudgedTurn old who (Err why) outcome new =
+    (outcome ≡ outcome_of (ends_refused why)) × (new ≡ record old { seats = with_activity who Rests old.seats })
+JudgedTurn old who (Ok doing) outcome new = DoingTurn old who doing outcome new
+
+abbrev pub ActivityTurn : World → Actor → Activity → Outcome → World → Type 0
+ActivityTurn old who Rests outcome new = (outcome ≡ Ends (answer.Word word.Idle)) × (new ≡ old)
+ActivityTurn old who (Begun what) outcome new = JudgedTurn old who (judged old.past.state.tree who what) outcome new
+ActivityTurn old who (Does doing) outcome new = DoingTurn old who doing outcome new
+
+-- one turn of an actor
+abbrev pub Turn : World → Actor → Outcome → World → Type 0
+Turn old who outcome new = ActivityTurn old who (activity_of who old.seats) outcome new
+
+-- ---- steps
+
+abbrev pub answer_by : Actor → Answer → List Told_by
+answer_by who said = record { actor = who; answer = said } ∷ []
+
+-- what a turn prints; a kill is printed at the moment it is made
+abbrev pub said_at : Actor → Outcome → List Told_by
+said_at who Goes = []
+said_at who (Kills t) = answer_by who (answer.Kill t)
+said_at who (Ends said) = answer_by who said
+
+abbrev pub all_said : Actor → List Outcome → List Told_by
+all_said who [] = []
+all_said who (outcome ∷ outcomes) = said_at who outcome ++ all_said who outcomes
+
+abbrev pub is_end : Outcome → Bool
+is_end Goes = false
+is_end (Kills t) = false
+is_end (Ends said) = true
+
+-- turns, none of which ends the command
+abbrev pub Goings : World → Actor → List Outcome → World → Type 0
+Goings old who [] new = new ≡ old
+Goings old who (outcome ∷ outcomes) new = (mid : World) × Turn old who outcome mid × (is_end outcome ≡ false) × Goings mid who outcomes new
+
+abbrev pub most_turns : ℕ
+most_turns = 1000
+
+-- the last turn answers
+pub record EndsIn (mid : World) (who : Actor) (earlier : List Outcome) (answers : List Told_by) (new : World) : Type 0 where
+  pub last : Outcome
+  pub turn : Turn mid who last new
+  pub ends : is_end last ≡ true
+  pub within : length earlier < most_turns
+  pub answers_are : answers ≡ all_said who earlier ++ said_at who last
+
+-- as many turns as a finish takes, and no answer: the command stays under way
+pub record RunsOut (mid : World) (who : Actor) (earlier : List Outcome) (answers : List Told_by) (new : World) : Type 0 where
+  pub spent : length earlier ≡ most_turns
+  pub stays : new ≡ mid
+  pub answers_are : answers ≡ all_said who earlier ++ answer_by who (answer.Word word.TurnLimit)
+
+-- turns until an answer, at most so many
+abbrev pub Finishes : World → Actor → List Told_by → World → Type 0
+Finishes old who answers new =
+    (earlier : List Outcome) × (mid : World) × Goings old who earlier mid × (EndsIn mid who earlier answers new ⊎ RunsOut mid who earlier answers new)
+
+abbrev pub begun : World → Actor → Command → World
+begun old who what = record old { seats = with_activity who (Begun what) old.seats }
+
+-- a command is begun, unless one is under way
+abbrev pub Begins : World → Actor → Command → Activity → List Told_by → World → Type 0
+Begins old who what Rests answers new = (answers ≡ []) × (new ≡ begun old who what)
+Begins old who what under_way answers new = (answers ≡ answer_by who (answer.Word word.Underway)) × (new ≡ old)
+
+-- one turn, whatever comes of it
+abbrev pub Advances : World → Actor → List Told_by → World → Type 0
+Advances old who answers new = (outcome : Outcome) × Turn old who outcome new × (answers ≡ said_at who outcome)
+
+abbrev pub Stepped : World → Step → List Told_by → World → Type 0
+Stepped old (step.Begin who what) answers new = Begins old who what (activity_of who old.seats) answers new
+Stepped old (step.Advance who) answers new = Advances old who answers new
+Stepped old (step.Finish who) answers new = Finishes old who answers new
+
+-- ---- runs
+
+-- the answers to a whole list of steps, in order
+abbrev pub Runs : World → List Step → List Told_by → World → Type 0
+Runs old [] answers new = (answers ≡ []) × (new ≡ old)
+Runs old (s ∷ steps) answers new =
+    (here : List Told_by) × (later : List Told_by) × (mid : World) × Stepped old s here mid × Runs mid steps later new × (answers ≡ here ++ later)
+
+-- these answers are those of the plain machine over a device, which is left so: a row of worlds from the opening one gives them, each page that was read
+-- in brought what was last written, and each read gave it
+pub record Schedules (config : Config) (before : Disk) (steps : List Step) (answers : List Told_by) (after : Disk) : Type 0 where
+  pub end : World
+  pub runs : Runs (first_world config before) steps answers end
+  pub device : end.disk ≡ after
+  pub honest : Honest end.past.history
+  pub right : Right end.past.history
+
+-- the configuration is within its limits, and the device has its swap blocks
+abbrev pub fits : Config → Disk → Bool
+fits config disk = is_config config && nat_le config.swap (length disk.contents)
+
+-- ---- errors of the device
+
+abbrev pub is_error : Answer → Bool
+is_error (answer.Word word.Io) = true
+is_error said = false
+
+-- how many answers tell of an error of the device
+abbrev pub errors : List Told_by → ℕ
+errors answers = count_by (λ (told : Told_by). is_error told.answer) answers

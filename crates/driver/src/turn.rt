@@ -1,0 +1,118 @@
+//! A command under way, row by row of the table of turns.
+
+use book::{Event, InTicket, OutTicket};
+use machine::amount::Amount;
+use machine::command::{Actor, Answer, Command};
+use machine::event::{Cause, Op, Place, Query};
+use machine::id::{GroupId, TaskId};
+use machine::text::Text;
+
+/// A task's access to a byte.
+#[derive(Clone, Copy, Debug, PartialEq, Eq)]
+pub struct Access {
+    pub task: TaskId,
+    pub place: Place,
+    pub op: Op,
+}
+
+/// What a command goes on with once a page has left.
+#[derive(Clone, Copy, Debug, PartialEq, Eq)]
+pub enum Onward {
+    /// The access is tried again.
+    Try(Access),
+    /// Room is made under the group, whose max was set.
+    Lower(GroupId),
+}
+
+/// Where a command stands, its paths found and its texts read: what it asks of the book or of the
+/// device next. A ticket in it has to be spent.
+#[must_use]
+pub enum Doing {
+    /// The access is tried.
+    Try(Access),
+    /// Room is made for the access.
+    MakeRoom(Access, Cause),
+    /// The group's max is set.
+    SetMax { group: GroupId, max: Amount },
+    /// Room is made under the group, whose max was set.
+    Lower(GroupId),
+    Spawn { task: TaskId, group: GroupId },
+    Exit(TaskId),
+    Mkdir(Text),
+    Show(Query),
+    /// The ticket's block is read, for the access.
+    Read(Access, InTicket),
+    /// It was read, and the book is told.
+    Arrive(Access, InTicket),
+    /// It could not be read, and the book is told.
+    FetchFail(InTicket),
+    /// The ticket's block is written.
+    Write(Onward, OutTicket),
+    /// It was written, and the book is told.
+    Leave(Onward, OutTicket),
+    /// It could not be written, and the book is told.
+    LeaveFail(OutTicket),
+}
+
+/// What a command remembers while its event is with the book.
+#[derive(Clone, Copy, Debug, PartialEq, Eq)]
+pub enum Asked {
+    Try(Access),
+    MakeRoom(Access),
+    SetMax(GroupId),
+    Lower(GroupId),
+    /// A task or a group is made.
+    Make,
+    /// A task ends by itself.
+    Exit,
+    /// A control file is shown.
+    Show,
+    Arrive(Access),
+    FetchFail,
+    Leave(Onward),
+    LeaveFail,
+}
+
+/// What an actor wants in one turn.
+#[must_use]
+pub enum Want {
+    /// This event of the book; and what it remembers of it.
+    Call(Asked, Event),
+    /// The ticket's block, read from the device.
+    Read(Access, InTicket),
+    /// The ticket's block, written to the device.
+    Write(Onward, OutTicket),
+}
+
+/// What a turn makes of a command.
+#[must_use]
+pub enum Turned {
+    Goes(Doing),
+    /// A task was killed, and the command goes on.
+    Kills(TaskId, Doing),
+    Ends(Answer),
+}
+
+/// What a turn shows.
+#[derive(Debug, Drop)]
+pub enum Outcome {
+    Goes,
+    Kills(TaskId),
+    Ends(Answer),
+}
+
+/// What an actor is at.
+#[must_use]
+pub enum Activity {
+    Rests,
+    /// A command that has had no turn yet.
+    Begun(Command),
+    Does(Doing),
+}
+
+/// An actor, and what it is at.
+#[must_use]
+pub struct Seat {
+    pub actor: Actor,
+    pub activity: Activity,
+}

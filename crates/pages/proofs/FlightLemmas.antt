@@ -1,0 +1,143 @@
+-- Transfers in flight, after a change of one page and of one ticket.
+use Rattle.std.proofs.Common.{◌≡◌, ◌≢◌, ℕ, Bool, true, false, List, map, get_or, Option, Some, None, refl, sym, ap, ◌∙◌, subst, inl, inr}
+use Rattle.std.specs.Prelude.{option_map, IfSome, IsSome}
+use Rattle.std.proofs.lemmas.Bool.Decides.{eqb_tells}
+use Rattle.machine.specs.Slots.{at, there_and, Changes}
+use Rattle.machine.specs.Pages.{Page, Pages, Residence, Held, Coming, Going, Away, page_at, is_number, ticket_at, in_transfer_at, is_in_transfer}
+use Rattle.pages.specs.declared.flight.Flight.{Flight}
+use Rattle.pages.specs.declared.kept.Kept.{Kept}
+use Rattle.pages.specs.declared.kept.Kept.TheVariants as kept
+use Rattle.pages.specs.PageTable.{anon_page, flight, is_under_ticket, AreInFlight}
+use Rattle.pages.specs.Records.{page_of}
+use Rattle.pages.proofs.TableLemmas.{at-map}
+
+-- what stands at a number is in transfer under a ticket
+abbrev pub under : Option Page → ℕ → Bool
+under slot n = there_and (λ page. is_number (ticket_at page.residence) n) slot
+
+-- it is in no transfer
+abbrev pub IsSettled : Option Page → Type 0
+IsSettled slot = (n : ℕ) → under slot n ≡ false
+
+abbrev pub AreMemory : Pages → Type 0
+AreMemory pages = (p : ℕ) → IfSome (page_at pages p) (λ page. page ≡ anon_page page.group page.residence)
+
+abbrev pub page_number : Option Flight → Option ℕ
+page_number slot = option_map (λ (f : Flight). f.page.0) slot
+
+-- what pages own makes pages of memory
+memory_of : (slot : Option Kept) → IfSome (option_map page_of slot) (λ page. page ≡ anon_page page.group page.residence)
+memory_of None = tt
+memory_of (Some (kept.Held frame charge)) = refl
+memory_of (Some (kept.Coming frame charge slot ticket)) = refl
+memory_of (Some (kept.Going frame charge slot ticket)) = refl
+memory_of (Some (kept.Away group slot)) = refl
+
+pub AreMemory-owned : (owned : List (Option Kept)) → AreMemory (map (option_map page_of) owned)
+AreMemory-owned owned p = subst (λ slot. IfSome slot (λ page. page ≡ anon_page page.group page.residence)) (sym (at-map page_of owned p)) (memory_of (get_or owned p None))
+
+same_number : (ticket : Option ℕ) (m n : ℕ) → is_number ticket m ≡ true → is_number ticket n ≡ true → m ≡ n
+same_number None m n first second = absurd (cc)
+same_number (Some t) m n first second =
+    elim (eqb_tells t m) [
+      | inl here ↦ elim (eqb_tells t n) [
+        | inl there ↦ sym here.1 ∙ there.1
+        | inr apart ↦ absurd (let not = sym apart.0 ∙ second in cc)
+      ]
+      | inr apart ↦ absurd (let not = sym apart.0 ∙ first in cc)
+    ]
+
+-- a page is in one transfer at most
+one_ticket : (slot : Option Page) (m n : ℕ) → under slot m ≡ true → under slot n ≡ true → m ≡ n
+one_ticket None m n first second = absurd (cc)
+one_ticket (Some page) m n first second = same_number (ticket_at page.residence) m n first second
+
+none_under : (residence : Residence) (n : ℕ) → in_transfer_at residence ≡ false → is_number (ticket_at residence) n ≡ false
+none_under (Held frame) n is = refl
+none_under (Coming frame block ticket) n is = absurd (cc)
+none_under (Going frame block ticket) n is = absurd (cc)
+none_under (Away block) n is = refl
+
+-- what is in no transfer is under no ticket
+pub IsSettled-still : (slot : Option Page) → there_and is_in_transfer slot ≡ false → IsSettled slot
+IsSettled-still None is = λ n. refl
+IsSettled-still (Some page) is = λ n. none_under page.residence n is
+
+pub IsSettled-is : (slot to : Option Page) → slot ≡ to → IsSettled to → IsSettled slot
+IsSettled-is slot to is settled = λ n. ap (λ s. under s n) is ∙ settled n
+
+-- a page that is in transfer is there
+pub under-there : (slot : Option Page) (n : ℕ) → under slot n ≡ true → IsSome slot
+under-there None n is = absurd (cc)
+under-there (Some page) n is = refl
+
+module _ (old new : Pages) (p : ℕ) (to : Option Page) (placed : Changes old new p to) where
+  under-others : (q m : ℕ) → q ≢ p → under (page_at new q) m ≡ under (page_at old q) m
+  under-others q m apart = ap (λ slot. under slot m) (placed.others q apart)
+
+  under-own : (m : ℕ) → under (page_at new p) m ≡ under to m
+  under-own m = ap (λ slot. under slot m) placed.changed
+
+  -- a flight of another page goes on
+  known-apart : (m : ℕ) (slot : Option Flight) → (under (page_at old p) m ≡ true → ⊥) → IfSome slot (λ f. is_under_ticket old f.page.0 m ≡ true) → IfSome slot (λ f. is_under_ticket new f.page.0 m ≡ true)
+  known-apart m None other is = tt
+  known-apart m (Some f) other is =
+      elim (eqb_tells f.page.0 p) [
+        | inl same ↦ absurd (other (ap (λ q. under (page_at old q) m) (sym same.1) ∙ is))
+        | inr apart ↦ under-others f.page.0 m apart.1 ∙ is
+      ]
+
+  -- a page that begins and ends in no transfer changes
+  pub AreInFlight-apart : (flights : List (Option Flight)) → AreInFlight old flights → IsSettled (page_at old p) → IsSettled to → AreMemory new → AreInFlight new flights
+  AreInFlight-apart flights is before after memory = record {
+    memory = memory;
+    known = λ n. known-apart n (at flights n) (λ moves. let not = sym (before n) ∙ moves in cc) (is.known n);
+    listed = λ q n moves. elim (eqb_tells q p) [
+      | inl same ↦ absurd (let not = sym (after n) ∙ sym (under-own n) ∙ ap (λ r. under (page_at new r) n) (sym same.1) ∙ moves in cc)
+      | inr apart ↦ is.listed q n (sym (under-others q n apart.1) ∙ moves)
+    ];
+  }
+
+  -- a transfer begins under a free ticket
+  pub AreInFlight-begun : (flights later : List (Option Flight)) (n worker : ℕ) → AreInFlight old flights → IsSettled (page_at old p) → at flights n ≡ None → Changes flights later n (Some (flight p worker)) → under to n ≡ true → AreMemory new → AreInFlight new later
+  AreInFlight-begun flights later n worker is before free listed within memory = record {
+    memory = memory;
+    known = λ m. elim (eqb_tells m n) [
+      | inl same ↦ subst (λ slot. IfSome slot (λ f. is_under_ticket new f.page.0 m ≡ true)) (sym (ap (at later) same.1 ∙ listed.changed)) (under-own m ∙ ap (under to) same.1 ∙ within)
+      | inr apart ↦ subst (λ slot. IfSome slot (λ f. is_under_ticket new f.page.0 m ≡ true)) (sym (listed.others m apart.1)) (known-apart m (at flights m) (λ moves. let not = sym (before m) ∙ moves in cc) (is.known m))
+    ];
+    listed = λ q m moves. elim (eqb_tells q p) [
+      | inl same ↦ (
+          let here : under to m ≡ true = sym (under-own m) ∙ ap (λ r. under (page_at new r) m) (sym same.1) ∙ moves in
+          let number : m ≡ n = one_ticket to m n here within in
+          ap page_number (ap (at later) number ∙ listed.changed) ∙ ap Some (sym same.1)
+          )
+      | inr apart ↦ (
+          let there = is.listed q m (sym (under-others q m apart.1) ∙ moves) in
+          elim (eqb_tells m n) [
+            | inl same ↦ absurd (let none = ap page_number (ap (at flights) same.1 ∙ free) in let not = sym none ∙ there in cc)
+            | inr differs ↦ ap page_number (listed.others m differs.1) ∙ there
+          ]
+          )
+    ];
+  }
+
+  -- a transfer ends, and its ticket is free
+  pub AreInFlight-ended : (flights later : List (Option Flight)) (n : ℕ) → AreInFlight old flights → under (page_at old p) n ≡ true → Changes flights later n None → IsSettled to → AreMemory new → AreInFlight new later
+  AreInFlight-ended flights later n is within unlisted after memory = record {
+    memory = memory;
+    known = λ m. elim (eqb_tells m n) [
+      | inl same ↦ subst (λ slot. IfSome slot (λ f. is_under_ticket new f.page.0 m ≡ true)) (sym (ap (at later) same.1 ∙ unlisted.changed)) tt
+      | inr apart ↦ subst (λ slot. IfSome slot (λ f. is_under_ticket new f.page.0 m ≡ true)) (sym (unlisted.others m apart.1)) (known-apart m (at flights m) (λ moves. apart.1 (one_ticket (page_at old p) m n moves within)) (is.known m))
+    ];
+    listed = λ q m moves. elim (eqb_tells q p) [
+      | inl same ↦ absurd (let not = sym (after m) ∙ sym (under-own m) ∙ ap (λ r. under (page_at new r) m) (sym same.1) ∙ moves in cc)
+      | inr apart ↦ (
+          let there = is.listed q m (sym (under-others q m apart.1) ∙ moves) in
+          elim (eqb_tells m n) [
+            | inl same ↦ absurd (let own = is.listed p n within in let both = sym there ∙ ap (λ k. page_number (at flights k)) same.1 ∙ own in apart.1 cc)
+            | inr differs ↦ ap page_number (unlisted.others m differs.1) ∙ there
+          ]
+          )
+    ];
+  }

@@ -1,0 +1,12 @@
+//! Transfers in flight.
+
+use machine::id::{PageId, WorkerId};
+
+/// A transfer in flight, by its ticket.
+#[derive(Clone, Copy, Debug, PartialEq, Eq)]
+pub struct Flight {
+    /// The page that is in transfer.
+    pub page: PageId,
+    /// The worker that has the ticket.
+    pub worker: WorkerId,
+}
