@@ -14,7 +14,7 @@ nothing_left [] h = refl
 nothing_left (x ∷ xs) h = absurd (omega arith)
 
 -- there is no child beyond the last group
-children_from-end : (tree : List Node) (p k : ℕ) → length tree ≤ k → children_from tree p k ≡ []
+pub children_from-end : (tree : List Node) (p k : ℕ) → length tree ≤ k → children_from tree p k ≡ []
 children_from-end tree p k h =
     ap (children_among p k) (nothing_left (drop k tree) (let len = length-drop k tree in omega (arith, len)))
 
@@ -25,11 +25,11 @@ children_from-step tree p k h =
     ap (children_among p k) (drop-cons tree k no_node h)
     ∙ ap (λ j. if is_child p (node_at tree k) then k ∷ children_among p (k + 1) (drop j tree) else children_among p (k + 1) (drop j tree)) (sym (add-one k))
 
-children_from-child : (tree : List Node) (p k : ℕ) → k < length tree → is_child p (node_at tree k) ≡ true → children_from tree p k ≡ k ∷ children_from tree p (k + 1)
+pub children_from-child : (tree : List Node) (p k : ℕ) → k < length tree → is_child p (node_at tree k) ≡ true → children_from tree p k ≡ k ∷ children_from tree p (k + 1)
 children_from-child tree p k h t =
     children_from-step tree p k h ∙ ap (λ b. if b then k ∷ children_from tree p (k + 1) else children_from tree p (k + 1)) t
 
-children_from-other : (tree : List Node) (p k : ℕ) → k < length tree → is_child p (node_at tree k) ≡ false → children_from tree p k ≡ children_from tree p (k + 1)
+pub children_from-other : (tree : List Node) (p k : ℕ) → k < length tree → is_child p (node_at tree k) ≡ false → children_from tree p k ≡ children_from tree p (k + 1)
 children_from-other tree p k h t =
     children_from-step tree p k h ∙ ap (λ b. if b then k ∷ children_from tree p (k + 1) else children_from tree p (k + 1)) t
 
@@ -43,7 +43,7 @@ among_numbers at p k (x ∷ xs) h =
     ap (λ node. if is_child p node then k ∷ filter (λ g. is_child p (at g)) (map (λ e. e.0) (enumerate_from (k + 1) xs)) else filter (λ g. is_child p (at g)) (map (λ e. e.0) (enumerate_from (k + 1) xs))) here
     ∙ ap (λ rest. if is_child p x then k ∷ rest else rest) others
 
-children-from : (tree : List Node) (p : ℕ) → children tree p ≡ children_from tree p 0
+pub children-from : (tree : List Node) (p : ℕ) → children tree p ≡ children_from tree p 0
 children-from tree p = among_numbers (node_at tree) p 0 tree (λ i lt. ap (node_at tree) (let same : 0 + i ≡ i = omega arith in same))
 
 is_parent-same : (at : Option ℕ) (p : ℕ) → is_parent at p ≡ true → at ≡ Some p
@@ -54,7 +54,7 @@ second : (a b : Bool) → (a && b) ≡ true → b ≡ true
 second true b e = e
 second false b e = absurd cc
 
-child_parent : (tree : List Node) (p g : ℕ) → is_child p (node_at tree g) ≡ true → (node_at tree g).parent ≡ Some p
+pub child_parent : (tree : List Node) (p g : ℕ) → is_child p (node_at tree g) ≡ true → (node_at tree g).parent ≡ Some p
 child_parent tree p g t = is_parent-same _ p (second (node_at tree g).live _ t)
 
 flat_map-child : (tree : List Node) (f h : ℕ → List ℕ) (p : ℕ) → ((c : ℕ) → (node_at tree c).parent ≡ Some p → f c ≡ h c) → (k : ℕ) → k < length tree

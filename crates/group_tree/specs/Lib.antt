@@ -2,3 +2,4 @@ pub mod Groups
 pub mod Tables
 pub mod Walk
 pub mod Lineages
+pub mod Kin

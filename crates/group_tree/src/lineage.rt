@@ -2,7 +2,7 @@
 
 ghost use Rattle.std.specs.Prelude.{◌≡◌, ℕ, ◌+◌, ◌<◌, ◌≤◌, ◌++◌, ◌∷◌, [], Some, None, true, false, length, slice_set, IfOk, OnOk, OnErr, IsOk};
 ghost use Rattle.std.specs.Option.{option_map};
-ghost use Rattle.machine.specs.Tree.{node_at, is_live, has_children};
+ghost use Rattle.machine.specs.Tree.{node_at, is_live, is_child, has_children};
 ghost use Rattle.group_tree.specs.Lineages.{bare, IsLineage};
 
 use machine::id::GroupId;
@@ -96,6 +96,16 @@ impl Lineage {
         ensures lineage { IsLineage self.now.tree }
     {
         self.groups.get(group.0 as usize)?.parent
+    }
+
+    /// Whether the group of this number is there, and hangs below another.
+    pub fn is_child(&self, number: usize, parent: GroupId) -> bool
+        ensures { result ≡ is_child parent.0 (node_at self.now.tree number) }
+    {
+        let Some(group) = self.groups.get(number) else {
+            return false;
+        };
+        group.live && group.parent == Some(parent)
     }
 
     /// Nothing is done: what holds of every lineage.

@@ -6,6 +6,7 @@ pub mod Tree
 pub mod Pages
 pub mod Counts
 pub mod Protection
+pub mod Order
 pub mod Tasks
 pub mod State
 pub mod Reclaim

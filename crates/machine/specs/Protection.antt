@@ -5,7 +5,7 @@
 --   4. Where the children of one parent ask for more than the parent's effective value, each has its part of that value in proportion to what it asks.
 --   5. With recursive protection, what the children leave of the parent's value goes to them in proportion to what they use beyond what they ask.
 -- `setting` is the memory.min of a group; for memory.low the same words take the low.
-use Rattle.std.specs.Prelude.{ℕ, ◌+◌, ◌-◌, ◌*◌, ◌/◌, ◌&&◌, nat_lt, Bool, true, false, if◌then◌else◌, List, [], ◌∷◌, sum_by}
+use Rattle.std.specs.Prelude.{ℕ, ◌+◌, ◌-◌, ◌*◌, ◌/◌, ◌==◌, ◌&&◌, ◌||◌, nat_lt, Bool, true, false, if◌then◌else◌, List, [], ◌∷◌, sum_by}
 use Rattle.machine.specs.declared.amount.Amount.{Amount}
 use Rattle.machine.specs.declared.amount.Amount.TheVariants.{Max, Pages}
 use Rattle.machine.specs.Tree.{Node, children, chain_below}
@@ -52,3 +52,8 @@ effective recursive tree setting usage target g = effective_along recursive tree
 
 abbrev pub min_of : List Limits → ℕ → Amount
 min_of limits g = (limits_at limits g).min
+
+-- a reclaim of the target may take from the group: from itself always, and from a group below it while that uses more than its effective value.
+-- (Excludes counting the target's own min, and finding nothing.)
+abbrev pub opens : Bool → List Node → List Limits → (ℕ → ℕ) → ℕ → ℕ → Bool
+opens recursive tree limits usage target g = (g == target) || exceeds (usage g) (effective recursive tree (min_of limits) usage target g)

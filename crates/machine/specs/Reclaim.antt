@@ -1,5 +1,5 @@
 -- What can be reclaimed, why, and for whom (admin-guide/cgroup-v2, memory.min and memory.max; mm/vmscan.c: shrink_node_memcgs).
-use Rattle.std.specs.Prelude.{ℕ, ◌+◌, ◌==◌, ◌&&◌, ◌||◌, not, Bool}
+use Rattle.std.specs.Prelude.{ℕ, ◌+◌, ◌&&◌, ◌||◌, not, Bool}
 use Rattle.machine.specs.declared.event.Cause.{Cause}
 use Rattle.machine.specs.declared.event.Cause.TheVariants.{Charge, Lower, Frame}
 use Rattle.machine.specs.Slots.{any_there}
@@ -7,12 +7,12 @@ use Rattle.machine.specs.Tree.{is_live, under}
 use Rattle.machine.specs.Amounts.{exceeds}
 use Rattle.machine.specs.Pages.{Page, is_anon, is_held, is_in_transfer}
 use Rattle.machine.specs.Counts.{limits_at}
-use Rattle.machine.specs.State.{State, usage, is_frame_free, is_swap_free, effective_min}
+use Rattle.machine.specs.Protection.{opens}
+use Rattle.machine.specs.State.{State, usage, is_frame_free, is_swap_free}
 
--- the target itself is never protected from its own reclaim, and a group below it up to its effective min.
--- (Excludes counting the target's own min, and finding nothing.)
+-- the target itself is never protected from its own reclaim, and a group below it up to its effective min
 abbrev pub is_open : State → ℕ → ℕ → Bool
-is_open s target g = (g == target) || exceeds (usage s g) (effective_min s target g)
+is_open s target g = opens s.opening.recursive s.tree s.limits (usage s) target g
 
 -- the page may be taken for the target: it is held, in an unprotected group under the target, and it is a file page or has a swap block to go to
 abbrev pub is_takeable : State → ℕ → Page → Bool

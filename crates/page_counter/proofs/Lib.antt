@@ -3,3 +3,4 @@ pub mod RootLemmas
 pub mod GroupLemmas
 pub mod WriteLemmas
 pub mod WalkLemmas
+pub mod ChildLemmas

@@ -1,7 +1,8 @@
 //! The counters of all groups.
 
 ghost use Rattle.std.specs.Prelude.{◌≡◌, ◌+◌, ◌<◌, ◌≤◌, ◌++◌, ◌∷◌, ℕ, List, [], length, slice_index, slice_set, Some, None, true, false, option_map, IfOk, OnOk, IfErr, OnErr, IsOk, IsSome};
-ghost use Rattle.machine.specs.Amounts.{exceeds};
+ghost use Rattle.machine.specs.Amounts.{exceeds, at_most};
+ghost use Rattle.machine.specs.Protection.{asked, asked_below, min_of};
 ghost use Rattle.machine.specs.Counts.{no_limits, limits_at, over_at};
 ghost use Rattle.machine.specs.Tree.{IsTree, IsAbove, node_at, is_live, has_children, share};
 ghost use Rattle.group_tree.specs.Lineages.{bare, IsLineage};
@@ -153,6 +154,55 @@ impl Counters {
         self.limits[group.0 as usize].max = max;
     }
 
+    /// Up to how many pages of the group and of those below it are protected from reclaim,
+    /// `memory.min`.
+    pub fn min(&self, group: GroupId) -> Amount
+        requires live { is_live self.now.tree group.0 ≡ true }
+        ensures { result ≡ (limits_at self.now.limits group.0).min }
+    {
+        self.limits[group.0 as usize].min
+    }
+
+    /// Sets up to how many pages of the group and of those below it are protected from reclaim
+    /// (kernel: page_counter_set_min).
+    pub fn set_min(&mut self, group: GroupId, min: Amount)
+        requires live { is_live self.old.tree group.0 ≡ true }
+        ensures limits { self.new.limits ≡ slice_set self.old.limits group.0 (record (limits_at self.old.limits group.0) { min = min }) }
+        ensures tree { self.new.tree ≡ self.old.tree }
+        ensures usage { self.new.usage ≡ self.old.usage }
+        ensures room { self.new.room ≡ self.old.room }
+        ensures counted { (charges : List ℕ) → Counted self.old charges → Counted self.new charges }
+    {
+        self.limits[group.0 as usize].min = min;
+    }
+
+    /// How many of the pages that are charged to the group or below it its min protects (kernel:
+    /// `min_usage` of a `struct page_counter`).
+    pub fn min_usage(&self, group: GroupId) -> u64
+        requires live { is_live self.now.tree group.0 ≡ true }
+        ensures { result ≡ asked (min_of self.now.limits) (usage_of self.now) group.0 }
+    {
+        at_most(self.usage(group), self.min(group))
+    }
+
+    /// The sum of `min_usage` over the groups that hang below this one (kernel:
+    /// `children_min_usage` of a `struct page_counter`).
+    pub fn children_min_usage(&self, group: GroupId) -> u64
+        requires live { is_live self.now.tree group.0 ≡ true }
+        ensures { result ≡ asked_below self.now.tree (min_of self.now.limits) (usage_of self.now) group.0 }
+    {
+        self.lineage.is_lineage();
+        let usage = self.usage.as_slice();
+        let mut sum = 0;
+        for (number, count) in usage.iter().enumerate() {
+            if self.lineage.is_child(number, group) {
+                // Each child counts pages of its own, and all are counted at the group.
+                sum += at_most(*count, self.limits[number].min);
+            }
+        }
+        sum
+    }
+
     /// How many pages are charged to the group or below it (kernel: page_counter_read).
     pub fn usage(&self, group: GroupId) -> u64
         requires live { is_live self.now.tree group.0 ≡ true }
@@ -243,6 +293,16 @@ fn is_full(usage: u64, max: Amount) -> bool
     match max {
         Amount::Max => false,
         Amount::Pages(pages) => usage >= pages,
+    }
+}
+
+/// The lesser of a count and an amount.
+fn at_most(count: u64, amount: Amount) -> u64
+    ensures { result ≡ at_most count amount }
+{
+    match amount {
+        Amount::Max => count,
+        Amount::Pages(pages) => count.min(pages),
     }
 }
 

@@ -1,0 +1,230 @@
+-- What the children of a group ask for is part of what the group counts: they count pages of their own, and each of these is counted at the group too.
+use Rattle.std.proofs.Common.{inl, inr, ◌≡◌, ℕ, zero, suc, ◌+◌, ◌<◌, ◌≤◌, ◌==◌, Bool, true, false, cond, List, [], ◌∷◌, length, get_or, Option, Some, None, refl, sym, ap, ◌∙◌, arith}
+use Rattle.std.specs.Prelude.{count_by, sum_by}
+use Rattle.std.proofs.lemmas.Bool.{cases_lt, cases_Bool}
+use Rattle.std.proofs.lemmas.List.{get_or_default}
+use Rattle.std.proofs.lemmas.List.Sums.{sum_by-cons}
+use Rattle.machine.specs.declared.amount.Amount.{Amount}
+use Rattle.machine.specs.declared.amount.Amount.TheVariants.{Max, Pages}
+use Rattle.machine.specs.declared.record.Limits.{Limits}
+use Rattle.machine.specs.Amounts.{at_most}
+use Rattle.machine.specs.Counts.{no_limits}
+use Rattle.machine.specs.Protection.{asked, asked_below, min_of}
+use Rattle.machine.specs.Tree.{Node, node_at, is_child, IsTree, rank, share, under}
+use Rattle.machine.proofs.TreeLemmas.{eq_cases, share-None, share-beyond, share-own, share-step, parent_above, rank-parent}
+use Rattle.group_tree.specs.Walk.{children_from}
+use Rattle.group_tree.proofs.PreorderLemmas.{children_from-end, children_from-child, children_from-other, children-from, child_parent}
+use Rattle.page_counter.specs.Counts.{Counts, Counted, usage_of}
+use Rattle.page_counter.specs.Tables.{IsCounters}
+use Rattle.page_counter.proofs.ChargeLemmas.{count_more}
+
+sum_by-plus : (f h : ℕ → ℕ) (xs : List ℕ) → sum_by (λ x. f x + h x) xs ≡ sum_by f xs + sum_by h xs
+sum_by-plus f h [] = refl
+sum_by-plus f h (x ∷ xs) =
+    let both = sum_by-cons (λ x. f x + h x) x xs in
+    let left = sum_by-cons f x xs in
+    let right = sum_by-cons h x xs in
+    let rest = sum_by-plus f h xs in
+    omega (arith, both, left, right, rest)
+
+sum_by-nothing : (xs : List ℕ) → sum_by (λ x. 0) xs ≡ 0
+sum_by-nothing [] = refl
+sum_by-nothing (x ∷ xs) = let step = sum_by-cons (λ x. 0) x xs in let rest = sum_by-nothing xs in omega (arith, step, rest)
+
+-- 1 at one number, and 0 at each other
+abbrev is_it : ℕ → ℕ → ℕ
+is_it x c = cond (c == x) 1 0
+
+is_it-other : (x c : ℕ) → (c ≡ x → ⊥) → is_it x c ≡ 0
+is_it-other x c differs = let no : (c == x) ≡ false = grind (arith, differs) in ap (λ (b : Bool). let n : ℕ = cond b 1 0 in n) no
+
+is_it-le : (x c : ℕ) → is_it x c ≤ 1
+is_it-le x c = elim (c == x) as (λ b. cond b 1 0 ≤ 1) [ true ↦ omega arith | false ↦ omega arith ]
+
+module _ (tree : List Node) (p : ℕ) where
+  -- a sum over the children that are numbered k or more
+  abbrev pub sum_from : (ℕ → ℕ) → ℕ → ℕ
+  sum_from f k = sum_by f (children_from tree p k)
+
+  pub sum_from-end : (f : ℕ → ℕ) (k : ℕ) → length tree ≤ k → sum_from f k ≡ 0
+  sum_from-end f k h = ap (sum_by f) (children_from-end tree p k h)
+
+  pub sum_from-child : (f : ℕ → ℕ) (k : ℕ) → k < length tree → is_child p (node_at tree k) ≡ true → sum_from f k ≡ f k + sum_from f (k + 1)
+  sum_from-child f k h t = ap (sum_by f) (children_from-child tree p k h t) ∙ sum_by-cons f k (children_from tree p (k + 1))
+
+  pub sum_from-other : (f : ℕ → ℕ) (k : ℕ) → k < length tree → is_child p (node_at tree k) ≡ false → sum_from f k ≡ sum_from f (k + 1)
+  sum_from-other f k h t = ap (sum_by f) (children_from-other tree p k h t)
+
+  -- at each of these children, one function is at most the other
+  abbrev IsLess : ℕ → (ℕ → ℕ) → (ℕ → ℕ) → Type 0
+  IsLess k f h = (c : ℕ) → k ≤ c → c < length tree → is_child p (node_at tree c) ≡ true → f c ≤ h c
+
+  sum_from-le_step : (f h : ℕ → ℕ) (k : ℕ) → k < length tree → (is_child p (node_at tree k) ≡ true → f k ≤ h k) → sum_from f (k + 1) ≤ sum_from h (k + 1)
+      → (b : Bool) → is_child p (node_at tree k) ≡ b → sum_from f k ≤ sum_from h k
+  sum_from-le_step f h k lt less rest true is = let left = sum_from-child f k lt is in let right = sum_from-child h k lt is in let here = less is in omega (arith, left, right, here, rest)
+  sum_from-le_step f h k lt less rest false other = let left = sum_from-other f k lt other in let right = sum_from-other h k lt other in omega (arith, left, right, rest)
+
+  sum_from-le : (f h : ℕ → ℕ) (n k : ℕ) → length tree ≤ n + k → IsLess k f h → sum_from f k ≤ sum_from h k
+  sum_from-le f h zero k e less = let none = sum_from-end f k (omega arith) in omega (arith, none)
+  sum_from-le f h (suc n) k e less =
+      elim (cases_lt k (length tree)) [
+        | inl lt ↦ sum_from-le_step f h k lt (less k (omega arith) lt) (sum_from-le f h n (k + 1) (omega arith) (λ c from. less c (omega arith))) _ refl
+        | inr end ↦ (let none = sum_from-end f k end in omega (arith, none))
+      ]
+
+  sum-le : (f h : ℕ → ℕ) (k : ℕ) → IsLess k f h → sum_from f k ≤ sum_from h k
+  sum-le f h k less = sum_from-le f h (length tree) k (omega arith) less
+
+  sum-none : (f : ℕ → ℕ) (k : ℕ) → IsLess k f (λ c. 0) → sum_from f k ≡ 0
+  sum-none f k none =
+      let less = sum-le f (λ c. 0) k none in
+      let nothing = sum_by-nothing (children_from tree p k) in
+      omega (arith, less, nothing)
+
+  -- a group is one of the children at most once
+  once_step : (x k : ℕ) → k < length tree → sum_from (is_it x) (k + 1) ≤ 1 → (b : Bool) → is_child p (node_at tree k) ≡ b → sum_from (is_it x) k ≤ 1
+  once_step x k lt rest true is =
+      let step = sum_from-child (is_it x) k lt is in
+      elim (eq_cases k x) [
+        | inl same ↦
+            (let later = sum-none (is_it x) (k + 1) (λ c from within child. let none = is_it-other x c (λ again. omega arith) in omega (arith, none)) in
+            let one = is_it-le x k in
+            omega (arith, step, later, one))
+        | inr differs ↦ (let none = is_it-other x k differs in omega (arith, step, none, rest))
+      ]
+  once_step x k lt rest false other = let step = sum_from-other (is_it x) k lt other in omega (arith, step, rest)
+
+  once_from : (x n k : ℕ) → length tree ≤ n + k → sum_from (is_it x) k ≤ 1
+  once_from x zero k e = let none = sum_from-end (is_it x) k (omega arith) in omega (arith, none)
+  once_from x (suc n) k e =
+      elim (cases_lt k (length tree)) [
+        | inl lt ↦ once_step x k lt (once_from x n (k + 1) (omega arith)) _ refl
+        | inr end ↦ (let none = sum_from-end (is_it x) k end in omega (arith, none))
+      ]
+
+  once : (x : ℕ) → sum_from (is_it x) 0 ≤ 1
+  once x = once_from x (length tree) 0 (omega arith)
+
+-- a charge that counts at a child counts at the group, and at no other child
+module _ (tree : List Node) (is : IsTree tree) (p : ℕ) where
+  share_sum : (x : ℕ) → sum_from tree p (λ c. share tree c (Some x)) 0 ≤ sum_from tree p (is_it x) 0 + sum_from tree p (λ c. share tree c (node_at tree x).parent) 0
+  share_sum x =
+      let less = sum-le tree p (λ c. share tree c (Some x)) (λ c. is_it x c + share tree c (node_at tree x).parent) 0 (λ c from within child. let step = share-step tree is c x in omega (arith, step)) in
+      let plus = sum_by-plus (is_it x) (λ c. share tree c (node_at tree x).parent) (children_from tree p 0) in
+      omega (arith, less, plus)
+
+  -- no child is over the group
+  share_none : (at : Option ℕ) → at ≡ Some p → sum_from tree p (λ c. share tree c at) 0 ≡ 0
+  share_none at same =
+      sum-none tree p (λ c. share tree c at) 0
+      (λ c from within child. let none = ap (share tree c) same ∙ share-beyond tree is (Some p) c (is.falls c p (child_parent tree p c child)) in omega (arith, none))
+
+  share-child : (x : ℕ) → is_child p (node_at tree x) ≡ true → sum_from tree p (λ c. share tree c (Some x)) 0 ≤ share tree p (Some x)
+  share-child x child =
+      let sum = share_sum x in
+      let one = once tree p x in
+      let parent = child_parent tree p x child in
+      let none = share_none (node_at tree x).parent parent in
+      let own = share-own tree is p in
+      let here = ap (share tree p) parent in
+      let above = parent_above tree is x p in
+      omega (arith, sum, one, none, own, here, above)
+
+  share-other : (x : ℕ) → is_child p (node_at tree x) ≡ false → sum_from tree p (λ c. share tree c (node_at tree x).parent) 0 ≤ share tree p (node_at tree x).parent
+      → sum_from tree p (λ c. share tree c (Some x)) 0 ≤ share tree p (Some x)
+  share-other x other rest =
+      let sum = share_sum x in
+      let no_one =
+      sum-none tree p (is_it x) 0
+      (λ c from within child. let none = is_it-other x c (λ same. let wrong = sym child ∙ ap (λ g. is_child p (node_at tree g)) same ∙ other in cc) in omega (arith, none)) in
+      let above = parent_above tree is x p in
+      omega (arith, sum, no_one, rest, above)
+
+  share-children : (n : ℕ) (at : Option ℕ) → rank at ≤ n → sum_from tree p (λ c. share tree c at) 0 ≤ share tree p at
+  share-children n None h =
+      let none = sum-none tree p (λ c. share tree c None) 0 (λ c from within child. let no = share-None tree is c in omega (arith, no)) in
+      omega (arith, none)
+  share-children zero (Some x) h = absurd (omega arith)
+  share-children (suc n) (Some x) h =
+      elim (cases_Bool (is_child p (node_at tree x))) [
+        | inl child ↦ share-child x child
+        | inr other ↦ (let falls = rank-parent tree is x in share-other x other (share-children n (node_at tree x).parent (omega (arith, falls, h))))
+      ]
+
+  -- the charges that are counted at the children
+  count-children : (charges : List ℕ) → sum_from tree p (λ c. count_by (λ x. under tree c x) charges) 0 ≤ count_by (λ x. under tree p x) charges
+  count-children [] = let none = sum_by-nothing (children_from tree p 0) in omega (arith, none)
+  count-children (x ∷ charges) =
+      let less =
+      sum-le tree p (λ c. count_by (λ y. under tree c y) (x ∷ charges)) (λ c. count_by (λ y. under tree c y) charges + share tree c (Some x)) 0
+      (λ c from within child. let more = count_more tree is c x charges in omega (arith, more)) in
+      let plus = sum_by-plus (λ c. count_by (λ y. under tree c y) charges) (λ c. share tree c (Some x)) (children_from tree p 0) in
+      let rest = count-children charges in
+      let here = share-children (rank (Some x)) (Some x) (omega arith) in
+      let more = count_more tree is p x charges in
+      omega (arith, less, plus, rest, here, more)
+
+at_most-le : (count : ℕ) (amount : Amount) → at_most count amount ≤ count
+at_most-le count Max = omega arith
+at_most-le count (Pages n) = omega arith
+
+-- what the children of a group ask for together is at most what the group counts
+pub asked_below-le : (s : Counts) (setting : ℕ → Amount) (charges : List ℕ) → IsTree s.tree → Counted s charges → (p : ℕ) → p < length s.tree → asked_below s.tree setting (usage_of s) p ≤ usage_of s p
+asked_below-le s setting charges is counted p lt =
+    let less =
+    sum-le s.tree p (asked setting (usage_of s)) (λ c. count_by (λ x. under s.tree c x) charges) 0
+    (λ c from within child. let some = at_most-le (usage_of s c) (setting c) in let count = counted.counts c within in omega (arith, some, count)) in
+    let all = count-children s.tree is p charges in
+    let here = counted.counts p lt in
+    let children = ap (sum_by (asked setting (usage_of s))) (children-from s.tree p) in
+    omega (arith, less, all, here, children)
+
+-- what agrees at each group that is there asks for as much
+pub asked_below-same : (tree : List Node) (setting : ℕ → Amount) (f h : ℕ → ℕ) → ((a : ℕ) → a < length tree → f a ≡ h a) → (p : ℕ) → asked_below tree setting f p ≡ asked_below tree setting h p
+asked_below-same tree setting f h same p =
+    let least : (c : ℕ) → c < length tree → asked setting f c ≡ asked setting h c = λ c lt. ap (λ n. at_most n (setting c)) (same c lt) in
+    let less = sum-le tree p (asked setting f) (asked setting h) 0 (λ c from within child. let e = least c within in omega (arith, e)) in
+    let more = sum-le tree p (asked setting h) (asked setting f) 0 (λ c from within child. let e = least c within in omega (arith, e)) in
+    let left = ap (sum_by (asked setting f)) (children-from tree p) in
+    let right = ap (sum_by (asked setting h)) (children-from tree p) in
+    omega (arith, less, more, left, right)
+
+-- the sum has the terms of the children that are numbered below k
+abbrev pub IsSummed : Counts → ℕ → ℕ → ℕ → Type 0
+IsSummed s p k sum = sum + sum_from s.tree p (asked (min_of s.limits) (usage_of s)) k ≡ asked_below s.tree (min_of s.limits) (usage_of s) p
+
+module _ (s : Counts) (p : ℕ) where
+  pub IsSummed-start : IsSummed s p 0 0
+  IsSummed-start = let children = ap (sum_by (asked (min_of s.limits) (usage_of s))) (children-from s.tree p) in omega (arith, children)
+
+  -- the term of the next child, as it is read from the tables
+  pub IsSummed-child : (usage : List ℕ) (limits : Limits) (k sum n : ℕ) → IsCounters s → usage ≡ s.usage → k < length usage → is_child p (node_at s.tree k) ≡ true
+      → limits ≡ get_or s.limits k limits → n ≡ at_most (get_or usage k 0) limits.min → IsSummed s p k sum → IsSummed s p (k + 1) (sum + n)
+  IsSummed-child usage limits k sum n held same lt child read is summed =
+      let len = ap length same in
+      let limits_len = held.limits_length in
+      let usage_len = held.usage_length in
+      let step = sum_from-child s.tree p (asked (min_of s.limits) (usage_of s)) k (omega (arith, len, usage_len, lt)) child in
+      let term : n ≡ asked (min_of s.limits) (usage_of s) k =
+      is ∙ ap (λ u. at_most (get_or u k 0) limits.min) same ∙ ap (λ l. at_most (get_or s.usage k 0) l.min) (read ∙ get_or_default s.limits k limits no_limits (omega (arith, len, limits_len, usage_len, lt))) in
+      omega (arith, step, term, summed)
+
+  pub IsSummed-other : (usage : List ℕ) (k sum : ℕ) → IsCounters s → usage ≡ s.usage → k < length usage → is_child p (node_at s.tree k) ≡ false → IsSummed s p k sum → IsSummed s p (k + 1) sum
+  IsSummed-other usage k sum held same lt other summed =
+      let len = ap length same in
+      let usage_len = held.usage_length in
+      let step = sum_from-other s.tree p (asked (min_of s.limits) (usage_of s)) k (omega (arith, len, usage_len, lt)) other in
+      omega (arith, step, summed)
+
+  pub IsSummed-end : (usage : List ℕ) (k sum : ℕ) → IsCounters s → usage ≡ s.usage → length usage ≤ k → IsSummed s p k sum → sum ≡ asked_below s.tree (min_of s.limits) (usage_of s) p
+  IsSummed-end usage k sum held same end summed =
+      let len = ap length same in
+      let usage_len = held.usage_length in
+      let none = sum_from-end s.tree p (asked (min_of s.limits) (usage_of s)) k (omega (arith, len, usage_len, end)) in
+      omega (arith, none, summed)
+
+  -- no such sum is more than the group's count
+  pub IsSummed-le : (k sum : ℕ) → IsCounters s → IsTree s.tree → p < length s.tree → IsSummed s p k sum → sum ≤ usage_of s p
+  IsSummed-le k sum held is lt summed =
+      let most = asked_below-le s (min_of s.limits) held.charges is held.counted p lt in
+      omega (arith, most, summed)

@@ -1,0 +1,39 @@
+-- For callers: from stored counts to those of the machine, and from `is_protected` to its opposite.
+use Rattle.std.proofs.Common.{inl, inr, ◌≡◌, ◌≢◌, ℕ, zero, suc, ◌<◌, Bool, true, false, not, ◌&&◌, ◌||◌, List, length, Option, Some, None, refl, sym, ap, ◌∙◌, arith}
+use Rattle.machine.specs.declared.amount.Amount.{Amount}
+use Rattle.machine.specs.Amounts.{at_most}
+use Rattle.machine.specs.Protection.{below_parent, effective}
+use Rattle.machine.specs.Tree.{Node, node_at, IsTree, under}
+use Rattle.machine.proofs.TreeLemmas.{eq_cases}
+use Rattle.page_counter.proofs.ChildLemmas.{asked_below-same}
+use Rattle.protection.proofs.EffectiveLemmas.{effective-child, effective-step, has_parent, under-parent}
+
+-- a group is open where it is not protected
+pub open-protected : (is_target over : Bool) → not (not is_target && not over) ≡ (is_target || over)
+open-protected true over = refl
+open-protected false true = refl
+open-protected false false = refl
+
+same_below : (recursive : Bool) {e k : Amount} {s t a b u v n m : ℕ} → e ≡ k → s ≡ t → a ≡ b → u ≡ v → n ≡ m → below_parent recursive e s a u n ≡ below_parent recursive k t b v m
+same_below recursive p q r x y = cc
+
+-- counts that agree at each group that is there give the same effective values
+module _ (tree : List Node) (is : IsTree tree) (target : ℕ) (recursive : Bool) (setting : ℕ → Amount) (f h : ℕ → ℕ) (same : (a : ℕ) → a < length tree → f a ≡ h a) where
+  same_at : (n g : ℕ) → g < n → g < length tree → target ≢ g → under tree target g ≡ true → (at : Option ℕ) → (node_at tree g).parent ≡ at → effective recursive tree setting f target g ≡ effective recursive tree setting h target g
+  same_at zero g lt within differs below at parent = absurd (omega arith)
+  same_at (suc n) g lt within differs below None parent = absurd (has_parent tree is target g differs below parent)
+  same_at (suc n) g lt within differs below (Some p) parent =
+      elim (eq_cases target p) [
+        | inl child ↦
+            (let on_target = parent ∙ ap Some (sym child) in
+            effective-child tree is target recursive setting f g differs on_target ∙ sym (effective-child tree is target recursive setting h g differs on_target))
+        | inr more ↦
+            (let falls = is.falls g p parent in
+            let above = same_at n p (omega arith) (omega arith) more (under-parent tree is target g p differs parent below) (node_at tree p).parent refl in
+            effective-step tree is target recursive setting f g p differs parent more
+            ∙ same_below recursive above (asked_below-same tree setting f h same p) (same p (omega arith)) (same g within) (ap (λ n. at_most n (setting g)) (same g within))
+            ∙ sym (effective-step tree is target recursive setting h g p differs parent more))
+      ]
+
+  pub effective-same : (g : ℕ) → g < length tree → target ≢ g → under tree target g ≡ true → effective recursive tree setting f target g ≡ effective recursive tree setting h target g
+  effective-same g within differs below = same_at (suc g) g (omega arith) within differs below (node_at tree g).parent refl

@@ -1,0 +1,56 @@
+-- The effective value of a group by that of its parent.
+use Rattle.std.proofs.Common.{◌≡◌, ◌≢◌, ℕ, ◌==◌, Bool, true, false, cond, not, ◌||◌, List, [], ◌∷◌, Option, Some, None, sym, ap, ◌∙◌, arith}
+use Rattle.std.specs.Prelude.{take_while}
+use Rattle.std.proofs.lemmas.List.Sums.{take_while-cons}
+use Rattle.machine.specs.declared.amount.Amount.{Amount}
+use Rattle.machine.specs.Protection.{asked, asked_below, below_parent, effective_along, effective}
+use Rattle.machine.specs.Tree.{Node, node_at, IsTree, chain, chain_below, under, under_at}
+use Rattle.machine.proofs.TreeLemmas.{chain-step, under_at-None, under_at-step}
+
+module _ (tree : List Node) (is : IsTree tree) (target : ℕ) where
+  below : Option ℕ → List ℕ
+  below at = take_while (λ a. not (a == target)) (chain tree at)
+
+  chain_below-more : (g : ℕ) → target ≢ g → chain_below tree target g ≡ g ∷ below (node_at tree g).parent
+  unfolding chain_below below
+  chain_below-more g differs =
+      let other : (g == target) ≡ false = grind (arith, differs) in
+      ap (take_while (λ a. not (a == target))) (chain-step tree is g) ∙ take_while-cons (λ a. not (a == target)) g (chain tree (node_at tree g).parent)
+      ∙ ap (λ b. cond (not b) (g ∷ below (node_at tree g).parent) []) other
+
+  chain_below-step : (g p : ℕ) → target ≢ g → (node_at tree g).parent ≡ Some p → chain_below tree target g ≡ g ∷ chain_below tree target p
+  unfolding chain_below below
+  chain_below-step g p differs parent = chain_below-more g differs ∙ ap (λ at. g ∷ below at) parent
+
+  chain_below-own : chain_below tree target target ≡ []
+  unfolding chain_below
+  chain_below-own =
+      let same : (target == target) ≡ true = grind arith in
+      ap (take_while (λ a. not (a == target))) (chain-step tree is target) ∙ take_while-cons (λ a. not (a == target)) target (chain tree (node_at tree target).parent)
+      ∙ ap (λ b. cond (not b) (target ∷ take_while (λ a. not (a == target)) (chain tree (node_at tree target).parent)) []) same
+
+  module _ (recursive : Bool) (setting : ℕ → Amount) (usage : ℕ → ℕ) where
+    -- rule 2: a child of the target
+    pub effective-child : (g : ℕ) → target ≢ g → (node_at tree g).parent ≡ Some target → effective recursive tree setting usage target g ≡ setting g
+    unfolding effective_along
+    effective-child g differs parent = ap (effective_along recursive tree setting usage) (chain_below-step g target differs parent ∙ ap (λ rest. g ∷ rest) chain_below-own)
+
+    -- rules 3 to 5: a group below that
+    pub effective-step : (g p : ℕ) → target ≢ g → (node_at tree g).parent ≡ Some p → target ≢ p
+        → effective recursive tree setting usage target g ≡ below_parent recursive (effective recursive tree setting usage target p) (asked_below tree setting usage p) (usage p) (usage g) (asked setting usage g)
+    unfolding effective_along
+    effective-step g p differs parent more =
+        ap (effective_along recursive tree setting usage) (chain_below-step g p differs parent ∙ ap (λ rest. g ∷ rest) (chain_below-more p more))
+        ∙ ap (λ e. below_parent recursive e (asked_below tree setting usage p) (usage p) (usage g) (asked setting usage g)) (ap (effective_along recursive tree setting usage) (sym (chain_below-more p more)))
+
+  above_is : (g : ℕ) → target ≢ g → under tree target g ≡ true → under_at tree target (node_at tree g).parent ≡ true
+  above_is g differs h =
+      let other : (target == g) ≡ false = grind (arith, differs) in
+      sym (ap (λ b. b || under_at tree target (node_at tree g).parent) other) ∙ sym (under_at-step tree is target g) ∙ h
+
+  -- what hangs below the target hangs below a group that is at or below it
+  pub under-parent : (g p : ℕ) → target ≢ g → (node_at tree g).parent ≡ Some p → under tree target g ≡ true → under tree target p ≡ true
+  under-parent g p differs parent h = ap (under_at tree target) (sym parent) ∙ above_is g differs h
+
+  pub has_parent : (g : ℕ) → target ≢ g → under tree target g ≡ true → (node_at tree g).parent ≡ None → ⊥
+  has_parent g differs h none = let wrong : false ≡ true = sym (ap (under_at tree target) none ∙ under_at-None tree is target) ∙ above_is g differs h in cc

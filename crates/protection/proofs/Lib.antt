@@ -1,0 +1,3 @@
+pub mod KinLemmas
+pub mod EffectiveLemmas
+pub mod CallerLemmas
