@@ -6,7 +6,6 @@ pub mod HoldingLemmas
 pub mod GrantLemmas
 pub mod SettleLemmas
 pub mod ReleaseLemmas
-pub mod WorstLemmas
 pub mod KinLemmas
 pub mod TallyLemmas
 pub mod TransferLemmas

@@ -5,7 +5,6 @@ pub mod Holdings
 pub mod Keeping
 pub mod Queue
 pub mod Room
-pub mod Worst
 pub mod Contents
 pub mod Kin
 pub mod Serves

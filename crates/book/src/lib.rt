@@ -20,7 +20,6 @@ mod groups;
 mod holdings;
 mod lookup;
 mod needs;
-mod oom;
 mod page_state;
 mod pass;
 mod queue;

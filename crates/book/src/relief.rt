@@ -17,13 +17,13 @@ ghost use Rattle.book.specs.Serves.{Serves};
 ghost use Rattle.book.specs.Parts.{AnswersTo};
 
 use crate::event::Reply;
-use crate::oom::victim;
 use crate::page_state::State;
 use crate::unmap::drop_pages;
 use machine::amount::Amount;
 use machine::event::Cause;
 use machine::id::{GroupId, PageId, TaskId, WorkerId};
 use machine::record::{Key, Life};
+use oom::victim;
 
 impl State {
     /// A page is taken; or one in transfer may come free; or the worst task is killed, if there is one.
