@@ -7,13 +7,14 @@ ghost use Rattle.book.specs.Replies.{IsAccessReply, IsReliefReply, IsOkReply, Is
 ghost use Rattle.driver.specs.Turns.{access_event, wants, ends_with, ends_refused, byte_answer, goes_on, Tried, MadeRoom, MaxSet, Lowered, Made, Ended, WasShown, Closed, Told, Awaits, AwaitsAll};
 ghost use Rattle.driver.specs.Tickets.{IsHanded, IsSpendableReply};
 
-use crate::control_files::show_text;
 use crate::turn::{Access, Asked, Doing, Onward, Turned, Want};
 use book::{Event, InTicket, OutTicket, Reply};
+use control_files::show_text;
 use machine::command::{Answer, Word};
 use machine::event::{Cause, Op, Setting};
 use machine::id::GroupId;
 use machine::refusal::Refusal;
+use machine::text::Text;
 use std::alloc::{AllocError, Global};
 
 /// What a command wants in one turn. The event of a [`Want::Call`] has only replies that [`told`]
@@ -212,7 +213,11 @@ fn shown(alloc: Global, reply: Reply) -> Result<Turned, AllocError>
     ensures { IfOk result (λ turned. WasShown reply turned) }
 {
     match reply {
-        Reply::Shown(numbers) => Ok(Turned::Ends(Answer::Text(show_text(alloc, numbers)?))),
+        Reply::Shown(numbers) => match show_text(alloc, numbers) {
+            Ok(text) => Ok(Turned::Ends(Answer::Text(Text::new(text)))),
+            // Want of memory is its only cause.
+            Err(_) => Err(AllocError),
+        },
         Reply::Refused(cause) => Ok(refused(cause)),
         other => Ok(never(other)),
     }

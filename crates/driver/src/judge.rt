@@ -4,11 +4,11 @@
 ghost use Rattle.std.specs.Prelude.{◌≡◌, ℕ, option_map};
 ghost use Rattle.driver.specs.Turns.{judged, task_judged, shell_judged, with_group, with_file, with_amount, reads_file, writes_file};
 ghost use Rattle.machine.specs.Tree.{find_group};
-ghost use Rattle.machine.specs.Control.{file_named, has_file};
+ghost use Rattle.machine.specs.Control.{file_named};
 
-use crate::control_files::{file_named, parse_amount};
 use crate::turn::{Access, Doing};
 use book::{Book, Pass};
+use control_files::{file_named, has_file, parse_amount};
 use machine::command::{Actor, Command};
 use machine::control::ControlFile;
 use machine::event::Query;
@@ -69,16 +69,6 @@ fn judge_spawn(group: Option<GroupId>, task: u32) -> Result<Doing, Refusal>
     }
 }
 
-/// Whether the group has the file: the root has none of them.
-fn has_file(group: GroupId, file: ControlFile) -> bool
-    ensures { result ≡ has_file group.0 file }
-{
-    match file {
-        ControlFile::Current | ControlFile::Max | ControlFile::Events | ControlFile::EventsLocal =>
-            group.0 != 0,
-    }
-}
-
 fn judge_set(group: Option<GroupId>, name: &str, text: &str) -> Result<Doing, Refusal>
     ensures { result ≡ with_group (option_map (λ g. g.0) group) (λ g. with_file g (file_named name.now) (writes_file g text.now)) }
 {
@@ -110,10 +100,10 @@ fn write_named(group: GroupId, file: ControlFile, text: &str) -> Result<Doing, R
         ControlFile::Current | ControlFile::Events | ControlFile::EventsLocal => {
             Err(Refusal::Invalid)
         }
-        ControlFile::Max => match parse_amount(text) {
-            None => Err(Refusal::Invalid),
-            Some(max) => Ok(Doing::SetMax { group, max }),
-        },
+        ControlFile::Max => Ok(Doing::SetMax {
+            group,
+            max: parse_amount(text)?,
+        }),
     }
 }
 

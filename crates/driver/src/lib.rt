@@ -11,7 +11,6 @@ pub use schedule::run;
 
 pub mod automaton;
 mod calls;
-mod control_files;
 mod desk;
 mod judge;
 pub mod laws;

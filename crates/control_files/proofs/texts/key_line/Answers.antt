@@ -1,5 +1,5 @@
 use Rattle.std.proofs.Common.{append_assoc}
-use Rattle.driver.proofs.control_files.key_line.Goals as goal
+use Rattle.control_files.proofs.texts.key_line.Goals as goal
 
 pub returns : goal.returns
 returns c = simp append_assoc c.format.ensures.ok

@@ -1,0 +1,64 @@
+//! Amounts of memory, as they are written to a control file.
+
+ghost use Rattle.std.specs.Prelude.{◌≡◌, ok_or};
+ghost use Rattle.machine.specs.Control.{unit_of, last_unit, digits_part, is_plain, amount_of};
+
+use crate::PAGE_BYTES;
+use machine::amount::Amount;
+use machine::refusal::Refusal;
+use text_forms::number::{is_digits, long_number_of};
+
+/// What a letter at the end of an amount multiplies by, and 1 of another character.
+fn unit_of(letter: u8) -> u64
+    ensures { result ≡ unit_of letter }
+{
+    match letter {
+        b'K' | b'k' => 1024,
+        b'M' | b'm' => 1_048_576,
+        b'G' | b'g' => 1_073_741_824,
+        b'T' | b't' => 1_099_511_627_776,
+        _ => 1,
+    }
+}
+
+/// The text before the letter at its end, and what that letter multiplies by.
+fn split_unit(text: &str) -> (&str, u64)
+    ensures digits { result.0.now ≡ digits_part text.now }
+    ensures unit { result.1 ≡ last_unit text.now }
+{
+    let Some(last) = text.as_bytes().last() else {
+        return (text, 1);
+    };
+    let unit = unit_of(*last);
+    if unit == 1 {
+        return (text, 1);
+    }
+    (&text[..text.len() - 1], unit)
+}
+
+/// Whether a text is digits with no zero in front of others.
+fn is_plain(digits: &str) -> bool
+    ensures { result ≡ is_plain digits.now }
+{
+    if !is_digits(digits) {
+        return false;
+    }
+    digits.len() == 1 || digits.as_bytes()[0] > b'0'
+}
+
+/// The amount that a text writes: `max`, or a number of bytes with at most one of the suffixes K, M,
+/// G and T, rounded down to whole pages. `Invalid` of any other text, and of 2^64 bytes and more.
+pub fn parse_amount(text: &str) -> Result<Amount, Refusal>
+    ensures { result ≡ ok_or (amount_of text.now) Refusal.Invalid }
+{
+    if text == "max" {
+        return Ok(Amount::Max);
+    }
+    let (digits, unit) = split_unit(text);
+    if !is_plain(digits) {
+        return Err(Refusal::Invalid);
+    }
+    let number = long_number_of(digits).ok_or(Refusal::Invalid)?;
+    let bytes = number.checked_mul(unit).ok_or(Refusal::Invalid)?;
+    Ok(Amount::Pages(bytes / PAGE_BYTES))
+}

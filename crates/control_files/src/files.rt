@@ -1,0 +1,30 @@
+//! The files by name, and who has them.
+
+ghost use Rattle.std.specs.Prelude.{◌≡◌};
+ghost use Rattle.machine.specs.Control.{file_named, has_file};
+
+use machine::control::ControlFile;
+use machine::id::GroupId;
+
+/// The control file of a name.
+pub fn file_named(name: &str) -> Option<ControlFile>
+    ensures { result ≡ file_named name.now }
+{
+    match name {
+        "memory.current" => Some(ControlFile::Current),
+        "memory.max" => Some(ControlFile::Max),
+        "memory.events" => Some(ControlFile::Events),
+        "memory.events.local" => Some(ControlFile::EventsLocal),
+        _ => None,
+    }
+}
+
+/// Whether the group has the file: the root has none of them.
+pub fn has_file(group: GroupId, file: ControlFile) -> bool
+    ensures { result ≡ has_file group.0 file }
+{
+    match file {
+        ControlFile::Current | ControlFile::Max | ControlFile::Events | ControlFile::EventsLocal =>
+            group.0 != 0,
+    }
+}

@@ -1,0 +1,19 @@
+//! Control files: their names, the amounts that are written to them, and what they say
+//! (admin-guide/cgroup-v2, "Memory Interface Files"; for amounts the kernel's
+//! page_counter_memparse and memparse).
+//!
+//! [`file_named`] and [`has_file`] say which file a name is and which groups have it,
+//! [`parse_amount`] reads what is written to a file, and [`show_text`] writes what a file says of
+//! numbers. None of them knows a state of the machine.
+#![tactic(auto)]
+
+pub use amounts::parse_amount;
+pub use files::{file_named, has_file};
+pub use texts::show_text;
+
+mod amounts;
+mod files;
+mod texts;
+
+/// Bytes of a page.
+const PAGE_BYTES: u64 = machine::bytes::PAGE_BYTES as u64;
