@@ -26,7 +26,7 @@ either_true true = refl
 either_true false = refl
 
 -- whatever the parent is under, the group is
-under-child : (tree : List Node) → IsTree tree → (a g p : ℕ) → (node_at tree g).parent ≡ Some p → under tree a p ≡ true → under tree a g ≡ true
+pub under-child : (tree : List Node) → IsTree tree → (a g p : ℕ) → (node_at tree g).parent ≡ Some p → under tree a p ≡ true → under tree a g ≡ true
 under-child tree is a g p e h = under_at-step tree is a g ∙ ap (λ at. (a == g) || under_at tree a at) e ∙ ap (λ b. (a == g) || b) h ∙ either_true (a == g)
 
 parentless : (g : ℕ) → (node_at (bare None ∷ []) g).parent ≡ None

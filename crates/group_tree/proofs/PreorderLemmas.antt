@@ -1,13 +1,18 @@
 -- A walk over a group and those below it, step by step.
-use Rattle.std.proofs.Common.{inl, inr, ◌≡◌, ℕ, zero, suc, ◌+◌, ◌<◌, ◌≤◌, Bool, true, false, if◌then◌else◌, ◌&&◌, List, [], ◌∷◌, ◌++◌, length, drop, get_or, map, filter, Option, Some, None, refl, sym, ap, ◌∙◌, arith, append_assoc, append-nil, add-one, drop-cons, length-drop}
+use Rattle.std.proofs.Common.{◌⊎◌, inl, inr, ◌≡◌, ℕ, zero, suc, ◌+◌, ◌<◌, ◌≤◌, ◌==◌, Bool, true, false, if◌then◌else◌, ◌&&◌, ◌||◌, List, [], ◌∷◌, ◌++◌, length, drop, get_or, map, filter, Option, Some, None, refl, sym, ap, ◌∙◌, subst, arith, append_assoc, append-nil, add-one, drop-cons, length-drop}
 use Rattle.std.specs.Prelude.{flat_map, nat_le}
-use Rattle.std.specs.List.{enumerate_from}
+use Rattle.std.specs.List.{enumerate_from, list_any}
 use Rattle.std.specs.Option.{option_map_or}
 use Rattle.std.proofs.lemmas.Bool.{cases_lt, cases_Bool}
 use Rattle.std.proofs.lemmas.Bool.Decides.{nat_tests}
-use Rattle.machine.specs.Tree.{Node, no_node, node_at, is_child, is_parent, IsTree, children, preorder_to, preorder}
+use Rattle.std.proofs.lemmas.List.Folds.{list_any-append}
+use Rattle.machine.specs.Tree.{Node, no_node, node_at, is_live, is_child, is_parent, under, under_at, IsTree, numbers, children, preorder_to, preorder}
+use Rattle.machine.proofs.TreeLemmas.{eq_cases, under_at-None, under_at-step}
+use Rattle.group_tree.specs.Groups.{IsGroupTree}
 use Rattle.group_tree.specs.Walk.{children_among, children_from, after_in, after, left}
 use Rattle.group_tree.proofs.PushLemmas.{within}
+use Rattle.group_tree.proofs.LineageLemmas.{live-within, under-child}
+use Rattle.group_tree.proofs.WalkLemmas.{under_here}
 
 nothing_left : (xs : List Node) → length xs ≡ 0 → xs ≡ []
 nothing_left [] h = refl
@@ -181,3 +186,147 @@ module _ (tree : List Node) (is : IsTree tree) where
 -- a walk begins with all of it left
 pub left-start : (tree : List Node) (start : ℕ) → left tree start (Some start) ≡ preorder tree start
 left-start tree start = ap (λ xs. preorder tree start ++ xs) (after-start tree start start (omega arith)) ∙ append-nil (preorder tree start)
+
+-- Which groups a walk comes to.
+is_among : ℕ → List ℕ → Bool
+is_among g gs = list_any (λ a. a == g) gs
+
+first : (a b : Bool) → (a && b) ≡ true → a ≡ true
+first true b e = refl
+first false b e = absurd cc
+
+both : (a b : Bool) → a ≡ true → b ≡ true → (a && b) ≡ true
+both true b e f = f
+both false b e f = e
+
+one_of : (a b : Bool) → (a || b) ≡ true → (a ≡ true) ⊎ (b ≡ true)
+one_of true b e = inl refl
+one_of false b e = inr e
+
+left_or : (a b : Bool) → a ≡ true → (a || b) ≡ true
+left_or true b e = refl
+left_or false b e = absurd cc
+
+right_or : (a b : Bool) → b ≡ true → (a || b) ≡ true
+right_or true b e = refl
+right_or false b e = e
+
+chosen : (test : ℕ → Bool) (n : ℕ) (ns : List ℕ) (b : Bool) → test n ≡ b → filter test (n ∷ ns) ≡ (if b then n ∷ filter test ns else filter test ns)
+chosen test n ns b e = ap (λ t. if t then n ∷ filter test ns else filter test ns) e
+
+-- what lists joined end to end have, one of them has
+joined_one : (g : ℕ) (test : ℕ → Bool) (f : ℕ → List ℕ) (ns : List ℕ) → is_among g (flat_map f (filter test ns)) ≡ true → (c : ℕ) × (test c ≡ true) × (is_among g (f c) ≡ true)
+unfolding is_among
+joined_one g test f [] h = absurd cc
+joined_one g test f (n ∷ ns) h =
+    elim (cases_Bool (test n)) [
+      | inl passes ↦ elim (one_of _ _ (sym (list_any-append (λ a. a == g) (f n) (flat_map f (filter test ns))) ∙ ap (λ cs. is_among g (flat_map f cs)) (sym (chosen test n ns true passes)) ∙ h)) [
+        | inl here ↦ (n, passes, here)
+        | inr later ↦ joined_one g test f ns later
+      ]
+      | inr fails ↦ joined_one g test f ns (ap (λ cs. is_among g (flat_map f cs)) (sym (chosen test n ns false fails)) ∙ h)
+    ]
+
+-- and what one of them has, they have
+joined_any : (g c : ℕ) (test : ℕ → Bool) (f : ℕ → List ℕ) (ns : List ℕ) → is_among c ns ≡ true → test c ≡ true → is_among g (f c) ≡ true → is_among g (flat_map f (filter test ns)) ≡ true
+unfolding is_among
+joined_any g c test f [] h passes own = absurd cc
+joined_any g c test f (n ∷ ns) h passes own =
+    elim (eq_cases n c) [
+      | inl same ↦
+          (let taken = ap (λ cs. is_among g (flat_map f cs)) (chosen test n ns true (ap test same ∙ passes)) in
+          taken ∙ list_any-append (λ a. a == g) (f n) (flat_map f (filter test ns)) ∙ left_or _ _ (ap (λ m. is_among g (f m)) same ∙ own))
+      | inr other ↦
+          (let differs : (n == c) ≡ false = grind (arith, other) in
+          let later = joined_any g c test f ns (sym (ap (λ b. b || is_among c ns) differs) ∙ h) passes own in
+          elim (cases_Bool (test n)) [
+            | inl taken ↦
+                ap (λ cs. is_among g (flat_map f cs)) (chosen test n ns true taken) ∙ list_any-append (λ a. a == g) (f n) (flat_map f (filter test ns))
+                ∙ right_or _ _ later
+            | inr left_out ↦ ap (λ cs. is_among g (flat_map f cs)) (chosen test n ns false left_out) ∙ later
+          ])
+    ]
+
+numbered : (k g : ℕ) (xs : List Node) → k ≤ g → g < k + length xs → is_among g (map (λ e. e.0) (enumerate_from k xs)) ≡ true
+unfolding is_among
+numbered k g [] from to = absurd (omega arith)
+numbered k g (x ∷ xs) from to =
+    elim (eq_cases k g) [
+      | inl same ↦ left_or _ _ (let here : (k == g) ≡ true = grind (arith, same) in here)
+      | inr other ↦ right_or _ _ (numbered (k + 1) g xs (omega (arith, other)) (omega arith))
+    ]
+
+module _ (tree : List Node) (is : IsTree tree) (target : ℕ) (there : target < length tree) where
+  preorder-children : (s : ℕ) → s < length tree → preorder tree s ≡ s ∷ flat_map (preorder tree) (children tree s)
+  preorder-children s lt =
+      preorder-step tree is s lt ∙ ap (λ cs. s ∷ flat_map (preorder tree) cs) (sym (children-from tree s ∙ children_from-own tree is s (s + 1) 0 lt (omega arith)))
+
+  -- a walk comes to live groups under the target
+  comes_to : (n s g : ℕ) → is_live tree s ≡ true → under tree target s ≡ true → is_among g (preorder_to n tree s) ≡ true → (is_live tree g ≡ true) × (under tree target g ≡ true)
+  unfolding is_among preorder_to
+  comes_to zero s g live below h = absurd cc
+  comes_to (suc n) s g live below h =
+      elim (one_of (s == g) _ h) [
+        | inl here ↦ (let same : s ≡ g = grind (arith, here) in (subst (λ a. is_live tree a ≡ true) same live, subst (λ a. under tree target a ≡ true) same below))
+        | inr later ↦
+            (let child = joined_one g (λ c. is_child s (node_at tree c)) (preorder_to n tree) (numbers tree) later in
+            comes_to n child.0 g (first _ _ child.1) (under-child tree is target child.0 s (child_parent tree s child.0 child.1) below) child.2)
+      ]
+
+  -- and with a group to each of its children
+  goes_on : (n s p g : ℕ) → s < length tree → length tree ≤ n + s → is_child p (node_at tree g) ≡ true → g < length tree → is_among p (preorder tree s) ≡ true → is_among g (preorder tree s) ≡ true
+  unfolding is_among
+  goes_on zero s p g lt enough child inside h = absurd (omega arith)
+  goes_on (suc n) s p g lt enough child inside h =
+      elim (one_of (s == p) _ (ap (is_among p) (sym (preorder-children s lt)) ∙ h)) [
+        | inl here ↦
+            (let same : s ≡ p = grind (arith, here) in
+            let own : (g == g) ≡ true = grind arith in
+            ap (is_among g) (preorder-children s lt)
+            ∙ right_or _ _ (joined_any g g (λ c. is_child s (node_at tree c)) (preorder tree) (numbers tree) (numbered 0 g tree (omega arith) (omega arith)) (ap (λ q. is_child q (node_at tree g)) same ∙ child)
+            (ap (is_among g) (preorder-children g inside) ∙ left_or _ _ own)))
+        | inr later ↦
+            (let below = joined_one p (λ c. is_child s (node_at tree c)) (preorder tree) (numbers tree) later in
+            let parent = child_parent tree s below.0 below.1 in
+            let falls = is.falls below.0 s parent in
+            let lower = within tree below.0 s parent in
+            ap (is_among g) (preorder-children s lt)
+            ∙ right_or _ _ (joined_any g below.0 (λ c. is_child s (node_at tree c)) (preorder tree) (numbers tree) (numbered 0 below.0 tree (omega arith) (omega arith)) below.1
+            (goes_on n below.0 p g lower (omega (arith, falls)) child inside below.2)))
+      ]
+
+  -- nor does it leave one out
+  reaches : ((g p : ℕ) → is_live tree g ≡ true → (node_at tree g).parent ≡ Some p → is_live tree p ≡ true) → (n g : ℕ) → g < n → is_live tree g ≡ true → under tree target g ≡ true
+      → (at : Option ℕ) → (node_at tree g).parent ≡ at → is_among g (preorder tree target) ≡ true
+  unfolding is_among
+  reaches parents zero g lt live below at parent = absurd (omega arith)
+  reaches parents (suc n) g lt live below None parent =
+      elim (one_of (target == g) _ (sym (under_at-step tree is target g) ∙ below)) [
+        | inl here ↦ ap (is_among g) (preorder-children target there) ∙ left_or (target == g) _ here
+        | inr above ↦ absurd (let none : true ≡ false = sym above ∙ ap (under_at tree target) parent ∙ under_at-None tree is target in cc)
+      ]
+  reaches parents (suc n) g lt live below (Some p) parent =
+      elim (one_of (target == g) _ (sym (under_at-step tree is target g) ∙ below)) [
+        | inl here ↦ ap (is_among g) (preorder-children target there) ∙ left_or (target == g) _ here
+        | inr above ↦
+            (let falls = is.falls g p parent in
+            let own : (p == p) ≡ true = grind arith in
+            let child : is_child p (node_at tree g) ≡ true = both _ _ live (ap (λ at. is_parent at p) parent ∙ own) in
+            let more = reaches parents n p (omega (arith, falls)) (parents g p live parent) (ap (under_at tree target) (sym parent) ∙ above) (node_at tree p).parent refl in
+            goes_on (length tree) target p g there (omega arith) child (live-within tree g live) more)
+      ]
+
+same_tests : (a b : Bool) → (a ≡ true → b ≡ true) → (b ≡ true → a ≡ true) → a ≡ b
+same_tests true b f h = sym (f refl)
+same_tests false true f h = h refl
+same_tests false false f h = refl
+
+-- a walk from a live group comes to exactly the live groups at or below it
+pub preorder-has : (tree : List Node) → IsGroupTree tree → (target g : ℕ) → is_live tree target ≡ true → list_any (λ a. a == g) (preorder tree target) ≡ (is_live tree g && under tree target g)
+unfolding is_among
+preorder-has tree groups target g live =
+    let is = groups.earlier_parents in
+    let there = live-within tree target live in
+    same_tests _ _
+    (λ h. let comes = comes_to tree is target there (length tree) target g live (under_here tree target target (let own : (target == target) ≡ true = grind arith in own)) h in both _ _ comes.0 comes.1)
+    (λ h. reaches tree is target there groups.parents_live (suc g) g (omega arith) (first _ _ h) (second _ _ h) (node_at tree g).parent refl)

@@ -1,0 +1,129 @@
+//! The cursors of all targets.
+
+ghost use Rattle.std.specs.Prelude.{◌≡◌, ◌+◌, ◌<◌, ◌≤◌, ◌++◌, ◌∷◌, [], not, true, All, length, option_map, slice_set, is_none, IfSome, IfNone, IfOk, OnOk, OnErr, IsOk};
+ghost use Rattle.machine.specs.Order.{served_by, cursor_at};
+ghost use Rattle.machine.specs.Tree.{is_live};
+ghost use Rattle.group_tree.specs.Kin.{AreKin};
+ghost use Rattle.reclaim.specs.Pass.{oldest_of, gives, is_any_takeable};
+
+use crate::pass::served;
+use group_tree::Tree;
+use machine::id::{GroupId, PageId};
+use page_counter::Counters;
+use std::alloc::{AllocError, Global};
+use std::marker::Model;
+
+/// For each group, as a reclaim's target, the group that was served last for it (kernel:
+/// `struct mem_cgroup_reclaim_iter`).
+///
+/// A contract sees the numbers of those groups as a list by the targets' numbers, and for how many
+/// targets more there is memory.
+#[derive(Drop)]
+pub struct Cursors {
+    /// By target: the group that was served last, or `None` where none was.
+    last: Vec<Option<GroupId>>,
+}
+
+impl Model for Cursors {
+    ghost use Rattle.std.specs.Prelude.{◌-◌, map, vec_len, vec_capacity};
+    ghost use Rattle.group_tree.specs.Tables.{number};
+    ghost use Rattle.reclaim.specs.Cursors.{CursorsOf};
+
+    ghost Value = { CursorsOf };
+
+    ghost view = { λ c. record {
+      cursors = map number c.last.items;
+      room = vec_capacity c.last - vec_len c.last;
+    } };
+}
+
+impl Cursors {
+    /// The root alone, for which none was served. `AllocError` where there is no memory for it.
+    pub fn new(alloc: Global) -> Result<Self, AllocError>
+        ensures { IfOk result (λ c. c.cursors ≡ None ∷ []) }
+    {
+        let mut last = Vec::with_capacity(alloc, 1)?;
+        last.push_reserved(None);
+        Ok(Cursors { last })
+    }
+
+    /// Asks for the memory of one target more. `AllocError` where there is none; the cursors are the
+    /// same either way.
+    pub fn reserve(&mut self) -> Result<(), AllocError>
+        ensures room { OnOk result (0 < self.new.room) }
+        ensures cursors { self.new.cursors ≡ self.old.cursors }
+        ensures succeeds { 0 < self.old.room → IsOk result }
+        ensures kept { self.old.room ≤ self.new.room }
+    {
+        self.last.reserve(1)
+    }
+
+    /// A target more, for which none was served. Its memory was asked for by [`Cursors::reserve`].
+    pub fn add_reserved(&mut self)
+        requires room { 0 < self.old.room }
+        ensures cursors { self.new.cursors ≡ self.old.cursors ++ None ∷ [] }
+        ensures room { self.new.room + 1 ≡ self.old.room }
+    {
+        self.last.push_reserved(None);
+    }
+
+    /// A target more, for which none was served. `AllocError` where there is no memory for it, and
+    /// then the cursors are the same.
+    pub fn add(&mut self) -> Result<(), AllocError>
+        ensures cursors { OnOk result (self.new.cursors ≡ self.old.cursors ++ None ∷ []) }
+        ensures err { OnErr result (self.new.cursors ≡ self.old.cursors) }
+        ensures succeeds { 0 < self.old.room → IsOk result }
+    {
+        self.reserve()?;
+        self.add_reserved();
+        Ok(())
+    }
+
+    /// The group is no target any more, and which group was served last for it is forgotten. Where
+    /// it was itself the one that was served last, for a group above it, the next pass of that
+    /// target begins at the target (kernel: invalidate_reclaim_iterators).
+    pub fn remove(&mut self, group: GroupId)
+        requires { group.0 < length self.old.cursors }
+        ensures cursors { self.new.cursors ≡ slice_set self.old.cursors group.0 None }
+        ensures room { self.new.room ≡ self.old.room }
+    {
+        self.last[group.0 as usize] = None;
+    }
+
+    /// The page that a reclaim of the target takes next, after its group. The target's cursor goes
+    /// to that group.
+    ///
+    /// `held` has the pages in frames, each after its group, and the one that has been there for
+    /// longest first. `None` where no page can be taken (`is_any_takeable`), and then nothing
+    /// changes. It takes no memory.
+    pub fn next_page(
+        &mut self,
+        tree: &Tree,
+        counters: &Counters,
+        held: &[(GroupId, PageId)],
+        swap_free: bool,
+        target: GroupId,
+    ) -> Option<(GroupId, PageId)>
+        requires kin { AreKin counters.now.tree tree.now }
+        requires live { is_live tree.now target.0 ≡ true }
+        requires cursor { target.0 < length self.old.cursors }
+        requires held { All (λ pair. is_live tree.now pair.0.0 ≡ true) held.now }
+        // The group is the one whose turn it is, and the page is the oldest of its own.
+        ensures group { option_map (λ pair. pair.0.0) result
+            ≡ served_by tree.now (gives tree.now counters.now held.now swap_free target.0) target.0 (cursor_at self.old.cursors target.0) }
+        ensures page { IfSome result (λ pair. oldest_of held.now pair.0.0 ≡ Some pair) }
+        // There is one wherever a page can be taken.
+        ensures none { is_none result ≡ not (is_any_takeable tree.now counters.now held.now swap_free target.0) }
+        ensures cursor { IfSome result (λ pair. self.new.cursors ≡ slice_set self.old.cursors target.0 (Some pair.0.0)) }
+        ensures same { IfNone result (self.new.cursors ≡ self.old.cursors) }
+        ensures room { self.new.room ≡ self.old.room }
+    {
+        if !swap_free {
+            return None;
+        }
+        let last = self.last[target.0 as usize];
+        let (group, page) = served(tree, counters, held, target, last)?;
+        self.last[target.0 as usize] = Some(group);
+        Some((group, page))
+    }
+}
