@@ -3,6 +3,8 @@
 
 mod words;
 
+ghost use Rattle.std.specs.Prelude.{◌≡◌, ◌≤◌};
+
 use std::fs::File;
 use std::io::Write;
 use std::process::ExitCode;
@@ -15,7 +17,9 @@ const FAILED: u8 = 1;
 const BAD_WORDS: u8 = 2;
 
 /// The status of a run that has no other reason than this one.
-fn failed<E: Write>(err: &mut E, what: &str, error: &io::Error) -> u8 {
+fn failed<E: Write>(err: &mut E, what: &str, error: &io::Error) -> u8
+    ensures failure { result ≡ 1 }
+{
     // The status tells of the failure even where its line can't be written.
     let _ = writeln!(err, "{what}: {error}");
     FAILED
@@ -26,7 +30,9 @@ fn serve<R: Files + AllocGlobal, O: Write, E: Write>(
     request: Request<'_>,
     out: &mut O,
     err: &mut E,
-) -> u8 {
+) -> u8
+    ensures success_or_failure { result ≤ 1 }
+{
     let mut script = match File::open(rt, request.file) {
         Ok(script) => script,
         Err(error) => return failed(err, request.file, &error),
@@ -40,7 +46,10 @@ fn given_words<R: Env + AllocGlobal>(rt: &R) -> io::Result<Vec<String>> {
     Ok(env::args(rt)?.collect(rt.alloc())?)
 }
 
-fn start<R: Env + Files + AllocGlobal, O: Write, E: Write>(rt: &R, out: &mut O, err: &mut E) -> u8 {
+/// The status: 0 for a script that was run, 1 for one that wasn't, 2 for words that ask for none.
+fn start<R: Env + Files + AllocGlobal, O: Write, E: Write>(rt: &R, out: &mut O, err: &mut E) -> u8
+    ensures a_known_status { result ≤ 2 }
+{
     let words = match given_words(rt) {
         Ok(words) => words,
         Err(error) => return failed(err, "memcgrun", &error),
