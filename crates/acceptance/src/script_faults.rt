@@ -9,24 +9,6 @@ use std::test::Fail;
 fn the_first_faulty_line_is_named(rt: HostRuntime) {
     faults(
         &rt,
-        "and nothing is run before it",
-        "frames 4\nfoo\n",
-        "line 2: unknown word\n",
-    );
-    faults(
-        &rt,
-        "though its lines would print",
-        "group /a\ncat /a memory.max\ncat /a\n",
-        "line 3: missing argument\n",
-    );
-    faults(
-        &rt,
-        "and no later one",
-        "group\nfoo\ngroup a\n",
-        "line 1: missing argument\n",
-    );
-    faults(
-        &rt,
         "skipped lines are counted",
         "# a comment\n\n \t\n\r\nfoo\n",
         "line 5: unknown word\n",
@@ -497,60 +479,17 @@ fn bad_name_of_each_command(rt: HostRuntime) {
 #[test]
 fn header_after_commands(rt: HostRuntime) {
     let line = "line 2: header after commands\n";
-    faults(&rt, "frames", "group /a\nframes 4\n", line);
-    faults(&rt, "trace", "7 read 0 0\ntrace 4\n", line);
-    faults(
-        &rt,
-        "after any number of commands",
-        "frames 4\ngroup /a\ngroup /b\ntrace 4\n",
-        "line 4: header after commands\n",
-    );
-    faults(
-        &rt,
-        "before the header that stands twice",
-        "frames 4\ngroup /a\nframes 4\n",
-        "line 3: header after commands\n",
-    );
-    faults(
-        &rt,
-        "after the bad number",
-        "group /a\nframes 0\n",
-        "line 2: bad number\n",
-    );
     faults(
         &rt,
         "with a comment between",
         "1 read 0 0\n# x\ntrace 4",
         "line 3: header after commands\n",
     );
-    faults(
-        &rt,
-        "after one that is begun",
-        "begin group /a\nframes 4\n",
-        line,
-    );
-    faults(&rt, "after a step", "step 1\ntrace 4\n", line);
-    faults(&rt, "after a finish", "finish shell\nframes 4\n", line);
-    faults(&rt, "after an exit", "1 exit\nframes 4\n", line);
 }
 
 #[test]
 fn header_twice(rt: HostRuntime) {
     let line = "line 2: header twice\n";
-    faults(&rt, "frames", "frames 4\nframes 4\n", line);
-    faults(&rt, "trace", "trace 4\ntrace 5\n", line);
-    faults(
-        &rt,
-        "with another between",
-        "frames 4\ntrace 4\n# a comment\nframes 5\n",
-        "line 4: header twice\n",
-    );
-    faults(
-        &rt,
-        "after the bad number",
-        "frames 4\nframes 0\n",
-        "line 2: bad number\n",
-    );
     faults(
         &rt,
         "with the other between",
@@ -641,12 +580,6 @@ fn replaces_each_byte<R: Abort + AllocGlobal>(
 
 #[test]
 fn each_byte_of_a_line_is_of_its_text(rt: HostRuntime) -> Result<(), Fail> {
-    prints(
-        &rt,
-        "all of it is text",
-        "frames 4\ngroup /a\ntask 1 /a\n# a comment\n1 write 0 0 7\n1 read 0 0\n",
-        "1 7\n",
-    );
     for (line, fault) in LINES {
         replaces_each_byte(&rt, line, fault)?;
     }

@@ -4,9 +4,6 @@ use crate::case::prints;
 
 #[test]
 fn a_script_may_ask_for_nothing(rt: HostRuntime) {
-    prints(&rt, "frames alone", "frames 4\n", "");
-    prints(&rt, "no byte at all", "", "");
-    prints(&rt, "one line feed", "\n", "");
     prints(&rt, "a space", " ", "");
     prints(
         &rt,
@@ -27,13 +24,6 @@ fn a_script_may_ask_for_nothing(rt: HostRuntime) {
         "",
     );
     prints(&rt, "a comment without a line feed", "# a comment", "");
-    prints(
-        &rt,
-        "the greatest sizes",
-        "frames 0000000000065536\ntrace 1048576\n",
-        "",
-    );
-    prints(&rt, "the least sizes", "trace 1\nframes 1\n", "");
 }
 
 #[test]
@@ -64,23 +54,6 @@ fn lines_and_words_are_set_apart(rt: HostRuntime) {
     );
     prints(
         &rt,
-        "comments and empty lines may stand between all others",
-        "\
-# sizes
-frames 4
-
-# and the trace
-trace 9
-group /a
-# in between
-cat /a memory.max
-",
-        "\
-max
-",
-    );
-    prints(
-        &rt,
         "a comment need not be English",
         "# \u{df}\u{4e2d}\u{1f600}\n",
         "",
@@ -96,23 +69,5 @@ max
         "a `#` that does not begin a line is a word like others",
         "set / # \u{e9}\ngroup\t/a/b.c/-_9\n",
         "error ENOENT\nerror ENOENT\n",
-    );
-}
-
-#[test]
-fn numbers_may_begin_with_zeros(rt: HostRuntime) {
-    prints(
-        &rt,
-        "those of sizes, tasks, pages, offsets and bytes",
-        "\
-frames 0004
-trace 000000000000000000000000000009
-task 0007 /
-007 write 00 01 0255
-7 read 0 000000000000000000001
-",
-        "\
-7 255
-",
     );
 }

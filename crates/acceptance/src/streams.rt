@@ -1,6 +1,5 @@
 //! Readers and writers that fail, that give and take little at a time, or that never end.
 
-use crate::case::prints;
 use std::io;
 use std::io::{Error, ErrorKind, Read, Write};
 use subcommands::{SCRIPT_BYTES, schedule};
@@ -190,10 +189,4 @@ fn the_status_holds_where_its_line_cannot_be_written(rt: HostRuntime) {
     assert_eq!(rt; schedule(alloc, &mut script, &mut out, &mut err), 1);
     assert!(rt; out.is_empty());
     let Full { room: _ } = err;
-}
-
-#[test]
-fn a_script_is_run_anew_each_time(rt: HostRuntime) {
-    prints(&rt, "once", OVER_LIMIT, PRINTED);
-    prints(&rt, "and once more", OVER_LIMIT, PRINTED);
 }

@@ -27,18 +27,11 @@ pub fn is_any_takeable(
     target: GroupId,
 ) -> bool
     requires kin { AreKin counters.now.tree tree.now }
+    requires live { is_live tree.now target.0 ≡ true }
     requires held { All (λ pair. is_live tree.now pair.0.0 ≡ true) held.now }
     ensures { result ≡ is_any_takeable tree.now counters.now held.now swap_free target.0 }
 {
-    if !swap_free {
-        return false;
-    }
-    for (group, _) in held {
-        if tree.is_under(target, *group) && !is_protected(tree, counters, target, *group) {
-            return true;
-        }
-    }
-    false
+    swap_free && served(tree, counters, held, target, None).is_some()
 }
 
 /// The group that gives a page to the target, where `last` was served last, and its page. A block in

@@ -1,0 +1,89 @@
+//! A case: a script, and what the program must write for it.
+//!
+//! A file of cases has, for each, a line `== ` with its name, the script's lines, and a line `-- prints`
+//! with the lines that it prints behind it, or a line `-- faults ` with the line of standard error that
+//! it is refused with. Behind these, blank lines and lines that begin with `#` belong to no case; nor do
+//! lines before the first.
+
+use std::alloc::{AllocError, Global};
+use std::io;
+use std::io::Write;
+use subcommands::schedule;
+
+/// A script, with what the program must write for it.
+#[derive(Drop)]
+pub struct Case {
+    name: String,
+    script: String,
+    out: String,
+    err: String,
+    /// What the next line of the file is: a line of what is printed, or one of the script.
+    prints: bool,
+}
+
+impl Case {
+    fn new(alloc: Global, name: &str) -> Result<Case, AllocError> {
+        Ok(Case {
+            name: String::from_str(alloc, name)?,
+            script: String::new(alloc),
+            out: String::new(alloc),
+            err: String::new(alloc),
+            prints: false,
+        })
+    }
+
+    /// Takes a line of the file.
+    fn add(&mut self, line: &str) -> Result<(), AllocError> {
+        if line == "-- prints" {
+            self.prints = true;
+            return Ok(());
+        }
+        if let Some(fault) = line.strip_prefix("-- faults ") {
+            self.prints = true;
+            return add_line(&mut self.err, fault);
+        }
+        if !self.prints {
+            return add_line(&mut self.script, line);
+        }
+        if line.is_empty() || line.starts_with('#') {
+            return Ok(());
+        }
+        add_line(&mut self.out, line)
+    }
+
+    /// Runs the script, and says what came of it where that is not what must come.
+    pub fn run<W: Write>(&self, alloc: Global, file: &str, to: &mut W) -> io::Result<()> {
+        let mut script = self.script.as_bytes();
+        let mut out = Vec::new(alloc);
+        let mut err = Vec::new(alloc);
+        let status = schedule(alloc, &mut script, &mut out, &mut err);
+        let wanted = if self.err.is_empty() { 0 } else { 1 };
+        if status == wanted
+            && out.as_slice() == self.out.as_bytes()
+            && err.as_slice() == self.err.as_bytes()
+        {
+            return Ok(());
+        }
+        writeln!(to, "{file}: {}: status {status}", self.name)?;
+        to.write_all(&out)?;
+        to.write_all(&err)
+    }
+}
+
+fn add_line(text: &mut String, line: &str) -> Result<(), AllocError> {
+    text.push_str(line)?;
+    text.push('\n')
+}
+
+/// The cases of a file.
+pub fn read_cases(alloc: Global, text: &str) -> Result<Vec<Case>, AllocError> {
+    let mut cases: Vec<Case> = Vec::new(alloc);
+    for line in text.lines() {
+        if let Some(name) = line.strip_prefix("== ") {
+            cases.push(Case::new(alloc, name)?)?;
+        } else if let Some(case) = cases.last_mut() {
+            case.add(line)?;
+        }
+    }
+    Ok(cases)
+}

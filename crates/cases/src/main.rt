@@ -1,0 +1,44 @@
+//! Runs the cases of the files that its words name, and prints each that does not come out as its file
+//! says, and how many there were.
+#![tactic(auto)]
+
+mod case;
+
+use case::read_cases;
+use std::fs::File;
+use std::io::{Read, Write};
+use std::process::ExitCode;
+use std::rt::{Env, Files};
+use std::{env, io};
+
+/// Runs the cases of a file. How many there are.
+fn run_file<R: Files + AllocGlobal, W: Write>(
+    rt: &R,
+    name: &str,
+    out: &mut W,
+) -> io::Result<usize> {
+    let mut text = String::new(rt.alloc());
+    File::open(rt, name)?.read_to_string(&mut text)?;
+    let cases = read_cases(rt.alloc(), &text)?;
+    for case in &cases {
+        case.run(rt.alloc(), name, out)?;
+    }
+    Ok(cases.len())
+}
+
+/// Runs the cases of all files, and prints how many there are of each.
+fn run_all<R: Env + Files + AllocGlobal, W: Write>(rt: &R, out: &mut W) -> io::Result<()> {
+    let words: Vec<String> = env::args(rt)?.collect(rt.alloc())?;
+    for name in words.iter().skip(1) {
+        let cases = run_file(rt, name, out)?;
+        writeln!(out, "{name}: {cases}")?;
+    }
+    Ok(())
+}
+
+fn main(rt: HostRuntime) -> ExitCode {
+    match run_all(&rt, &mut rt.stdout()) {
+        Ok(()) => ExitCode::SUCCESS,
+        Err(_) => ExitCode::FAILURE,
+    }
+}
