@@ -98,7 +98,7 @@ impl Lineage {
         self.groups.get(group.0 as usize)?.parent
     }
 
-    /// Whether the group of this number is there, and hangs below another.
+    /// Whether this is the number of a live group that hangs below the parent.
     pub fn is_child(&self, number: usize, parent: GroupId) -> bool
         ensures { result ≡ is_child parent.0 (node_at self.now.tree number) }
     {

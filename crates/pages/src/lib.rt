@@ -5,7 +5,7 @@
 //! ticket once its transfer has ended.
 #![tactic(auto)]
 
-ghost use Rattle.std.specs.Prelude.{◌≡◌, ℕ, ◌+◌, ◌<◌, ◌≤◌, ◌==◌, ◌&&◌, [], Some, None, OnOk, IsOk, IfOk, true, false, length, map, option_map, if◌then◌else◌};
+ghost use Rattle.std.specs.Prelude.{◌≡◌, ℕ, ◌+◌, ◌<◌, ◌≤◌, ◌==◌, ◌&&◌, [], Some, None, OnOk, IsOk, IfOk, true, false, map, option_map, if◌then◌else◌};
 ghost use Rattle.machine.specs.Slots.{at, Changes};
 ghost use Rattle.machine.specs.Pages as residence;
 ghost use Rattle.machine.specs.Pages.{page_at};
@@ -295,13 +295,6 @@ impl Pages {
     {
         self.numbers.remove(page.0);
         take_at(&mut self.kept, page.0)
-    }
-
-    /// How many page numbers there are to go over: every page's number is below.
-    pub fn slots(&self) -> usize
-        ensures { length self.now.pages ≤ result }
-    {
-        self.kept.len()
     }
 
     /// Nothing is done: what holds of every table of pages.

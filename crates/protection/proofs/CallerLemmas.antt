@@ -1,5 +1,5 @@
--- For callers: from stored counts to those of the machine, and from `is_protected` to its opposite.
-use Rattle.std.proofs.Common.{inl, inr, ◌≡◌, ◌≢◌, ℕ, zero, suc, ◌<◌, Bool, true, false, not, ◌&&◌, ◌||◌, List, length, Option, Some, None, refl, sym, ap, ◌∙◌, arith}
+-- For callers: from stored counts to those of the machine.
+use Rattle.std.proofs.Common.{inl, inr, ◌≡◌, ◌≢◌, ℕ, zero, suc, ◌<◌, Bool, true, List, length, Option, Some, None, refl, sym, ap, ◌∙◌, arith}
 use Rattle.machine.specs.declared.amount.Amount.{Amount}
 use Rattle.machine.specs.Amounts.{at_most}
 use Rattle.machine.specs.Protection.{below_parent, effective}
@@ -7,12 +7,6 @@ use Rattle.machine.specs.Tree.{Node, node_at, IsTree, under}
 use Rattle.machine.proofs.TreeLemmas.{eq_cases}
 use Rattle.page_counter.proofs.ChildLemmas.{asked_below-same}
 use Rattle.protection.proofs.EffectiveLemmas.{effective-child, effective-step, has_parent, under-parent}
-
--- a group is open where it is not protected
-pub open-protected : (is_target over : Bool) → not (not is_target && not over) ≡ (is_target || over)
-open-protected true over = refl
-open-protected false true = refl
-open-protected false false = refl
 
 same_below : (recursive : Bool) {e k : Amount} {s t a b u v n m : ℕ} → e ≡ k → s ≡ t → a ≡ b → u ≡ v → n ≡ m → below_parent recursive e s a u n ≡ below_parent recursive k t b v m
 same_below recursive p q r x y = cc
