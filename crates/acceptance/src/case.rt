@@ -1,6 +1,7 @@
 //! A case: a script, and what the program must write for it.
 
-use std::alloc::AllocError;
+use std::alloc::{AllocError, Global};
+use std::ops::RangeInclusive;
 use std::process::Abort;
 use subcommands::schedule;
 
@@ -37,6 +38,21 @@ pub fn faults<R: Abort + AllocGlobal>(rt: &R, name: &str, script: &str, line: &s
 /// The same for a script that may not be text.
 pub fn faults_in_bytes<R: Abort + AllocGlobal>(rt: &R, name: &str, script: &[u8], line: &str) {
     ends(rt, name, script, "", line, 1);
+}
+
+/// A line for each number, with this before and this after it.
+pub fn numbered(
+    alloc: Global,
+    before: &str,
+    numbers: RangeInclusive<u32>,
+    after: &str,
+) -> Result<String, AllocError> {
+    let mut lines = String::new(alloc);
+    for number in numbers {
+        let line = format!(in alloc; "{before}{number}{after}\n")?;
+        lines.push_str(&line)?;
+    }
+    Ok(lines)
 }
 
 /// A command that is under way, and what is done between two of its turns.

@@ -11,13 +11,21 @@ mod amounts;
 #[cfg(test)]
 mod case;
 #[cfg(test)]
+mod daemon_turns;
+#[cfg(test)]
 mod device_faults;
 #[cfg(test)]
 mod device_words;
 #[cfg(test)]
 mod event_files;
 #[cfg(test)]
+mod min_file;
+#[cfg(test)]
 mod read_ins;
+#[cfg(test)]
+mod reclaim_turns;
+#[cfg(test)]
+mod reclaim_words;
 #[cfg(test)]
 mod script_faults;
 #[cfg(test)]

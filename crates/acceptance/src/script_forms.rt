@@ -11,18 +11,6 @@ fn a_script_may_ask_for_nothing(rt: HostRuntime) {
         "\n \n\t\n \t \n\r\n",
         "",
     );
-    prints(
-        &rt,
-        "comments, each from its line's first word on",
-        "\
-# a comment
-#
-#group /a
-  # foo bar
-\t#
-",
-        "",
-    );
     prints(&rt, "a comment without a line feed", "# a comment", "");
 }
 
@@ -38,12 +26,6 @@ fn lines_and_words_are_set_apart(rt: HostRuntime) {
         &rt,
         "a carriage return before a line feed is dropped",
         "frames 4\r\ngroup /a\r\n# a comment\r\n\r\ncat /a memory.max\r\n",
-        "max\n",
-    );
-    prints(
-        &rt,
-        "words are set apart by any number of spaces and tabs",
-        "  group\t /a  \n\tcat \t\t/a   memory.max\t\n",
         "max\n",
     );
     prints(

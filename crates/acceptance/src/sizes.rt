@@ -1,24 +1,7 @@
 //! Runs as large as they may be, and larger.
 
-use crate::case::{faults, prints};
-use std::alloc::{AllocError, Global};
-use std::ops::RangeInclusive;
+use crate::case::{faults, numbered, prints};
 use std::test::Fail;
-
-// A line for each number, with this before and this after it.
-fn numbered(
-    alloc: Global,
-    before: &str,
-    numbers: RangeInclusive<u32>,
-    after: &str,
-) -> Result<String, AllocError> {
-    let mut lines = String::new(alloc);
-    for number in numbers {
-        let line = format!(in alloc; "{before}{number}{after}\n")?;
-        lines.push_str(&line)?;
-    }
-    Ok(lines)
-}
 
 #[test]
 fn there_are_64_frames_where_a_script_does_not_say(rt: HostRuntime) -> Result<(), Fail> {

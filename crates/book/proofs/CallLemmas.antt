@@ -16,7 +16,9 @@ use Rattle.machine.specs.Pages.{in_transfer}
 use Rattle.machine.specs.Counts.{Counted}
 use Rattle.machine.specs.State.{Opening, State}
 use Rattle.machine.specs.Refusals.{refusal}
+use Rattle.machine.specs.Reclaim.{target_of}
 use Rattle.machine.specs.Step.{Step}
+use Rattle.machine.specs.Lists.{Order, TakesNext, CursorsGoOn, Orders}
 use Rattle.machine.specs.History.{is_by, entries_by}
 use Rattle.machine.specs.Call.{Past, knows_ticket, need, is_trace_full, entry_of, Answers, Served, Called}
 use Rattle.book.specs.declared.book.Book.TheInside.{Inside}
@@ -36,18 +38,36 @@ refusal-counting s c (event.FetchFailed ticket) = refl
 refusal-counting s c (event.Left ticket) = refl
 refusal-counting s c (event.LeaveFailed ticket) = refl
 refusal-counting s c (event.Relieve why) = refl
+refusal-counting s c (event.ReclaimOne g) = refl
 refusal-counting s c (event.Spawn t g) = refl
 refusal-counting s c (event.Exit t) = refl
 refusal-counting s c (event.Mkdir path) = refl
 refusal-counting s c (event.Set g what) = refl
 refusal-counting s c (event.Show (query.Current g)) = refl
 refusal-counting s c (event.Show (query.Max g)) = refl
+refusal-counting s c (event.Show (query.Min g)) = refl
 refusal-counting s c (event.Show (query.Events g)) = refl
 refusal-counting s c (event.Show (query.EventsLocal g)) = refl
+refusal-counting s c (event.Show (query.Protection target g)) = refl
 
 -- and so with what is needed
 pub need-counting : (s : State) (c : List Counted) (what : Event) → need (counting s c) what ≡ need s what
 need-counting s c what = refl
+
+-- and so with the page that is next
+next-counting : (old new : State) (c d : List Counted) (order order' : Order) (target : ℕ) → TakesNext old order target new order' → TakesNext (counting old c) order target (counting new d) order'
+next-counting old new c d order order' target h = record { g = h.g; p = h.p; next = h.next; first = h.first; taken = h.taken; moves = h.moves }
+
+cursors-counting : (old new : State) (c d : List Counted) (order order' : Order) (what : Event) (answer : Reply) → CursorsGoOn old order what answer new order' → CursorsGoOn (counting old c) order what answer (counting new d) order'
+cursors-counting old new c d order order' (event.Relieve cause) (reply.Out ticket) h = next-counting old new c d order order' (target_of cause) h
+cursors-counting old new c d order order' (event.Relieve cause) reply.Dropped h = next-counting old new c d order order' (target_of cause) h
+cursors-counting old new c d order order' (event.ReclaimOne g) (reply.Out ticket) h = next-counting old new c d order order' g.0 h
+cursors-counting old new c d order order' (event.ReclaimOne g) reply.Dropped h = next-counting old new c d order order' g.0 h
+cursors-counting old new c d order order' (event.Mkdir path) answer h = h
+cursors-counting old new c d order order' what answer h = h
+
+pub orders-counting : (old new : State) (c d : List Counted) (order order' : Order) (what : Event) (answer : Reply) → Orders old order what answer new order' → Orders (counting old c) order what answer (counting new d) order'
+orders-counting old new c d order order' what answer h = (h.0, cursors-counting old new c d order order' what answer h.1)
 
 -- ---- answers of a call
 
@@ -196,6 +216,7 @@ module _ (b c : Inside) (w : WorkerId) (what : Event) (answer : Reply) (is : IsB
   answers_more =
       record {
         steps = subst (λ (h : List Entry). Step (state_of b.state (history_of b)) what answer (state_of c.state h)) (sym history_is) (steps_on b.state c.state (history_of b) b.counts.items w.0 what answer h);
+        order = orders-counting b.state.tables c.state.tables (counted_in (history_of b)) (counted_in (history_of c)) b.state.order c.state.order what answer h.serves.orders;
         history = history_is;
         passes = ap length appends.counts ∙ length-set b.counts.items w.0 (slice_index b.counts.items w.0 + 1);
       }

@@ -18,6 +18,7 @@ use Rattle.pages.specs.declared.flight.Flight.{Flight}
 use Rattle.book.specs.Holdings.{Stored}
 use Rattle.book.specs.Contents.{is_there, is_settled, AreMapped, byte_shown}
 use Rattle.book.specs.Parts.{is_let_go}
+use Rattle.book.proofs.QueueLemmas.{any_counts, counts_any}
 use Rattle.book.proofs.StateLemmas.{there_some}
 use Rattle.book.specs.Drops.{shows_to, is_gone, DropsPages}
 
@@ -38,25 +39,6 @@ module _ {T : Type 0} (test : T → Bool) where
 
   pub any_next : (xs : List T) (i : ℕ) (d : T) → i < length xs → list_any test (take (i + 1) xs) ≡ (list_any test (take i xs) || test (get_or xs i d))
   any_next xs i d lt = ap (λ n. list_any test (take n xs)) (add-one i) ∙ any_more xs i d lt
-
-  -- what passes is counted, and what is counted passes
-  pub any_counts : (xs : List T) → list_any test xs ≡ true → 1 ≤ count_by test xs
-  any_counts [] e = cc
-  any_counts (x ∷ xs) e =
-      let more = sum_by-cons (λ y. one_if (test y)) x xs in
-      elim (test x) as (λ b. test x ≡ b → (b || list_any test xs) ≡ true → 1 ≤ count_by test (x ∷ xs)) [
-        | true ↦ λ is e. (let here = ap one_if is in omega (arith, more, here))
-        | false ↦ λ is e. (let rest = any_counts xs e in omega (arith, more, rest))
-      ] refl e
-
-  pub counts_any : (xs : List T) → list_any test xs ≡ false → count_by test xs ≡ 0
-  counts_any [] e = refl
-  counts_any (x ∷ xs) e =
-      let more = sum_by-cons (λ y. one_if (test y)) x xs in
-      elim (test x) as (λ b. test x ≡ b → (b || list_any test xs) ≡ false → count_by test (x ∷ xs) ≡ 0) [
-        | true ↦ λ is e. cc
-        | false ↦ λ is e. (let here = ap one_if is in let rest = counts_any xs e in omega (arith, more, here, rest))
-      ] refl e
 
 -- a page's mappings are those of the task and those of others
 pub mappers-split : (t q : ℕ) (ms : List Mapping) → mappers ms q ≡ mappers (without_task ms t) q + count_by (shows_to t q) ms

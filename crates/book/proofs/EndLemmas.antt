@@ -16,6 +16,7 @@ use Rattle.machine.specs.Tasks.{task_at, is_live_life, is_live_task, lives, Sets
 use Rattle.machine.specs.State.{State}
 use Rattle.machine.specs.Call.{need}
 use Rattle.machine.specs.Reclaim.{stands, target_of, has_takeable, has_transfer}
+use Rattle.machine.specs.Lists.{GoesOn, Orders}
 use Rattle.machine.specs.Victim.{IsVictim}
 use Rattle.machine.specs.Step.{Unmaps, count_of}
 use Rattle.machine.specs.History.{InTask, Says, follow}
@@ -34,6 +35,8 @@ pub record LeavesOthers (old new : Contents) (t : ℕ) : Type 0 where
   pub bytes : (u v k : ℕ) → u ≢ t → byte_shown new.bytes (mapped_at old.tables.mappings u v) k ≡ byte_shown old.bytes (mapped_at old.tables.mappings u v) k
   pub moving : in_transfer new.tables.pages ≡ in_transfer old.tables.pages
   pub flights : new.flights ≡ old.flights
+  pub goes : GoesOn old.tables.pages old.order.held new.tables.pages new.order.held
+  pub cursors : new.order.cursors ≡ old.order.cursors
 
 module _ (old new : Contents) (t : ℕ) (life : Life) (dead : is_live_life life ≡ false) (ends : SetsTask old.tables.tasks t (group_of_task old.tables.tasks t) life new.tables.tasks) (leaves : LeavesOthers old new t) where
   -- the task itself is no live one
@@ -60,11 +63,12 @@ module _ (old new : Contents) (t : ℕ) (life : Life) (dead : is_live_life life 
   known_before u v (Some q) other e known = sym (ap (there_and (λ (page : Page). is_in_memory page.residence)) (leaves.pages u v q other e)) ∙ known
 
   -- an end of a task, whatever it was for
-  pub serves-ended : (worker : ℕ) (what : Event) (answer : Reply) → IsQuiet what answer → Steps old what answer new → Tallied old what answer new → ReadsByte old what answer → 1 ≤ need old.tables what
-      → Serves old worker what answer new
-  serves-ended worker what answer quiet steps tallied reads needs =
+  pub serves-ended : (worker : ℕ) (what : Event) (answer : Reply) → IsQuiet what answer → Steps old what answer new → Orders old.tables old.order what answer new.tables new.order → Tallied old what answer new → ReadsByte old what answer
+      → 1 ≤ need old.tables what → Serves old worker what answer new
+  serves-ended worker what answer quiet steps orders tallied reads needs =
       record {
         steps = steps;
+        orders = orders;
         tallied = tallied;
         groups = λ u. groups_kept u ∙ sym (quiet.groups u (group_of_task old.tables.tasks u));
         reads = reads;
@@ -102,7 +106,7 @@ serves-kill old new worker why t wants untakeable settled victim unmaps ends lea
     serves-ended old new t Killed refl ends leaves worker (event.Relieve why) (reply.KilledTask (record { 0 = t })) (record { says = λ spot. refl; ticket = refl; groups = λ u g. refl; given = refl })
     (λ c told. relieve_step (counting old.tables c) why _ _ (stands_counting old.tables c why ∙ wants) untakeable settled
     (victim, record { unmaps = unmaps; ends = ends; state = ap (λ (s : State). counting s (c ++ (count_of (target_of why) key.Oom ∷ count_of (group_of_task old.tables.tasks t) key.OomKill ∷ []))) leaves.tables }))
-    tells tt (relief-needs old.tables why)
+    (leaves.goes, leaves.cursors) tells tt (relief-needs old.tables why)
 
 pub serves-exit : (old new : Contents) (worker t : ℕ) (task : Task) → task_at old.tables.tasks t ≡ Some task → task.life ≡ Live
     → Unmaps old.tables (without_task old.tables.mappings t) new.tables
@@ -112,4 +116,4 @@ pub serves-exit : (old new : Contents) (worker t : ℕ) (task : Task) → task_a
 serves-exit old new worker t task is living unmaps ends leaves tells =
     serves-ended old new t Exited refl ends leaves worker (event.Exit (record { 0 = t })) reply.Ok (record { says = λ spot. refl; ticket = refl; groups = λ u g. refl; given = refl })
     (λ c told. live_step (counting old.tables c) _ task _ _ _ is living (refl, record { unmaps = unmaps; ends = ends; state = ap (λ (s : State). counting s c) leaves.tables }))
-    tells tt (omega arith)
+    (leaves.goes, leaves.cursors) tells tt (omega arith)

@@ -114,6 +114,8 @@ module _ (h : Inside) (is : IsHolding h) where
           frames = frames;
           held = relists-same is_held h.held.numbers 0 from from refl;
           moving = relists-same is_in_transfer h.moving.numbers 0 from from refl;
+          held_groups = is.held_groups;
+          moving_groups = is.moving_groups;
           held_room = refl;
           moving_room = refl;
           spares = omega (arith, spares, spares');

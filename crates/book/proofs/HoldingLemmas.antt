@@ -1,11 +1,15 @@
 -- The parts of the holdings go on to agree after one place in the table of pages changed.
-use Rattle.std.proofs.Common.{◌≡◌, ◌≢◌, inl, inr, ℕ, zero, suc, ◌+◌, ◌<◌, ◌≤◌, ◌==◌, ◌&&◌, Bool, true, false, cond, List, [], ◌∷◌, ◌++◌, length, Option, Some, None, refl, sym, ap, ◌∙◌, arith}
+use Rattle.std.proofs.Common.{◌≡◌, ◌≢◌, inl, inr, ℕ, zero, suc, ◌+◌, ◌<◌, ◌≤◌, ◌==◌, ◌&&◌, Bool, true, false, cond, List, [], ◌∷◌, ◌++◌, length, Option, Some, None, refl, sym, ap, ◌∙◌, subst, arith}
 use Rattle.std.specs.Prelude.{IfSome, option_map, option_to_list, is_none, nat_lt}
 use Rattle.std.proofs.lemmas.Bool.{cases_Bool, cases_lt}
 use Rattle.std.proofs.lemmas.Bool.Decides.{eqb_tells, nat_tests}
+use Rattle.std.specs.List.{All}
 use Rattle.std.proofs.lemmas.List.{map-append}
+use Rattle.std.proofs.lemmas.List.Elements.{All-nil}
 use Rattle.std.proofs.lemmas.List.Sums.{sum_by-cons}
 use Rattle.machine.specs.declared.id.GroupId.{GroupId}
+use Rattle.machine.specs.declared.id.PageId.{PageId}
+use Rattle.machine.specs.Lists.{is_page_of}
 use Rattle.machine.specs.declared.record.Limits.{Limits}
 use Rattle.machine.specs.Slots.{at, Changes, there_and, count_there, any_there}
 use Rattle.machine.specs.Tree.{Node, is_live}
@@ -20,9 +24,9 @@ use Rattle.pages.specs.declared.kept.Kept.{Kept}
 use Rattle.pages.specs.Records.{page_of}
 use Rattle.pages.specs.PageTable.{anon_page, Stands, is_held_in, is_under_ticket, AreInFlight}
 use Rattle.book.specs.declared.holdings.Holdings.TheInside.{Inside}
-use Rattle.book.specs.Queue.{page_count}
-use Rattle.book.specs.Holdings.{with_stored, over_of, would_grant}
-use Rattle.book.specs.Keeping.{holdings_of, has_this_block, is_leaving_at, is_going, AreKept, AreListed, IsCounted, IsHolding, pages_of}
+use Rattle.book.specs.Queue.{QueueOf, numbers_of, page_count}
+use Rattle.book.specs.Holdings.{with_order, over_of, would_grant}
+use Rattle.book.specs.Keeping.{holdings_of, has_this_block, is_leaving_at, is_going, AreKept, AreGrouped, AreListed, IsCounted, IsHolding, pages_of}
 use Rattle.book.proofs.BalanceLemmas.{Trades, changed-count, balanced-step, given-out}
 use Rattle.book.proofs.CountLemmas.{Recharges, counted-step, over-counted}
 
@@ -65,6 +69,13 @@ listed-step test xs xs' pages pages' p from to stood changes relists listed =
 
 pub listed-open : (test : Page → Bool) (xs : List ℕ) (pages : Pages) → xs ≡ [] → pages ≡ [] → AreListed test xs pages
 listed-open test xs pages none empty = rw (none, empty) (record { once = λ p. refl; len = refl })
+
+pub grouped-open : (queue : QueueOf) (pages : Pages) → queue.entries ≡ [] → queue.numbers ≡ [] → AreGrouped queue pages
+grouped-open queue pages none numbers =
+    record {
+      numbers = numbers ∙ ap numbers_of (sym none);
+      groups = subst (λ (entries : List (GroupId × PageId)). All (λ (entry : GroupId × PageId). is_page_of pages entry.0.0 entry.1.0 ≡ true) entries) (sym none) (All-nil (λ (entry : GroupId × PageId). is_page_of pages entry.0.0 entry.1.0 ≡ true));
+    }
 
 pub relists-same : (test : Page → Bool) (xs : List ℕ) (p : ℕ) (from to : Option Page) → there_and test from ≡ there_and test to → Relists test xs xs p from to
 relists-same test xs p from to same = record { once = λ n. ap (λ b. page_count xs n + one_if (b && (p == n))) same; len = ap (λ b. length xs + one_if b) same }
@@ -117,7 +128,7 @@ kept-step c d pool pool' slots slots' pages pages' p from to stood changes frame
       counted = counted-step c d pages pages' p from to stood changes charges kept.counted;
     }
 
-own : (n : ℕ) → (n == n) ≡ true
+pub own : (n : ℕ) → (n == n) ≡ true
 own n = grind (arith, nat_tests)
 
 -- the frame and the block of a page are not free
@@ -139,6 +150,8 @@ pub record Moves (h h' : Inside) (p : ℕ) (from to : Option Page) : Type 0 wher
   pub frames : h'.pool.frames ≡ h.pool.frames
   pub held : Relists is_held h.held.numbers h'.held.numbers p from to
   pub moving : Relists is_in_transfer h.moving.numbers h'.moving.numbers p from to
+  pub held_groups : AreGrouped h'.held h'.pages.pages
+  pub moving_groups : AreGrouped h'.moving h'.pages.pages
   pub held_room : h'.held.room ≡ h.held.room
   pub moving_room : h'.moving.room ≡ h.moving.room
   pub spares : h'.pool.spares + one_if (there_and is_going to) ≡ h.pool.spares + one_if (there_and is_going from)
@@ -154,6 +167,8 @@ holding-step h h' p from to moves is =
       few = (let few = is.few in omega (arith, few, frames));
       held = listed-step is_held h.held.numbers h'.held.numbers h.pages.pages h'.pages.pages p from to moves.stood moves.changes moves.held is.held;
       moving = listed-step is_in_transfer h.moving.numbers h'.moving.numbers h.pages.pages h'.pages.pages p from to moves.stood moves.changes moves.moving is.moving;
+      held_groups = moves.held_groups;
+      moving_groups = moves.moving_groups;
       held_room = (let room = moves.held_room in let fit = is.held_room in omega (arith, room, fit, frames));
       moving_room = (let room = moves.moving_room in let fit = is.moving_room in omega (arith, room, fit, frames));
       spares = (let k = moves.spares in let before = is.spares in omega (arith, k, before, going, frames));
@@ -238,7 +253,7 @@ ticket-free pages flights n is free = any_there-none (λ page. is_number (ticket
 -- ---- views
 
 pub same-view : (h h' : Inside) → h'.counters.tree ≡ h.counters.tree → h'.counters.limits ≡ h.counters.limits → h'.counters.room ≡ h.counters.room → h'.pool.frames ≡ h.pool.frames → h'.slots.blocks ≡ h.slots.blocks
-    → holdings_of h' ≡ with_stored (holdings_of h) (holdings_of h').stored
+    → holdings_of h' ≡ with_order (holdings_of h) (holdings_of h').stored (holdings_of h').held
 same-view h h' tree limits room frames blocks =
     ap (λ (t : List Node). record (holdings_of h') { kin = t }) tree
     ∙ ap (λ (l : List Limits). record (holdings_of h') { kin = h.counters.tree; limits = l }) limits
@@ -277,6 +292,8 @@ holding-counted h d counted is =
       few = is.few;
       held = is.held;
       moving = is.moving;
+      held_groups = is.held_groups;
+      moving_groups = is.moving_groups;
       held_room = is.held_room;
       moving_room = is.moving_room;
       spares = is.spares;

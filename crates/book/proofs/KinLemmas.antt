@@ -13,7 +13,7 @@ use Rattle.machine.specs.Counts.{Counted, is_full, over_at, over, is_key, total}
 use Rattle.machine.proofs.TreeLemmas.{same_chain, same_under, lt_cases, over_at-None, over_at-step}
 use Rattle.group_tree.specs.Lineages.{bare, IsLineage}
 use Rattle.group_tree.proofs.LineageLemmas.{live-within}
-use Rattle.book.specs.Kin.{AreKin}
+use Rattle.group_tree.specs.Kin.{AreKin}
 
 same_tests : {X : Type 0} {f g : X → Bool} → ((x : X) → f x ≡ g x) → f ≡ g
 same_tests same = λ i x. same x i

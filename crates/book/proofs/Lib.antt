@@ -1,4 +1,6 @@
 pub mod QueueLemmas
+pub mod EntryLemmas
+pub mod OrderLemmas
 pub mod RoomLemmas
 pub mod BalanceLemmas
 pub mod CountLemmas
@@ -6,9 +8,11 @@ pub mod HoldingLemmas
 pub mod GrantLemmas
 pub mod SettleLemmas
 pub mod ReleaseLemmas
+pub mod NextLemmas
 pub mod KinLemmas
 pub mod TallyLemmas
 pub mod TransferLemmas
+pub mod CursorLemmas
 pub mod ServeLemmas
 pub mod StateLemmas
 pub mod DropLemmas

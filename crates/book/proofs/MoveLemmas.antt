@@ -22,7 +22,8 @@ use Rattle.machine.specs.State.{State, over_in, is_frame_free}
 use Rattle.machine.specs.Access.{meets}
 use Rattle.machine.specs.Call.{need, grows}
 use Rattle.machine.specs.Reclaim.{stands, target_of, is_takeable, has_takeable}
-use Rattle.machine.specs.Step.{MeetStep, StartsFetch, Takes, RelieveStep, EndsTransfer, in_frame, on_block, IsFreeFrame, IsFreeBlock}
+use Rattle.machine.specs.Lists.{GoesOn, TakesNext, CursorsGoOn, Orders}
+use Rattle.machine.specs.Step.{MeetStep, StartsFetch, Takes, RelieveStep, ReclaimOneStep, EndsTransfer, in_frame, on_block, IsFreeFrame, IsFreeBlock}
 use Rattle.machine.specs.History.{Spot, InTask, Says, Nothing, says, follow, ticket_given, taker_or}
 use Rattle.machine.proofs.TreeLemmas.{eq_cases}
 use Rattle.machine.proofs.SlotLemmas.{one_if}
@@ -31,8 +32,11 @@ use Rattle.pages.specs.PageTable.{byte_in, Stands, anon_page, flight}
 use Rattle.pages.specs.declared.flight.Flight.{Flight}
 use Rattle.events.specs.Tallies.{Tells}
 use Rattle.book.specs.Contents.{Contents, counting, Steps, Tallied, group_after, byte_shown, byte_at_spot, is_in_memory, is_known, ReadsByte, Arrives, Follows, ChangesBytes, IsFetchOf, ChangesComing, ChangesFlights, worker_of, AreMapped, is_there, is_settled}
-use Rattle.book.specs.Serves.{Serves, starts, is_refused}
-use Rattle.book.proofs.TransferLemmas.{same_true, true_same, false_other, both_true, or_right, unlike, free-other, under-taken, coming-under, in_transfer-changes}
+use Rattle.book.specs.Serves.{Serves, RepliesTo, starts, is_refused}
+use Rattle.book.specs.declared.event.Reply.TheVariants as given
+use Rattle.pages.specs.Tickets.{TicketOf}
+use Rattle.book.specs.Parts.{AsksPage}
+use Rattle.book.proofs.TransferLemmas.{same_true, true_same, false_other, both_true, or_right, unlike, free-other, any-some, under-taken, coming-under, in_transfer-changes}
 use Rattle.book.proofs.ServeLemmas.{flight-kept, live_step, granted_step, stands_counting}
 
 abbrev residence_or : Option Page → Residence
@@ -102,11 +106,12 @@ module _ (old new : Contents) (what : Event) (answer : Reply) (p : ℕ) (to : Op
             inr (record { shown = before; stands = stood; quiet = λ o. move.silent (InTask t v o); other = move.fresh n (under-taken old.tables.pages q n (coming-under old.tables.pages q g f b n stood)) }))
       ]
 
-  pub serves-move : (worker : ℕ) → Steps old what answer new → Tallied old what answer new → ReadsByte old what answer → ChangesFlights old worker answer new
+  pub serves-move : (worker : ℕ) → Steps old what answer new → Orders old.tables old.order what answer new.tables new.order → Tallied old what answer new → ReadsByte old what answer → ChangesFlights old worker answer new
       → in_transfer new.tables.pages + 1 ≤ in_transfer old.tables.pages + need old.tables what → Serves old worker what answer new
-  serves-move worker steps tallied reads flights kept =
+  serves-move worker steps orders tallied reads flights kept =
       record {
         steps = steps;
+        orders = orders;
         tallied = tallied;
         groups = λ u. ap (λ (s : State). group_of_task s.tasks u) move.tables ∙ sym (move.groups u (group_of_task old.tables.tasks u));
         reads = reads;
@@ -173,9 +178,10 @@ pub serves-fetch : (old new : Contents) (worker t v o p g f b n : ℕ) (op : Op)
     → over_in old.tables g ≡ None → is_frame_free old.tables ≡ true → IsFreeFrame old.tables f → is_ticket_taken old.tables.pages n ≡ false
     → Changes old.tables.pages new.tables.pages p (Some (anon_page g (Coming f b n)))
     → new.tables ≡ record old.tables { pages = new.tables.pages }
-    → ((q k : ℕ) → q ≢ p → byte_in new.bytes q k ≡ byte_in old.bytes q k) → Changes old.flights new.flights n (Some (flight p worker)) → ((c : List Counted) → Tells old.tallies c → Tells new.tallies c)
+    → ((q k : ℕ) → q ≢ p → byte_in new.bytes q k ≡ byte_in old.bytes q k) → Changes old.flights new.flights n (Some (flight p worker))
+    → GoesOn old.tables.pages old.order.held new.tables.pages new.order.held → new.order.cursors ≡ old.order.cursors → ((c : List Counted) → Tells old.tallies c → Tells new.tallies c)
     → Serves old worker (event.Access (record { 0 = t }) (Virtual v o) op) (reply.Fetch (record { 0 = n })) new
-serves-fetch old new worker t v o p g f b n op task mapped known live shown away under free frame fresh placed tables bytes listed tells =
+serves-fetch old new worker t v o p g f b n op task mapped known live shown away under free frame fresh placed tables bytes listed goes cursors tells =
     serves-move old new (event.Access (record { 0 = t }) (Virtual v o) op) (reply.Fetch (record { 0 = n })) p (Some (anon_page g (Coming f b n)))
     (record {
       tables = tables;
@@ -190,7 +196,7 @@ serves-fetch old new worker t v o p g f b n op task mapped known live shown away
     })
     worker
     (λ c told. live_step (counting old.tables c) _ task _ _ _ known live (fetches c))
-    tells (reads-fetch old t n (Virtual v o) op)
+    (goes, cursors) tells (reads-fetch old t n (Virtual v o) op)
     (flights-begun old new worker p n (reply.Fetch (record { 0 = n })) refl listed)
     (let more = in_transfer-changes old.tables.pages new.tables.pages p (Some (anon_page g (Coming f b n))) placed in
     let was : one_if (there_and is_in_transfer (page_at old.tables.pages p)) ≡ 0 = ap (λ (slot : Option Page). one_if (there_and is_in_transfer slot)) away in
@@ -219,57 +225,110 @@ serves-fetch old new worker t v o p g f b n op task mapped known live shown away
 relief-two : (s : State) (why : Cause) → stands s why ≡ true → has_takeable s (target_of why) ≡ true → need s (event.Relieve why) ≡ 2
 relief-two s why wants some = rw wants (rw some refl)
 
-pub serves-out : (old new : Contents) (worker p g f b n : ℕ) (why : Cause) → stands old.tables why ≡ true → has_takeable old.tables (target_of why) ≡ true
-    → Stands old.tables.pages p g (Held f) → is_takeable old.tables (target_of why) (anon_page g (Held f)) ≡ true
-    → IsFreeBlock old.tables b → is_ticket_taken old.tables.pages n ≡ false
-    → Changes old.tables.pages new.tables.pages p (Some (anon_page g (Going f b n)))
-    → new.tables ≡ record old.tables { pages = new.tables.pages }
-    → ((q k : ℕ) → byte_in new.bytes q k ≡ byte_in old.bytes q k) → Changes old.flights new.flights n (Some (flight p worker)) → ((c : List Counted) → Tells old.tallies c → Tells new.tallies c)
-    → Serves old worker (event.Relieve why) (reply.Out (record { 0 = n })) new
-serves-out old new worker p g f b n why wants some held takeable block fresh placed tables bytes listed tells =
-    serves-move old new (event.Relieve why) (reply.Out (record { 0 = n })) p (Some (anon_page g (Going f b n)))
-    (record {
-      tables = tables;
-      placed = placed;
-      others = λ q k other. bytes q k;
-      silent = λ spot. refl;
-      groups = λ u g. refl;
-      given = refl;
-      own = λ u w k is there. inr (ap (there_and (λ (page : Page). is_in_memory page.residence)) held, bytes p k);
-      coming = λ u w g' f' b' m is same. no_coming g' f' b' m same;
-      fresh = λ m taken. free-other old.tables.pages n m fresh taken;
-    })
-    worker
-    (λ c told. takes c)
-    tells tt
-    (flights-begun old new worker p n (reply.Out (record { 0 = n })) refl listed)
-    (let more = in_transfer-changes old.tables.pages new.tables.pages p (Some (anon_page g (Going f b n))) placed in
-    let was : one_if (there_and is_in_transfer (page_at old.tables.pages p)) ≡ 0 = ap (λ (slot : Option Page). one_if (there_and is_in_transfer slot)) held in
-    let two = relief-two old.tables why wants some in
-    omega (arith, more, was, two))
-  where
-    no_coming : {P : Type 0} (g' f' b' m : ℕ) → Some (anon_page g (Going f b n)) ≡ Some (anon_page g' (Coming f' b' m)) → P
-    no_coming g' f' b' m e = let same : Going f b n ≡ Coming f' b' m = residence_of g g' (Going f b n) (Coming f' b' m) e in absurd (cc)
+reclaim-two : (s : State) (g : ℕ) → has_takeable s g ≡ true → need s (event.ReclaimOne (record { 0 = g })) ≡ 2
+reclaim-two s g some = rw some refl
 
-    taken : (c : List Counted) → Takes (counting old.tables c) (target_of why) (reply.Out (record { 0 = n })) (counting new.tables c)
-    taken c =
-        record {
-          p = p;
-          page = anon_page g (Held f);
-          there = held;
-          takeable = takeable;
-          leaves = record {
-            block = b;
-            block_free = record { in_range = block.in_range; unused = block.unused };
-            leave = record { ticket = n; ticket_free = fresh; placed = placed; answers = refl; state = ap (λ (s : State). counting s c) tables };
-          };
-        }
+-- a page that may be taken for the target begins to be written out: the one in order
+pub record IsTaken (old new : Contents) (worker target p g f b n : ℕ) : Type 0 where
+  pub held : Stands old.tables.pages p g (Held f)
+  pub takeable : is_takeable old.tables target (anon_page g (Held f)) ≡ true
+  pub block : IsFreeBlock old.tables b
+  pub fresh : is_ticket_taken old.tables.pages n ≡ false
+  pub placed : Changes old.tables.pages new.tables.pages p (Some (anon_page g (Going f b n)))
+  pub tables : new.tables ≡ record old.tables { pages = new.tables.pages }
+  pub bytes : (q k : ℕ) → byte_in new.bytes q k ≡ byte_in old.bytes q k
+  pub listed : Changes old.flights new.flights n (Some (flight p worker))
+  pub goes : GoesOn old.tables.pages old.order.held new.tables.pages new.order.held
+  pub next : TakesNext old.tables old.order target new.tables new.order
 
-    takes : (c : List Counted) → RelieveStep (counting old.tables c) why (reply.Out (record { 0 = n })) (counting new.tables c)
-    takes c =
-        let here = stands_counting old.tables c why ∙ wants in
-        let found : has_takeable (counting old.tables c) (target_of why) ≡ true = some in
-        rw here (rw found (taken c))
+module _ (old new : Contents) (worker target p g f b n : ℕ) (taken : IsTaken old new worker target p g f b n) (same_tallies : (c : List Counted) → Tells old.tallies c → Tells new.tallies c) where
+  pub taken-some : has_takeable old.tables target ≡ true
+  taken-some = any-some (is_takeable old.tables target) old.tables.pages p (ap (there_and (is_takeable old.tables target)) taken.held ∙ taken.takeable)
+
+  no_coming : {P : Type 0} (g' f' b' m : ℕ) → Some (anon_page g (Going f b n)) ≡ Some (anon_page g' (Coming f' b' m)) → P
+  no_coming g' f' b' m e = let same : Going f b n ≡ Coming f' b' m = residence_of g g' (Going f b n) (Coming f' b' m) e in absurd (cc)
+
+  takes_it : (c : List Counted) → Takes (counting old.tables c) target (reply.Out (record { 0 = n })) (counting new.tables c)
+  takes_it c =
+      record {
+        p = p;
+        page = anon_page g (Held f);
+        there = taken.held;
+        takeable = taken.takeable;
+        leaves = record {
+          block = b;
+          block_free = record { in_range = taken.block.in_range; unused = taken.block.unused };
+          leave = record { ticket = n; ticket_free = taken.fresh; placed = taken.placed; answers = refl; state = ap (λ (s : State). counting s c) taken.tables };
+        };
+      }
+
+  -- whatever asks for it
+  serves-out : (what : Event) → Steps old what (reply.Out (record { 0 = n })) new → CursorsGoOn old.tables old.order what (reply.Out (record { 0 = n })) new.tables new.order
+      → Tallied old what (reply.Out (record { 0 = n })) new → ReadsByte old what (reply.Out (record { 0 = n }))
+      → ((spot : Spot) → says what (reply.Out (record { 0 = n })) spot ≡ Nothing) → ((u h : ℕ) → group_after what (reply.Out (record { 0 = n })) u h ≡ h) → need old.tables what ≡ 2
+      → Serves old worker what (reply.Out (record { 0 = n })) new
+  serves-out what steps cursors tallied reads silent groups two =
+      serves-move old new what (reply.Out (record { 0 = n })) p (Some (anon_page g (Going f b n)))
+      (record {
+        tables = taken.tables;
+        placed = taken.placed;
+        others = λ q k other. taken.bytes q k;
+        silent = silent;
+        groups = groups;
+        given = refl;
+        own = λ u w k is there. inr (ap (there_and (λ (page : Page). is_in_memory page.residence)) taken.held, taken.bytes p k);
+        coming = λ u w g' f' b' m is same. no_coming g' f' b' m same;
+        fresh = λ m given. free-other old.tables.pages n m taken.fresh given;
+      })
+      worker steps (taken.goes, cursors) tallied reads
+      (flights-begun old new worker p n (reply.Out (record { 0 = n })) refl taken.listed)
+      (let more = in_transfer-changes old.tables.pages new.tables.pages p (Some (anon_page g (Going f b n))) taken.placed in
+      let was : one_if (there_and is_in_transfer (page_at old.tables.pages p)) ≡ 0 = ap (λ (slot : Option Page). one_if (there_and is_in_transfer slot)) taken.held in
+      omega (arith, more, was, two))
+
+  relieves : (why : Cause) → stands old.tables why ≡ true → target_of why ≡ target → (c : List Counted) → RelieveStep (counting old.tables c) why (reply.Out (record { 0 = n })) (counting new.tables c)
+  relieves why wants same c =
+      let here = stands_counting old.tables c why ∙ wants in
+      let found : has_takeable (counting old.tables c) (target_of why) ≡ true = ap (has_takeable (counting old.tables c)) same ∙ taken-some in
+      rw here (rw found (subst (λ (t : ℕ). Takes (counting old.tables c) t (reply.Out (record { 0 = n })) (counting new.tables c)) (sym same) (takes_it c)))
+
+  reclaims : (h : ℕ) → h ≡ target → (c : List Counted) → ReclaimOneStep (counting old.tables c) h (reply.Out (record { 0 = n })) (counting new.tables c)
+  reclaims h same c =
+      let found : has_takeable (counting old.tables c) h ≡ true = ap (has_takeable (counting old.tables c)) same ∙ taken-some in
+      rw found (subst (λ (t : ℕ). Takes (counting old.tables c) t (reply.Out (record { 0 = n })) (counting new.tables c)) (sym same) (takes_it c))
+
+  pub serves-taken : (what : Event) → AsksPage old.tables what target → Serves old worker what (reply.Out (record { 0 = n })) new
+  serves-taken (event.Relieve why) asks =
+      serves-out (event.Relieve why) (λ c told. relieves why asks.0 asks.1 c) (subst (λ (t : ℕ). TakesNext old.tables old.order t new.tables new.order) (sym asks.1) taken.next) (λ c told. same_tallies c told) tt (λ spot. refl) (λ u h. refl)
+      (relief-two old.tables why asks.0 (ap (has_takeable old.tables) asks.1 ∙ taken-some))
+  serves-taken (event.ReclaimOne h) asks =
+      serves-out (event.ReclaimOne h) (λ c told. reclaims h.0 asks c) (subst (λ (t : ℕ). TakesNext old.tables old.order t new.tables new.order) (sym asks) taken.next) (λ c told. same_tallies c told) tt (λ spot. refl) (λ u h. refl)
+      (reclaim-two old.tables h.0 (ap (has_takeable old.tables) asks ∙ taken-some))
+  serves-taken (event.Access t place op) asks = absurd asks
+  serves-taken (event.Arrived ticket bytes) asks = absurd asks
+  serves-taken (event.FetchFailed ticket) asks = absurd asks
+  serves-taken (event.Left ticket) asks = absurd asks
+  serves-taken (event.LeaveFailed ticket) asks = absurd asks
+  serves-taken (event.Spawn t h) asks = absurd asks
+  serves-taken (event.Exit t) asks = absurd asks
+  serves-taken (event.Mkdir path) asks = absurd asks
+  serves-taken (event.Set h setting) asks = absurd asks
+  serves-taken (event.Show query) asks = absurd asks
+
+-- the ticket is a reply to it
+pub replies-out : (s : State) (what : Event) (target : ℕ) (ticket : TicketOf) → AsksPage s what target → RepliesTo what (given.Out ticket)
+replies-out s (event.Relieve why) target ticket asks = tt
+replies-out s (event.ReclaimOne h) target ticket asks = tt
+replies-out s (event.Access t place op) target ticket asks = absurd asks
+replies-out s (event.Arrived number bytes) target ticket asks = absurd asks
+replies-out s (event.FetchFailed number) target ticket asks = absurd asks
+replies-out s (event.Left number) target ticket asks = absurd asks
+replies-out s (event.LeaveFailed number) target ticket asks = absurd asks
+replies-out s (event.Spawn t h) target ticket asks = absurd asks
+replies-out s (event.Exit t) target ticket asks = absurd asks
+replies-out s (event.Mkdir path) target ticket asks = absurd asks
+replies-out s (event.Set h setting) target ticket asks = absurd asks
+replies-out s (event.Show query) target ticket asks = absurd asks
 
 -- ---- transfers end
 
@@ -295,11 +354,11 @@ no_coming-after false g g' f' b' n' r rests e =
 module _ (old new : Contents) (worker p g n : ℕ) (from to : Residence) (what : Event) (stood : Stands old.tables.pages p g from) (moves : is_in_transfer (anon_page g from) ≡ true)
     (rests : is_in_transfer (anon_page g to) ≡ false) (tables : new.tables ≡ record old.tables { pages = new.tables.pages }) (placed : Changes old.tables.pages new.tables.pages p (ended old.tables.mappings p g to))
     (unlisted : Changes old.flights new.flights n None) (bytes : (q k : ℕ) → q ≢ p → byte_in new.bytes q k ≡ byte_in old.bytes q k) where
-  pub serves-end : Steps old what reply.Ok new → Tallied old what reply.Ok new → ReadsByte old what reply.Ok → ((spot : Spot) → says what reply.Ok spot ≡ Nothing) → ((u g : ℕ) → group_after what reply.Ok u g ≡ g)
+  pub serves-end : Steps old what reply.Ok new → Orders old.tables old.order what reply.Ok new.tables new.order → Tallied old what reply.Ok new → ReadsByte old what reply.Ok → ((spot : Spot) → says what reply.Ok spot ≡ Nothing) → ((u g : ℕ) → group_after what reply.Ok u g ≡ g)
       → ((t v o : ℕ) → mapped_at old.tables.mappings t v ≡ Some p → is_in_memory to ≡ true
       → Arrives old what t v o (byte_in new.bytes p o) ⊎ ((there_and (λ (page : Page). is_in_memory page.residence) (page_at old.tables.pages p) ≡ true) × (byte_in new.bytes p o ≡ byte_in old.bytes p o)))
       → Serves old worker what reply.Ok new
-  serves-end steps tallied reads silent groups own =
+  serves-end steps orders tallied reads silent groups own =
       serves-move old new what reply.Ok p (ended old.tables.mappings p g to)
       (record {
         tables = tables;
@@ -312,7 +371,7 @@ module _ (old new : Contents) (worker p g n : ℕ) (from to : Residence) (what :
         coming = λ t v g' f' b' n' is same. no_coming-after (mappers old.tables.mappings p == 0) g g' f' b' n' to rests same;
         fresh = λ m taken. refl;
       })
-      worker steps tallied reads
+      worker steps orders tallied reads
       (flights-ended old new worker n reply.Ok refl unlisted)
       (let less = in_transfer-changes old.tables.pages new.tables.pages p (ended old.tables.mappings p g to) placed in
       let was : one_if (there_and is_in_transfer (page_at old.tables.pages p)) ≡ 1 = ap (λ (slot : Option Page). one_if (there_and is_in_transfer slot)) stood ∙ ap one_if moves in

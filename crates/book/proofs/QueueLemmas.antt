@@ -1,23 +1,51 @@
 -- Queues after a page was taken out.
-use Rattle.std.proofs.Common.{◌≡◌, inl, inr, ℕ, zero, suc, ◌+◌, ◌<◌, ◌≤◌, ◌==◌, not, cond, true, false, List, [], ◌∷◌, length, get_or, refl, sym, ap, subst, arith}
-use Rattle.std.specs.List.{filter}
+use Rattle.std.proofs.Common.{◌≡◌, inl, inr, ℕ, zero, suc, ◌+◌, ◌<◌, ◌≤◌, ◌==◌, ◌||◌, not, cond, Bool, true, false, List, [], ◌∷◌, ◌++◌, length, get_or, refl, sym, ap, subst, arith}
+use Rattle.std.specs.Prelude.{count_by}
+use Rattle.std.specs.List.{All, filter, list_any}
+use Rattle.std.proofs.lemmas.List.{map-append}
 use Rattle.std.proofs.lemmas.Bool.Decides.{eqb_tells}
+use Rattle.std.proofs.lemmas.List.Elements.{All-head, All-tail}
 use Rattle.std.proofs.lemmas.List.Sums.{sum_by-cons, length-filter}
 use Rattle.std.proofs.lemmas.List.Filters.{length-filter_both}
+use Rattle.machine.specs.declared.id.GroupId.{GroupId}
 use Rattle.machine.specs.declared.id.PageId.{PageId}
+use Rattle.machine.proofs.SlotLemmas.{one_if}
 use Rattle.book.specs.Queue.{numbers_of, page_count}
+
+module _ {T : Type 0} (test : T → Bool) where
+  -- what passes is counted, and what is counted passes
+  pub any_counts : (xs : List T) → list_any test xs ≡ true → 1 ≤ count_by test xs
+  any_counts [] e = cc
+  any_counts (x ∷ xs) e =
+      let more = sum_by-cons (λ y. one_if (test y)) x xs in
+      elim (test x) as (λ b. test x ≡ b → (b || list_any test xs) ≡ true → 1 ≤ count_by test (x ∷ xs)) [
+        | true ↦ λ is e. (let here = ap one_if is in omega (arith, more, here))
+        | false ↦ λ is e. (let rest = any_counts xs e in omega (arith, more, rest))
+      ] refl e
+
+  pub counts_any : (xs : List T) → list_any test xs ≡ false → count_by test xs ≡ 0
+  counts_any [] e = refl
+  counts_any (x ∷ xs) e =
+      let more = sum_by-cons (λ y. one_if (test y)) x xs in
+      elim (test x) as (λ b. test x ≡ b → (b || list_any test xs) ≡ false → count_by test (x ∷ xs) ≡ 0) [
+        | true ↦ λ is e. cc
+        | false ↦ λ is e. (let here = ap one_if is in let rest = counts_any xs e in omega (arith, more, here, rest))
+      ] refl e
 
 -- all but one number
 others : ℕ → List ℕ → List ℕ
 others p xs = filter (λ n. not (n == p)) xs
 
-pub numbers_of-others : (xs : List PageId) (p : ℕ) → numbers_of (filter (λ (x : PageId). not (x.0 == p)) xs) ≡ filter (λ n. not (n == p)) (numbers_of xs)
+pub numbers_of-others : (xs : List (GroupId × PageId)) (p : ℕ) → numbers_of (filter (λ (x : GroupId × PageId). not (x.1.0 == p)) xs) ≡ filter (λ n. not (n == p)) (numbers_of xs)
 numbers_of-others [] p = refl
 numbers_of-others (x ∷ xs) p =
-    elim (eqb_tells x.0 p) [
+    elim (eqb_tells x.1.0 p) [
       | inl same ↦ rw same.0 (numbers_of-others xs p)
-      | inr other ↦ rw other.0 (ap (λ ns. x.0 ∷ ns) (numbers_of-others xs p))
+      | inr other ↦ rw other.0 (ap (λ ns. x.1.0 ∷ ns) (numbers_of-others xs p))
     ]
+
+pub numbers_of-push : (xs : List (GroupId × PageId)) (x : GroupId × PageId) → numbers_of (xs ++ x ∷ []) ≡ numbers_of xs ++ x.1.0 ∷ []
+numbers_of-push xs x = map-append (λ (entry : GroupId × PageId). entry.1.0) xs (x ∷ [])
 
 page_count-cons : (x : ℕ) (xs : List ℕ) (n : ℕ) → page_count (x ∷ xs) n ≡ cond (x == n) 1 0 + page_count xs n
 page_count-cons x xs n = sum_by-cons (λ y. cond (y == n) 1 0) x xs
@@ -57,22 +85,35 @@ length-others xs p =
     omega (arith, both, hits)
 
 -- what stands at an index is counted
-pub count-at : (xs : List PageId) (k : ℕ) (d : PageId) → k < length xs → 1 ≤ page_count (numbers_of xs) (get_or xs k d).0
+pub number-at : (xs : List ℕ) (k : ℕ) (d : ℕ) → k < length xs → 1 ≤ page_count xs (get_or xs k d)
+number-at [] k d lt = absurd (omega (arith, lt))
+number-at (x ∷ xs) zero d lt =
+    let is = page_count-cons x xs x in
+    let hit : (x == x) ≡ true = grind arith in
+    grind (arith, is, hit)
+number-at (x ∷ xs) (suc k) d lt =
+    let is = page_count-cons x xs (get_or xs k d) in
+    let rest = number-at xs k d (omega (arith, lt)) in
+    omega (arith, is, rest)
+
+pub count-at : (xs : List (GroupId × PageId)) (k : ℕ) (d : GroupId × PageId) → k < length xs → 1 ≤ page_count (numbers_of xs) (get_or xs k d).1.0
 count-at [] k d lt = absurd (omega (arith, lt))
 count-at (x ∷ xs) zero d lt =
-    let is = page_count-cons x.0 (numbers_of xs) x.0 in
-    let hit : (x.0 == x.0) ≡ true = grind arith in
+    let is = page_count-cons x.1.0 (numbers_of xs) x.1.0 in
+    let hit : (x.1.0 == x.1.0) ≡ true = grind arith in
     grind (arith, is, hit)
 count-at (x ∷ xs) (suc k) d lt =
-    let is = page_count-cons x.0 (numbers_of xs) (get_or xs k d).0 in
+    let is = page_count-cons x.1.0 (numbers_of xs) (get_or xs k d).1.0 in
     let rest = count-at xs k d (omega (arith, lt)) in
     omega (arith, is, rest)
 
 -- and what is counted stands at some index
-pub at-counted : (P : ℕ → Type 0) (xs : List PageId) (d : PageId) → ((k : ℕ) → k < length xs → P (get_or xs k d).0) → (p : ℕ) → 1 ≤ page_count (numbers_of xs) p → P p
-at-counted P [] d all p some = absurd (omega (arith, some))
-at-counted P (x ∷ xs) d all p some =
-    elim (eqb_tells x.0 p) [
-      | inl same ↦ subst P same.1 (all 0 (omega arith))
-      | inr other ↦ at-counted P xs d (λ k lt. all (suc k) (omega (arith, lt))) p (let is = page_count-cons x.0 (numbers_of xs) p in let miss : (x.0 == p) ≡ false = other.0 in grind (arith, is, miss, some))
+pub at-counted : (P : ℕ → Type 0) (xs : List (GroupId × PageId)) → All (λ (x : GroupId × PageId). P x.1.0) xs → (p : ℕ) → 1 ≤ page_count (numbers_of xs) p → P p
+at-counted P [] all p some = absurd (omega (arith, some))
+at-counted P (x ∷ xs) all p some =
+    elim (eqb_tells x.1.0 p) [
+      | inl same ↦ subst P same.1 (All-head (λ (y : GroupId × PageId). P y.1.0) x xs all)
+      | inr other ↦
+          at-counted P xs (All-tail (λ (y : GroupId × PageId). P y.1.0) x xs all) p
+          (let is = page_count-cons x.1.0 (numbers_of xs) p in let miss : (x.1.0 == p) ≡ false = other.0 in grind (arith, is, miss, some))
     ]

@@ -27,15 +27,17 @@ use Rattle.machine.specs.State.{State, over_in, is_frame_free}
 use Rattle.machine.specs.Access.{page_size, is_fetch, meets}
 use Rattle.machine.specs.Call.{need, life_need, task_need, meeting_grows}
 use Rattle.machine.specs.Reclaim.{stands, target_of, has_takeable, has_transfer}
+use Rattle.machine.specs.Lists.{Order, GoesOn, Orders}
 use Rattle.machine.specs.Victim.{IsVictim}
-use Rattle.machine.specs.Step.{Step, ChargeStep, MeetStep, TaskStep, LifeStep, RelieveStep, KillStep, count_of, new_node, with_setting, shown_of}
+use Rattle.machine.specs.Step.{Step, ChargeStep, MeetStep, TaskStep, LifeStep, RelieveStep, ReclaimOneStep, KillStep, count_of, new_node, with_setting, shown_of}
 use Rattle.machine.specs.History.{Spot, InTask, Says, Nothing, says, follow, ticket_given, taker_or}
 use Rattle.pages.specs.PageTable.{byte_in, Stands}
 use Rattle.pages.specs.declared.flight.Flight.{Flight}
 use Rattle.events.specs.Tallies.{Tells}
-use Rattle.book.specs.Contents.{Contents, counting, Steps, Tallied, group_after, byte_shown, byte_at, byte_at_spot, is_in_memory, is_known, knows, ReadsByte, ChangesFlights, worker_of}
+use Rattle.book.specs.Contents.{Contents, InOrder, counting, Steps, Tallied, group_after, byte_shown, byte_at, byte_at_spot, is_in_memory, is_known, knows, ReadsByte, ChangesFlights, worker_of}
 use Rattle.book.specs.Serves.{Serves, starts, is_refused}
 use Rattle.book.proofs.TransferLemmas.{or_right}
+use Rattle.book.proofs.OrderLemmas.{goes-on-still}
 
 -- ---- where nothing changes that an event may tell of
 
@@ -58,6 +60,10 @@ pub record IsQuiet (what : Event) (answer : Reply) : Type 0 where
 pub still-self : (s : Contents) → IsStill s s
 still-self s = record { pages = refl; tasks = refl; mappings = refl; bytes = refl; flights = refl; opening = refl }
 
+-- where no page and no cursor changes
+pub order-still : (old new : Contents) → InOrder old → new.tables.pages ≡ old.tables.pages → new.order ≡ old.order → GoesOn old.tables.pages old.order.held new.tables.pages new.order.held × (new.order.cursors ≡ old.order.cursors)
+order-still old new listed pages order = (goes-on-still old.tables.pages new.tables.pages old.order.held new.order.held listed pages (ap (λ (o : Order). o.held) order), ap (λ (o : Order). o.cursors) order)
+
 pub flight-kept : (slot before : Option Flight) → slot ≡ before → IfSome slot (λ f. Some f.worker.0 ≡ worker_of before)
 flight-kept None before e = tt
 flight-kept (Some f) before e = ap worker_of e
@@ -68,10 +74,11 @@ flights-kept old new worker answer none same n =
     (flight-kept (at new.flights n) (at old.flights n) (ap (λ (fs : List (Option Flight)). at fs n) same))
 
 pub serves-still : (old new : Contents) (worker : ℕ) (what : Event) (answer : Reply) → IsStill old new → IsQuiet what answer
-    → Steps old what answer new → Tallied old what answer new → ReadsByte old what answer → 1 ≤ need old.tables what → Serves old worker what answer new
-serves-still old new worker what answer still quiet steps tallied reads needs =
+    → Steps old what answer new → Orders old.tables old.order what answer new.tables new.order → Tallied old what answer new → ReadsByte old what answer → 1 ≤ need old.tables what → Serves old worker what answer new
+serves-still old new worker what answer still quiet steps orders tallied reads needs =
     record {
       steps = steps;
+      orders = orders;
       tallied = tallied;
       groups = λ u. ap (λ (ts : Tasks). group_of_task ts u) still.tasks ∙ sym (quiet.groups u (group_of_task old.tables.tasks u));
       reads = reads;
@@ -146,8 +153,9 @@ frameless_step s over free Granted none is = rw none (rw is (refl, refl))
 
 pub serves-mkdir : (old new : Contents) (worker : ℕ) (path : List ℕ)
     → new.tables ≡ record old.tables { tree = old.tables.tree ++ new_node old.tables.tree path ∷ []; limits = old.tables.limits ++ no_limits ∷ [] } → new.bytes ≡ old.bytes → new.flights ≡ old.flights
+    → InOrder old → new.order.held ≡ old.order.held → new.order.cursors ≡ old.order.cursors ++ None ∷ []
     → ((c : List Counted) → Tells old.tallies c → Tells new.tallies c) → Serves old worker (event.Mkdir path) reply.Ok new
-serves-mkdir old new worker path tables bytes flights tells =
+serves-mkdir old new worker path tables bytes flights listed held cursors tells =
     serves-still old new worker (event.Mkdir path) reply.Ok
     (record {
       pages = ap (λ (s : State). s.pages) tables;
@@ -158,12 +166,14 @@ serves-mkdir old new worker path tables bytes flights tells =
       opening = ap (λ (s : State). s.opening) tables;
     })
     (record { says = λ spot. refl; ticket = refl; groups = λ u g. refl; given = refl })
-    (λ c told. ap (λ (s : State). counting s c) tables) tells tt (omega arith)
+    (λ c told. ap (λ (s : State). counting s c) tables)
+    (goes-on-still old.tables.pages new.tables.pages old.order.held new.order.held listed (ap (λ (s : State). s.pages) tables) held, cursors) tells tt (omega arith)
 
 pub serves-set : (old new : Contents) (worker g : ℕ) (setting : Setting)
     → new.tables ≡ record old.tables { limits = slice_set old.tables.limits g (with_setting (limits_at old.tables.limits g) setting) } → new.bytes ≡ old.bytes → new.flights ≡ old.flights
+    → InOrder old → new.order ≡ old.order
     → ((c : List Counted) → Tells old.tallies c → Tells new.tallies c) → Serves old worker (event.Set (record { 0 = g }) setting) reply.Ok new
-serves-set old new worker g setting tables bytes flights tells =
+serves-set old new worker g setting tables bytes flights listed order tells =
     serves-still old new worker (event.Set (record { 0 = g }) setting) reply.Ok
     (record {
       pages = ap (λ (s : State). s.pages) tables;
@@ -174,40 +184,40 @@ serves-set old new worker g setting tables bytes flights tells =
       opening = ap (λ (s : State). s.opening) tables;
     })
     (record { says = λ spot. refl; ticket = refl; groups = λ u g. refl; given = refl })
-    (λ c told. ap (λ (s : State). counting s c) tables) tells tt (omega arith)
+    (λ c told. ap (λ (s : State). counting s c) tables) (order-still old new listed (ap (λ (s : State). s.pages) tables) order) tells tt (omega arith)
 
 -- what is shown is told for whatever events the tallies tell
-pub serves-show : (s : Contents) (worker : ℕ) (what : Query) (numbers : Shown) → ((c : List Counted) → Tells s.tallies c → numbers ≡ shown_of (counting s.tables c) what)
+pub serves-show : (s : Contents) (worker : ℕ) (what : Query) (numbers : Shown) → InOrder s → ((c : List Counted) → Tells s.tallies c → numbers ≡ shown_of (counting s.tables c) what)
     → Serves s worker (event.Show what) (reply.Shown numbers) s
-serves-show s worker what numbers is =
+serves-show s worker what numbers listed is =
     serves-still s s worker (event.Show what) (reply.Shown numbers) (still-self s) (record { says = λ spot. refl; ticket = refl; groups = λ u g. refl; given = refl })
-    (λ c told. (is c told, refl)) (λ c told. told) tt (omega arith)
+    (λ c told. (is c told, refl)) (order-still s s listed refl refl) (λ c told. told) tt (omega arith)
 
 -- ---- accesses
 
 -- a task that was killed is told so
-pub serves-killed : (s : Contents) (worker t : ℕ) (place : Place) (op : Op) (task : Task) → task_at s.tables.tasks t ≡ Some task → task.life ≡ Killed
+pub serves-killed : (s : Contents) (worker t : ℕ) (place : Place) (op : Op) (task : Task) → task_at s.tables.tasks t ≡ Some task → task.life ≡ Killed → InOrder s
     → Serves s worker (event.Access (record { 0 = t }) place op) reply.Killed s
-serves-killed s worker t place Read task is killed =
+serves-killed s worker t place Read task is killed listed =
     serves-still s s worker (event.Access (record { 0 = t }) place Read) reply.Killed (still-self s) (record { says = λ spot. refl; ticket = refl; groups = λ u g. refl; given = refl })
-    (λ c told. killed_step (counting s.tables c) _ task _ is killed) (λ c told. told) tt (access-needs s.tables t place Read)
-serves-killed s worker t place (Write b) task is killed =
+    (λ c told. killed_step (counting s.tables c) _ task _ is killed) (order-still s s listed refl refl) (λ c told. told) tt (access-needs s.tables t place Read)
+serves-killed s worker t place (Write b) task is killed listed =
     serves-still s s worker (event.Access (record { 0 = t }) place (Write b)) reply.Killed (still-self s) (record { says = λ spot. refl; ticket = refl; groups = λ u g. refl; given = refl })
-    (λ c told. killed_step (counting s.tables c) _ task _ is killed) (λ c told. told) tt (access-needs s.tables t place (Write b))
+    (λ c told. killed_step (counting s.tables c) _ task _ is killed) (order-still s s listed refl refl) (λ c told. told) tt (access-needs s.tables t place (Write b))
 
-pub serves-unmapped : (s : Contents) (worker t v o : ℕ) (task : Task) → task_at s.tables.tasks t ≡ Some task → task.life ≡ Live → mapped_at s.tables.mappings t v ≡ None → o < page_size
+pub serves-unmapped : (s : Contents) (worker t v o : ℕ) (task : Task) → task_at s.tables.tasks t ≡ Some task → task.life ≡ Live → mapped_at s.tables.mappings t v ≡ None → o < page_size → InOrder s
     → Serves s worker (event.Access (record { 0 = t }) (Virtual v o) Read) (reply.Done 0 None) s
-serves-unmapped s worker t v o task is living none within =
+serves-unmapped s worker t v o task is living none within listed =
     serves-still s s worker (event.Access (record { 0 = t }) (Virtual v o) Read) (reply.Done 0 None) (still-self s) (record { says = λ spot. refl; ticket = refl; groups = λ u g. refl; given = refl })
-    (λ c told. live_step (counting s.tables c) _ task _ _ _ is living (rw none (refl, refl))) (λ c told. told)
+    (λ c told. live_step (counting s.tables c) _ task _ _ _ is living (rw none (refl, refl))) (order-still s s listed refl refl) (λ c told. told)
     (sym (ap (λ m. byte_shown s.bytes m o) none), (ap (is_known s.tables.pages) none, within)) (access-needs s.tables t (Virtual v o) Read)
 
 pub serves-hit_read : (s : Contents) (worker t v o p g f : ℕ) (task : Task) → task_at s.tables.tasks t ≡ Some task → task.life ≡ Live → mapped_at s.tables.mappings t v ≡ Some p
-    → Stands s.tables.pages p g (Held f) → o < page_size
+    → Stands s.tables.pages p g (Held f) → o < page_size → InOrder s
     → Serves s worker (event.Access (record { 0 = t }) (Virtual v o) Read) (reply.Done (byte_in s.bytes p o) (Some (record { 0 = f }))) s
-serves-hit_read s worker t v o p g f task is living shown page within =
+serves-hit_read s worker t v o p g f task is living shown page within listed =
     serves-still s s worker (event.Access (record { 0 = t }) (Virtual v o) Read) (reply.Done (byte_in s.bytes p o) (Some (record { 0 = f }))) (still-self s) (record { says = λ spot. refl; ticket = refl; groups = λ u g. refl; given = refl })
-    (λ c told. live_step (counting s.tables c) _ task _ _ _ is living (rw shown (rw page (refl, refl)))) (λ c told. told)
+    (λ c told. live_step (counting s.tables c) _ task _ _ _ is living (rw shown (rw page (refl, refl)))) (order-still s s listed refl refl) (λ c told. told)
     (sym (ap (λ m. byte_shown s.bytes m o) shown), (ap (is_known s.tables.pages) shown ∙ ap (there_and (λ (page : Page). is_in_memory page.residence)) page, within)) (access-needs s.tables t (Virtual v o) Read)
 
 -- replies to any access that neither reads nor writes
@@ -236,25 +246,25 @@ reads-no_frame s t place Read = tt
 reads-no_frame s t place (Write b) = tt
 
 pub serves-coming : (s : Contents) (worker t v o p g f b n : ℕ) (op : Op) (task : Task) → task_at s.tables.tasks t ≡ Some task → task.life ≡ Live → mapped_at s.tables.mappings t v ≡ Some p
-    → Stands s.tables.pages p g (Coming f b n) → Serves s worker (event.Access (record { 0 = t }) (Virtual v o) op) reply.Busy s
-serves-coming s worker t v o p g f b n op task is living shown page =
+    → Stands s.tables.pages p g (Coming f b n) → InOrder s → Serves s worker (event.Access (record { 0 = t }) (Virtual v o) op) reply.Busy s
+serves-coming s worker t v o p g f b n op task is living shown page listed =
     serves-still s s worker (event.Access (record { 0 = t }) (Virtual v o) op) reply.Busy (still-self s) (quiet-busy t (Virtual v o) op)
-    (λ c told. live_step (counting s.tables c) _ task _ _ _ is living (rw shown (rw page (refl, refl)))) (λ c told. told) (reads-busy s t (Virtual v o) op) (access-needs s.tables t (Virtual v o) op)
+    (λ c told. live_step (counting s.tables c) _ task _ _ _ is living (rw shown (rw page (refl, refl)))) (order-still s s listed refl refl) (λ c told. told) (reads-busy s t (Virtual v o) op) (access-needs s.tables t (Virtual v o) op)
 
 pub serves-going : (s : Contents) (worker t v o p g f b n : ℕ) (op : Op) (task : Task) → task_at s.tables.tasks t ≡ Some task → task.life ≡ Live → mapped_at s.tables.mappings t v ≡ Some p
-    → Stands s.tables.pages p g (Going f b n) → Serves s worker (event.Access (record { 0 = t }) (Virtual v o) op) reply.Busy s
-serves-going s worker t v o p g f b n op task is living shown page =
+    → Stands s.tables.pages p g (Going f b n) → InOrder s → Serves s worker (event.Access (record { 0 = t }) (Virtual v o) op) reply.Busy s
+serves-going s worker t v o p g f b n op task is living shown page listed =
     serves-still s s worker (event.Access (record { 0 = t }) (Virtual v o) op) reply.Busy (still-self s) (quiet-busy t (Virtual v o) op)
-    (λ c told. live_step (counting s.tables c) _ task _ _ _ is living (rw shown (rw page (refl, refl)))) (λ c told. told) (reads-busy s t (Virtual v o) op) (access-needs s.tables t (Virtual v o) op)
+    (λ c told. live_step (counting s.tables c) _ task _ _ _ is living (rw shown (rw page (refl, refl)))) (order-still s s listed refl refl) (λ c told. told) (reads-busy s t (Virtual v o) op) (access-needs s.tables t (Virtual v o) op)
 
 -- ---- charges that are refused
 
 pub serves-over : (old new : Contents) (worker t v o a : ℕ) (op : Op) (task : Task) → task_at old.tables.tasks t ≡ Some task → task.life ≡ Live
     → ((c : List Counted) → MeetStep (counting old.tables c) t task.group.0 (Virtual v o) op (meets (counting old.tables c) t (Virtual v o) op) (reply.Over (record { 0 = a })) (counting old.tables (c ++ count_of a key.Max ∷ [])))
-    → new.tables ≡ old.tables → new.bytes ≡ old.bytes → new.flights ≡ old.flights
+    → new.tables ≡ old.tables → new.bytes ≡ old.bytes → new.flights ≡ old.flights → InOrder old → new.order ≡ old.order
     → ((c : List Counted) → Tells old.tallies c → Tells new.tallies (c ++ count_of a key.Max ∷ []))
     → Serves old worker (event.Access (record { 0 = t }) (Virtual v o) op) (reply.Over (record { 0 = a })) new
-serves-over old new worker t v o a op task is living meet tables bytes flights tells =
+serves-over old new worker t v o a op task is living meet tables bytes flights listed order tells =
     serves-still old new worker (event.Access (record { 0 = t }) (Virtual v o) op) (reply.Over (record { 0 = a }))
     (record {
       pages = ap (λ (s : State). s.pages) tables;
@@ -267,13 +277,13 @@ serves-over old new worker t v o a op task is living meet tables bytes flights t
     (quiet-over t a (Virtual v o) op)
     (λ c told. subst (λ (s : State). Step (counting old.tables c) (event.Access (record { 0 = t }) (Virtual v o) op) (reply.Over (record { 0 = a })) (counting s (c ++ count_of a key.Max ∷ []))) (sym tables)
     (live_step (counting old.tables c) _ task _ _ _ is living (meet c)))
-    tells (reads-over old t a (Virtual v o) op) (access-needs old.tables t (Virtual v o) op)
+    (order-still old new listed (ap (λ (s : State). s.pages) tables) order) tells (reads-over old t a (Virtual v o) op) (access-needs old.tables t (Virtual v o) op)
 
 pub serves-no_frame : (old new : Contents) (worker t v o : ℕ) (op : Op) (task : Task) → task_at old.tables.tasks t ≡ Some task → task.life ≡ Live
     → ((c : List Counted) → MeetStep (counting old.tables c) t task.group.0 (Virtual v o) op (meets (counting old.tables c) t (Virtual v o) op) reply.NoFrame (counting old.tables c))
-    → new.tables ≡ old.tables → new.bytes ≡ old.bytes → new.flights ≡ old.flights → ((c : List Counted) → Tells old.tallies c → Tells new.tallies c)
-    → Serves old worker (event.Access (record { 0 = t }) (Virtual v o) op) reply.NoFrame new
-serves-no_frame old new worker t v o op task is living meet tables bytes flights tells =
+    → new.tables ≡ old.tables → new.bytes ≡ old.bytes → new.flights ≡ old.flights → InOrder old → new.order ≡ old.order
+    → ((c : List Counted) → Tells old.tallies c → Tells new.tallies c) → Serves old worker (event.Access (record { 0 = t }) (Virtual v o) op) reply.NoFrame new
+serves-no_frame old new worker t v o op task is living meet tables bytes flights listed order tells =
     serves-still old new worker (event.Access (record { 0 = t }) (Virtual v o) op) reply.NoFrame
     (record {
       pages = ap (λ (s : State). s.pages) tables;
@@ -286,7 +296,7 @@ serves-no_frame old new worker t v o op task is living meet tables bytes flights
     (quiet-no_frame t (Virtual v o) op)
     (λ c told. subst (λ (s : State). Step (counting old.tables c) (event.Access (record { 0 = t }) (Virtual v o) op) reply.NoFrame (counting s c)) (sym tables)
     (live_step (counting old.tables c) _ task _ _ _ is living (meet c)))
-    tells (reads-no_frame old t (Virtual v o) op) (access-needs old.tables t (Virtual v o) op)
+    (order-still old new listed (ap (λ (s : State). s.pages) tables) order) tells (reads-no_frame old t (Virtual v o) op) (access-needs old.tables t (Virtual v o) op)
 
 -- a write where nothing is mapped
 pub unmapped-over : (s : State) (t v o b g a : ℕ) → mapped_at s.mappings t v ≡ None → over_in s g ≡ Some a
@@ -316,19 +326,19 @@ stands_counting s c cause.Frame = refl
 quiet-relief : (why : Cause) (answer : Reply) → ticket_given answer ≡ None → is_refused answer ≡ false → IsQuiet (event.Relieve why) answer
 quiet-relief why answer none given = record { says = λ spot. refl; ticket = none; groups = λ u g. refl; given = given }
 
-pub serves-room : (s : Contents) (worker : ℕ) (why : Cause) → stands s.tables why ≡ false → Serves s worker (event.Relieve why) reply.Room s
-serves-room s worker why met =
+pub serves-room : (s : Contents) (worker : ℕ) (why : Cause) → stands s.tables why ≡ false → InOrder s → Serves s worker (event.Relieve why) reply.Room s
+serves-room s worker why met listed =
     serves-still s s worker (event.Relieve why) reply.Room (still-self s) (quiet-relief why reply.Room refl refl)
-    (λ c told. room c) (λ c told. told) tt (relief-needs s.tables why)
+    (λ c told. room c) (order-still s s listed refl refl) (λ c told. told) tt (relief-needs s.tables why)
   where
     room : (c : List Counted) → RelieveStep (counting s.tables c) why reply.Room (counting s.tables c)
     room c = let here = stands_counting s.tables c why ∙ met in rw here (refl, refl)
 
-pub serves-wait : (s : Contents) (worker : ℕ) (why : Cause) → stands s.tables why ≡ true → has_takeable s.tables (target_of why) ≡ false → has_transfer s.tables (target_of why) ≡ true
+pub serves-wait : (s : Contents) (worker : ℕ) (why : Cause) → stands s.tables why ≡ true → has_takeable s.tables (target_of why) ≡ false → has_transfer s.tables (target_of why) ≡ true → InOrder s
     → Serves s worker (event.Relieve why) reply.Wait s
-serves-wait s worker why wants untakeable moving =
+serves-wait s worker why wants untakeable moving listed =
     serves-still s s worker (event.Relieve why) reply.Wait (still-self s) (quiet-relief why reply.Wait refl refl)
-    (λ c told. waits c) (λ c told. told) tt (relief-needs s.tables why)
+    (λ c told. waits c) (order-still s s listed refl refl) (λ c told. told) tt (relief-needs s.tables why)
   where
     waits : (c : List Counted) → RelieveStep (counting s.tables c) why reply.Wait (counting s.tables c)
     waits c =
@@ -343,9 +353,9 @@ pub relieve_step : (s : State) (why : Cause) (answer : Reply) (new : State) → 
 relieve_step s why answer new wants untakeable settled kill = rw wants (rw untakeable (rw settled kill))
 
 pub serves-no_victim : (old new : Contents) (worker : ℕ) (why : Cause) → stands old.tables why ≡ true → has_takeable old.tables (target_of why) ≡ false → has_transfer old.tables (target_of why) ≡ false
-    → IsVictim old.tables.tree old.tables.tasks old.tables.mappings (target_of why) None → new.tables ≡ old.tables → new.bytes ≡ old.bytes → new.flights ≡ old.flights
+    → IsVictim old.tables.tree old.tables.tasks old.tables.mappings (target_of why) None → new.tables ≡ old.tables → new.bytes ≡ old.bytes → new.flights ≡ old.flights → InOrder old → new.order ≡ old.order
     → ((c : List Counted) → Tells old.tallies c → Tells new.tallies (c ++ count_of (target_of why) key.Oom ∷ [])) → Serves old worker (event.Relieve why) reply.NoVictim new
-serves-no_victim old new worker why wants untakeable settled nobody tables bytes flights tells =
+serves-no_victim old new worker why wants untakeable settled nobody tables bytes flights listed order tells =
     serves-still old new worker (event.Relieve why) reply.NoVictim
     (record {
       pages = ap (λ (s : State). s.pages) tables;
@@ -358,11 +368,41 @@ serves-no_victim old new worker why wants untakeable settled nobody tables bytes
     (quiet-relief why reply.NoVictim refl refl)
     (λ c told. relieve_step (counting old.tables c) why reply.NoVictim _ (stands_counting old.tables c why ∙ wants) untakeable settled
     (nobody, ap (λ (s : State). counting s (c ++ count_of (target_of why) key.Oom ∷ [])) tables))
-    tells tt (relief-needs old.tables why)
+    (order-still old new listed (ap (λ (s : State). s.pages) tables) order) tells tt (relief-needs old.tables why)
+
+-- ---- a page for whoever asks
+
+pub reclaim-needs : (s : State) (g : ℕ) → 1 ≤ need s (event.ReclaimOne (record { 0 = g }))
+reclaim-needs s g = one_or_two (has_takeable s g)
+
+quiet-reclaim : (g : ℕ) (answer : Reply) → ticket_given answer ≡ None → is_refused answer ≡ false → IsQuiet (event.ReclaimOne (record { 0 = g })) answer
+quiet-reclaim g answer none given = record { says = λ spot. refl; ticket = none; groups = λ u g. refl; given = given }
+
+pub serves-reclaim_wait : (s : Contents) (worker g : ℕ) → has_takeable s.tables g ≡ false → has_transfer s.tables g ≡ true → InOrder s → Serves s worker (event.ReclaimOne (record { 0 = g })) reply.Wait s
+serves-reclaim_wait s worker g untakeable moving listed =
+    serves-still s s worker (event.ReclaimOne (record { 0 = g })) reply.Wait (still-self s) (quiet-reclaim g reply.Wait refl refl)
+    (λ c told. waits c) (order-still s s listed refl refl) (λ c told. told) tt (reclaim-needs s.tables g)
+  where
+    waits : (c : List Counted) → ReclaimOneStep (counting s.tables c) g reply.Wait (counting s.tables c)
+    waits c =
+        let none : has_takeable (counting s.tables c) g ≡ false = untakeable in
+        let some : has_transfer (counting s.tables c) g ≡ true = moving in
+        rw none (rw some (refl, refl))
+
+pub serves-nothing : (s : Contents) (worker g : ℕ) → has_takeable s.tables g ≡ false → has_transfer s.tables g ≡ false → InOrder s → Serves s worker (event.ReclaimOne (record { 0 = g })) reply.Nothing s
+serves-nothing s worker g untakeable settled listed =
+    serves-still s s worker (event.ReclaimOne (record { 0 = g })) reply.Nothing (still-self s) (quiet-reclaim g reply.Nothing refl refl)
+    (λ c told. finds_none c) (order-still s s listed refl refl) (λ c told. told) tt (reclaim-needs s.tables g)
+  where
+    finds_none : (c : List Counted) → ReclaimOneStep (counting s.tables c) g reply.Nothing (counting s.tables c)
+    finds_none c =
+        let none : has_takeable (counting s.tables c) g ≡ false = untakeable in
+        let no_more : has_transfer (counting s.tables c) g ≡ false = settled in
+        rw none (rw no_more (refl, refl))
 
 -- ---- ends of tasks
 
-pub serves-exit_killed : (s : Contents) (worker t : ℕ) (task : Task) → task_at s.tables.tasks t ≡ Some task → task.life ≡ Killed → Serves s worker (event.Exit (record { 0 = t })) reply.Killed s
-serves-exit_killed s worker t task is killed =
+pub serves-exit_killed : (s : Contents) (worker t : ℕ) (task : Task) → task_at s.tables.tasks t ≡ Some task → task.life ≡ Killed → InOrder s → Serves s worker (event.Exit (record { 0 = t })) reply.Killed s
+serves-exit_killed s worker t task is killed listed =
     serves-still s s worker (event.Exit (record { 0 = t })) reply.Killed (still-self s) (record { says = λ spot. refl; ticket = refl; groups = λ u g. refl; given = refl })
-    (λ c told. killed_step (counting s.tables c) _ task _ is killed) (λ c told. told) tt (omega arith)
+    (λ c told. killed_step (counting s.tables c) _ task _ is killed) (order-still s s listed refl refl) (λ c told. told) tt (omega arith)

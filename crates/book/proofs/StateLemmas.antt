@@ -1,6 +1,6 @@
 -- The joined parts at their opening, and what a refusal that does not come says.
-use Rattle.std.proofs.Common.{◌≡◌, inl, inr, ℕ, zero, suc, ◌+◌, ◌<◌, ◌≤◌, ◌≢◌, ◌==◌, ◌&&◌, ◌++◌, ◌∷◌, not, Bool, true, false, cond, List, [], Option, Some, None, refl, sym, ap, ◌∙◌, arith}
-use Rattle.std.specs.Prelude.{is_some, nat_le, nat_lt, slice_set, IsSome, option_map, Result, Ok, Err, OnErr}
+use Rattle.std.proofs.Common.{◌≡◌, inl, inr, ℕ, ◌+◌, ◌<◌, ◌≤◌, ◌≢◌, ◌==◌, ◌&&◌, ◌++◌, ◌∷◌, not, Bool, true, false, cond, List, [], Option, Some, None, refl, sym, ap, ◌∙◌, arith}
+use Rattle.std.specs.Prelude.{is_some, nat_le, nat_lt, IsSome, option_map, Result, Ok, Err, OnErr}
 use Rattle.machine.specs.declared.record.Life.{Life}
 use Rattle.machine.specs.declared.record.Life.TheVariants.{Live, Exited, Killed}
 use Rattle.machine.specs.declared.record.Task.{Task}
@@ -13,8 +13,6 @@ use Rattle.machine.specs.Tree.{Node, is_live}
 use Rattle.machine.specs.Pages.{Residence, Held, Coming, Going, Away, Page, Pages, page_at, is_in_transfer}
 use Rattle.machine.specs.Tasks.{Tasks, task_at, live_tasks, is_live_life, is_live_task, lives, group_of, group_of_task, SetsTask, mapped_at, mappers, mapping}
 use Rattle.machine.specs.State.{State, over_in, is_frame_free}
-use Rattle.machine.specs.declared.record.Limits.{Limits}
-use Rattle.machine.specs.Counts.{no_limits, limits_at}
 use Rattle.pages.specs.declared.flight.Flight.{Flight}
 use Rattle.machine.specs.declared.amount.Amount.{Amount}
 use Rattle.machine.specs.declared.amount.Amount.TheVariants.{Pages as PagesOf}
@@ -226,25 +224,6 @@ pub on-err : {T E : Type 0} (r : Result T E) (P : Type 0) → P → OnErr r P
 on-err (Ok x) P p = tt
 on-err (Err e) P p = p
 
--- ---- limits
-
--- a new group is protected from nothing
-pub open-push : (old new : List Limits) → ((g : ℕ) → (limits_at old g).min ≡ PagesOf 0) → new ≡ old ++ no_limits ∷ [] → (g : ℕ) → (limits_at new g).min ≡ PagesOf 0
-open-push old new unprotected pushed g = ap (λ (ls : List Limits). (limits_at ls g).min) pushed ∙ more old g unprotected
-  where
-    more : (old : List Limits) (g : ℕ) → ((g : ℕ) → (limits_at old g).min ≡ PagesOf 0) → (limits_at (old ++ no_limits ∷ []) g).min ≡ PagesOf 0
-    more [] zero unprotected = refl
-    more [] (suc g) unprotected = refl
-    more (l ∷ ls) zero unprotected = unprotected 0
-    more (l ∷ ls) (suc g) unprotected = more ls g (λ h. unprotected (suc h))
-
-pub open-set : (old : List Limits) (n : ℕ) (max : Amount) → ((g : ℕ) → (limits_at old g).min ≡ PagesOf 0) → (g : ℕ) → (limits_at (slice_set old n (record (limits_at old n) { max = max })) g).min ≡ PagesOf 0
-open-set [] n max unprotected g = refl
-open-set (l ∷ ls) zero max unprotected zero = unprotected 0
-open-set (l ∷ ls) zero max unprotected (suc g) = unprotected (suc g)
-open-set (l ∷ ls) (suc n) max unprotected zero = unprotected 0
-open-set (l ∷ ls) (suc n) max unprotected (suc g) = open-set ls n max (λ h. unprotected (suc h)) g
-
 -- ---- standing
 
 -- a page that is there stands so, as its standing says
@@ -290,11 +269,3 @@ going-stands_so pages p g (Held f) stands e = cc
 going-stands_so pages p g (Coming f b n) stands e = cc
 going-stands_so pages p g (Going f b n) stands e = (f, b, n, stands)
 going-stands_so pages p g (Away b) stands e = cc
-
--- the root alone is unprotected
-pub open-first : (limits : List Limits) → limits ≡ no_limits ∷ [] → (g : ℕ) → (limits_at limits g).min ≡ PagesOf 0
-open-first limits first g = ap (λ (ls : List Limits). (limits_at ls g).min) first ∙ alone g
-  where
-    alone : (g : ℕ) → (limits_at (no_limits ∷ []) g).min ≡ PagesOf 0
-    alone zero = refl
-    alone (suc g) = refl

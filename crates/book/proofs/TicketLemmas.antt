@@ -67,7 +67,7 @@ module _ (pages : Pages) (flights : List (Option Flight)) (history : List Entry)
 
 -- a ticket that the parts give out, as a book gives it
 pub gives_more : (new : Contents) (history : List Entry) (counts : List ℕ) (passes worker entry : ℕ) (answer : Reply) → IsHistory new history counts → entry ≡ length history → GivesTicket new worker entry answer
-    → Gives (record { state = state_of new history; history = history; passes = passes }) worker answer
+    → Gives (record { state = state_of new history; history = history; order = new.order; passes = passes }) worker answer
 gives_more new history counts passes worker entry (reply.Fetch ticket) told newest gives =
     record {
       p = gives.0;

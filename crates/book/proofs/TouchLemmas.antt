@@ -15,6 +15,7 @@ use Rattle.machine.specs.Counts.{Counted}
 use Rattle.machine.specs.Tasks.{Tasks, task_at, is_live_task, lives, SetsTask, group_of, group_of_task, mapped_at, mappers, mapping}
 use Rattle.machine.specs.State.{State, over_in, is_frame_free}
 use Rattle.machine.specs.Access.{meets}
+use Rattle.machine.specs.Lists.{GoesOn}
 use Rattle.machine.specs.Step.{MeetStep, MakesPage, IsFreeFrame, new_page}
 use Rattle.machine.specs.History.{Spot, InTask, Byte, Nothing, follow, says_if}
 use Rattle.machine.proofs.TreeLemmas.{eq_cases}
@@ -22,10 +23,10 @@ use Rattle.machine.proofs.SlotLemmas.{one_if}
 use Rattle.machine.proofs.MappingLemmas.{mapped_at-mappers, mapped_at-one, mapped_at-push, mapped_at-push_other}
 use Rattle.pages.specs.PageTable.{byte_in, Stands, anon_page}
 use Rattle.events.specs.Tallies.{Tells}
-use Rattle.book.specs.Contents.{Contents, counting, byte_shown, byte_at, byte_at_spot, is_in_memory, is_known, knows, StaysComing, AreMapped, is_there}
+use Rattle.book.specs.Contents.{Contents, InOrder, counting, byte_shown, byte_at, byte_at_spot, is_in_memory, is_known, knows, StaysComing, AreMapped, is_there}
 use Rattle.book.specs.Serves.{Serves}
 use Rattle.book.proofs.TransferLemmas.{same_true, true_same, false_other, both_true, unlike, in_transfer-changes}
-use Rattle.book.proofs.ServeLemmas.{flights-kept, live_step, granted_step, access-needs}
+use Rattle.book.proofs.ServeLemmas.{order-still, flights-kept, live_step, granted_step, access-needs}
 
 -- tests that hold together are one
 alike : (a b : Bool) → (a ≡ true → b ≡ true) → (b ≡ true → a ≡ true) → a ≡ b
@@ -66,11 +67,12 @@ unlike_held slot g f g' f' b' n' is also = unlike (there_and is_in_transfer slot
 pub serves-hit_write : (old new : Contents) (worker t v o b p g f : ℕ) (task : Task) → AreMapped old.tables.pages old.tables.tasks old.tables.mappings
     → task_at old.tables.tasks t ≡ Some task → task.life ≡ Live → mapped_at old.tables.mappings t v ≡ Some p → Stands old.tables.pages p g (Held f)
     → new.tables ≡ old.tables → ((q k : ℕ) → byte_in new.bytes q k ≡ (if (q == p) && (o == k) then b else byte_in old.bytes q k)) → new.flights ≡ old.flights
-    → ((c : List Counted) → Tells old.tallies c → Tells new.tallies c)
+    → InOrder old → new.order ≡ old.order → ((c : List Counted) → Tells old.tallies c → Tells new.tallies c)
     → Serves old worker (event.Access (record { 0 = t }) (Virtual v o) (Write b)) (reply.Done b (Some (record { 0 = f }))) new
-serves-hit_write old new worker t v o b p g f task mapped is living shown page tables bytes flights tells =
+serves-hit_write old new worker t v o b p g f task mapped is living shown page tables bytes flights listed order tells =
     record {
       steps = λ c told. live_step (counting old.tables c) _ task _ _ _ is living (meets_page c);
+      orders = order-still old new listed (ap (λ (s : State). s.pages) tables) order;
       tallied = tells;
       groups = λ u. ap (λ (s : State). group_of_task s.tasks u) tables;
       reads = tt;
@@ -137,11 +139,12 @@ pub serves-made : (old new : Contents) (worker t v o b p f : ℕ) (task : Task) 
     → Changes old.tables.pages new.tables.pages p (Some (new_page task.group.0 f))
     → new.tables ≡ record old.tables { pages = new.tables.pages; mappings = old.tables.mappings ++ mapping t v p ∷ [] }
     → ((q k : ℕ) → byte_in new.bytes q k ≡ (if q == p then (if o == k then b else 0) else byte_in old.bytes q k)) → new.flights ≡ old.flights
-    → ((c : List Counted) → Tells old.tallies c → Tells new.tallies c)
+    → GoesOn old.tables.pages old.order.held new.tables.pages new.order.held → new.order.cursors ≡ old.order.cursors → ((c : List Counted) → Tells old.tallies c → Tells new.tallies c)
     → Serves old worker (event.Access (record { 0 = t }) (Virtual v o) (Write b)) (reply.Done b None) new
-serves-made old new worker t v o b p f task mapped is living none under free frame slot placed tables bytes flights tells =
+serves-made old new worker t v o b p f task mapped is living none under free frame slot placed tables bytes flights goes cursors tells =
     record {
       steps = λ c told. live_step (counting old.tables c) _ task _ _ _ is living (makes c);
+      orders = (goes, cursors);
       tallied = tells;
       groups = λ u. ap (λ (s : State). group_of_task s.tasks u) tables;
       reads = tt;
@@ -232,11 +235,12 @@ unmapped_of pages tasks mappings mapped t v none = at (mapped_at mappings t v) r
 
 pub serves-spawn : (old new : Contents) (worker t g : ℕ) → AreMapped old.tables.pages old.tables.tasks old.tables.mappings → task_at old.tables.tasks t ≡ None
     → SetsTask old.tables.tasks t g Live new.tables.tasks → new.tables ≡ record old.tables { tasks = new.tables.tasks } → new.bytes ≡ old.bytes → new.flights ≡ old.flights
-    → ((c : List Counted) → Tells old.tallies c → Tells new.tallies c)
+    → InOrder old → new.order ≡ old.order → ((c : List Counted) → Tells old.tallies c → Tells new.tallies c)
     → Serves old worker (event.Spawn (record { 0 = t }) (record { 0 = g })) reply.Ok new
-serves-spawn old new worker t g mapped none sets tables bytes flights tells =
+serves-spawn old new worker t g mapped none sets tables bytes flights listed order tells =
     record {
       steps = λ c told. (sets, ap (λ (s : State). counting s c) tables);
+      orders = order-still old new listed (ap (λ (s : State). s.pages) tables) order;
       tallied = tells;
       groups = λ u.
           elim (eq_cases t u) [

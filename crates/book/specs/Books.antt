@@ -6,7 +6,7 @@ use Rattle.book.specs.declared.book.Book.TheInside.{Inside}
 use Rattle.book.specs.Told.{state_of, IsHistory}
 
 abbrev pub past_of : Inside → Past
-past_of b = record { state = state_of b.state (reverse b.entries.items); history = reverse b.entries.items; passes = length b.counts.items }
+past_of b = record { state = state_of b.state (reverse b.entries.items); history = reverse b.entries.items; order = b.state.order; passes = length b.counts.items }
 
 pub record IsBook (b : Inside) : Type 0 where
   pub told : IsHistory b.state (reverse b.entries.items) b.counts.items

@@ -1,5 +1,6 @@
 -- What the parts of a book hold: the machine's tables, the bytes of the pages, and the transfers in flight.
 use Rattle.std.specs.Prelude.{◌≡◌, ◌⊎◌, ℕ, ◌<◌, ◌≤◌, ◌==◌, Bool, true, false, List, [], ◌∷◌, ◌++◌, is_some, slice_index, option_map, IfSome, Option, Some, None, if◌then◌else◌}
+use Rattle.std.specs.List.{filter}
 use Rattle.machine.specs.declared.record.Key.{Key}
 use Rattle.machine.specs.declared.record.Key.TheVariants as key
 use Rattle.machine.specs.declared.record.Mapping.{Mapping}
@@ -14,6 +15,7 @@ use Rattle.machine.specs.Counts.{Counted}
 use Rattle.machine.specs.Tasks.{Tasks, task_at, lives, group_of_task, mapped_at, mappers}
 use Rattle.machine.specs.State.{State}
 use Rattle.machine.specs.Reclaim.{target_of}
+use Rattle.machine.specs.Lists.{Order, is_held_at}
 use Rattle.machine.specs.Step.{Step, count_of}
 use Rattle.machine.specs.Access.{page_size}
 use Rattle.machine.specs.Step.{virtual_page}
@@ -22,13 +24,18 @@ use Rattle.pages.specs.PageTable.{byte_in, Stands}
 use Rattle.pages.specs.declared.flight.Flight.{Flight}
 use Rattle.events.specs.Tallies.{Tallies, Tells, total_of}
 
--- the tables, without the events counted so far, which the history tells; by page number the bytes; how often events were counted; and by ticket
--- number the transfers in flight
+-- the tables, without the events counted so far, which the history tells; the order in which pages are taken; by page number the bytes; how often events
+-- were counted; and by ticket number the transfers in flight
 pub record Contents : Type 0 where
   pub tables : State
+  pub order : Order
   pub bytes : List (Option (List ℕ))
   pub tallies : Tallies
   pub flights : List (Option Flight)
+
+-- each page in the order is in a frame
+abbrev pub InOrder : Contents → Type 0
+InOrder c = filter (is_held_at c.tables.pages) c.order.held ≡ c.order.held
 
 -- ---- events counted
 

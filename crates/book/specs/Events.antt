@@ -17,6 +17,7 @@ event_of (event.FetchFailed ticket) = plain.FetchFailed (record { 0 = ticket.num
 event_of (event.Left ticket) = plain.Left (record { 0 = ticket.number })
 event_of (event.LeaveFailed ticket) = plain.LeaveFailed (record { 0 = ticket.number })
 event_of (event.Relieve cause) = plain.Relieve cause
+event_of (event.ReclaimOne g) = plain.ReclaimOne g
 event_of (event.Spawn task group) = plain.Spawn task group
 event_of (event.Exit task) = plain.Exit task
 event_of (event.Mkdir path) = plain.Mkdir path
@@ -34,6 +35,7 @@ reply_of reply.Ok = said.Ok
 reply_of reply.Room = said.Room
 reply_of (reply.Out ticket) = said.Out (record { 0 = ticket.number })
 reply_of reply.Wait = said.Wait
+reply_of reply.Nothing = said.Nothing
 reply_of (reply.KilledTask task) = said.KilledTask task
 reply_of reply.NoVictim = said.NoVictim
 reply_of (reply.Shown numbers) = said.Shown numbers

@@ -1,14 +1,16 @@
 -- What the fields of the holdings mean, and how they agree. No public clause cites it.
 use Rattle.std.specs.Prelude.{◌≡◌, ℕ, ◌+◌, ◌<◌, ◌≤◌, ◌&&◌, Bool, true, false, if◌then◌else◌, List, length, map, Option, option_map, Some, None, IfSome}
+use Rattle.std.specs.List.{All}
 use Rattle.machine.specs.Slots.{Changes, there_and, count_there}
 use Rattle.machine.specs.Tree.{is_live}
 use Rattle.machine.specs.Pages.{Residence, Going, Page, Pages, page_at, is_anon, is_number, block_at, charged, has_frame, has_this_frame, has_swap, is_held, is_in_transfer, in_transfer}
+use Rattle.machine.specs.Lists.{is_page_of}
 use Rattle.frames.specs.Pool.{PoolOf, free_count}
 use Rattle.block_store.specs.Slots.{SlotsOf}
 use Rattle.page_counter.specs.Counts.{Counts, usage_of}
 use Rattle.pages.specs.declared.kept.Kept.{Kept}
 use Rattle.pages.specs.Records.{page_of}
-use Rattle.book.specs.Queue.{page_count}
+use Rattle.book.specs.Queue.{QueueOf, numbers_of, page_count}
 use Rattle.book.specs.Holdings.{HoldingsOf}
 use Rattle.book.specs.declared.holdings.Holdings.TheInside.{Inside}
 
@@ -18,6 +20,7 @@ holdings_of h =
       kin = h.counters.tree;
       limits = h.counters.limits;
       stored = record { pages = h.pages.pages; bytes = h.pages.bytes; flights = h.pages.flights };
+      held = h.held.numbers;
       frames = h.pool.frames;
       swap = h.slots.blocks;
       room = h.counters.room;
@@ -54,6 +57,11 @@ pub record AreKept (counters : Counts) (pool : PoolOf) (slots : SlotsOf) (pages 
   pub blocks : IsBalanced has_this_block has_swap slots.blocks slots.free pages
   pub counted : IsCounted counters pages
 
+-- each page stands in the table, and after its own group
+pub record AreGrouped (queue : QueueOf) (pages : Pages) : Type 0 where
+  pub numbers : queue.numbers ≡ numbers_of queue.entries
+  pub groups : All (λ entry. is_page_of pages entry.0.0 entry.1.0 ≡ true) queue.entries
+
 -- these are the numbers of the pages that pass the test, each once
 pub record AreListed (test : Page → Bool) (numbers : List ℕ) (pages : Pages) : Type 0 where
   pub once : (p : ℕ) → page_count numbers p ≡ as_number (there_and test (page_at pages p))
@@ -64,6 +72,8 @@ pub record IsHolding (h : Inside) : Type 0 where
   pub few : h.pool.frames < 4294967296
   pub held : AreListed is_held h.held.numbers h.pages.pages
   pub moving : AreListed is_in_transfer h.moving.numbers h.pages.pages
+  pub held_groups : AreGrouped h.held h.pages.pages
+  pub moving_groups : AreGrouped h.moving h.pages.pages
   -- there is room in both lists for as many pages as there are frames
   pub held_room : h.pool.frames ≤ h.held.room
   pub moving_room : h.pool.frames ≤ h.moving.room

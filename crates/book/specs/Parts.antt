@@ -1,13 +1,15 @@
 -- What the fields of the joined parts mean, what is always true of them, and how they answer.
-use Rattle.std.specs.Prelude.{◌≡◌, ℕ, ◌&&◌, not, Bool, true, false, List, [], Some}
-use Rattle.machine.specs.declared.amount.Amount.TheVariants.{Pages as PagesOf}
+use Rattle.std.specs.Prelude.{◌≡◌, ℕ, ◌&&◌, not, Bool, true, false, List, [], length, Some}
+use Rattle.std.specs.List.{filter}
 use Rattle.machine.specs.declared.record.Mapping.{Mapping}
 use Rattle.machine.specs.declared.event.Event.{Event}
+use Rattle.machine.specs.declared.event.Event.TheVariants as event
 use Rattle.machine.specs.Tree.{is_live}
 use Rattle.machine.specs.Pages.{Residence, Coming, Going, Away, Page, Pages}
-use Rattle.machine.specs.Counts.{limits_at}
 use Rattle.machine.specs.Tasks.{lives, group_of_task}
 use Rattle.machine.specs.State.{State, opening_of, is_config}
+use Rattle.machine.specs.Reclaim.{stands, target_of}
+use Rattle.machine.specs.Lists.{is_held_at}
 use Rattle.machine.specs.Call.{is_granted}
 use Rattle.pages.specs.PageTable.{is_moving_in}
 use Rattle.pages.specs.declared.standing.Standing.{Standing}
@@ -17,7 +19,8 @@ use Rattle.book.specs.declared.page_state.State.TheInside.{Inside}
 use Rattle.book.specs.Events.{reply_of}
 use Rattle.book.specs.Contents.{Contents, AreMapped}
 use Rattle.book.specs.Drops.{is_gone}
-use Rattle.book.specs.Kin.{AreKin, without_room}
+use Rattle.group_tree.specs.Kin.{AreKin}
+use Rattle.book.specs.Kin.{without_room}
 use Rattle.book.specs.Serves.{Serves, GivesTicket, RepliesTo}
 
 abbrev pub contents_of : Inside → Contents
@@ -32,6 +35,7 @@ contents_of s =
         mappings = s.spaces.mappings;
         counted = [];
       };
+      order = record { held = s.holdings.held; cursors = s.cursors.cursors };
       bytes = s.holdings.stored.bytes;
       tallies = without_room s.events;
       flights = s.holdings.stored.flights;
@@ -46,8 +50,16 @@ pub record IsJoined (s : Inside) : Type 0 where
   pub mapped : AreMapped s.holdings.stored.pages s.spaces.tasks s.spaces.mappings
   -- the group of a live task is there
   pub homes : (t : ℕ) → lives s.spaces.tasks t ≡ true → is_live s.tree (group_of_task s.spaces.tasks t) ≡ true
-  -- nothing is protected from reclaim
-  pub open_groups : (g : ℕ) → (limits_at s.holdings.limits g).min ≡ PagesOf 0
+  -- each page in the order is in a frame
+  pub listed : filter (is_held_at s.holdings.stored.pages) s.holdings.held ≡ s.holdings.held
+  -- each group has its cursor
+  pub cursors : length s.cursors.cursors ≡ length s.tree
+
+-- the event asks for a page of the target
+abbrev pub AsksPage : State → Event → ℕ → Type 0
+AsksPage s (event.Relieve cause) target = (stands s cause ≡ true) × (target_of cause ≡ target)
+AsksPage s (event.ReclaimOne g) target = g.0 ≡ target
+AsksPage s what target = ⊥
 
 -- the answer to an event, with the ticket that it gives out
 pub record AnswersTo (old : Contents) (worker entry : ℕ) (what : Event) (said : Given) (new : Contents) : Type 0 where

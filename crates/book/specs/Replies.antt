@@ -32,6 +32,13 @@ IsReliefReply reply.NoVictim = Unit {0}
 IsReliefReply (reply.Refused why) = Unit {0}
 IsReliefReply said = ⊥
 
+abbrev pub IsReclaimReply : Reply → Type 0
+IsReclaimReply (reply.Out ticket) = Unit {0}
+IsReclaimReply reply.Wait = Unit {0}
+IsReclaimReply reply.Nothing = Unit {0}
+IsReclaimReply (reply.Refused why) = Unit {0}
+IsReclaimReply said = ⊥
+
 abbrev pub IsOkReply : Reply → Type 0
 IsOkReply reply.Ok = Unit {0}
 IsOkReply (reply.Refused why) = Unit {0}
@@ -66,6 +73,7 @@ Replies (event.FetchFailed ticket) said = IsInReply said
 Replies (event.Left ticket) said = IsOutReply said
 Replies (event.LeaveFailed ticket) said = IsOutReply said
 Replies (event.Relieve cause) said = IsReliefReply said
+Replies (event.ReclaimOne group) said = IsReclaimReply said
 Replies (event.Spawn task group) said = IsOkReply said
 Replies (event.Exit task) said = IsExitReply said
 Replies (event.Mkdir path) said = IsOkReply said

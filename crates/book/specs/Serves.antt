@@ -7,12 +7,13 @@ use Rattle.machine.specs.declared.reply.Reply.TheVariants as reply
 use Rattle.machine.specs.Pages.{Coming, Going, in_transfer}
 use Rattle.machine.specs.Tasks.{lives}
 use Rattle.machine.specs.Access.{page_size}
+use Rattle.machine.specs.Lists.{Orders}
 use Rattle.machine.specs.Call.{need}
 use Rattle.pages.specs.PageTable.{byte_in, Stands}
 use Rattle.pages.specs.Transfers.{given_ticket}
 use Rattle.book.specs.declared.event.Reply.{Reply as Given}
 use Rattle.book.specs.declared.event.Reply.TheVariants as given
-use Rattle.book.specs.Replies.{IsAccessReply, IsReliefReply, IsOkReply, IsExitReply, IsShownReply}
+use Rattle.book.specs.Replies.{IsAccessReply, IsReliefReply, IsReclaimReply, IsOkReply, IsExitReply, IsShownReply}
 use Rattle.book.specs.Contents.{Contents, Steps, Tallied, ChangesGroups, ReadsByte, ChangesBytes, ChangesComing, ChangesFlights}
 
 -- the event is the task's first
@@ -24,9 +25,10 @@ abbrev pub is_refused : Reply → Bool
 is_refused (reply.Refused why) = true
 is_refused answer = false
 
--- the machine's step with this reply, asked by a worker; a read gives the byte that stood there; and tasks' groups, bytes and transfers change as the event says
+-- the machine's step with this reply, asked by a worker; where a page is taken it is the one in order; a read gives the byte that stood there; and tasks' groups, bytes and transfers change as the event says
 pub record Serves (old : Contents) (worker : ℕ) (what : Event) (answer : Reply) (new : Contents) : Type 0 where
   pub steps : Steps old what answer new
+  pub orders : Orders old.tables old.order what answer new.tables new.order
   pub tallied : Tallied old what answer new
   pub groups : ChangesGroups old what answer new
   pub reads : ReadsByte old what answer
@@ -52,6 +54,7 @@ IsAsked what = Unit {0}
 abbrev pub RepliesTo : Event → Given → Type 0
 RepliesTo (event.Access task place op) said = IsAccessReply said
 RepliesTo (event.Relieve cause) said = IsReliefReply said
+RepliesTo (event.ReclaimOne group) said = IsReclaimReply said
 RepliesTo (event.Spawn task group) said = IsOkReply said
 RepliesTo (event.Exit task) said = IsExitReply said
 RepliesTo (event.Mkdir path) said = IsOkReply said

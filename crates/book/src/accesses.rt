@@ -99,6 +99,7 @@ impl State {
         ensures err { OnErr result (self.new ≡ self.old) }
         ensures grows { OnErr result (grows self.old.tables (event.Access touch.task (place.Virtual touch.at touch.offset) touch.op) ≡ true) }
     {
+        self.is_joined();
         match touch.op {
             Op::Read => Ok(Reply::Done { byte: 0, hit: None }),
             Op::Write(byte) => self.write_new(touch, byte),

@@ -3,7 +3,7 @@
 ghost use Rattle.std.specs.Prelude.{◌≡◌, ◌⊎◌, ℕ, ◌+◌, ◌<◌, ◌≤◌, ◌++◌, ◌∷◌, ◌&&◌, [], None, true, false, length, reverse, nat_le, slice_index, slice_set, option_map, IfOk, IfErr, OnErr, vec_len, vec_capacity};
 ghost use Rattle.machine.specs.Tree.{find_group};
 ghost use Rattle.machine.specs.Pages.{used_frames, is_coming_in, is_going_out};
-ghost use Rattle.machine.specs.State.{opening_of, is_config};
+ghost use Rattle.machine.specs.State.{opening_of, are_marks, is_config};
 ghost use Rattle.machine.specs.Refusals.{refusal};
 ghost use Rattle.machine.specs.Legal.{Legal};
 ghost use Rattle.machine.specs.History.{Right, IsRight, Honest, Numbered, taker};
@@ -16,7 +16,7 @@ ghost use Rattle.book.specs.Serves.{IsAsked, RepliesTo};
 use crate::event::{Event, Reply};
 use crate::page_state::State;
 use crate::pass::Pass;
-use machine::config::Config;
+use machine::config::{Config, Watermarks};
 use machine::entry::Entry;
 use machine::event::Event as PlainEvent;
 use machine::id::{GroupId, TicketId, WorkerId};
@@ -38,10 +38,10 @@ const MOST_ENTRIES: u32 = 1_048_576;
 
 /// The groups, pages and tasks of one machine, with the history of what was asked and answered.
 ///
-/// A contract sees it as its past: the machine's state, the history with the newest entry first, and
-/// how many passes were given out. The history is always legal, so it leads from the opening to that
-/// state by steps of the plain machine; and where each page that arrived brought what was last written,
-/// it is right, so each read in it gave the last write.
+/// A contract sees it as its past: the machine's state, the history with the newest entry first, the
+/// order in which pages are taken, and how many passes were given out. The history is always legal, so it
+/// leads from the opening to that state by steps of the plain machine; and where each page that arrived
+/// brought what was last written, it is right, so each read in it gave the last write.
 ///
 /// A book must be spent, by [`Book::close`].
 pub struct Book {
@@ -147,6 +147,7 @@ impl Book {
             Event::Left(ticket) => self.left(worker, ticket),
             Event::LeaveFailed(ticket) => self.leave_failed(worker, ticket),
             Event::Relieve(cause) => self.ask(worker, PlainEvent::Relieve(cause)),
+            Event::ReclaimOne(group) => self.ask(worker, PlainEvent::ReclaimOne(group)),
             Event::Spawn { task, group } => self.ask(worker, PlainEvent::Spawn { task, group }),
             Event::Exit(task) => self.ask(worker, PlainEvent::Exit(task)),
             Event::Mkdir(path) => self.ask(worker, PlainEvent::Mkdir(path)),
@@ -329,6 +330,13 @@ impl Book {
         self.state.free_frames()
     }
 
+    /// The daemon's marks, which the opening fixed. They are asked for by no event.
+    pub fn watermarks(&self) -> Watermarks
+        ensures { result ≡ self.now.state.opening.marks }
+    {
+        self.state.watermarks()
+    }
+
     /// Nothing is done: what holds of every book's history.
     pub fn history_is_right(&self)
         ensures legal { Legal self.now.state.opening self.now.history self.now.state }
@@ -358,7 +366,14 @@ fn is_config(config: Config) -> bool
     ensures { result ≡ is_config config }
 {
     is_size(config.frames, MOST_FRAMES)
-        && (config.swap <= MOST_SWAP && is_size(config.trace, MOST_ENTRIES))
+        && (config.swap <= MOST_SWAP
+            && (are_marks(config.marks, config.frames) && is_size(config.trace, MOST_ENTRIES)))
+}
+
+fn are_marks(marks: Watermarks, frames: u32) -> bool
+    ensures { result ≡ are_marks marks frames }
+{
+    marks.low <= marks.high && marks.high <= frames
 }
 
 fn is_size(size: u32, most: u32) -> bool
@@ -410,6 +425,7 @@ fn plain(reply: &Reply) -> PlainReply
         Reply::Room => PlainReply::Room,
         Reply::Out(ticket) => PlainReply::Out(ticket.number()),
         Reply::Wait => PlainReply::Wait,
+        Reply::Nothing => PlainReply::Nothing,
         Reply::KilledTask(task) => PlainReply::KilledTask(*task),
         Reply::NoVictim => PlainReply::NoVictim,
         Reply::Shown(numbers) => PlainReply::Shown(*numbers),

@@ -23,6 +23,8 @@ pub enum Event {
     LeaveFailed(OutTicket),
     /// Room is wanted.
     Relieve(Cause),
+    /// A page is to be taken from the group or from below it.
+    ReclaimOne(GroupId),
     /// A new task of a group.
     Spawn { task: TaskId, group: GroupId },
     /// A task ends by itself.
@@ -58,6 +60,8 @@ pub enum Reply {
     Out(OutTicket),
     /// A page is in transfer, and may come free.
     Wait,
+    /// There is no page to be taken, and none in transfer.
+    Nothing,
     /// Relief killed this task.
     KilledTask(TaskId),
     /// Relief found nobody to kill.

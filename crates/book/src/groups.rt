@@ -41,9 +41,11 @@ impl State {
     {
         self.holdings.reserve_group()?;
         self.events.reserve()?;
+        self.cursors.reserve()?;
         let group = self.tree.mkdir(path)?;
         self.holdings.add_group(group, parent);
         self.events.add_reserved(group, parent);
+        self.cursors.add_reserved();
         Ok(())
     }
 
@@ -52,8 +54,10 @@ impl State {
         requires { is_live self.old.tables.tree group.0 ≡ true }
         ensures { (worker : ℕ) → Serves self.old worker (event.Set group setting) reply.Ok self.new }
     {
-        let Setting::Max(max) = setting;
-        self.holdings.set_max(group, max);
+        match setting {
+            Setting::Max(max) => self.holdings.set_max(group, max),
+            Setting::Min(min) => self.holdings.set_min(group, min),
+        }
     }
 
     /// The numbers that are asked for.
@@ -61,6 +65,7 @@ impl State {
         requires { show_refusal self.now.tables query ≡ None }
         ensures { (worker : ℕ) → Serves self.now worker (event.Show query) (reply.Shown result) self.now }
     {
+        self.is_joined();
         self.shown(query)
     }
 
@@ -71,8 +76,12 @@ impl State {
         match query {
             Query::Current(group) => Shown::Pages(self.holdings.usage(group)),
             Query::Max(group) => Shown::Amount(self.holdings.max(group)),
+            Query::Min(group) => Shown::Amount(self.holdings.min(group)),
             Query::Events(group) => Shown::Events(self.events.totals(group)),
             Query::EventsLocal(group) => Shown::Events(self.events.locals(group)),
+            Query::Protection { target, group } => {
+                Shown::Amount(self.holdings.protection(&self.tree, target, group))
+            }
         }
     }
 }

@@ -1,17 +1,20 @@
 //! The pages, with the frames, the charges and the swap slots that they own.
 
 ghost use Rattle.std.specs.Prelude.{◌≡◌, ◌≢◌, ℕ, ◌+◌, ◌<◌, ◌==◌, ◌&&◌, ◌++◌, ◌∷◌, [], true, false, None, Some, IsSome, IfSome, IfNone, IfOk, OnOk, OnErr, nat_lt, length, slice_set, slice_index, if◌then◌else◌};
-ghost use Rattle.machine.specs.Slots.{there_and, any_there};
+ghost use Rattle.std.specs.List.{list_any};
+ghost use Rattle.machine.specs.Slots.{any_there};
 ghost use Rattle.machine.specs.Tree.{is_live, under};
 ghost use Rattle.machine.specs.Pages as residence;
-ghost use Rattle.machine.specs.Pages.{Page, page_at, is_held, is_in_transfer, in_transfer, charged, used_frames, used_swap};
+ghost use Rattle.machine.specs.Pages.{Page, page_at, is_in_transfer, in_transfer, charged, used_frames, used_swap};
 ghost use Rattle.machine.specs.Counts.{no_limits, limits_at};
+ghost use Rattle.machine.specs.Protection.{effective, min_of};
 ghost use Rattle.machine.specs.Access.{page_size};
+ghost use Rattle.group_tree.specs.Kin.{AreKin};
 ghost use Rattle.group_tree.specs.Lineages.{bare, IsLineage};
 ghost use Rattle.pages.specs.PageTable.{byte_in, Stands, is_held_in, is_moving_in, AreInFlight};
-ghost use Rattle.book.specs.Holdings.{with_stored, would_grant, HasRoom, Grants, IsGranted, Fetches, BeginsOut, Settles, DropsPage};
+ghost use Rattle.book.specs.Holdings.{with_stored, would_grant, HasRoom, Grants, IsGranted, Fetches, BeginsOut, Settles, DropsPage, takes, IsNext};
 
-use crate::lookup::{first_under, group_of, page_of_ticket};
+use crate::lookup::{group_of, is_any_under, page_of_ticket};
 use crate::queue::Queue;
 use crate::release::{release, release_last};
 use crate::room::{Room, give_room, take_room, take_slot, take_spare};
@@ -23,6 +26,8 @@ use machine::bytes::PageBytes;
 use machine::id::{GroupId, PageId, WorkerId};
 use page_counter::Counters;
 use pages::{InTicket, OutTicket, Pages};
+use protection::effective;
+use reclaim::{Cursors, is_any_takeable};
 use spaces::Spaces;
 use std::alloc::{AllocError, Global};
 use std::marker::Model;
@@ -80,6 +85,7 @@ impl Holdings {
         ensures kin { IfOk result (λ h. h.kin ≡ bare None ∷ []) }
         ensures limits { IfOk result (λ h. h.limits ≡ no_limits ∷ []) }
         ensures stored { IfOk result (λ h. h.stored ≡ record { pages = []; bytes = []; flights = [] }) }
+        ensures held { IfOk result (λ h. h.held ≡ []) }
         ensures frames { IfOk result (λ h. h.frames ≡ frames) }
         ensures swap { IfOk result (λ h. h.swap ≡ swap) }
     {
@@ -160,6 +166,63 @@ impl Holdings {
         self.counters.set_max(group, max);
     }
 
+    /// Up to how many pages of the group and of those below it are protected from reclaim.
+    pub fn min(&self, group: GroupId) -> Amount
+        requires { is_live self.now.kin group.0 ≡ true }
+        ensures { result ≡ (limits_at self.now.limits group.0).min }
+    {
+        self.counters.min(group)
+    }
+
+    /// Another min for the group.
+    pub fn set_min(&mut self, group: GroupId, min: Amount)
+        requires { is_live self.old.kin group.0 ≡ true }
+        ensures { self.new ≡ record self.old { limits = slice_set self.old.limits group.0 (record (limits_at self.old.limits group.0) { min = min }) } }
+    {
+        self.counters.set_min(group, min);
+    }
+
+    /// How much of its memory a group below the target keeps from a reclaim of the target.
+    pub fn protection(&self, tree: &Tree, target: GroupId, group: GroupId) -> Amount
+        requires kin { AreKin self.now.kin tree.now }
+        requires live { is_live tree.now group.0 ≡ true }
+        requires under { under tree.now target.0 group.0 ≡ true }
+        requires below { target.0 ≢ group.0 }
+        ensures { result ≡ effective false tree.now (min_of self.now.limits) (charged tree.now self.now.stored.pages) target.0 group.0 }
+    {
+        tree.groups_form_a_tree();
+        effective(tree, &self.counters, target, group)
+    }
+
+    /// Whether a page may be taken for the target.
+    pub fn has_takeable(&self, tree: &Tree, target: GroupId) -> bool
+        requires kin { AreKin self.now.kin tree.now }
+        requires live { is_live tree.now target.0 ≡ true }
+        ensures { result ≡ any_there (takes self.now tree.now target.0) self.now.stored.pages }
+    {
+        tree.groups_form_a_tree();
+        self.pages.are_in_flight();
+        let held = self.held.as_slice();
+        is_any_takeable(tree, &self.counters, held, self.has_swap(), target)
+    }
+
+    /// The page that is taken next for the target, whose cursor then names the page's group. None where
+    /// none may be taken, and then no cursor moves.
+    pub fn next_page(&self, tree: &Tree, cursors: &mut Cursors, target: GroupId) -> Option<PageId>
+        requires kin { AreKin self.now.kin tree.now }
+        requires live { is_live tree.now target.0 ≡ true }
+        requires cursor { target.0 < length cursors.old.cursors }
+        ensures next { IfSome result (λ p. IsNext self.now tree.now cursors.old.cursors target.0 p.0 cursors.new.cursors) }
+        ensures none { IfNone result (any_there (takes self.now tree.now target.0) self.now.stored.pages ≡ false) }
+        ensures same { IfNone result (cursors.new.cursors ≡ cursors.old.cursors) }
+    {
+        tree.groups_form_a_tree();
+        self.pages.are_in_flight();
+        let held = self.held.as_slice();
+        let (_, page) = cursors.next_page(tree, &self.counters, held, self.has_swap(), target)?;
+        Some(page)
+    }
+
     /// Asks for the memory of one group more.
     pub fn reserve_group(&mut self) -> Result<(), AllocError>
         ensures room { OnOk result (0 < self.new.room) }
@@ -177,18 +240,20 @@ impl Holdings {
         ensures kin { self.new.kin ≡ self.old.kin ++ bare (Some parent.0) ∷ [] }
         ensures limits { self.new.limits ≡ self.old.limits ++ no_limits ∷ [] }
         ensures stored { self.new.stored ≡ self.old.stored }
+        ensures held { self.new.held ≡ self.old.held }
         ensures frames { self.new.frames ≡ self.old.frames }
         ensures swap { self.new.swap ≡ self.old.swap }
     {
         self.counters.add_reserved(group, parent);
     }
 
-    /// Nothing is done: what holds of the groups of all holdings.
+    /// Nothing is done: what holds of the groups and of the pages of all holdings.
     pub fn are_counted(&self)
         ensures lineage { IsLineage self.now.kin }
         ensures limits { length self.now.limits ≡ length self.now.kin }
         ensures groups { (p : ℕ) → IfSome (page_at self.now.stored.pages p) (λ page. is_live self.now.kin page.group ≡ true) }
         ensures flights { AreInFlight self.now.stored.pages self.now.stored.flights }
+        ensures held { (p : ℕ) → list_any (λ q. q == p) self.now.held ≡ is_held_in self.now.stored.pages p }
     {
         self.counters.are_counted();
         self.pages.are_in_flight();
@@ -232,7 +297,7 @@ impl Holdings {
             return Err(AllocError);
         }
         let page = self.pages.hold(frame, charge, offset, byte);
-        self.held.push(page);
+        self.held.push(group, page);
         Ok(Grant::Page(page))
     }
 
@@ -265,7 +330,7 @@ impl Holdings {
         let ticket = self
             .pages
             .start_in(page, frame, charge, worker, entry, buffer);
-        self.moving.push(page);
+        self.moving.push(group, page);
         Ok(Fetched::Coming(ticket))
     }
 
@@ -276,11 +341,12 @@ impl Holdings {
         ensures { (g f : ℕ) → Stands self.old.stored.pages page.0 g (residence.Held f) → BeginsOut self.old self.new page.0 g f worker.0 entry result }
     {
         self.pages.are_in_flight();
+        let group = group_of(&self.pages, page);
         let slot = take_slot(&mut self.slots);
         let spare = take_spare(&mut self.pool);
         let ticket = self.pages.start_out(page, slot, spare, worker, entry);
         self.held.remove(page);
-        self.moving.push(page);
+        self.moving.push(group, page);
         ticket
     }
 
@@ -293,10 +359,11 @@ impl Holdings {
     {
         self.pages.are_in_flight();
         let page = page_of_ticket(&self.pages, ticket.number());
+        let group = group_of(&self.pages, page);
         let (slot, bytes) = self.pages.end_in(ticket);
         self.slots.give(slot);
         self.moving.remove(page);
-        self.held.push(page);
+        self.held.push(group, page);
         bytes
     }
 
@@ -338,27 +405,19 @@ impl Holdings {
     {
         self.pages.are_in_flight();
         let page = page_of_ticket(&self.pages, ticket.number());
+        let group = group_of(&self.pages, page);
         let (slot, spare) = self.pages.fail_out(ticket);
         self.slots.give(slot);
         self.pool.give_spare(spare);
         self.moving.remove(page);
-        self.held.push(page);
-    }
-
-    /// Of the pages in frames whose group is at or under the target, the one that has been in its
-    /// frame for longest.
-    pub fn oldest_under(&self, tree: &Tree, target: GroupId) -> Option<PageId>
-        ensures found { IfSome result (λ p. there_and (λ page. is_held page && under tree.now target.0 page.group) (page_at self.now.stored.pages p.0) ≡ true) }
-        ensures none { IfNone result (any_there (λ page. is_held page && under tree.now target.0 page.group) self.now.stored.pages ≡ false) }
-    {
-        first_under(&self.pages, self.held.as_slice(), tree, target)
+        self.held.push(group, page);
     }
 
     /// Whether a page whose group is at or under the target is in transfer.
     pub fn has_transfer(&self, tree: &Tree, target: GroupId) -> bool
         ensures { result ≡ any_there (λ page. is_in_transfer page && under tree.now target.0 page.group) self.now.stored.pages }
     {
-        first_under(&self.pages, self.moving.as_slice(), tree, target).is_some()
+        is_any_under(self.moving.as_slice(), tree, target)
     }
 
     /// Changes a byte of a page in a frame.

@@ -3,8 +3,8 @@
 //!
 //! [`Book::call`] is the one place where a machine changes. Below it stand the parts, each seen as
 //! the machine's table that it keeps: the groups, their settings and counts, the pages with their
-//! bytes, the tasks with what they map, the frames and swap slots that are free, the transfers in flight,
-//! and the events counted.
+//! bytes, the order in which they are taken, the tasks with what they map, the frames and swap slots that
+//! are free, the transfers in flight, and the events counted.
 #![tactic(auto)]
 
 pub use book::{Book, Trace};

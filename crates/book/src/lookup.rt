@@ -1,11 +1,10 @@
 //! Pages that are looked for in the table of pages.
 
-ghost use Rattle.std.specs.Prelude.{◌≡◌, ℕ, ◌≤◌, true, false, IfSome, IfNone};
-ghost use Rattle.machine.specs.Slots.{there_and};
+ghost use Rattle.std.specs.Prelude.{◌≡◌, ℕ, true};
+ghost use Rattle.std.specs.List.{list_any};
 ghost use Rattle.machine.specs.Tree.{under};
-ghost use Rattle.machine.specs.Pages.{Residence, page_at};
+ghost use Rattle.machine.specs.Pages.{Residence};
 ghost use Rattle.pages.specs.PageTable.{AreInFlight, Stands, is_under_ticket};
-ghost use Rattle.book.specs.Queue.{numbers_of, page_count};
 
 use group_tree::Tree;
 use machine::id::{GroupId, PageId, TicketId};
@@ -34,31 +33,14 @@ pub fn page_of_ticket(pages: &Pages, ticket: TicketId) -> PageId
     flight.page
 }
 
-/// Whether the page is there and its group is at or under the target.
-fn is_under(pages: &Pages, page: PageId, tree: &Tree, target: GroupId) -> bool
-    ensures { result ≡ there_and (λ page. under tree.now target.0 page.group) (page_at pages.now.pages page.0) }
+/// Whether one of the pages is of a group at or under the target.
+pub fn is_any_under(entries: &[(GroupId, PageId)], tree: &Tree, target: GroupId) -> bool
+    ensures { result ≡ list_any (λ entry. under tree.now target.0 entry.0.0) entries.now }
 {
-    match pages.group(page) {
-        None => false,
-        Some(group) => tree.is_under(target, group),
-    }
-}
-
-/// The first of the pages whose group is at or under the target.
-pub fn first_under(
-    pages: &Pages,
-    numbers: &[PageId],
-    tree: &Tree,
-    target: GroupId,
-) -> Option<PageId>
-    ensures listed { IfSome result (λ p. 1 ≤ page_count (numbers_of numbers.now) p.0) }
-    ensures found { IfSome result (λ p. there_and (λ page. under tree.now target.0 page.group) (page_at pages.now.pages p.0) ≡ true) }
-    ensures none { IfNone result ((p : ℕ) → 1 ≤ page_count (numbers_of numbers.now) p → there_and (λ page. under tree.now target.0 page.group) (page_at pages.now.pages p) ≡ false) }
-{
-    for page in numbers {
-        if is_under(pages, *page, tree, target) {
-            return Some(*page);
+    for (group, _) in entries {
+        if tree.is_under(target, *group) {
+            return true;
         }
     }
-    None
+    false
 }

@@ -1,7 +1,8 @@
 //! How many entries of the trace an event will need, known before anything changes.
 
-ghost use Rattle.std.specs.Prelude.{◌≡◌, ℕ, Some, None};
+ghost use Rattle.std.specs.Prelude.{◌≡◌, ℕ, true, Some, None};
 ghost use Rattle.machine.specs.Slots.{there_and};
+ghost use Rattle.machine.specs.Tree.{is_live};
 ghost use Rattle.machine.specs.Refusals.{refusal};
 ghost use Rattle.machine.specs.Pages.{Residence, page_at};
 ghost use Rattle.machine.specs.Access.{meets};
@@ -14,7 +15,7 @@ ghost use Rattle.pages.specs.PageTable.{standing_of};
 use crate::page_state::State;
 use crate::relief::target;
 use machine::event::{Cause, Event, Op, Place};
-use machine::id::{PageId, TaskId};
+use machine::id::{GroupId, PageId, TaskId};
 use machine::record::Life;
 use pages::Standing;
 
@@ -29,6 +30,7 @@ impl State {
         match event {
             Event::Access { task, place, op } => self.access_need(*task, *place, *op),
             Event::Relieve(cause) => self.relief_need(*cause),
+            Event::ReclaimOne(group) => self.reclaim_need(*group),
             Event::Arrived {
                 ticket: _,
                 bytes: _,
@@ -97,11 +99,19 @@ impl State {
     fn relief_need(&self, cause: Cause) -> usize
         ensures { result ≡ need self.now.tables (event.Relieve cause) }
     {
-        if self.stands(cause) && self.takeable(target(cause)).is_some() {
+        self.is_joined();
+        if self.stands(cause) && self.has_takeable(target(cause)) {
             2
         } else {
             1
         }
+    }
+
+    fn reclaim_need(&self, group: GroupId) -> usize
+        requires { is_live self.now.tables.tree group.0 ≡ true }
+        ensures { result ≡ need self.now.tables (event.ReclaimOne group) }
+    {
+        if self.has_takeable(group) { 2 } else { 1 }
     }
 }
 

@@ -1,24 +1,27 @@
 //! The parts of a book joined: one change of the machine's tables a call, in all parts at once.
 
 ghost use Rattle.std.specs.Prelude.{◌≡◌, ℕ, ◌+◌, ◌≤◌, [], None, true, IfOk, OnErr};
+ghost use Rattle.machine.specs.Tree.{is_live};
 ghost use Rattle.machine.specs.State.{first_state, opening_of, is_config};
 ghost use Rattle.machine.specs.Refusals.{refusal};
 ghost use Rattle.machine.specs.Pages.{used_frames, in_transfer};
 ghost use Rattle.machine.specs.Call.{grows};
+ghost use Rattle.machine.specs.Lists.{first_order};
 ghost use Rattle.group_tree.specs.Lineages.{IsLineage};
 ghost use Rattle.events.specs.Tallies.{Tells};
 ghost use Rattle.pages.specs.PageTable.{AreInFlight};
 ghost use Rattle.book.specs.Events.{reply_of};
-ghost use Rattle.book.specs.Contents.{byte_at, AreFew};
+ghost use Rattle.book.specs.Contents.{byte_at, AreFew, InOrder};
 ghost use Rattle.book.specs.Serves.{Serves, IsAsked, RepliesTo, GivesTicket};
 
 use crate::event::Reply;
 use crate::holdings::Holdings;
 use events::Events;
 use group_tree::Tree;
-use machine::config::Config;
+use machine::config::{Config, Watermarks};
 use machine::event::Event;
 use machine::id::WorkerId;
+use reclaim::Cursors;
 use spaces::Spaces;
 use std::alloc::{AllocError, Global};
 use std::marker::Model;
@@ -30,6 +33,7 @@ pub struct State {
     pub(crate) config: Config,
     pub(crate) tree: Tree,
     pub(crate) holdings: Holdings,
+    pub(crate) cursors: Cursors,
     pub(crate) events: Events,
     pub(crate) spaces: Spaces,
 }
@@ -51,17 +55,20 @@ impl State {
     pub fn open(alloc: Global, config: Config) -> Result<State, AllocError>
         requires { is_config config ≡ true }
         ensures tables { IfOk result (λ s. s.tables ≡ first_state (opening_of config)) }
+        ensures order { IfOk result (λ s. s.order ≡ first_order) }
         ensures bytes { IfOk result (λ s. (t v o : ℕ) → byte_at s t v o ≡ 0) }
         ensures flights { IfOk result (λ s. s.flights ≡ []) }
         ensures told { IfOk result (λ s. Tells s.tallies []) }
     {
         let tree = Tree::open(alloc)?;
         let events = Events::new(alloc)?;
+        let cursors = Cursors::new(alloc)?;
         let holdings = Holdings::open(alloc, config.frames, config.swap)?;
         Ok(State {
             config,
             tree,
             holdings,
+            cursors,
             events,
             spaces: Spaces::new(alloc),
         })
@@ -73,6 +80,7 @@ impl State {
             config: _,
             tree: _,
             holdings,
+            cursors: _,
             events: _,
             spaces: _,
         } = self;
@@ -100,6 +108,13 @@ impl State {
         self.holdings.transfers()
     }
 
+    /// The daemon's marks.
+    pub fn watermarks(&self) -> Watermarks
+        ensures { result ≡ self.now.tables.opening.marks }
+    {
+        self.config.marks
+    }
+
     /// The trace's limit, in entries.
     pub fn limit(&self) -> usize
         ensures { result ≡ self.now.tables.opening.limit }
@@ -108,11 +123,14 @@ impl State {
     }
 
     /// Nothing is done: what the opening fixed is within its limits, the groups whose events are counted
-    /// hang together, and the transfers in flight are those of the pages in transfer.
+    /// hang together, the root is there, the transfers in flight are those of the pages in transfer,
+    /// and each page in the order is in a frame.
     pub fn is_joined(&self)
         ensures limit { self.now.tables.opening.limit ≤ 1048576 }
         ensures lineage { IsLineage self.now.tallies.tree }
+        ensures root { is_live self.now.tables.tree 0 ≡ true }
         ensures flights { AreInFlight self.now.tables.pages self.now.flights }
+        ensures order { InOrder self.now }
     {
         self.events.are_told();
         self.holdings.are_counted();
@@ -143,6 +161,7 @@ impl State {
                 Ok(reply)
             }
             Event::Relieve(cause) => Ok(self.relieve(*cause, worker, entry)),
+            Event::ReclaimOne(group) => Ok(self.reclaim_one(*group, worker, entry)),
             Event::Spawn { task, group } => {
                 self.spawn(*task, *group)?;
                 Ok(Reply::Ok)

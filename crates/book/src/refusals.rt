@@ -4,7 +4,7 @@ ghost use Rattle.std.specs.Prelude.{◌≡◌, not, None};
 ghost use Rattle.machine.specs.State.{Opening};
 ghost use Rattle.machine.specs.Tasks.{task_at};
 ghost use Rattle.machine.specs.Access.{is_place};
-ghost use Rattle.machine.specs.Refusals.{refusal, first_cause, task_refusal, mkdir_refusal, bars_children, bars_tasks, spawn_refusal, file_refusal, show_refusal};
+ghost use Rattle.machine.specs.Refusals.{refusal, first_cause, task_refusal, mkdir_refusal, bars_children, bars_tasks, spawn_refusal, group_refusal, below_target, file_refusal, show_refusal};
 
 use crate::page_state::State;
 use machine::event::{Event, Place, Query};
@@ -33,6 +33,7 @@ impl State {
             Event::Left(_) => None,
             Event::LeaveFailed(_) => None,
             Event::Relieve(_) => None,
+            Event::ReclaimOne(group) => self.group_refusal(*group),
             Event::Spawn { task, group } => self.spawn_refusal(*task, *group),
             Event::Exit(task) => self.exit_refusal(*task),
             Event::Mkdir(path) => self.mkdir_refusal(path.as_str()),
@@ -102,14 +103,43 @@ impl State {
         None
     }
 
+    fn group_refusal(&self, group: GroupId) -> Option<Refusal>
+        ensures { result ≡ group_refusal self.now.tables.tree group.0 None }
+    {
+        if !self.tree.is_live(group) {
+            return Some(Refusal::NoEntry);
+        }
+        None
+    }
+
+    /// A group's protection is asked for a target above it.
+    fn protection_refusal(&self, target: GroupId, group: GroupId) -> Option<Refusal>
+        ensures { result ≡ first_cause (not (below_target self.now.tables.tree target.0 group.0)) Refusal.NoEntry None }
+    {
+        if self.is_below(target, group) {
+            return None;
+        }
+        Some(Refusal::NoEntry)
+    }
+
+    fn is_below(&self, target: GroupId, group: GroupId) -> bool
+        ensures { result ≡ below_target self.now.tables.tree target.0 group.0 }
+    {
+        self.tree.is_live(target)
+            && (self.tree.is_live(group)
+                && (self.tree.is_under(target, group) && target.0 != group.0))
+    }
+
     fn show_refusal(&self, query: Query) -> Option<Refusal>
         ensures { result ≡ show_refusal self.now.tables query }
     {
         match query {
             Query::Current(group) => self.file_refusal(group),
             Query::Max(group) => self.file_refusal(group),
+            Query::Min(group) => self.file_refusal(group),
             Query::Events(group) => self.file_refusal(group),
             Query::EventsLocal(group) => self.file_refusal(group),
+            Query::Protection { target, group } => self.protection_refusal(target, group),
         }
     }
 

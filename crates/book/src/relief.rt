@@ -1,29 +1,29 @@
 //! Relief: room is made under a group, or somebody is killed for it.
 
 ghost use Rattle.std.specs.Prelude.{◌≡◌, ℕ, ◌+◌, None, Some, true, false, IfSome, IfNone};
-ghost use Rattle.machine.specs.Slots.{there_and};
 ghost use Rattle.machine.specs.Tree.{is_live};
-ghost use Rattle.machine.specs.Pages.{page_at};
 ghost use Rattle.machine.specs.Counts.{limits_at};
 ghost use Rattle.machine.specs.Amounts.{exceeds};
 ghost use Rattle.machine.specs.State.{usage};
-ghost use Rattle.machine.specs.Reclaim.{stands, target_of, is_takeable, has_takeable, has_transfer};
+ghost use Rattle.machine.specs.Reclaim.{stands, target_of, has_takeable, has_transfer};
 ghost use Rattle.machine.specs.Victim.{IsVictim};
 ghost use Rattle.machine.specs.declared.event.Event.TheVariants as event;
 ghost use Rattle.machine.specs.declared.event.Cause.TheVariants as cause;
 ghost use Rattle.machine.specs.declared.reply.Reply.TheVariants as reply;
 ghost use Rattle.book.specs.Contents.{AreFew};
 ghost use Rattle.book.specs.Serves.{Serves};
-ghost use Rattle.book.specs.Parts.{AnswersTo};
+ghost use Rattle.machine.specs.declared.event.Event.{Event};
+ghost use Rattle.book.specs.Parts.{AsksPage, AnswersTo};
 
 use crate::event::Reply;
 use crate::page_state::State;
 use crate::unmap::drop_pages;
 use machine::amount::Amount;
 use machine::event::Cause;
-use machine::id::{GroupId, PageId, TaskId, WorkerId};
+use machine::id::{GroupId, TaskId, WorkerId};
 use machine::record::{Key, Life};
 use oom::victim;
+use pages::OutTicket;
 
 impl State {
     /// A page is taken; or one in transfer may come free; or the worst task is killed, if there is one.
@@ -31,46 +31,63 @@ impl State {
         requires { AreFew self.old.tallies }
         ensures { AnswersTo self.old worker.0 entry (event.Relieve cause) result self.new }
     {
+        self.is_joined();
         if !self.stands(cause) {
             return Reply::Room;
         }
-        if let Some(page) = self.takeable(target(cause)) {
-            return self.write_out(cause, page, worker, entry);
+        if let Some(ticket) = self.take(target(cause), worker, entry) {
+            return Reply::Out(ticket);
         }
-        if self.has_transfer(cause) {
+        if self.has_transfer(target(cause)) {
             return Reply::Wait;
         }
         self.kill_worst(cause)
     }
 
-    /// A page that may be taken for the target, if there is one: nothing is protected, and each page in
-    /// a frame under the target may go to a free swap block.
-    pub fn takeable(&self, target: GroupId) -> Option<PageId>
-        ensures found { IfSome result (λ p. there_and (is_takeable self.now.tables target.0) (page_at self.now.tables.pages p.0) ≡ true) }
-        ensures none { IfNone result (has_takeable self.now.tables target.0 ≡ false) }
+    /// A page is taken for whoever asks; or one in transfer may come free; or there is nothing.
+    pub fn reclaim_one(&mut self, target: GroupId, worker: WorkerId, entry: u32) -> Reply
+        requires { is_live self.old.tables.tree target.0 ≡ true }
+        ensures { AnswersTo self.old worker.0 entry (event.ReclaimOne target) result self.new }
     {
-        self.holdings.are_counted();
-        if !self.holdings.has_swap() {
-            return None;
+        self.is_joined();
+        if let Some(ticket) = self.take(target, worker, entry) {
+            return Reply::Out(ticket);
         }
-        self.holdings.oldest_under(&self.tree, target)
+        if self.has_transfer(target) {
+            return Reply::Wait;
+        }
+        Reply::Nothing
     }
 
-    /// Whether a page of a group under the cause's target is in transfer, and may come free.
-    fn has_transfer(&self, cause: Cause) -> bool
-        ensures { result ≡ has_transfer self.now.tables (target_of cause) }
-    {
-        self.holdings.has_transfer(&self.tree, target(cause))
-    }
-
-    /// The page is taken for the cause's target.
-    fn write_out(&mut self, cause: Cause, page: PageId, worker: WorkerId, entry: u32) -> Reply
-        requires wanted { stands self.old.tables cause ≡ true }
-        requires takeable { there_and (is_takeable self.old.tables (target_of cause)) (page_at self.old.tables.pages page.0) ≡ true }
-        ensures { AnswersTo self.old worker.0 entry (event.Relieve cause) result self.new }
+    /// The page that is next for the target is taken, if one may be: it begins to be written out, and the
+    /// target's cursor names its group.
+    fn take(&mut self, target: GroupId, worker: WorkerId, entry: u32) -> Option<OutTicket>
+        requires live { is_live self.old.tables.tree target.0 ≡ true }
+        ensures taken { IfSome result (λ ticket. (what : Event) → AsksPage self.old.tables what target.0 → AnswersTo self.old worker.0 entry what (Reply.Out ticket) self.new) }
+        ensures none { IfNone result (has_takeable self.old.tables target.0 ≡ false) }
+        ensures same { IfNone result (self.new ≡ self.old) }
     {
         self.holdings.are_counted();
-        Reply::Out(self.holdings.write_out(page, worker, entry))
+        let page = self
+            .holdings
+            .next_page(&self.tree, &mut self.cursors, target)?;
+        Some(self.holdings.write_out(page, worker, entry))
+    }
+
+    /// Whether a page of a group under the target is in transfer, and may come free.
+    fn has_transfer(&self, target: GroupId) -> bool
+        ensures { result ≡ has_transfer self.now.tables target.0 }
+    {
+        self.holdings.has_transfer(&self.tree, target)
+    }
+
+    /// Whether a page may be taken for the target.
+    pub fn has_takeable(&self, target: GroupId) -> bool
+        requires { is_live self.now.tables.tree target.0 ≡ true }
+        ensures { result ≡ has_takeable self.now.tables target.0 }
+    {
+        self.holdings.are_counted();
+        self.holdings.has_takeable(&self.tree, target)
     }
 
     /// Whether room is still wanted.

@@ -7,7 +7,7 @@ ghost use Rattle.machine.specs.Pages.{page_at};
 ghost use Rattle.machine.specs.Tasks.{is_of, mappers};
 ghost use Rattle.pages.specs.PageTable.{byte_in, is_moving_in};
 ghost use Rattle.book.specs.Contents.{is_there};
-ghost use Rattle.book.specs.Holdings.{with_stored};
+ghost use Rattle.book.specs.Holdings.{with_order, StayInOrder};
 ghost use Rattle.book.specs.Drops.{shows_to, DropsPages};
 ghost use Rattle.book.specs.Parts.{is_let_go, is_transfer};
 
@@ -41,8 +41,10 @@ fn drop_shown(holdings: &mut Holdings, mapping: &Mapping, task: TaskId)
     requires there { is_of task.0 mapping.now ≡ true → IsSome (page_at holdings.old.stored.pages mapping.now.page.0) }
     ensures drops { DropsPages holdings.old.stored holdings.new.stored (λ q. shows_to task.0 q mapping.now && not (is_moving_in holdings.old.stored.pages q)) }
     ensures flights { holdings.new.stored.flights ≡ holdings.old.stored.flights }
-    ensures others { holdings.new ≡ with_stored holdings.old holdings.new.stored }
+    ensures order { StayInOrder holdings.old holdings.new }
+    ensures others { holdings.new ≡ with_order holdings.old holdings.new.stored holdings.new.held }
 {
+    holdings.are_counted();
     if mapping.task.0 == task.0 && !is_moving(holdings, mapping.page) {
         holdings.drop_page(mapping.page);
     }
@@ -54,8 +56,10 @@ pub fn drop_pages(holdings: &mut Holdings, mappings: &[Mapping], task: TaskId)
     requires { (p : ℕ) → mappers mappings.now p ≤ is_there (page_at holdings.old.stored.pages p) }
     ensures drops { DropsPages holdings.old.stored holdings.new.stored (is_let_go task.0 mappings.now holdings.old.stored.pages) }
     ensures flights { holdings.new.stored.flights ≡ holdings.old.stored.flights }
-    ensures others { holdings.new ≡ with_stored holdings.old holdings.new.stored }
+    ensures order { StayInOrder holdings.old holdings.new }
+    ensures others { holdings.new ≡ with_order holdings.old holdings.new.stored holdings.new.held }
 {
+    holdings.are_counted();
     for mapping in mappings {
         drop_shown(holdings, mapping, task);
     }
@@ -70,8 +74,10 @@ pub fn drop_unmapped(holdings: &mut Holdings, spaces: &Spaces, page: PageId)
     ensures bytes { (q o : ℕ) → byte_in holdings.new.stored.bytes q o
         ≡ (if (q == page.0) && (mappers spaces.now.mappings page.0 == 0) then 0 else byte_in holdings.old.stored.bytes q o) }
     ensures flights { holdings.new.stored.flights ≡ holdings.old.stored.flights }
-    ensures others { holdings.new ≡ with_stored holdings.old holdings.new.stored }
+    ensures order { StayInOrder holdings.old holdings.new }
+    ensures others { holdings.new ≡ with_order holdings.old holdings.new.stored holdings.new.held }
 {
+    holdings.are_counted();
     if spaces.mappers(page) == 0 {
         holdings.drop_page(page);
     }

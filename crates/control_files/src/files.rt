@@ -13,18 +13,21 @@ pub fn file_named(name: &str) -> Option<ControlFile>
     match name {
         "memory.current" => Some(ControlFile::Current),
         "memory.max" => Some(ControlFile::Max),
+        "memory.min" => Some(ControlFile::Min),
         "memory.events" => Some(ControlFile::Events),
         "memory.events.local" => Some(ControlFile::EventsLocal),
+        "memory.reclaim" => Some(ControlFile::Reclaim),
         _ => None,
     }
 }
 
-/// Whether the group has the file: the root has none of them.
+/// Whether the group has the file: the root has `memory.reclaim` alone.
 pub fn has_file(group: GroupId, file: ControlFile) -> bool
     ensures { result ≡ has_file group.0 file }
 {
     match file {
-        ControlFile::Current | ControlFile::Max | ControlFile::Events | ControlFile::EventsLocal =>
-            group.0 != 0,
+        ControlFile::Current | ControlFile::Max | ControlFile::Min => group.0 != 0,
+        ControlFile::Events | ControlFile::EventsLocal => group.0 != 0,
+        ControlFile::Reclaim => true,
     }
 }

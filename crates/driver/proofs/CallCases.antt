@@ -21,7 +21,7 @@ use Rattle.machine.specs.Tree.{Node, is_live, chain, live_groups, find_group}
 use Rattle.machine.specs.Tasks.{Tasks, task_at, live_tasks}
 use Rattle.machine.specs.State.{State}
 use Rattle.machine.specs.Access.{is_place}
-use Rattle.machine.specs.Refusals.{refusal, first_cause, bars_children, bars_tasks, number_refusal, life_refusal, task_refusal, below_refusal, mkdir_refusal, file_refusal, show_refusal}
+use Rattle.machine.specs.Refusals.{refusal, first_cause, bars_children, bars_tasks, number_refusal, life_refusal, task_refusal, below_refusal, mkdir_refusal, file_refusal, below_target, show_refusal}
 use Rattle.machine.specs.Call.{Past, Answers, Refuses, Served, JudgedBy, Called, knows_ticket, is_trace_full}
 use Rattle.pages.specs.Tickets.{TicketOf}
 use Rattle.book.specs.declared.event.Reply.{Reply as Book_reply}
@@ -35,9 +35,9 @@ use Rattle.driver.specs.declared.turn.Asked.{Asked}
 use Rattle.driver.specs.declared.turn.Asked.TheVariants as asked
 use Rattle.driver.specs.declared.turn.Turned.{Turned}
 use Rattle.driver.specs.declared.turn.Turned.TheVariants.{Goes}
-use Rattle.driver.specs.Turns.{Tried, MadeRoom, MaxSet, Lowered, Made, Ended, WasShown, Closed, Told, ends_with, ends_refused, byte_answer, goes_on}
+use Rattle.driver.specs.Turns.{Tried, MadeRoom, MaxSet, Lowered, Reclaimed, Balanced, Made, Ended, WasShown, Closed, Told, ends_with, ends_refused, byte_answer, goes_on}
 use Rattle.driver.specs.Schedule.{outcome_of, left_of}
-use Rattle.driver.proofs.Keeps.{number_at, Fine, FineOutcome}
+use Rattle.driver.proofs.Keeps.{number_at, pages_none, Fine, FineOutcome}
 
 -- ---- no cause is that of a stranger
 
@@ -57,8 +57,10 @@ file_causes tree g = causes (not (is_live tree g) || (g == 0)) NoEntry None (λ 
 show_causes : (s : State) (what : Query) → NoStranger (show_refusal s what)
 show_causes s (query.Current g) = file_causes s.tree g.0
 show_causes s (query.Max g) = file_causes s.tree g.0
+show_causes s (query.Min g) = file_causes s.tree g.0
 show_causes s (query.Events g) = file_causes s.tree g.0
 show_causes s (query.EventsLocal g) = file_causes s.tree g.0
+show_causes s (query.Protection target g) = causes (not (below_target s.tree target.0 g.0)) NoEntry None (λ e. cc) no_cause
 
 life_causes : (life : Life) (others : Option Refusal) → NoStranger others → NoStranger (life_refusal life others)
 life_causes Live others h = h
@@ -90,6 +92,7 @@ refusal_causes s (event.FetchFailed ticket) = no_cause
 refusal_causes s (event.Left ticket) = no_cause
 refusal_causes s (event.LeaveFailed ticket) = no_cause
 refusal_causes s (event.Relieve why) = no_cause
+refusal_causes s (event.ReclaimOne g) = causes (not (is_live s.tree g.0)) NoEntry None (λ e. cc) no_cause
 refusal_causes s (event.Spawn t g) = causes (not (is_live s.tree g.0)) NoEntry _ (λ e. cc) (causes (bars_tasks s.tree g.0) Busy _ (λ e. cc) (number_causes s.tasks t.0))
 refusal_causes s (event.Exit t) = task_causes (task_at s.tasks t.0) None no_cause
 refusal_causes s (event.Mkdir path) = mkdir_causes s.tree (bars_children s.tasks) path
@@ -163,6 +166,8 @@ fine_byte (Write b) byte = λ e. cc
 goes_on_handless : (on : Onward) → number_at (left_of (Goes (goes_on on))) ≡ None
 goes_on_handless (onward.Try access) = refl
 goes_on_handless (onward.Lower g) = refl
+goes_on_handless (onward.Reclaim g left) = pages_none g.0 left
+goes_on_handless onward.Balance = refl
 
 abbrev KnownReply : Book_reply → Type 0
 KnownReply answered = reply_of answered ≡ reply.Refused Stranger → ⊥
@@ -200,6 +205,20 @@ lower_next g said.NoVictim turned h known = handless _ turned _ h refl (λ e. cc
 lower_next g (said.Refused why) turned h known = says_refused _ turned why refl known h
 lower_next g answered turned h known = absurd h
 
+reclaimed_next : (g left : ℕ) (answered : Book_reply) (turned : Turned) → Reclaimed g left answered turned → KnownReply answered → Next answered turned
+reclaimed_next g left (said.Out ticket) turned h known = Writes _ ticket refl h
+reclaimed_next g left said.Wait turned h known = says_word _ turned word.Busy h (λ e. cc)
+reclaimed_next g left said.Nothing turned h known = says_word _ turned word.Again h (λ e. cc)
+reclaimed_next g left (said.Refused why) turned h known = says_refused _ turned why refl known h
+reclaimed_next g left answered turned h known = absurd h
+
+balanced_next : (answered : Book_reply) (turned : Turned) → Balanced answered turned → KnownReply answered → Next answered turned
+balanced_next (said.Out ticket) turned h known = Writes _ ticket refl h
+balanced_next said.Wait turned h known = says_word _ turned word.Busy h (λ e. cc)
+balanced_next said.Nothing turned h known = handless _ turned _ h refl (λ e. cc)
+balanced_next (said.Refused why) turned h known = says_refused _ turned why refl known h
+balanced_next answered turned h known = absurd h
+
 made_next : (answered : Book_reply) (turned : Turned) → Made answered turned → KnownReply answered → Next answered turned
 made_next said.Ok turned h known = handless _ turned _ h refl (λ e. cc)
 made_next (said.Refused why) turned h known = says_refused _ turned why refl known h
@@ -227,6 +246,8 @@ told_next (asked.Try access) answered turned h known = tried_next access answere
 told_next (asked.MakeRoom access) answered turned h known = room_next access answered turned h known
 told_next (asked.SetMax g) answered turned h known = set_next g.0 answered turned h known
 told_next (asked.Lower g) answered turned h known = lower_next g.0 answered turned h known
+told_next (asked.Reclaim g left) answered turned h known = reclaimed_next g.0 left answered turned h known
+told_next asked.Balance answered turned h known = balanced_next answered turned h known
 told_next asked.Make answered turned h known = made_next answered turned h known
 told_next asked.Exit answered turned h known = ended_next answered turned h known
 told_next asked.Show answered turned h known = shown_next answered turned h known

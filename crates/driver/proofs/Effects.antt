@@ -28,7 +28,7 @@ use Rattle.machine.specs.State.{State, over_in, is_frame_free}
 use Rattle.machine.specs.Access.{Meeting, Unmapped, Hits, Transferring, NeedsPage, NeedsCopy, NeedsSwapIn, meets}
 use Rattle.machine.specs.Reclaim.{has_takeable, has_transfer, stands, target_of}
 use Rattle.machine.specs.Refusals.{refusal, first_cause, bars_tasks, number_refusal}
-use Rattle.machine.specs.Step.{Only, ChargeStep, Charges, MakesPage, StartsFetch, HitStep, UnmappedStep, MeetStep, LifeStep, TaskStep, Takes, StartsLeave, Drops, LeavesBy, LeavesFrom, KillStep, RelieveStep, still, Unmaps, EndsTask, Exits, EndsTransfer, Step, new_page, touched}
+use Rattle.machine.specs.Step.{Only, ChargeStep, Charges, MakesPage, StartsFetch, HitStep, UnmappedStep, MeetStep, LifeStep, TaskStep, Takes, StartsLeave, Drops, LeavesBy, LeavesFrom, ReclaimStep, ReclaimOneStep, KillStep, RelieveStep, still, Unmaps, EndsTask, Exits, EndsTransfer, Step, new_page, touched}
 use Rattle.machine.specs.History.{InTask, is_spot, Byte, Nothing, says_if, says, ticket_given}
 use Rattle.machine.proofs.TreeLemmas.{eq_cases}
 use Rattle.driver.proofs.MoveLemmas.{some_inj, never_some, unlike, both_true, same_true, own_number, false_other, Met, met, in_frame-cases, on_block-cases}
@@ -495,48 +495,51 @@ module _ (old new : State) (alive : AllLive old.mappings old.tasks) where
       by_life Exited h = absurd h
       by_life Killed h = quiet_only (event.Exit t) answer reply.Killed h (λ t v o. refl) refl
 
-  -- ---- relief
-
-  sent : (why : Cause) (p frame block : ℕ) (page : Page) (counted : List Counted) (answer : Reply) → page_at old.pages p ≡ Some page → page.residence ≡ Held frame → StartsLeave old p page frame block counted answer new
-      → Effect old (event.Relieve why) answer new
-  sent why p frame block page counted answer there held h =
-      record {
-        pages =
-            pages_one (event.Relieve why) answer p _ h.placed
-            (ticketless (event.Relieve why) p page there (ap ticket_at held))
-            (λ q e. ItLeaves (record { frame = frame; block = block; ticket = record { 0 = h.ticket }; answers = h.answers; going = ap (λ (x : Page). x.residence) (sym (some_inj e)) }));
-        places = places_same (event.Relieve why) answer (ap (λ (s : State). s.mappings) h.state) (ap (λ (s : State). s.tasks) h.state) (λ t v o. refl);
-        fresh = λ n e. (let is_n : h.ticket ≡ n = some_inj (sym (ap ticket_given h.answers) ∙ e) in sym (ap (is_ticket_taken old.pages) is_n) ∙ h.ticket_free);
-      }
-
-  dropped : (why : Cause) (p frame : ℕ) (page : Page) (counted : List Counted) (answer : Reply) → page_at old.pages p ≡ Some page → page.residence ≡ Held frame → Drops old p counted answer new
-      → Effect old (event.Relieve why) answer new
-  dropped why p frame page counted answer there held h =
-      record {
-        pages =
-            pages_one (event.Relieve why) answer p None h.gone
-            (ticketless (event.Relieve why) p page there (ap ticket_at held)) (λ q e. cc);
-        places = places_same (event.Relieve why) answer (ap (λ (s : State). s.mappings) h.state) (ap (λ (s : State). s.tasks) h.state) (λ t v o. refl);
-        fresh = not_given answer (ap ticket_given h.answers);
-      }
+  -- ---- relief and reclaim
 
   by_either : {P Q R : Type 0} (b : Bool) → (P → R) → (Q → R) → MatchBool b P Q → R
   by_either true f g h = f h
   by_either false f g h = g h
 
-  leaves_by : (why : Cause) (p frame : ℕ) (page : Page) (content : Content) (answer : Reply) → page_at old.pages p ≡ Some page → page.residence ≡ Held frame → LeavesBy old p page content frame old.counted answer new
-      → Effect old (event.Relieve why) answer new
-  leaves_by why p frame page Memory answer there held h = sent why p frame h.block page old.counted answer there held h.leave
-  leaves_by why p frame page (OfFile file q) answer there held h = by_either page.dirty (λ k. sent why p frame _ page old.counted answer there held k) (λ k. dropped why p frame page old.counted answer there held k) h
+  -- the event takes a page, and says nothing
+  module _ (what : Event) (silent : (answer : Reply) (t v o : ℕ) → says what answer (InTask t v o) ≡ Nothing) where
+    sent : (p frame block : ℕ) (page : Page) (counted : List Counted) (answer : Reply) → page_at old.pages p ≡ Some page → page.residence ≡ Held frame → StartsLeave old p page frame block counted answer new → Effect old what answer new
+    sent p frame block page counted answer there held h =
+        record {
+          pages =
+              pages_one what answer p _ h.placed
+              (ticketless what p page there (ap ticket_at held))
+              (λ q e. ItLeaves (record { frame = frame; block = block; ticket = record { 0 = h.ticket }; answers = h.answers; going = ap (λ (x : Page). x.residence) (sym (some_inj e)) }));
+          places = places_same what answer (ap (λ (s : State). s.mappings) h.state) (ap (λ (s : State). s.tasks) h.state) (silent answer);
+          fresh = λ n e. (let is_n : h.ticket ≡ n = some_inj (sym (ap ticket_given h.answers) ∙ e) in sym (ap (is_ticket_taken old.pages) is_n) ∙ h.ticket_free);
+        }
 
-  takes : (why : Cause) (target : ℕ) (answer : Reply) → Takes old target answer new → Effect old (event.Relieve why) answer new
-  takes why target answer h = by_residence h.page.residence refl h.leaves
-    where
-      by_residence : (r : Residence) → h.page.residence ≡ r → LeavesFrom old h.p h.page r old.counted answer new → Effect old (event.Relieve why) answer new
-      by_residence (Held frame) held k = leaves_by why h.p frame h.page h.page.content answer h.there held k
-      by_residence (Coming frame block ticket) held k = absurd k
-      by_residence (Going frame block ticket) held k = absurd k
-      by_residence (Away block) held k = absurd k
+    dropped : (p frame : ℕ) (page : Page) (counted : List Counted) (answer : Reply) → page_at old.pages p ≡ Some page → page.residence ≡ Held frame → Drops old p counted answer new → Effect old what answer new
+    dropped p frame page counted answer there held h =
+        record {
+          pages =
+              pages_one what answer p None h.gone
+              (ticketless what p page there (ap ticket_at held)) (λ q e. cc);
+          places = places_same what answer (ap (λ (s : State). s.mappings) h.state) (ap (λ (s : State). s.tasks) h.state) (silent answer);
+          fresh = not_given answer (ap ticket_given h.answers);
+        }
+
+    leaves_by : (p frame : ℕ) (page : Page) (content : Content) (answer : Reply) → page_at old.pages p ≡ Some page → page.residence ≡ Held frame → LeavesBy old p page content frame old.counted answer new → Effect old what answer new
+    leaves_by p frame page Memory answer there held h = sent p frame h.block page old.counted answer there held h.leave
+    leaves_by p frame page (OfFile file q) answer there held h = by_either page.dirty (λ k. sent p frame _ page old.counted answer there held k) (λ k. dropped p frame page old.counted answer there held k) h
+
+    takes : (target : ℕ) (answer : Reply) → Takes old target answer new → Effect old what answer new
+    takes target answer h = by_residence h.page.residence refl h.leaves
+      where
+        by_residence : (r : Residence) → h.page.residence ≡ r → LeavesFrom old h.p h.page r old.counted answer new → Effect old what answer new
+        by_residence (Held frame) held k = leaves_by h.p frame h.page h.page.content answer h.there held k
+        by_residence (Coming frame block ticket) held k = absurd k
+        by_residence (Going frame block ticket) held k = absurd k
+        by_residence (Away block) held k = absurd k
+
+    reclaims : (target : ℕ) (Idle : Type 0) (answer : Reply) → (Idle → Effect old what answer new) → ReclaimStep old target Idle answer new → Effect old what answer new
+    reclaims target Idle answer idle step =
+        by_either (has_takeable old target) (takes target answer) (λ k. by_either (has_transfer old target) (λ w. quiet_only what answer reply.Wait w (silent answer) refl) idle k) step
 
   kills : (why : Cause) (limit : ℕ) (answer : Reply) → KillStep old limit answer new → Effect old (event.Relieve why) answer new
   kills why limit (reply.KilledTask t) h = task_ends (event.Relieve why) (reply.KilledTask t) t.0 Killed _ (λ t' v o. refl) refl h.1
@@ -546,10 +549,11 @@ module _ (old new : State) (alive : AllLive old.mappings old.tasks) where
 
   relieves : (why : Cause) (answer : Reply) → RelieveStep old why answer new → Effect old (event.Relieve why) answer new
   relieves why answer step =
-      by_either (stands old why)
-      (λ s. by_either (has_takeable old (target_of why)) (takes why (target_of why) answer)
-      (λ k. by_either (has_transfer old (target_of why)) (λ w. quiet_only (event.Relieve why) answer reply.Wait w (λ t v o. refl) refl) (kills why (target_of why) answer) k) s)
+      by_either (stands old why) (reclaims (event.Relieve why) (λ any t v o. refl) (target_of why) _ answer (kills why (target_of why) answer))
       (λ r. quiet_only (event.Relieve why) answer reply.Room r (λ t v o. refl) refl) step
+
+  takes_one : (g : GroupId) (answer : Reply) → ReclaimOneStep old g.0 answer new → Effect old (event.ReclaimOne g) answer new
+  takes_one g answer step = reclaims (event.ReclaimOne g) (λ any t v o. refl) g.0 _ answer (λ n. quiet_only (event.ReclaimOne g) answer reply.Nothing n (λ t v o. refl) refl) step
 
   -- ---- ends of transfers
 
@@ -612,6 +616,7 @@ module _ (old new : State) (alive : AllLive old.mappings old.tasks) where
   step_effect (event.LeaveFailed ticket) answer none h =
       transfer_ends (event.LeaveFailed ticket) answer _ _ ticket.0 refl (λ f b. refl) (λ t v o. refl) h (λ page e. InFrame h.frame (stands_so _ _ page (in_frame-cases old.mappings h.p h.page h.frame h.block) e))
   step_effect (event.Relieve why) answer none h = relieves why answer h
+  step_effect (event.ReclaimOne g) answer none h = takes_one g answer h
   step_effect (event.Spawn t g) reply.Ok none h = spawns t g (spawn_new t g none) h.0 h.1
   step_effect (event.Exit t) answer none h = exits t answer (task_at old.tasks t.0) h
   step_effect (event.Mkdir path) reply.Ok none h = quiet (event.Mkdir path) reply.Ok (ap (λ (s : State). s.pages) h) (ap (λ (s : State). s.mappings) h) (ap (λ (s : State). s.tasks) h) (λ t v o. refl) refl

@@ -1,8 +1,10 @@
 -- Each error of the device that is answered is a call of it that failed.
-use Rattle.std.proofs.Common.{◌≡◌, inl, inr, ℕ, ◌+◌, ◌≤◌, Bool, true, false, List, [], ◌∷◌, ◌++◌, Option, Some, None, refl, ap, arith}
-use Rattle.std.specs.Prelude.{◌⊎◌, if◌then◌else◌, Result, Ok, Err}
+use Rattle.std.proofs.Common.{◌≡◌, inl, inr, ℕ, zero, suc, ◌+◌, ◌≤◌, Bool, true, false, List, [], ◌∷◌, ◌++◌, Option, Some, None, refl, ap, arith}
+use Rattle.std.specs.Prelude.{◌⊎◌, if◌then◌else◌, nat_le, Result, Ok, Err}
 use Rattle.std.proofs.lemmas.List.Sums.{sum_by-append}
 use Rattle.machine.specs.declared.amount.Amount.{Amount}
+use Rattle.machine.specs.declared.amount.Amount.TheVariants as amount
+use Rattle.machine.specs.declared.config.Watermarks.{Watermarks}
 use Rattle.machine.specs.declared.event.Op.{Op}
 use Rattle.machine.specs.declared.event.Op.TheVariants.{Read, Write}
 use Rattle.machine.specs.declared.command.Actor.{Actor}
@@ -19,11 +21,12 @@ use Rattle.machine.specs.declared.control.ControlFile.TheVariants as file
 use Rattle.machine.specs.declared.refusal.Refusal.TheVariants.{NoEntry}
 use Rattle.machine.specs.Tree.{Node, find_group}
 use Rattle.machine.specs.Control.{file_named, has_file, amount_of}
+use Rattle.machine.specs.State.{free_frames}
 use Rattle.machine.specs.Call.{Past}
 use Rattle.block_store.specs.declared.device.Fault.{Fault}
 use Rattle.block_store.specs.Device.{Disk, ReadsBlock, WritesBlock}
 use Rattle.pages.specs.Tickets.{TicketOf}
-use Rattle.book.specs.declared.event.Event.{Event}
+use Rattle.book.specs.declared.event.Event.TheVariants as event
 use Rattle.book.specs.declared.event.Reply.{Reply}
 use Rattle.book.specs.declared.event.Reply.TheVariants as reply
 use Rattle.driver.specs.declared.turn.Access.{Access}
@@ -41,8 +44,8 @@ use Rattle.driver.specs.declared.turn.Outcome.{Outcome}
 use Rattle.driver.specs.declared.turn.Activity.{Activity}
 use Rattle.driver.specs.declared.turn.Activity.TheVariants.{Rests, Begun, Does}
 use Rattle.driver.specs.declared.turn.Seat.{Seat}
-use Rattle.driver.specs.Turns.{wants, byte_answer, goes_on, Tried, MadeRoom, MaxSet, Lowered, Made, Ended, WasShown, Closed, Told, ReadsIn, WritesOut, after_read, after_write, Judged, with_group, with_file, with_amount, reads_file, writes_file, task_judged, shell_judged, judged}
-use Rattle.driver.specs.Schedule.{World, is_of, activity_of, with_activity, outcome_of, left_of, WantTurn, DoingTurn, JudgedTurn, ActivityTurn, said_at, all_said, Goings, EndsIn, RunsOut, Begins, Stepped, Runs, is_error, errors}
+use Rattle.driver.specs.Turns.{wants_pages, wants_balance, wants_watch, done, byte_answer, goes_on, Tried, MadeRoom, MaxSet, Lowered, Reclaimed, Balanced, Made, Ended, WasShown, Closed, Told, ReadsIn, WritesOut, after_read, after_write, Judged, with_group, with_file, with_amount, reads_file, writes_file, reclaims, task_judged, shell_judged, daemon_judged, judged}
+use Rattle.driver.specs.Schedule.{World, is_of, activity_of, with_activity, outcome_of, left_of, WantTurn, wants_at, DoingTurn, JudgedTurn, ActivityTurn, said_at, all_said, Goings, EndsIn, RunsOut, Begins, Stepped, Runs, is_error, errors}
 use Rattle.driver.specs.Laws.{ErrorsAreFailures}
 use Rattle.machine.proofs.SlotLemmas.{one_if}
 
@@ -83,6 +86,8 @@ byte-cost (Write b) byte = refl
 on-cost : (on : Onward) → cost (Goes (goes_on on)) ≡ 0
 on-cost (onward.Try access) = refl
 on-cost (onward.Lower g) = refl
+on-cost (onward.Reclaim g left) = refl
+on-cost onward.Balance = refl
 
 tried-cost : (access : Access) (said : Reply) (turned : Turned) → Tried access said turned → cost turned ≡ 0
 tried-cost access (reply.Done byte hit) turned h = rw h (byte-cost access.op byte)
@@ -117,6 +122,20 @@ lowered-cost g reply.NoVictim turned h = rw h refl
 lowered-cost g (reply.Refused why) turned h = rw h refl
 lowered-cost g said turned h = absurd h
 
+reclaimed-cost : (g left : ℕ) (said : Reply) (turned : Turned) → Reclaimed g left said turned → cost turned ≡ 0
+reclaimed-cost g left (reply.Out ticket) turned h = rw h refl
+reclaimed-cost g left reply.Wait turned h = rw h refl
+reclaimed-cost g left reply.Nothing turned h = rw h refl
+reclaimed-cost g left (reply.Refused why) turned h = rw h refl
+reclaimed-cost g left said turned h = absurd h
+
+balanced-cost : (said : Reply) (turned : Turned) → Balanced said turned → cost turned ≡ 0
+balanced-cost (reply.Out ticket) turned h = rw h refl
+balanced-cost reply.Wait turned h = rw h refl
+balanced-cost reply.Nothing turned h = rw h refl
+balanced-cost (reply.Refused why) turned h = rw h refl
+balanced-cost said turned h = absurd h
+
 made-cost : (said : Reply) (turned : Turned) → Made said turned → cost turned ≡ 0
 made-cost reply.Ok turned h = rw h refl
 made-cost (reply.Refused why) turned h = rw h refl
@@ -147,6 +166,8 @@ told-cost (asked.Try access) said turned h = none-cost turned (tried-cost access
 told-cost (asked.MakeRoom access) said turned h = none-cost turned (room-cost access said turned h)
 told-cost (asked.SetMax g) said turned h = none-cost turned (max-cost g.0 said turned h)
 told-cost (asked.Lower g) said turned h = none-cost turned (lowered-cost g.0 said turned h)
+told-cost (asked.Reclaim g left) said turned h = none-cost turned (reclaimed-cost g.0 left said turned h)
+told-cost asked.Balance said turned h = none-cost turned (balanced-cost said turned h)
 told-cost asked.Make said turned h = none-cost turned (made-cost said turned h)
 told-cost asked.Exit said turned h = none-cost turned (ended-cost said turned h)
 told-cost asked.Show said turned h = none-cost turned (shown-cost said turned h)
@@ -173,32 +194,57 @@ write-cost old new on ticket turned h = by_answer h.answered h.writes h.goes
 
 -- ---- one turn
 
-want-cost : (past past' : Past) (old new : Disk) (wanted : Want) (turned : Turned) (most : ℕ) → ((remembers : Asked) (what : Event) → wanted ≡ want.Call remembers what → owed_asked remembers ≤ most)
+-- what is owed while the book is asked, or is answered at once
+abbrev owed_of : Want → ℕ
+owed_of (want.Call remembers what) = owed_asked remembers
+owed_of (want.End said) = one_if (is_error said)
+owed_of wanted = 0
+
+want-cost : (past past' : Past) (old new : Disk) (wanted : Want) (turned : Turned) (most : ℕ) → owed_of wanted ≤ most
     → WantTurn past old wanted turned past' new → cost turned + old.failures ≤ most + new.failures
 want-cost past past' old new (want.Call remembers what) turned most within turn =
     let told : cost turned ≤ owed_asked remembers = told-cost remembers turn.0.said turned turn.0.told in
     let same : new.failures ≡ old.failures = ap (λ (d : Disk). d.failures) turn.1 in
-    let le : owed_asked remembers ≤ most = within remembers what refl in
-    omega (arith, told, same, le)
+    omega (arith, told, same, within)
 want-cost past past' old new (want.Read access ticket) turned most within turn = let read = read-cost old new access ticket turned turn.0 in omega (arith, read)
 want-cost past past' old new (want.Write on ticket) turned most within turn = let write = write-cost old new on ticket turned turn.0 in omega (arith, write)
+want-cost past past' old new (want.End said) turned most within turn =
+    let says : cost turned ≡ one_if (is_error said) = ap cost turn.0 in
+    let same : new.failures ≡ old.failures = ap (λ (d : Disk). d.failures) turn.2 in
+    omega (arith, says, same, within)
+
+balance-owed : (marks : Watermarks) (free : ℕ) → owed_of (wants_balance marks free) ≡ 0
+balance-owed marks free = by_test (nat_le marks.high free)
+  where
+    by_test : (b : Bool) → owed_of (if b then done else want.Call asked.Balance (event.ReclaimOne (record { 0 = 0 }))) ≡ 0
+    by_test true = refl
+    by_test false = refl
+
+watch-owed : (marks : Watermarks) (free : ℕ) → owed_of (wants_watch marks free) ≡ 0
+watch-owed marks free = by_test (nat_le marks.low free)
+  where
+    by_test : (b : Bool) → owed_of (if b then done else wants_balance marks free) ≡ 0
+    by_test true = refl
+    by_test false = balance-owed marks free
+
+pages-owed : (g left : ℕ) → owed_of (wants_pages g left) ≡ 0
+pages-owed g zero = refl
+pages-owed g (suc left) = refl
+
+none-owed : (wanted : Want) → owed_of wanted ≡ 0 → owed_of wanted ≤ 0
+none-owed wanted e = omega (arith, e)
 
 -- no more is owed while the book is asked than before
-owed_of : Want → ℕ
-owed_of (want.Call remembers what) = owed_asked remembers
-owed_of wanted = 0
-
-wants-owed : (now : Doing) (remembers : Asked) (what : Event) → wants now ≡ want.Call remembers what → owed_asked remembers ≤ owed_at now
-unfolding owed_of
-wants-owed now remembers what e = let asked_now : owed_of (wants now) ≡ owed_asked remembers = ap owed_of e in let le = by_doing now in omega (arith, asked_now, le)
-  where
-    by_doing : (d : Doing) → owed_of (wants d) ≤ owed_at d
-    by_doing (doing.FetchFail ticket) = omega arith
-    by_doing (doing.LeaveFail ticket) = omega arith
-    by_doing others = omega arith
+wants-owed : (past : Past) (now : Doing) → owed_of (wants_at past now) ≤ owed_at now
+wants-owed past (doing.FetchFail ticket) = omega arith
+wants-owed past (doing.LeaveFail ticket) = omega arith
+wants-owed past doing.Watch = none-owed _ (watch-owed past.state.opening.marks (free_frames past.state))
+wants-owed past doing.Balance = none-owed _ (balance-owed past.state.opening.marks (free_frames past.state))
+wants-owed past (doing.Reclaim g left) = none-owed _ (pages-owed g.0 left)
+wants-owed past others = omega arith
 
 doing-cost : (old new : World) (who : Actor) (now : Doing) (outcome : Outcome) (turn : DoingTurn old who now outcome new) → cost turn.turned + old.disk.failures ≤ owed_at now + new.disk.failures
-doing-cost old new who now outcome turn = want-cost old.past new.past old.disk new.disk (wants now) turn.turned (owed_at now) (wants-owed now) turn.turns
+doing-cost old new who now outcome turn = want-cost old.past new.past old.disk new.disk (wants_at old.past now) turn.turned (owed_at now) (wants-owed old.past now) turn.turns
 
 -- a command that has had no turn owes nothing
 abbrev owed_judged : Judged → ℕ
@@ -224,14 +270,22 @@ amount-owed (Some a) next none = none a
 reads-owed : (g : ℕ) (f : ControlFile) → owed_judged (reads_file g f) ≡ 0
 reads-owed g file.Current = refl
 reads-owed g file.Max = refl
+reads-owed g file.Min = refl
 reads-owed g file.Events = refl
 reads-owed g file.EventsLocal = refl
+reads-owed g file.Reclaim = refl
+
+reclaims-owed : (g : ℕ) (a : Amount) → owed_judged (reclaims g a) ≡ 0
+reclaims-owed g amount.Max = refl
+reclaims-owed g (amount.Pages n) = refl
 
 writes-owed : (g : ℕ) (text : List ℕ) (f : ControlFile) → owed_judged (writes_file g text f) ≡ 0
 writes-owed g text file.Current = refl
 writes-owed g text file.Events = refl
 writes-owed g text file.EventsLocal = refl
 writes-owed g text file.Max = amount-owed (amount_of text) _ (λ a. refl)
+writes-owed g text file.Min = amount-owed (amount_of text) _ (λ a. refl)
+writes-owed g text file.Reclaim = amount-owed (amount_of text) _ (reclaims-owed g)
 
 task-owed : (t : ℕ) (what : Command) → owed_judged (task_judged t what) ≡ 0
 task-owed t (command.Access place op) = refl
@@ -241,15 +295,22 @@ task-owed t others = refl
 shell-owed : (tree : List Node) (what : Command) → owed_judged (shell_judged tree what) ≡ 0
 shell-owed tree (command.Access place op) = refl
 shell-owed tree command.Exit = refl
+shell-owed tree command.Daemon = refl
 shell-owed tree (command.Group path) = refl
 shell-owed tree (command.Task t path) = group-owed (find_group tree path) _ (λ g. refl)
 shell-owed tree (command.Set path name text) = group-owed (find_group tree path) _ (λ g. file-owed g (file_named name) _ (writes-owed g text))
 shell-owed tree (command.Cat path name) = group-owed (find_group tree path) _ (λ g. file-owed g (file_named name) _ (reads-owed g))
+shell-owed tree (command.Protection target path) = group-owed (find_group tree target) _ (λ t. group-owed (find_group tree path) _ (λ g. refl))
+
+daemon-owed : (what : Command) → owed_judged (daemon_judged what) ≡ 0
+daemon-owed command.Daemon = refl
+daemon-owed others = refl
 
 judged-owed : (tree : List Node) (who : Actor) (what : Command) → owed_judged (judged tree who what) ≡ 0
 judged-owed tree (actor.Task t) what = task-owed t what
 judged-owed tree actor.Shell what = shell-owed tree what
 judged-owed tree actor.Control what = shell-owed tree what
+judged-owed tree actor.Daemon what = daemon-owed what
 
 -- ---- all seats
 

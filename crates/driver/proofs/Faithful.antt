@@ -7,6 +7,7 @@ use Rattle.std.proofs.lemmas.Bool.Decides.{nat_tests}
 use Rattle.machine.specs.declared.config.Config.{Config}
 use Rattle.machine.specs.declared.refusal.Refusal.TheVariants.{Stranger}
 use Rattle.machine.specs.declared.command.Actor.{Actor}
+use Rattle.machine.specs.declared.command.Answer.{Answer}
 use Rattle.machine.specs.declared.entry.Entry.{Entry}
 use Rattle.machine.specs.declared.id.TicketId.{TicketId}
 use Rattle.machine.specs.declared.event.Place.TheVariants.{Virtual}
@@ -36,17 +37,18 @@ use Rattle.driver.specs.declared.turn.Doing.{Doing}
 use Rattle.driver.specs.declared.turn.Want.{Want}
 use Rattle.driver.specs.declared.turn.Want.TheVariants as want
 use Rattle.driver.specs.declared.turn.Turned.{Turned}
+use Rattle.driver.specs.declared.turn.Turned.TheVariants.{Ends}
 use Rattle.driver.specs.declared.turn.Outcome.{Outcome}
 use Rattle.driver.specs.declared.turn.Seat.{Seat}
 use Rattle.driver.specs.declared.turn.Activity.{Activity}
 use Rattle.driver.specs.declared.turn.Activity.TheVariants.{Rests, Begun, Does}
-use Rattle.driver.specs.Turns.{wants, ReadsIn, WritesOut, after_read, after_write}
-use Rattle.driver.specs.Schedule.{World, first_world, activity_of, with_activity, left_of, Asks, WantTurn, DoingTurn, fits}
+use Rattle.driver.specs.Turns.{ReadsIn, WritesOut, after_read, after_write}
+use Rattle.driver.specs.Schedule.{World, first_world, activity_of, with_activity, left_of, Asks, WantTurn, wants_at, DoingTurn, fits}
 use Rattle.driver.specs.Laws.{RunsAreHonest}
 use Rattle.driver.proofs.Effects.{AllLive, Fetches, Goes, Stood, InFrame, ItStays, ItFetches, ItLeaves, ItFails, ItGoes, Effect, step_effect}
 use Rattle.driver.proofs.MoveLemmas.{some_inj, never_some, unlike, same_true, own_number}
 use Rattle.driver.proofs.SoundLemmas.{pages_share_no_block, blocks_are_there, pages_share_no_ticket, pages_are_memory}
-use Rattle.driver.proofs.Keeps.{number_asked, number_wanted, number_at, is_idle, idle_none, FineOutcome, IsAt, runs_keep}
+use Rattle.driver.proofs.Keeps.{number_asked, number_wanted, in_hand, Alike, Same, Ticketless, wants_alike, number_at, is_idle, idle_none, FineOutcome, IsAt, runs_keep}
 use Rattle.driver.proofs.CallCases.{IsRefused, IsServed, Comes, ByRefusal, ByEntry, called_comes, Next, Handless, Reads, Writes, told_next}
 use Rattle.driver.proofs.Tickets.{IsGoing, KeepsAsked, KeepsWanted, KeepsAt, at_flies, flies_taken, asked_known, not_out, still_known, Tickets, seats_all, tickets_rest, tickets_turn, tickets_first, own_keeps, others_differ}
 
@@ -68,11 +70,12 @@ abbrev pub BringsWanted : Past → List (List ℕ) → Want → Type 0
 BringsWanted past contents (want.Call remembers what) = BringsAsked past contents what
 BringsWanted past contents (want.Read access ticket) = Unit {0}
 BringsWanted past contents (want.Write on ticket) = PlacesHold past ticket.number ticket.bytes
+BringsWanted past contents (want.End said) = Unit {0}
 
 abbrev pub BringsAt : Past → List (List ℕ) → Activity → Type 0
 BringsAt past contents Rests = Unit {0}
 BringsAt past contents (Begun what) = Unit {0}
-BringsAt past contents (Does doing) = BringsWanted past contents (wants doing)
+BringsAt past contents (Does doing) = BringsWanted past contents (in_hand doing)
 
 -- the block that holds a page's bytes
 abbrev pub stored_at : Residence → Option ℕ
@@ -150,11 +153,16 @@ wanted_none : (past : Past) (contents : List (List ℕ)) (want : Want) → numbe
 wanted_none past contents (want.Call remembers what) e = asked_none past contents what e
 wanted_none past contents (want.Read access ticket) e = tt
 wanted_none past contents (want.Write on ticket) e = cc
+wanted_none past contents (want.End said) e = tt
+
+wanted_alike : (past : Past) (contents : List (List ℕ)) (w other : Want) → Alike w other → BringsWanted past contents other → BringsWanted past contents w
+wanted_alike past contents w other (Same e) h = subst (BringsWanted past contents) (sym e) h
+wanted_alike past contents w other (Ticketless e f) h = wanted_none past contents w e
 
 pub brings_none : (past : Past) (contents : List (List ℕ)) (at : Activity) → number_at at ≡ None → BringsAt past contents at
 brings_none past contents Rests e = tt
 brings_none past contents (Begun what) e = tt
-brings_none past contents (Does doing) e = wanted_none past contents (wants doing) e
+brings_none past contents (Does doing) e = wanted_none past contents (in_hand doing) e
 
 -- a book's event that is an end of a write-out
 left_event : (what : Event) (ticket : TicketId) → event_of what ≡ plain.Left ticket → (own : TicketOf) × (what ≡ event.Left own) × (own.number ≡ ticket.0)
@@ -290,11 +298,12 @@ module _ (opening : Opening) (old new : Past) (contents : List (List ℕ)) (what
   wanted_on (want.Call remembers e) other brought = asked_on e other brought
   wanted_on (want.Read access ticket) other brought = tt
   wanted_on (want.Write on ticket) other brought = hold_on ticket.number ticket.bytes (other ticket.number refl) brought
+  wanted_on (want.End said) other brought = tt
 
   at_on : (at : Activity) → ((n : ℕ) → number_at at ≡ Some n → ticket_given (reply_of answered) ≡ Some n → ⊥) → BringsAt old contents at → BringsAt new contents at
   at_on Rests other brought = tt
   at_on (Begun e) other brought = tt
-  at_on (Does doing) other brought = wanted_on (wants doing) other brought
+  at_on (Does doing) other brought = wanted_on (in_hand doing) other brought
 
   flies_ungiven : (at : Activity) → KeepsAt old at → (n : ℕ) → number_at at ≡ Some n → ticket_given (reply_of answered) ≡ Some n → ⊥
   flies_ungiven at kept n number given = let flies = at_flies old at n kept number in not_given flies.p n flies.page flies.there flies.ticket given
@@ -364,11 +373,12 @@ module _ (opening : Opening) (past : Past) (contents contents' : List (List ℕ)
   wanted_written (want.Call remembers e) differ kept' brought = asked_written e differ kept' brought
   wanted_written (want.Read access own) differ kept' brought = tt
   wanted_written (want.Write on own) differ kept' brought = brought
+  wanted_written (want.End said) differ kept' brought = tt
 
   at_written : (at : Activity) → ((n : ℕ) → number_at at ≡ Some n → Some ticket.number ≡ Some n → ⊥) → KeepsAt past at → BringsAt past contents at → BringsAt past contents' at
   at_written Rests differ kept' brought = tt
   at_written (Begun e) differ kept' brought = tt
-  at_written (Does doing) differ kept' brought = wanted_written (wants doing) differ kept' brought
+  at_written (Does doing) differ kept' brought = wanted_written (in_hand doing) differ kept' brought
 
 keeps_others : (disk disk' : Disk) (block : ℕ) (bytes : List ℕ) (answered : Result (Unit {0}) Fault) → WritesBlock disk block bytes answered disk' → KeepsOthers disk.contents disk'.contents block
 keeps_others disk disk' block bytes (Ok done) writes =
@@ -396,7 +406,7 @@ module _ (opening : Opening) (past : Past) (disk disk' : Disk) (h : Holds openin
           let room = h.room in
           omega (arith, within, room)
 
-      own : (answered : Result (Unit {0}) Fault) → WritesBlock disk ticket.block ticket.bytes answered disk' → BringsWanted past disk'.contents (wants (after_write on answered ticket))
+      own : (answered : Result (Unit {0}) Fault) → WritesBlock disk ticket.block ticket.bytes answered disk' → BringsWanted past disk'.contents (in_hand (after_write on answered ticket))
       own (Ok done) e =
           let written : held disk'.contents ticket.block ≡ ticket.bytes = ap (λ (d : Disk). held d.contents ticket.block) e ∙ get_or-set_same disk.contents ticket.block ticket.bytes [] there in
           subst (PlacesHold past ticket.number) (sym written) hold
@@ -416,7 +426,7 @@ module _ (opening : Opening) (past : Past) (disk disk' : Disk) (h : Holds openin
       same (Ok done) e = ap (λ (d : Disk). d.contents) e.1
       same (Err fault) e = ap (λ (d : Disk). d.contents) e
 
-      own : (answered : Result (Unit {0}) Fault) → ReadsBlock disk ticket.block answered reads.filled.bytes disk' → BringsWanted past disk.contents (wants (after_read access answered reads.filled))
+      own : (answered : Result (Unit {0}) Fault) → ReadsBlock disk ticket.block answered reads.filled.bytes disk' → BringsWanted past disk.contents (in_hand (after_read access answered reads.filled))
       own (Ok done) e = e.0 ∙ ap (held disk.contents) (sym (ap (λ (t : TicketOf). t.block) reads.same))
       own (Err fault) e = tt
 
@@ -443,6 +453,10 @@ module _ (opening : Opening) (old new : Past) (disk disk' : Disk) (h : Holds ope
       by_comes (ByEntry went) =
           faithful_on opening old new disk.contents what asks.said h keeps brings went (want.Call remembers what) turned asks.gives (told_next remembers asks.said turned asks.told (went.done Stranger))
 
+  ends_faithful : (said : Answer) (turned : Turned) → turned ≡ Ends said → TurnsFaithful opening old disk.contents (want.End said) turned old disk.contents
+  ends_faithful said turned ends =
+      record { holds = h; own = subst (λ (t : Turned). BringsAt old disk.contents (left_of t)) (sym ends) tt; others = λ at differ kept brought. brought }
+
   pub want_faithful : (w : Want) (turned : Turned) → KeepsWanted old w → BringsWanted old disk.contents w → WantTurn old disk w turned new disk' → TurnsFaithful opening old disk.contents w turned new disk'.contents
   want_faithful (want.Call remembers what) turned keeps brings turn =
       subst (λ (d : Disk). TurnsFaithful opening old disk.contents (want.Call remembers what) turned new d.contents) (sym turn.1) (asks_faithful remembers what turned keeps brings turn.0)
@@ -451,6 +465,9 @@ module _ (opening : Opening) (old new : Past) (disk disk' : Disk) (h : Holds ope
   want_faithful (want.Write on ticket) turned keeps brings turn =
       subst (λ (p : Past). TurnsFaithful opening old disk.contents (want.Write on ticket) turned p disk'.contents) (sym turn.1)
       (writes_faithful opening old disk disk' h on ticket turned keeps brings turn.0)
+  want_faithful (want.End said) turned keeps brings turn =
+      subst (λ (p : Past). TurnsFaithful opening old disk.contents (want.End said) turned p disk'.contents) (sym turn.1)
+      (subst (λ (d : Disk). TurnsFaithful opening old disk.contents (want.End said) turned old d.contents) (sym turn.2) (ends_faithful said turned turn.0))
 
 -- ---- worlds
 
@@ -468,14 +485,17 @@ module _ (opening : Opening) where
         brings = seats_all (BringsAt w.past w.disk.contents) who what w.seats (brings_none w.past w.disk.contents what (idle_none what idle)) (λ a differs. h.brings a);
       }
 
-  own_brings : (w : World) (who : Actor) (now : Doing) → IsAt w who now → Faithful opening w → BringsWanted w.past w.disk.contents (wants now)
-  own_brings w who now (inl is) h = subst (λ (at : Activity). BringsAt w.past w.disk.contents at) is (h.brings who)
-  own_brings w who now (inr none) h = wanted_none w.past w.disk.contents (wants now) none
+  own_brings : (w : World) (who : Actor) (now : Doing) → IsAt w who now → Faithful opening w → BringsWanted w.past w.disk.contents (wants_at w.past now)
+  own_brings w who now at h = wanted_alike w.past w.disk.contents (wants_at w.past now) (in_hand now) (wants_alike w.past now) (held at)
+    where
+      held : IsAt w who now → BringsWanted w.past w.disk.contents (in_hand now)
+      held (inl is) = subst (λ (at : Activity). BringsAt w.past w.disk.contents at) is (h.brings who)
+      held (inr none) = wanted_none w.past w.disk.contents (in_hand now) none
 
   faithful_turn : (old new : World) (who : Actor) (now : Doing) (outcome : Outcome) → IsAt old who now → DoingTurn old who now outcome new → Faithful opening old → Faithful opening new × FineOutcome outcome
   faithful_turn old new who now outcome at turn h =
       let ticketed = tickets_turn old new who now outcome at turn h.tickets in
-      let turns = want_faithful opening old.past new.past old.disk new.disk h.holds (wants now) turn.turned (own_keeps old who now at h.tickets) (own_brings old who now at h) turn.turns in (
+      let turns = want_faithful opening old.past new.past old.disk new.disk h.holds (wants_at old.past now) turn.turned (own_keeps old who now at h.tickets) (own_brings old who now at h) turn.turns in (
         record {
           tickets = ticketed.0;
           holds = turns.holds;

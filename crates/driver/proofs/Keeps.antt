@@ -1,7 +1,9 @@
 -- What each actor is at once one of them is at something else; and what every turn keeps, every run keeps.
 use Rattle.std.proofs.Common.{◌≡◌, inl, inr, ℕ, zero, suc, ◌==◌, Bool, true, false, List, [], ◌∷◌, ◌++◌, Option, Some, None, refl, sym, ap, ◌∙◌, subst}
-use Rattle.std.specs.Prelude.{◌⊎◌, if◌then◌else◌, Ok, Err, slice_get}
+use Rattle.std.specs.Prelude.{◌⊎◌, if◌then◌else◌, nat_le, Ok, Err, slice_get}
 use Rattle.machine.specs.declared.amount.Amount.{Amount}
+use Rattle.machine.specs.declared.amount.Amount.TheVariants as amount
+use Rattle.machine.specs.declared.config.Watermarks.{Watermarks}
 use Rattle.machine.specs.declared.refusal.Refusal.TheVariants.{Stranger, NoEntry}
 use Rattle.machine.specs.declared.command.Actor.{Actor}
 use Rattle.machine.specs.declared.command.Actor.TheVariants as actor
@@ -16,10 +18,15 @@ use Rattle.machine.specs.declared.command.Answer.TheVariants as answer
 use Rattle.machine.specs.declared.control.ControlFile.{ControlFile}
 use Rattle.machine.specs.declared.control.ControlFile.TheVariants as file
 use Rattle.machine.specs.Tree.{Node, find_group}
+use Rattle.machine.specs.State.{free_frames}
+use Rattle.machine.specs.Call.{Past}
 use Rattle.machine.specs.Control.{file_named, has_file, amount_of}
 use Rattle.book.specs.declared.event.Event.{Event}
+use Rattle.book.specs.declared.event.Event.TheVariants as event
 use Rattle.book.specs.Events.{event_of}
 use Rattle.driver.specs.declared.turn.Doing.{Doing}
+use Rattle.driver.specs.declared.turn.Doing.TheVariants as doing
+use Rattle.driver.specs.declared.turn.Asked.TheVariants as asked
 use Rattle.driver.specs.declared.turn.Want.{Want}
 use Rattle.driver.specs.declared.turn.Want.TheVariants as want
 use Rattle.driver.specs.declared.turn.Outcome.{Outcome}
@@ -27,8 +34,8 @@ use Rattle.driver.specs.declared.turn.Outcome.TheVariants.{Goes, Kills, Ends}
 use Rattle.driver.specs.declared.turn.Activity.{Activity}
 use Rattle.driver.specs.declared.turn.Activity.TheVariants.{Rests, Begun, Does}
 use Rattle.driver.specs.declared.turn.Seat.{Seat}
-use Rattle.driver.specs.Turns.{wants, Judged, judged, task_judged, shell_judged, with_group, with_file, with_amount, reads_file, writes_file}
-use Rattle.driver.specs.Schedule.{number_of, is_of, activity_of, with_activity, World, DoingTurn, JudgedTurn, ActivityTurn, said_at, all_said, answer_by, Goings, EndsIn, RunsOut, Begins, Stepped, Runs}
+use Rattle.driver.specs.Turns.{wants, wants_pages, wants_balance, wants_watch, done, Judged, judged, task_judged, shell_judged, daemon_judged, with_group, with_file, with_amount, reads_file, writes_file, reclaims}
+use Rattle.driver.specs.Schedule.{number_of, is_of, activity_of, with_activity, World, wants_at, DoingTurn, JudgedTurn, ActivityTurn, said_at, all_said, answer_by, Goings, EndsIn, RunsOut, Begins, Stepped, Runs}
 use Rattle.driver.proofs.MoveLemmas.{same_true, true_same, false_other}
 use Rattle.driver.proofs.Effects.{ends}
 
@@ -67,11 +74,51 @@ abbrev pub number_wanted : Want → Option ℕ
 number_wanted (want.Call remembers what) = number_asked what
 number_wanted (want.Read access ticket) = Some ticket.number
 number_wanted (want.Write on ticket) = Some ticket.number
+number_wanted (want.End said) = None
+
+-- what a command that stands there wants with both marks at 0, where a daemon asks nothing. With any other marks and free frames the ticket in hand is the same
+abbrev pub in_hand : Doing → Want
+in_hand doing = wants (record { low = 0; high = 0 }) 0 doing
+
+-- it is the same that is wanted, or there is a ticket neither here nor there
+pub data Alike (w other : Want) : Type 0 where
+  Same : w ≡ other → Alike w other
+  Ticketless : number_wanted w ≡ None → number_wanted other ≡ None → Alike w other
+
+balance_none : (marks : Watermarks) (free : ℕ) → number_wanted (wants_balance marks free) ≡ None
+balance_none marks free = by_test (nat_le marks.high free)
+  where
+    by_test : (b : Bool) → number_wanted (if b then done else want.Call asked.Balance (event.ReclaimOne (record { 0 = 0 }))) ≡ None
+    by_test true = refl
+    by_test false = refl
+
+watch_none : (marks : Watermarks) (free : ℕ) → number_wanted (wants_watch marks free) ≡ None
+watch_none marks free = by_test (nat_le marks.low free)
+  where
+    by_test : (b : Bool) → number_wanted (if b then done else wants_balance marks free) ≡ None
+    by_test true = refl
+    by_test false = balance_none marks free
+
+pub pages_none : (g left : ℕ) → number_wanted (wants_pages g left) ≡ None
+pages_none g zero = refl
+pages_none g (suc left) = refl
+
+pub wants_alike : (past : Past) (doing : Doing) → Alike (wants_at past doing) (in_hand doing)
+wants_alike past doing.Watch = Ticketless (watch_none past.state.opening.marks (free_frames past.state)) refl
+wants_alike past doing.Balance = Ticketless (balance_none past.state.opening.marks (free_frames past.state)) refl
+wants_alike past others = Same refl
+
+number_alike : (w other : Want) → Alike w other → number_wanted w ≡ number_wanted other
+number_alike w other (Same e) = ap number_wanted e
+number_alike w other (Ticketless e f) = e ∙ sym f
+
+pub wanted_in_hand : (past : Past) (doing : Doing) → number_wanted (wants_at past doing) ≡ number_wanted (in_hand doing)
+wanted_in_hand past doing = number_alike (wants_at past doing) (in_hand doing) (wants_alike past doing)
 
 abbrev pub number_at : Activity → Option ℕ
 number_at Rests = None
 number_at (Begun what) = None
-number_at (Does doing) = number_wanted (wants doing)
+number_at (Does doing) = number_wanted (in_hand doing)
 
 -- no command is under way that has had a turn
 abbrev pub is_idle : Activity → Bool
@@ -99,6 +146,35 @@ abbrev pub AllFine : List Told_by → Type 0
 AllFine [] = Unit {0}
 AllFine (told ∷ later) = Fine told.answer × AllFine later
 
+-- a turn that asks nothing says nothing of tickets
+abbrev pub FineWant : Want → Type 0
+FineWant (want.End said) = Fine said
+FineWant wanted = Unit {0}
+
+balance_fine : (marks : Watermarks) (free : ℕ) → FineWant (wants_balance marks free)
+balance_fine marks free = by_test (nat_le marks.high free)
+  where
+    by_test : (b : Bool) → FineWant (if b then done else want.Call asked.Balance (event.ReclaimOne (record { 0 = 0 })))
+    by_test true = λ e. cc
+    by_test false = tt
+
+watch_fine : (marks : Watermarks) (free : ℕ) → FineWant (wants_watch marks free)
+watch_fine marks free = by_test (nat_le marks.low free)
+  where
+    by_test : (b : Bool) → FineWant (if b then done else wants_balance marks free)
+    by_test true = λ e. cc
+    by_test false = balance_fine marks free
+
+pages_fine : (g left : ℕ) → FineWant (wants_pages g left)
+pages_fine g zero = λ e. cc
+pages_fine g (suc left) = tt
+
+pub wants_fine : (past : Past) (doing : Doing) → FineWant (wants_at past doing)
+wants_fine past doing.Watch = watch_fine past.state.opening.marks (free_frames past.state)
+wants_fine past doing.Balance = balance_fine past.state.opening.marks (free_frames past.state)
+wants_fine past (doing.Reclaim g left) = pages_fine g.0 left
+wants_fine past others = tt
+
 fine-append : (xs ys : List Told_by) → AllFine xs → AllFine ys → AllFine (xs ++ ys)
 fine-append [] ys a b = b
 fine-append (told ∷ xs) ys a b = (a.0, fine-append xs ys a.1 b)
@@ -120,7 +196,7 @@ fine_at (first ∷ later) (suc k) told h e = fine_at later k told h.1 e
 
 -- a command's first turn has no ticket, and its refusal is not that of a stranger
 abbrev pub Plain : Judged → Type 0
-Plain (Ok doing) = number_wanted (wants doing) ≡ None
+Plain (Ok doing) = number_wanted (in_hand doing) ≡ None
 Plain (Err why) = why ≡ Stranger → ⊥
 
 pub judged-plain : (tree : List Node) (who : Actor) (what : Command) → Plain (judged tree who what)
@@ -145,22 +221,36 @@ judged-plain tree who what = by_actor who
     reads : (g : ℕ) (f : ControlFile) → Plain (reads_file g f)
     reads g file.Current = refl
     reads g file.Max = refl
+    reads g file.Min = refl
     reads g file.Events = refl
     reads g file.EventsLocal = refl
+    reads g file.Reclaim = λ e. cc
+
+    reclaimed : (g : ℕ) (amount : Amount) → Plain (reclaims g amount)
+    reclaimed g amount.Max = λ e. cc
+    reclaimed g (amount.Pages n) = pages_none g n
 
     writes : (g : ℕ) (text : List ℕ) (f : ControlFile) → Plain (writes_file g text f)
     writes g text file.Current = λ e. cc
     writes g text file.Events = λ e. cc
     writes g text file.EventsLocal = λ e. cc
     writes g text file.Max = by_amount (amount_of text) _ (λ amount. refl)
+    writes g text file.Min = by_amount (amount_of text) _ (λ amount. refl)
+    writes g text file.Reclaim = by_amount (amount_of text) _ (reclaimed g)
 
     by_shell : (what : Command) → Plain (shell_judged tree what)
     by_shell (command.Access place op) = λ e. cc
     by_shell command.Exit = λ e. cc
+    by_shell command.Daemon = λ e. cc
     by_shell (command.Group path) = refl
     by_shell (command.Task t path) = by_group (find_group tree path) _ (λ g. refl)
     by_shell (command.Set path name text) = by_group (find_group tree path) _ (λ g. by_file g (file_named name) _ (writes g text))
     by_shell (command.Cat path name) = by_group (find_group tree path) _ (λ g. by_file g (file_named name) _ (reads g))
+    by_shell (command.Protection target path) = by_group (find_group tree target) _ (λ t. by_group (find_group tree path) _ (λ g. refl))
+
+    by_daemon : (what : Command) → Plain (daemon_judged what)
+    by_daemon command.Daemon = refl
+    by_daemon others = λ e. cc
 
     by_task : (t : ℕ) (what : Command) → Plain (task_judged t what)
     by_task t (command.Access place op) = refl
@@ -171,12 +261,13 @@ judged-plain tree who what = by_actor who
     by_actor (actor.Task t) = by_task t what
     by_actor actor.Shell = by_shell what
     by_actor actor.Control = by_shell what
+    by_actor actor.Daemon = by_daemon what
 
 -- ---- runs
 
 -- the actor is at this, or it has no ticket
 abbrev pub IsAt : World → Actor → Doing → Type 0
-IsAt w who doing = (activity_of who w.seats ≡ Does doing) ⊎ (number_wanted (wants doing) ≡ None)
+IsAt w who doing = (activity_of who w.seats ≡ Does doing) ⊎ (number_wanted (in_hand doing) ≡ None)
 
 module _ (P : World → Type 0)
     (rests : (w : World) (who : Actor) (what : Activity) → is_idle what ≡ true → P w → P (record w { seats = with_activity who what w.seats }))

@@ -10,7 +10,6 @@ use Rattle.machine.specs.declared.record.Mapping.{Mapping}
 use Rattle.machine.specs.declared.record.EventCounts.{EventCounts}
 use Rattle.machine.specs.declared.record.Key.{Key}
 use Rattle.machine.specs.declared.record.Key.TheVariants.{Low, High, Max, Oom, OomKill, OomGroupKill}
-use Rattle.machine.specs.declared.id.TaskId.{TaskId}
 use Rattle.machine.specs.declared.event.Place.{Place}
 use Rattle.machine.specs.declared.event.Op.{Op}
 use Rattle.machine.specs.declared.event.Op.TheVariants.{Read, Write}
@@ -29,7 +28,7 @@ use Rattle.machine.specs.Access.{Meeting, Unmapped, Hits, Transferring, NeedsPag
 use Rattle.machine.specs.Reclaim.{has_takeable, has_transfer, stands, target_of}
 use Rattle.machine.specs.Step.{Only, Takes, LeavesFrom, LeavesBy, ChargeStep, MakesPage, StartsFetch, HitStep, UnmappedStep, MeetStep, LifeStep, TaskStep, new_page, touched}
 use Rattle.machine.proofs.SlotLemmas.{one_if, count_there-changes}
-use Rattle.driver.proofs.MoveLemmas.{hits_held}
+use Rattle.driver.proofs.MoveLemmas.{unlike, hits_held}
 use Rattle.driver.specs.Laws.{TransfersStayCharged, CurrentCountsPages, EventsAreThoseCounted, count_for, ChargesStayWithinMax, KillsComeLast, ReadsGiveLastWrites}
 
 -- ---- memory.current
@@ -64,25 +63,31 @@ reads_give_last_writes (first ∷ later) earlier entry right = reads_give_last_w
 
 -- ---- kills
 
-by_test : {P Q R : Type 0} (b : Bool) → (P → R) → (Q → R) → MatchBool b P Q → R
+pub by_test : {P Q R : Type 0} (b : Bool) → (P → R) → (Q → R) → MatchBool b P Q → R
 by_test true f g h = f h
 by_test false f g h = g h
 
--- no page that leaves is a kill
-never_by : (old new : State) (p frame : ℕ) (page : Page) (content : Content) (t : TaskId) → LeavesBy old p page content frame old.counted (reply.KilledTask t) new → ⊥
-never_by old new p frame page Memory t h = let e = h.leave.answers in cc
-never_by old new p frame page (OfFile file q) t h = by_test page.dirty (λ k. let e = k.answers in cc) (λ k. let e = k.answers in cc) h
+-- it says that a page was taken
+abbrev pub is_taking : Reply → Bool
+is_taking (reply.Out ticket) = true
+is_taking reply.Dropped = true
+is_taking answer = false
 
-never_leaves : (old new : State) (p : ℕ) (page : Page) (residence : Residence) (t : TaskId) → LeavesFrom old p page residence old.counted (reply.KilledTask t) new → ⊥
-never_leaves old new p page (Held frame) t h = never_by old new p frame page page.content t h
-never_leaves old new p page (Coming frame block ticket) t h = h
-never_leaves old new p page (Going frame block ticket) t h = h
-never_leaves old new p page (Away block) t h = h
+-- so does the answer where one leaves
+taking_by : (old new : State) (p frame : ℕ) (page : Page) (content : Content) (answer : Reply) → LeavesBy old p page content frame old.counted answer new → is_taking answer ≡ true
+taking_by old new p frame page Memory answer h = ap is_taking h.leave.answers
+taking_by old new p frame page (OfFile file q) answer h = by_test page.dirty (λ k. ap is_taking k.answers) (λ k. ap is_taking k.answers) h
 
-never_taken : (old : State) (target : ℕ) (t : TaskId) (new : State) → Takes old target (reply.KilledTask t) new → ⊥
-never_taken old target t new h = never_leaves old new h.p h.page h.page.residence t h.leaves
+taking_from : (old new : State) (p : ℕ) (page : Page) (residence : Residence) (answer : Reply) → LeavesFrom old p page residence old.counted answer new → is_taking answer ≡ true
+taking_from old new p page (Held frame) answer h = taking_by old new p frame page page.content answer h
+taking_from old new p page (Coming frame block ticket) answer h = absurd h
+taking_from old new p page (Going frame block ticket) answer h = absurd h
+taking_from old new p page (Away block) answer h = absurd h
 
-idle_of : (a b : Bool) (P Q R S : Type 0) → (P → ⊥) → (Q → ⊥) → (R → S) → MatchBool a P (MatchBool b Q R) → ((not a && not b) ≡ true) × S
+pub never_taken : (old : State) (target : ℕ) (answer : Reply) (new : State) → is_taking answer ≡ false → Takes old target answer new → ⊥
+never_taken old target answer new other h = unlike (is_taking answer) (taking_from old new h.p h.page h.page.residence answer h.leaves) other
+
+pub idle_of : (a b : Bool) (P Q R S : Type 0) → (P → ⊥) → (Q → ⊥) → (R → S) → MatchBool a P (MatchBool b Q R) → ((not a && not b) ≡ true) × S
 idle_of true b P Q R S f g k h = absurd (f h)
 idle_of false true P Q R S f g k h = absurd (g h)
 idle_of false false P Q R S f g k h = (refl, k h)
@@ -90,7 +95,7 @@ idle_of false false P Q R S f g k h = (refl, k h)
 pub kills_come_last : KillsComeLast
 kills_come_last before after why t step =
     by_test (stands before why)
-    (λ s. idle_of (has_takeable before (target_of why)) (has_transfer before (target_of why)) _ _ _ _ (never_taken before (target_of why) _ after) (λ w. let e = w.0 in cc) (λ kill. kill.0.among) s)
+    (λ s. idle_of (has_takeable before (target_of why)) (has_transfer before (target_of why)) _ _ _ _ (never_taken before (target_of why) (reply.KilledTask (record { 0 = t })) after refl) (λ w. let e = w.0 in cc) (λ kill. kill.0.among) s)
     (λ r. let e = r.0 in cc) step
 
 -- ---- charges

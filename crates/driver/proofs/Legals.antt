@@ -24,8 +24,8 @@ use Rattle.machine.specs.State.{Opening, opening_of}
 use Rattle.machine.specs.Refusals.{refusal}
 use Rattle.machine.specs.Call.{Past, knows_ticket, Refuses, Served, JudgedBy, Called, is_trace_full}
 use Rattle.machine.specs.Legal.{Legal}
-use Rattle.driver.specs.Turns.{wants, Judged, judged}
-use Rattle.driver.specs.Schedule.{World, WantTurn, first_world, activity_of, DoingTurn, JudgedTurn, ActivityTurn, Goings, EndsIn, RunsOut, Begins, Stepped, Runs}
+use Rattle.driver.specs.Turns.{Judged, judged}
+use Rattle.driver.specs.Schedule.{World, WantTurn, wants_at, first_world, activity_of, DoingTurn, JudgedTurn, ActivityTurn, Goings, EndsIn, RunsOut, Begins, Stepped, Runs}
 use Rattle.driver.specs.Laws.{RunsAreLegal}
 
 module _ (opening : Opening) where
@@ -65,9 +65,10 @@ module _ (opening : Opening) where
   legal-want past past' disk disk' (want.Call remembers what) turned turn legal = legal-called past past' 0 (event_of what) (reply_of turn.0.said) turn.0.called legal
   legal-want past past' disk disk' (want.Read access ticket) turned turn legal = legal-same past past' turn.1 legal
   legal-want past past' disk disk' (want.Write on ticket) turned turn legal = legal-same past past' turn.1 legal
+  legal-want past past' disk disk' (want.End said) turned turn legal = legal-same past past' turn.1 legal
 
   legal-doing : (old new : World) (who : Actor) (doing : Doing) (outcome : Outcome) → DoingTurn old who doing outcome new → IsLegal old.past → IsLegal new.past
-  legal-doing old new who doing outcome turn legal = legal-want old.past new.past old.disk new.disk (wants doing) turn.turned turn.turns legal
+  legal-doing old new who doing outcome turn legal = legal-want old.past new.past old.disk new.disk (wants_at old.past doing) turn.turned turn.turns legal
 
   legal-judged : (old new : World) (who : Actor) (found : Judged) (outcome : Outcome) → JudgedTurn old who found outcome new → IsLegal old.past → IsLegal new.past
   legal-judged old new who (Err why) outcome turn legal = subst (λ (w : World). Legal opening w.past.history w.past.state) (sym turn.1) legal

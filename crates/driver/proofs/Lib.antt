@@ -2,6 +2,7 @@ pub mod Legals
 pub mod LawLemmas
 pub mod MoveLemmas
 pub mod SoundLemmas
+pub mod ReclaimLemmas
 pub mod RiseLemmas
 pub mod ErrorLemmas
 pub mod Effects
@@ -11,5 +12,6 @@ pub mod Tickets
 pub mod Faithful
 pub mod OpeningLemmas
 pub mod TicketLemmas
+pub mod OrderLemmas
 pub mod SeatLists
 pub mod Runs

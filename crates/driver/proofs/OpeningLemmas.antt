@@ -21,7 +21,7 @@ use Rattle.machine.specs.State.{State, over_in, is_frame_free}
 use Rattle.machine.specs.Access.{Meeting, Unmapped, Hits, Transferring, NeedsPage, NeedsCopy, NeedsSwapIn, meets}
 use Rattle.machine.specs.Reclaim.{has_takeable, has_transfer, stands, target_of}
 use Rattle.machine.specs.Refusals.{refusal}
-use Rattle.machine.specs.Step.{Charges, ChargeStep, HitStep, UnmappedStep, MeetStep, LifeStep, TaskStep, LeavesBy, LeavesFrom, KillStep, RelieveStep, Exits, Step}
+use Rattle.machine.specs.Step.{Charges, ChargeStep, HitStep, UnmappedStep, MeetStep, LifeStep, TaskStep, LeavesBy, LeavesFrom, ReclaimStep, KillStep, RelieveStep, Exits, Step}
 use Rattle.machine.specs.Call.{Past, Refuses, Served, JudgedBy, Called, knows_ticket, is_trace_full}
 
 module _ (old new : State) where
@@ -89,11 +89,13 @@ module _ (old new : State) where
   kills limit reply.NoVictim h = ap (λ (s : State). s.opening) h.1
   kills limit answer h = absurd h
 
+  reclaims : (target : ℕ) (Idle : Type 0) (answer : Reply) → (Idle → Same) → ReclaimStep old target Idle answer new → Same
+  reclaims target Idle answer idle h =
+      by_test (has_takeable old target) (λ k. leaves k.p k.page k.page.residence old.counted answer k.leaves) (λ k. by_test (has_transfer old target) (λ w. same w.1) idle k) h
+
   relieves : (cause : Cause) (answer : Reply) → RelieveStep old cause answer new → Same
   relieves cause answer h =
-      by_test (stands old cause)
-      (λ s. by_test (has_takeable old (target_of cause)) (λ k. leaves k.p k.page k.page.residence old.counted answer k.leaves) (λ k. by_test (has_transfer old (target_of cause)) (λ w. same w.1) (λ w. kills (target_of cause) answer w) k) s)
-      (λ r. same r.1) h
+      by_test (stands old cause) (λ s. reclaims (target_of cause) _ answer (λ w. kills (target_of cause) answer w) s) (λ r. same r.1) h
 
 pub step_opening : (old : State) (what : Event) (answer : Reply) (new : State) → Step old what answer new → new.opening ≡ old.opening
 unfolding Same
@@ -104,6 +106,7 @@ step_opening old (event.FetchFailed ticket) answer new h = ap (λ (s : State). s
 step_opening old (event.Left ticket) answer new h = ap (λ (s : State). s.opening) h.state
 step_opening old (event.LeaveFailed ticket) answer new h = ap (λ (s : State). s.opening) h.state
 step_opening old (event.Relieve cause) answer new h = relieves old new cause answer h
+step_opening old (event.ReclaimOne g) answer new h = reclaims old new g.0 _ answer (λ idle. same old new idle.1) h
 step_opening old (event.Spawn t g) reply.Ok new h = ap (λ (s : State). s.opening) h.1
 step_opening old (event.Exit t) answer new h = of_task old new (task_at old.tasks t.0) (λ task. Exits old t.0 answer new) answer (λ task k. ap (λ (s : State). s.opening) k.1.state) h
 step_opening old (event.Mkdir path) reply.Ok new h = ap (λ (s : State). s.opening) h

@@ -22,12 +22,13 @@ use Rattle.machine.specs.State.{Opening, State, usage}
 use Rattle.machine.specs.Reclaim.{has_takeable, has_transfer, stands, target_of}
 use Rattle.machine.specs.Legal.{Legal}
 use Rattle.machine.specs.declared.entry.Entry.{Entry}
-use Rattle.machine.specs.Step.{EndsTransfer, in_frame, on_block, Takes, StartsLeave, Drops, LeavesBy, LeavesFrom, KillStep, RelieveStep, LifeStep, TaskStep, EndsTask, Exits}
+use Rattle.machine.specs.Step.{EndsTransfer, in_frame, on_block, Takes, StartsLeave, Drops, LeavesBy, LeavesFrom, ReclaimStep, KillStep, RelieveStep, LifeStep, TaskStep, EndsTask, Exits}
 use Rattle.machine.proofs.TreeLemmas.{under_at-append}
 use Rattle.machine.proofs.SlotLemmas.{one_if, count_there-changes}
 use Rattle.driver.specs.Laws.{OnlyAccessesCharge, WriteOutsStayCharged}
 use Rattle.driver.proofs.SoundLemmas.{bool_le, count-less, still_passes, legal-sound, legal-fit}
 use Rattle.driver.proofs.MoveLemmas.{in_frame-cases, on_block-cases}
+use Rattle.driver.proofs.ReclaimLemmas.{out_takes}
 
 -- whoever passes one test passes another
 tests_less : (test other : Page → Bool) (pages : Pages) → ((n : ℕ) → there_and other (at pages n) ≡ true → there_and test (at pages n) ≡ true) → count_there other pages ≤ count_there test pages
@@ -108,11 +109,11 @@ module _ (before after : State) (a : ℕ) where
   kill_less limit reply.NoVictim h = counted_less h.1
   kill_less limit answer h = absurd h
 
+  reclaim_less : (target : ℕ) (Idle : Type 0) (answer : Reply) → (Idle → Less) → ReclaimStep before target Idle answer after → Less
+  reclaim_less target Idle answer idle step = by_less (has_takeable before target) (λ k. taken_less target answer k) (λ k. by_less (has_transfer before target) (λ w. same_less w.1) idle k) step
+
   relief_less : (why : Cause) (answer : Reply) → RelieveStep before why answer after → Less
-  relief_less why answer step =
-      by_less (stands before why)
-      (λ s. by_less (has_takeable before (target_of why)) (λ k. taken_less (target_of why) answer k) (λ k. by_less (has_transfer before (target_of why)) (λ w. same_less w.1) (λ w. kill_less (target_of why) answer w) k) s)
-      (λ r. same_less r.1) step
+  relief_less why answer step = by_less (stands before why) (reclaim_less (target_of why) _ answer (λ w. kill_less (target_of why) answer w)) (λ r. same_less r.1) step
 
   exit_less : (t : ℕ) (answer : Reply) (slot : Option Task) → TaskStep before slot (λ task. Exits before t answer after) answer after → Less
   exit_less t answer None h = absurd h
@@ -200,16 +201,9 @@ module _ (before after : State) (n a : ℕ) where
       by_residence (Going frame block ticket) stands k = absurd k
       by_residence (Away block) stands k = absurd k
 
-  out_kept : (why : Cause) → RelieveStep before why out after → usage after a ≡ usage before a
-  unfolding Kept out
-  out_kept why step =
-      by_kept (stands before why)
-      (λ s. by_kept (has_takeable before (target_of why)) (λ k. taken_kept (target_of why) k) (λ k. by_kept (has_transfer before (target_of why)) (λ w. let e = w.0 in cc) (λ w. absurd w) k) s)
-      (λ r. let e = r.0 in cc) step
-
 pub write_outs_stay_charged : WriteOutsStayCharged
 unfolding out Kept
-write_outs_stay_charged before after why n a step = out_kept before after n a why step
+write_outs_stay_charged before after what n a step = let taken = out_takes before after (record { 0 = n }) what step in taken_kept before after n a taken.0 taken.1
 
 pub only_accesses_charge : OnlyAccessesCharge
 only_accesses_charge opening history before after (event.Access t place op) answer a legal step more = tt
@@ -222,6 +216,7 @@ only_accesses_charge opening history before after (event.Left ticket) answer a l
 only_accesses_charge opening history before after (event.LeaveFailed ticket) answer a legal step more =
     never before after a (settled_less before after a _ in_frame (λ frame block. Held frame) answer in_frame-cases (λ frame block. refl) step) more
 only_accesses_charge opening history before after (event.Relieve why) answer a legal step more = never before after a (relief_less before after a why answer step) more
+only_accesses_charge opening history before after (event.ReclaimOne g) answer a legal step more = never before after a (reclaim_less before after a g.0 _ answer (λ n. same_less before after a n.1) step) more
 only_accesses_charge opening history before after (event.Spawn t g) reply.Ok a legal step more = let same : usage after a ≡ usage before a = ap (λ (s : State). usage s a) step.1 in absurd (omega (arith, same, more))
 only_accesses_charge opening history before after (event.Exit t) answer a legal step more = never before after a (exit_less before after a t.0 answer (task_at before.tasks t.0) step) more
 only_accesses_charge opening history before after (event.Mkdir path) reply.Ok a legal step more = never before after a (made_less before after a _ _ (legal-sound opening history before legal).1.falls (groups_live opening history before legal) step) more

@@ -32,7 +32,7 @@ use Rattle.machine.specs.State.{Opening, State, first_state, over_in, is_frame_f
 use Rattle.machine.specs.Access.{Meeting, Unmapped, Hits, Transferring, NeedsPage, NeedsCopy, NeedsSwapIn, meets}
 use Rattle.machine.specs.Reclaim.{has_takeable, has_transfer, stands, target_of}
 use Rattle.machine.specs.Refusals.{refusal, first_cause, bars_tasks, number_refusal}
-use Rattle.machine.specs.Step.{ChargeStep, MakesPage, StartsFetch, HitStep, UnmappedStep, MeetStep, LifeStep, TaskStep, Takes, StartsSwap, LeavesBy, LeavesFrom, KillStep, RelieveStep, still, EndsTask, Exits, EndsTransfer, in_frame, on_block, Step, new_page}
+use Rattle.machine.specs.Step.{ChargeStep, MakesPage, StartsFetch, HitStep, UnmappedStep, MeetStep, LifeStep, TaskStep, Takes, StartsSwap, LeavesBy, LeavesFrom, ReclaimStep, KillStep, RelieveStep, still, EndsTask, Exits, EndsTransfer, in_frame, on_block, Step, new_page}
 use Rattle.machine.specs.Legal.{Legal}
 use Rattle.machine.proofs.TreeLemmas.{eq_cases, IsTree-push}
 use Rattle.machine.proofs.SlotLemmas.{one_if, count_there-none, count_there-some, count_there-changes}
@@ -426,11 +426,11 @@ module _ (opening : Opening) (old new : State) (sound : sound_in opening old) wh
   kill_sound limit reply.NoVictim h = counted_sound h.1
   kill_sound limit answer h = absurd h
 
+  reclaim_sound : (target : ℕ) (Idle : Type 0) (answer : Reply) → (Idle → sound_in opening new) → ReclaimStep old target Idle answer new → sound_in opening new
+  reclaim_sound target Idle answer idle step = by_sound (has_takeable old target) (λ k. taken_sound target answer k) (λ k. by_sound (has_transfer old target) (λ w. sound-only w.1) idle k) step
+
   relief_sound : (why : Cause) (answer : Reply) → RelieveStep old why answer new → sound_in opening new
-  relief_sound why answer step =
-      by_sound (stands old why)
-      (λ s. by_sound (has_takeable old (target_of why)) (λ k. taken_sound (target_of why) answer k) (λ k. by_sound (has_transfer old (target_of why)) (λ w. sound-only w.1) (λ w. kill_sound (target_of why) answer w) k) s)
-      (λ r. sound-only r.1) step
+  relief_sound why answer step = by_sound (stands old why) (reclaim_sound (target_of why) _ answer (λ w. kill_sound (target_of why) answer w)) (λ r. sound-only r.1) step
 
   -- ---- ends of transfers
 
@@ -467,6 +467,7 @@ module _ (opening : Opening) (old new : State) (sound : sound_in opening old) wh
   step_sound (event.LeaveFailed ticket) answer none h =
       settled_sound _ in_frame (λ frame block. Held frame) answer in_frame-cases (λ frame block b e. cc) (λ frame block. inr refl) (λ frame block. inl refl) (λ frame block. refl) h
   step_sound (event.Relieve why) answer none h = relief_sound why answer h
+  step_sound (event.ReclaimOne g) answer none h = reclaim_sound g.0 _ answer (λ n. sound-only n.1) h
   step_sound (event.Spawn t g) reply.Ok none h =
       subst (sound_in opening) (sym h.1) (sound.0, sound-spawned opening.swap old.pages old.tasks new.tasks old.tree t.0 g.0 (spawn_live t.0 g.0 none) h.0 sound.1)
   step_sound (event.Exit t) answer none h = exit_sound t.0 answer (task_at old.tasks t.0) h

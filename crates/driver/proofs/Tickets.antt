@@ -8,6 +8,7 @@ use Rattle.machine.specs.declared.reply.Reply.{Reply as Plain_reply}
 use Rattle.machine.specs.declared.reply.Reply.TheVariants as reply
 use Rattle.machine.specs.declared.refusal.Refusal.TheVariants.{Stranger}
 use Rattle.machine.specs.declared.command.Actor.{Actor}
+use Rattle.machine.specs.declared.command.Answer.{Answer}
 use Rattle.machine.specs.Slots.{at, there_and, any_there}
 use Rattle.machine.specs.Pages.{Coming, Going, Page, Pages, page_at, is_number, ticket_at, is_ticket_taken, is_coming_at, is_going_at, is_coming_in, is_going_out}
 use Rattle.machine.specs.History.{ticket_given, taker_or, taker}
@@ -29,16 +30,17 @@ use Rattle.driver.specs.declared.turn.Doing.{Doing}
 use Rattle.driver.specs.declared.turn.Want.{Want}
 use Rattle.driver.specs.declared.turn.Want.TheVariants as want
 use Rattle.driver.specs.declared.turn.Turned.{Turned}
+use Rattle.driver.specs.declared.turn.Turned.TheVariants.{Ends}
 use Rattle.driver.specs.declared.turn.Outcome.{Outcome}
 use Rattle.driver.specs.declared.turn.Activity.{Activity}
 use Rattle.driver.specs.declared.turn.Activity.TheVariants.{Rests, Begun, Does}
 use Rattle.driver.specs.declared.turn.Seat.{Seat}
-use Rattle.driver.specs.Turns.{wants, ReadsIn, WritesOut, after_read, after_write}
-use Rattle.driver.specs.Schedule.{number_of, activity_of, with_activity, World, first_world, Asks, WantTurn, DoingTurn, outcome_of, left_of}
+use Rattle.driver.specs.Turns.{ReadsIn, WritesOut, after_read, after_write}
+use Rattle.driver.specs.Schedule.{number_of, activity_of, with_activity, World, first_world, Asks, WantTurn, wants_at, DoingTurn, outcome_of, left_of}
 use Rattle.driver.specs.Laws.{NoStrangers}
 use Rattle.driver.proofs.MoveLemmas.{never_some, unlike, own_number}
 use Rattle.driver.proofs.Effects.{ends, AllLive, Effect, step_effect}
-use Rattle.driver.proofs.Keeps.{activity_of-own, activity_of-other, number_asked, number_wanted, number_at, is_idle, idle_none, FineOutcome, fine_at, IsAt, runs_keep}
+use Rattle.driver.proofs.Keeps.{activity_of-own, activity_of-other, number_asked, number_wanted, in_hand, Alike, Same, Ticketless, wants_alike, wanted_in_hand, number_at, is_idle, idle_none, Fine, FineOutcome, FineWant, wants_fine, fine_at, IsAt, runs_keep}
 use Rattle.driver.proofs.CallCases.{IsRefused, IsServed, Comes, ByRefusal, ByEntry, called_comes, Next, Handless, Reads, Writes, told_next}
 
 -- ---- words
@@ -72,11 +74,12 @@ abbrev pub KeepsWanted : Past → Want → Type 0
 KeepsWanted past (want.Call remembers what) = KeepsAsked past what
 KeepsWanted past (want.Read access ticket) = IsComing past ticket
 KeepsWanted past (want.Write on ticket) = IsGoing past ticket
+KeepsWanted past (want.End said) = Unit {0}
 
 abbrev pub KeepsAt : Past → Activity → Type 0
 KeepsAt past Rests = Unit {0}
 KeepsAt past (Begun what) = Unit {0}
-KeepsAt past (Does doing) = KeepsWanted past (wants doing)
+KeepsAt past (Does doing) = KeepsWanted past (in_hand doing)
 
 pub record Tickets (w : World) : Type 0 where
   pub live : AllLive w.past.state.mappings w.past.state.tasks
@@ -109,11 +112,16 @@ wanted_none : (past : Past) (want : Want) → number_wanted want ≡ None → Ke
 wanted_none past (want.Call remembers what) e = asked_none past what e
 wanted_none past (want.Read access ticket) e = cc
 wanted_none past (want.Write on ticket) e = cc
+wanted_none past (want.End said) e = tt
 
 at_none : (past : Past) (at : Activity) → number_at at ≡ None → KeepsAt past at
 at_none past Rests e = tt
 at_none past (Begun what) e = tt
-at_none past (Does doing) e = wanted_none past (wants doing) e
+at_none past (Does doing) e = wanted_none past (in_hand doing) e
+
+wanted_alike : (past : Past) (w other : Want) → Alike w other → KeepsWanted past other → KeepsWanted past w
+wanted_alike past w other (Same e) h = subst (KeepsWanted past) (sym e) h
+wanted_alike past w other (Ticketless e f) h = wanted_none past w e
 
 -- a ticket in hand is in flight
 pub record InFlight (past : Past) (n : ℕ) : Type 0 where
@@ -139,11 +147,12 @@ wanted_flies : (past : Past) (want : Want) (n : ℕ) → KeepsWanted past want �
 wanted_flies past (want.Call remembers what) n h e = asked_flies past what n h e
 wanted_flies past (want.Read access ticket) n h e = coming_flies past ticket n h e
 wanted_flies past (want.Write on ticket) n h e = going_flies past ticket n h e
+wanted_flies past (want.End said) n h e = cc
 
 pub at_flies : (past : Past) (at : Activity) (n : ℕ) → KeepsAt past at → number_at at ≡ Some n → InFlight past n
 at_flies past Rests n h e = cc
 at_flies past (Begun what) n h e = cc
-at_flies past (Does doing) n h e = wanted_flies past (wants doing) n h e
+at_flies past (Does doing) n h e = wanted_flies past (in_hand doing) n h e
 
 pub flies_taken : (past : Past) (n : ℕ) → InFlight past n → is_ticket_taken past.state.pages n ≡ true
 flies_taken past n h = page_passes _ past.state.pages h.p h.page h.there (ap (λ (m : Option ℕ). is_number m n) h.ticket ∙ own_number n)
@@ -175,11 +184,12 @@ module _ (old new : Past) (left : Option ℕ) (goes : GoesOn old new left) where
   wanted_goes (want.Call remembers what) other h = asked_goes what other h
   wanted_goes (want.Read access ticket) other h = coming_goes ticket (other ticket.number refl) h
   wanted_goes (want.Write on ticket) other h = going_goes ticket (other ticket.number refl) h
+  wanted_goes (want.End said) other h = tt
 
   at_goes : (at : Activity) → ((n : ℕ) → number_at at ≡ Some n → left ≡ Some n → ⊥) → KeepsAt old at → KeepsAt new at
   at_goes Rests other h = tt
   at_goes (Begun what) other h = tt
-  at_goes (Does doing) other h = wanted_goes (wants doing) other h
+  at_goes (Does doing) other h = wanted_goes (in_hand doing) other h
 
 taker_entry : (given : Option ℕ) (n : ℕ) (others : Option ℕ) → others ≡ Some 0 → taker_or n given 0 others ≡ Some 0
 taker_entry None n others e = e
@@ -330,11 +340,11 @@ module _ (old new : Past) (alive : AllLive old.state.mappings old.state.tasks) w
           subst (λ (t : TicketOf). IsComing old t) (sym reads.same)
           (record { p = coming.p; page = coming.page; frame = coming.frame; there = coming.there; coming = coming.coming; taken = coming.taken })
 
-      own : (answered : Result (Unit {0}) Fault) → KeepsWanted old (wants (after_read access answered reads.filled))
+      own : (answered : Result (Unit {0}) Fault) → KeepsWanted old (in_hand (after_read access answered reads.filled))
       own (Ok done) = filled
       own (Err fault) = filled
 
-      number : (answered : Result (Unit {0}) Fault) → number_wanted (wants (after_read access answered reads.filled)) ≡ Some ticket.number
+      number : (answered : Result (Unit {0}) Fault) → number_wanted (in_hand (after_read access answered reads.filled)) ≡ Some ticket.number
       number (Ok done) = ap (λ (t : TicketOf). Some t.number) reads.same
       number (Err fault) = ap (λ (t : TicketOf). Some t.number) reads.same
 
@@ -345,18 +355,26 @@ module _ (old new : Past) (alive : AllLive old.state.mappings old.state.tasks) w
       (λ n e. sym (number writes.answered) ∙ sym (ap (λ (t : Turned). number_at (left_of t)) writes.goes) ∙ e)
       (subst (λ (t : Turned). FineOutcome (outcome_of t)) (sym writes.goes) tt)
     where
-      own : (answered : Result (Unit {0}) Fault) → KeepsWanted old (wants (after_write on answered ticket))
+      own : (answered : Result (Unit {0}) Fault) → KeepsWanted old (in_hand (after_write on answered ticket))
       own (Ok done) = going
       own (Err fault) = going
 
-      number : (answered : Result (Unit {0}) Fault) → number_wanted (wants (after_write on answered ticket)) ≡ Some ticket.number
+      number : (answered : Result (Unit {0}) Fault) → number_wanted (in_hand (after_write on answered ticket)) ≡ Some ticket.number
       number (Ok done) = refl
       number (Err fault) = refl
 
-  pub want_turn : (disk disk' : Disk) (want : Want) (turned : Turned) → KeepsWanted old want → WantTurn old disk want turned new disk' → TurnsWell old want turned new
-  want_turn disk disk' (want.Call remembers what) turned keeps turn = asks_turn remembers what turned keeps turn.0
-  want_turn disk disk' (want.Read access ticket) turned keeps turn = reads_turn disk disk' access ticket turned keeps turn.1 turn.0
-  want_turn disk disk' (want.Write on ticket) turned keeps turn = writes_turn disk disk' on ticket turned keeps turn.1 turn.0
+  ends_turn : (said : Answer) (turned : Turned) → Fine said → new ≡ old → turned ≡ Ends said → TurnsWell old (want.End said) turned new
+  ends_turn said turned fine same ends =
+      same_turn (want.End said) turned same
+      (subst (λ (t : Turned). KeepsAt old (left_of t)) (sym ends) tt)
+      (λ n e. never_some (number_at (left_of turned)) (ap (λ (t : Turned). number_at (left_of t)) ends) e)
+      (subst (λ (t : Turned). FineOutcome (outcome_of t)) (sym ends) fine)
+
+  pub want_turn : (disk disk' : Disk) (want : Want) (turned : Turned) → FineWant want → KeepsWanted old want → WantTurn old disk want turned new disk' → TurnsWell old want turned new
+  want_turn disk disk' (want.Call remembers what) turned fine keeps turn = asks_turn remembers what turned keeps turn.0
+  want_turn disk disk' (want.Read access ticket) turned fine keeps turn = reads_turn disk disk' access ticket turned keeps turn.1 turn.0
+  want_turn disk disk' (want.Write on ticket) turned fine keeps turn = writes_turn disk disk' on ticket turned keeps turn.1 turn.0
+  want_turn disk disk' (want.End said) turned fine keeps turn = ends_turn said turned fine turn.1 turn.0
 
 -- ---- worlds
 
@@ -396,17 +414,23 @@ tickets_rest w who what idle h =
     }
 
 -- the actor's own ticket, and that no other has it
-pub own_keeps : (w : World) (who : Actor) (now : Doing) → IsAt w who now → Tickets w → KeepsWanted w.past (wants now)
-own_keeps w who now (inl is) h = subst (λ (at : Activity). KeepsAt w.past at) is (h.keeps who)
-own_keeps w who now (inr none) h = wanted_none w.past (wants now) none
+pub own_keeps : (w : World) (who : Actor) (now : Doing) → IsAt w who now → Tickets w → KeepsWanted w.past (wants_at w.past now)
+own_keeps w who now at h = wanted_alike w.past (wants_at w.past now) (in_hand now) (wants_alike w.past now) (held at)
+  where
+    held : IsAt w who now → KeepsWanted w.past (in_hand now)
+    held (inl is) = subst (λ (at : Activity). KeepsAt w.past at) is (h.keeps who)
+    held (inr none) = wanted_none w.past (in_hand now) none
 
 pub others_differ : (w : World) (who : Actor) (now : Doing) → IsAt w who now → Tickets w → (a : Actor) → (number_of a ≡ number_of who → ⊥) → (n : ℕ) → number_at (activity_of a w.seats) ≡ Some n
-    → number_wanted (wants now) ≡ Some n → ⊥
-others_differ w who now (inl is) h a differs n e f = differs (h.apart a who n e (ap number_at is ∙ f))
-others_differ w who now (inr none) h a differs n e f = never_some (number_wanted (wants now)) none f
+    → number_wanted (wants_at w.past now) ≡ Some n → ⊥
+others_differ w who now at h a differs n e f = differ at (sym (wanted_in_hand w.past now) ∙ f)
+  where
+    differ : IsAt w who now → number_wanted (in_hand now) ≡ Some n → ⊥
+    differ (inl is) g = differs (h.apart a who n e (ap number_at is ∙ g))
+    differ (inr none) g = never_some (number_wanted (in_hand now)) none g
 
-pub turns_well : (old new : World) (who : Actor) (now : Doing) (outcome : Outcome) → IsAt old who now → (turn : DoingTurn old who now outcome new) → Tickets old → TurnsWell old.past (wants now) turn.turned new.past
-turns_well old new who now outcome at turn h = want_turn old.past new.past h.live old.disk new.disk (wants now) turn.turned (own_keeps old who now at h) turn.turns
+pub turns_well : (old new : World) (who : Actor) (now : Doing) (outcome : Outcome) → IsAt old who now → (turn : DoingTurn old who now outcome new) → Tickets old → TurnsWell old.past (wants_at old.past now) turn.turned new.past
+turns_well old new who now outcome at turn h = want_turn old.past new.past h.live old.disk new.disk (wants_at old.past now) turn.turned (wants_fine old.past now) (own_keeps old who now at h) turn.turns
 
 pub tickets_turn : (old new : World) (who : Actor) (now : Doing) (outcome : Outcome) → IsAt old who now → DoingTurn old who now outcome new → Tickets old → Tickets new × FineOutcome outcome
 tickets_turn old new who now outcome at turn h =

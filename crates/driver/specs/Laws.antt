@@ -1,7 +1,8 @@
 -- The headline in the words of its users: what holds of every step and of every run.
-use Rattle.std.specs.Prelude.{◌≡◌, ℕ, ◌+◌, ◌<◌, ◌≤◌, true, false, List, ◌∷◌, ◌++◌, Some, slice_get}
+use Rattle.std.specs.Prelude.{◌≡◌, ◌≢◌, ◌⊎◌, ℕ, ◌+◌, ◌<◌, ◌≤◌, ◌==◌, true, false, if◌then◌else◌, List, ◌∷◌, ◌++◌, count_by, find, Option, Some, None, slice_get}
 use Rattle.machine.specs.declared.config.Config.{Config}
 use Rattle.machine.specs.declared.entry.Entry.{Entry}
+use Rattle.machine.specs.declared.id.GroupId.{GroupId}
 use Rattle.machine.specs.declared.event.Cause.{Cause}
 use Rattle.machine.specs.declared.event.Op.{Op}
 use Rattle.machine.specs.declared.event.Place.{Place}
@@ -16,15 +17,18 @@ use Rattle.machine.specs.declared.reply.Reply.TheVariants as reply
 use Rattle.machine.specs.declared.reply.Shown.TheVariants as shown
 use Rattle.machine.specs.declared.command.Step.{Step as Line}
 use Rattle.machine.specs.declared.command.Reply.{Reply as Told_by}
+use Rattle.machine.specs.Slots.{there_and}
 use Rattle.machine.specs.Amounts.{exceeds}
 use Rattle.machine.specs.Counts.{limits_at, local, total}
 use Rattle.machine.specs.Tree.{Node, is_live, under}
-use Rattle.machine.specs.Pages.{Page, page_at, is_anon, frame_at, block_at, ticket_at, is_in_transfer, is_charged}
+use Rattle.machine.specs.Pages.{Page, page_at, is_anon, is_held, frame_at, block_at, ticket_at, is_in_transfer, is_charged}
 use Rattle.machine.specs.Tasks.{lives, group_of_task}
-use Rattle.machine.specs.State.{Opening, State, usage, opening_of}
+use Rattle.machine.specs.State.{Opening, State, usage, effective_min, opening_of}
 use Rattle.machine.specs.Reclaim.{is_idle, target_of}
+use Rattle.machine.specs.Lists.{is_held_at, is_page_of, served}
 use Rattle.machine.specs.Victim.{is_candidate}
 use Rattle.machine.specs.Step.{Step}
+use Rattle.machine.specs.Call.{Past, Called}
 use Rattle.machine.specs.Legal.{Legal}
 use Rattle.machine.specs.History.{Right, IsRight, Honest}
 use Rattle.machine.specs.declared.command.Answer.TheVariants as answer
@@ -84,9 +88,9 @@ ChargesStayWithinMax =
     (before after : State) (t : ℕ) (place : Place) (op : Op) (answer : Reply) (a : ℕ) → Step before (event.Access (record { 0 = t }) place op) answer after
     → usage before a < usage after a → exceeds (usage after a) (limits_at after.limits a).max ≡ false
 
--- beginning to write a page out leaves every group's count as it was. (Excludes a charge that is given back before the page has left.)
+-- beginning to write a page out leaves every group's count as it was, whoever wanted it. (Excludes a charge that is given back before the page has left.)
 abbrev pub WriteOutsStayCharged : Type 0
-WriteOutsStayCharged = (before after : State) (why : Cause) (n a : ℕ) → Step before (event.Relieve why) (reply.Out (record { 0 = n })) after → usage after a ≡ usage before a
+WriteOutsStayCharged = (before after : State) (what : Event) (n a : ℕ) → Step before what (reply.Out (record { 0 = n })) after → usage after a ≡ usage before a
 
 -- the event is an access
 abbrev pub IsAccess : Event → Type 0
@@ -104,6 +108,59 @@ abbrev pub KillsComeLast : Type 0
 KillsComeLast =
     (before after : State) (why : Cause) (t : ℕ) → Step before (event.Relieve why) (reply.KilledTask (record { 0 = t })) after
     → (is_idle before (target_of why) ≡ true) × (is_candidate before.tree before.tasks (target_of why) t ≡ true)
+
+-- the target of a reclaim, where a page was taken for it
+abbrev pub took_for : Event → Reply → Option ℕ
+took_for (event.Relieve why) (reply.Out ticket) = Some (target_of why)
+took_for (event.Relieve why) reply.Dropped = Some (target_of why)
+took_for (event.ReclaimOne g) (reply.Out ticket) = Some g.0
+took_for (event.ReclaimOne g) reply.Dropped = Some g.0
+took_for what answer = None
+
+-- one page stood in its frame and is taken from there, and no other changes. Its group is at or under the target, and is the target itself, or used more than its effective min
+-- for a reclaim of the target
+pub record TakesUnprotected (before : State) (target : ℕ) (after : State) : Type 0 where
+  pub p : ℕ
+  pub page : Page
+  pub there : page_at before.pages p ≡ Some page
+  pub held : is_held page ≡ true
+  pub leaves : there_and is_held (page_at after.pages p) ≡ false
+  pub others : (q : ℕ) → q ≢ p → page_at after.pages q ≡ page_at before.pages q
+  pub below : under before.tree target page.group ≡ true
+  pub unprotected : (page.group ≡ target) ⊎ (exceeds (usage before page.group) (effective_min before target page.group) ≡ true)
+
+-- a reclaim takes from its target, and from a group below it only what that uses beyond its effective memory.min. (Excludes a page of a group within its protection.)
+abbrev pub ReclaimsSpareTheProtected : Type 0
+ReclaimsSpareTheProtected =
+    (before after : State) (what : Event) (answer : Reply) (target : ℕ) → took_for what answer ≡ Some target → Step before what answer after → TakesUnprotected before target after
+
+-- a reclaim finds nothing only where nothing can be taken for its target and no page under it is in transfer, and it leaves all as it was
+abbrev pub ReclaimsGiveUpLast : Type 0
+ReclaimsGiveUpLast = (before after : State) (g : ℕ) → Step before (event.ReclaimOne (record { 0 = g })) reply.Nothing after → (is_idle before g ≡ true) × (after ≡ before)
+
+-- nobody is killed for a reclaim that no charge asks for: none is answered by a kill, and no task changes
+abbrev pub ReclaimsKillNobody : Type 0
+ReclaimsKillNobody =
+    (before after : State) (g : GroupId) (answer : Reply) → Step before (event.ReclaimOne g) answer after
+    → ((t : ℕ) → answer ≡ reply.KilledTask (record { 0 = t }) → ⊥) × (after.tasks ≡ before.tasks)
+
+-- whatever a run leads to, each page that is in a frame and in no transfer is in the list of held pages once, and no other page is
+abbrev pub HeldPagesAreListed : Type 0
+HeldPagesAreListed =
+    (config : Config) (before : Disk) (steps : List Line) (answers : List Told_by) (end : World) → Runs (first_world config before) steps answers end
+    → (p : ℕ) → count_by (λ q. q == p) end.past.order.held ≡ (if is_held_at end.past.state.pages p then 1 else 0)
+
+-- a page was taken for the target, and it was its group's turn to give one, and the page the first of its group's in the list of held pages
+pub record LeavesInOrder (before : Past) (target : ℕ) (after : Past) : Type 0 where
+  pub taken : TakesUnprotected before.state target after.state
+  pub turn : served before.state before.order target ≡ Some taken.page.group
+  pub oldest : find (is_page_of before.state.pages taken.page.group) before.order.held ≡ Some taken.p
+
+-- so it is with each page that a call takes, wherever a run leads to. (Excludes a newer page that leaves before an older one of its group, and a group that gives pages out of its turn.)
+abbrev pub PagesLeaveInOrder : Type 0
+PagesLeaveInOrder =
+    (config : Config) (before : Disk) (steps : List Line) (answers : List Told_by) (end : World) → Runs (first_world config before) steps answers end
+    → (after : Past) (what : Event) (answer : Reply) (target : ℕ) → took_for what answer ≡ Some target → Called end.past 0 what answer after → LeavesInOrder end.past target after
 
 -- each read in a right history gave the last write before it
 abbrev pub ReadsGiveLastWrites : Type 0

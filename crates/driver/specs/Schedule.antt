@@ -26,7 +26,7 @@ use Rattle.driver.specs.declared.turn.Outcome.TheVariants.{Goes, Kills, Ends}
 use Rattle.driver.specs.declared.turn.Activity.{Activity}
 use Rattle.driver.specs.declared.turn.Activity.TheVariants.{Rests, Begun, Does}
 use Rattle.driver.specs.declared.turn.Seat.{Seat}
-use Rattle.machine.specs.State.{opening_of, is_config}
+use Rattle.machine.specs.State.{opening_of, is_config, free_frames}
 use Rattle.machine.specs.History.{Honest, Right}
 use Rattle.machine.specs.Call.{Past, first_past, Called}
 use Rattle.driver.specs.Turns.{wants, Told, ReadsIn, WritesOut, Judged, judged, ends_refused}
@@ -37,6 +37,7 @@ use Rattle.driver.specs.Turns.{wants, Told, ReadsIn, WritesOut, Judged, judged, 
 abbrev pub number_of : Actor → ℕ
 number_of actor.Shell = 0
 number_of actor.Control = 1
+number_of actor.Daemon = 2
 number_of (actor.Task n) = n + 3
 
 abbrev pub is_of : Actor → Seat → Bool
@@ -83,16 +84,21 @@ pub record Asks (old : Past) (remembers : Asked) (what : Event) (turned : Turned
   pub keeps : KeepsTicket 0 what said
   pub told : Told remembers said turned
 
--- a turn asks the book or the device, and leaves the other as it was
+-- a turn asks the book or the device, and leaves the other as it was; or it asks neither, and the command ends
 abbrev pub WantTurn : Past → Disk → Want → Turned → Past → Disk → Type 0
 WantTurn past disk (want.Call remembers what) turned past' disk' = Asks past remembers what turned past' × (disk' ≡ disk)
 WantTurn past disk (want.Read access ticket) turned past' disk' = ReadsIn disk access ticket turned disk' × (past' ≡ past)
 WantTurn past disk (want.Write on ticket) turned past' disk' = WritesOut disk on ticket turned disk' × (past' ≡ past)
+WantTurn past disk (want.End said) made past' disk' = (made ≡ turned.Ends said) × (past' ≡ past) × (disk' ≡ disk)
+
+-- what it wants as the book stands
+abbrev pub wants_at : Past → Doing → Want
+wants_at past doing = wants past.state.opening.marks (free_frames past.state) doing
 
 -- a turn of a command that stands there
 pub record DoingTurn (old : World) (who : Actor) (doing : Doing) (outcome : Outcome) (new : World) : Type 0 where
   pub turned : Turned
-  pub turns : WantTurn old.past old.disk (wants doing) turned new.past new.disk
+  pub turns : WantTurn old.past old.disk (wants_at old.past doing) turned new.past new.disk
   pub shows : outcome ≡ outcome_of turned
   pub leaves : new.seats ≡ with_activity who (left_of turned) old.seats
 

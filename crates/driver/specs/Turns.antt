@@ -1,6 +1,8 @@
 -- The table of turns: what a command in a state asks of the book or of the device, and what it makes of the answer.
-use Rattle.std.specs.Prelude.{◌≡◌, ℕ, if◌then◌else◌, List, Result, Ok, Err, Option, Some, None}
+use Rattle.std.specs.Prelude.{◌≡◌, ℕ, zero, suc, nat_le, if◌then◌else◌, List, Result, Ok, Err, Option, Some, None}
 use Rattle.machine.specs.declared.amount.Amount.{Amount}
+use Rattle.machine.specs.declared.amount.Amount.TheVariants as amount
+use Rattle.machine.specs.declared.config.Watermarks.{Watermarks}
 use Rattle.machine.specs.declared.event.Op.{Op}
 use Rattle.machine.specs.declared.event.Op.TheVariants.{Read, Write}
 use Rattle.machine.specs.declared.event.Cause.TheVariants as cause
@@ -27,7 +29,7 @@ use Rattle.book.specs.declared.event.Event.{Event}
 use Rattle.book.specs.declared.event.Event.TheVariants as event
 use Rattle.book.specs.declared.event.Reply.{Reply}
 use Rattle.book.specs.declared.event.Reply.TheVariants as reply
-use Rattle.book.specs.Replies.{Replies, IsAccessReply, IsReliefReply, IsOkReply, IsExitReply, IsShownReply, IsInReply, IsOutReply}
+use Rattle.book.specs.Replies.{Replies, IsAccessReply, IsReliefReply, IsReclaimReply, IsOkReply, IsExitReply, IsShownReply, IsInReply, IsOutReply}
 use Rattle.driver.specs.declared.turn.Access.{Access}
 use Rattle.driver.specs.declared.turn.Onward.{Onward}
 use Rattle.driver.specs.declared.turn.Onward.TheVariants as onward
@@ -45,22 +47,42 @@ use Rattle.driver.specs.declared.turn.Turned.TheVariants.{Goes, Kills, Ends}
 abbrev pub access_event : Access → Event
 access_event access = event.Access access.task access.place access.op
 
--- what a command that stands there wants, and what it remembers meanwhile
-abbrev pub wants : Doing → Want
-wants (doing.Try access) = want.Call (asked.Try access) (access_event access)
-wants (doing.MakeRoom access why) = want.Call (asked.MakeRoom access) (event.Relieve why)
-wants (doing.SetMax g max) = want.Call (asked.SetMax g) (event.Set g (setting.Max max))
-wants (doing.Lower g) = want.Call (asked.Lower g) (event.Relieve (cause.Lower g))
-wants (doing.Spawn t g) = want.Call asked.Make (event.Spawn t g)
-wants (doing.Exit t) = want.Call asked.Exit (event.Exit t)
-wants (doing.Mkdir path) = want.Call asked.Make (event.Mkdir path)
-wants (doing.Show what) = want.Call asked.Show (event.Show what)
-wants (doing.Read access ticket) = want.Read access ticket
-wants (doing.Arrive access ticket) = want.Call (asked.Arrive access) (event.Arrived ticket)
-wants (doing.FetchFail ticket) = want.Call asked.FetchFail (event.FetchFailed ticket)
-wants (doing.Write on ticket) = want.Write on ticket
-wants (doing.Leave on ticket) = want.Call (asked.Leave on) (event.Left ticket)
-wants (doing.LeaveFail ticket) = want.Call asked.LeaveFail (event.LeaveFailed ticket)
+abbrev pub done : Want
+done = want.End answer.Done
+
+-- one page of so many is taken; with none left the command is done, and asks nothing
+abbrev pub wants_pages : ℕ → ℕ → Want
+wants_pages g zero = done
+wants_pages g (suc left) = want.Call (asked.Reclaim (record { 0 = g }) left) (event.ReclaimOne (record { 0 = g }))
+
+-- the daemon takes pages of all groups until so many frames are free as its high mark says
+abbrev pub wants_balance : Watermarks → ℕ → Want
+wants_balance marks free = if nat_le marks.high free then done else want.Call asked.Balance (event.ReclaimOne (record { 0 = 0 }))
+
+-- it begins where fewer are free than its low mark says. (Excludes a daemon that returns at once.)
+abbrev pub wants_watch : Watermarks → ℕ → Want
+wants_watch marks free = if nat_le marks.low free then done else wants_balance marks free
+
+-- what a command that stands there wants, and what it remembers meanwhile, where so many frames are free
+abbrev pub wants : Watermarks → ℕ → Doing → Want
+wants marks free (doing.Try access) = want.Call (asked.Try access) (access_event access)
+wants marks free (doing.MakeRoom access why) = want.Call (asked.MakeRoom access) (event.Relieve why)
+wants marks free (doing.SetMax g max) = want.Call (asked.SetMax g) (event.Set g (setting.Max max))
+wants marks free (doing.Lower g) = want.Call (asked.Lower g) (event.Relieve (cause.Lower g))
+wants marks free (doing.SetMin g min) = want.Call asked.Make (event.Set g (setting.Min min))
+wants marks free (doing.Reclaim g left) = wants_pages g.0 left
+wants marks free doing.Watch = wants_watch marks free
+wants marks free doing.Balance = wants_balance marks free
+wants marks free (doing.Spawn t g) = want.Call asked.Make (event.Spawn t g)
+wants marks free (doing.Exit t) = want.Call asked.Exit (event.Exit t)
+wants marks free (doing.Mkdir path) = want.Call asked.Make (event.Mkdir path)
+wants marks free (doing.Show what) = want.Call asked.Show (event.Show what)
+wants marks free (doing.Read access ticket) = want.Read access ticket
+wants marks free (doing.Arrive access ticket) = want.Call (asked.Arrive access) (event.Arrived ticket)
+wants marks free (doing.FetchFail ticket) = want.Call asked.FetchFail (event.FetchFailed ticket)
+wants marks free (doing.Write on ticket) = want.Write on ticket
+wants marks free (doing.Leave on ticket) = want.Call (asked.Leave on) (event.Left ticket)
+wants marks free (doing.LeaveFail ticket) = want.Call asked.LeaveFail (event.LeaveFailed ticket)
 
 -- ---- what it makes of the reply
 
@@ -112,7 +134,23 @@ Lowered g reply.NoVictim turned = turned ≡ Ends answer.Done
 Lowered g (reply.Refused why) turned = turned ≡ ends_refused why
 Lowered g said turned = ⊥
 
--- a task or a group is made, and a file is shown
+-- a page that is taken is written out first; where one is in transfer the writer is told so; where there is nothing it may ask again
+abbrev pub Reclaimed : ℕ → ℕ → Reply → Turned → Type 0
+Reclaimed g left (reply.Out ticket) turned = turned ≡ Goes (doing.Write (onward.Reclaim (record { 0 = g }) left) ticket)
+Reclaimed g left reply.Wait turned = turned ≡ ends_with word.Busy
+Reclaimed g left reply.Nothing turned = turned ≡ ends_with word.Again
+Reclaimed g left (reply.Refused why) turned = turned ≡ ends_refused why
+Reclaimed g left said turned = ⊥
+
+-- the daemon is done where there is nothing to be taken
+abbrev pub Balanced : Reply → Turned → Type 0
+Balanced (reply.Out ticket) turned = turned ≡ Goes (doing.Write onward.Balance ticket)
+Balanced reply.Wait turned = turned ≡ ends_with word.Busy
+Balanced reply.Nothing turned = turned ≡ Ends answer.Done
+Balanced (reply.Refused why) turned = turned ≡ ends_refused why
+Balanced said turned = ⊥
+
+-- a task or a group is made or a min is set, and a file is shown
 abbrev pub Made : Reply → Turned → Type 0
 Made reply.Ok turned = turned ≡ Ends answer.Done
 Made (reply.Refused why) turned = turned ≡ ends_refused why
@@ -134,6 +172,8 @@ WasShown said turned = ⊥
 abbrev pub goes_on : Onward → Doing
 goes_on (onward.Try access) = doing.Try access
 goes_on (onward.Lower g) = doing.Lower g
+goes_on (onward.Reclaim g left) = doing.Reclaim g left
+goes_on onward.Balance = doing.Balance
 
 -- a transfer has ended, and the command goes on so; or the ticket was none of its own, which never happens
 abbrev pub Closed : Turned → Reply → Turned → Type 0
@@ -147,6 +187,8 @@ Told (asked.Try access) said turned = Tried access said turned
 Told (asked.MakeRoom access) said turned = MadeRoom access said turned
 Told (asked.SetMax g) said turned = MaxSet g.0 said turned
 Told (asked.Lower g) said turned = Lowered g.0 said turned
+Told (asked.Reclaim g left) said turned = Reclaimed g.0 left said turned
+Told asked.Balance said turned = Balanced said turned
 Told asked.Make said turned = Made said turned
 Told asked.Exit said turned = Ended said turned
 Told asked.Show said turned = WasShown said turned
@@ -161,6 +203,8 @@ Awaits (asked.Try access) said = IsAccessReply said
 Awaits (asked.MakeRoom access) said = IsReliefReply said
 Awaits (asked.SetMax g) said = IsOkReply said
 Awaits (asked.Lower g) said = IsReliefReply said
+Awaits (asked.Reclaim g left) said = IsReclaimReply said
+Awaits asked.Balance said = IsReclaimReply said
 Awaits asked.Make said = IsOkReply said
 Awaits asked.Exit said = IsExitReply said
 Awaits asked.Show said = IsShownReply said
@@ -173,15 +217,16 @@ abbrev pub AwaitsAll : Want → Type 0
 AwaitsAll (want.Call remembers what) = (said : Reply) → Replies what said → Awaits remembers said
 AwaitsAll (want.Read access ticket) = Unit {0}
 AwaitsAll (want.Write on ticket) = Unit {0}
+AwaitsAll (want.End said) = Unit {0}
 
 -- ---- what it makes of the device's answer
 
 abbrev pub after_read : Access → Result (Unit {0}) Fault → TicketOf → Doing
-after_read access (Ok done) ticket = doing.Arrive access ticket
+after_read access (Ok _) ticket = doing.Arrive access ticket
 after_read access (Err fault) ticket = doing.FetchFail ticket
 
 abbrev pub after_write : Onward → Result (Unit {0}) Fault → TicketOf → Doing
-after_write on (Ok done) ticket = doing.Leave on ticket
+after_write on (Ok _) ticket = doing.Leave on ticket
 after_write on (Err fault) ticket = doing.LeaveFail ticket
 
 -- the ticket's block is read into it, or the call fails
@@ -217,11 +262,19 @@ abbrev pub with_amount : Option Amount → (Amount → Judged) → Judged
 with_amount None next = Err Invalid
 with_amount (Some amount) next = next amount
 
+-- the mode of a file that is read
 abbrev pub reads_file : ℕ → ControlFile → Judged
 reads_file g file.Current = Ok (doing.Show (query.Current (record { 0 = g })))
 reads_file g file.Max = Ok (doing.Show (query.Max (record { 0 = g })))
+reads_file g file.Min = Ok (doing.Show (query.Min (record { 0 = g })))
 reads_file g file.Events = Ok (doing.Show (query.Events (record { 0 = g })))
 reads_file g file.EventsLocal = Ok (doing.Show (query.EventsLocal (record { 0 = g })))
+reads_file g file.Reclaim = Err Invalid
+
+-- so many pages are to be taken; there is no telling how many `max` would be
+abbrev pub reclaims : ℕ → Amount → Judged
+reclaims g amount.Max = Err Invalid
+reclaims g (amount.Pages n) = Ok (doing.Reclaim (record { 0 = g }) n)
 
 -- the mode is judged before the amount
 abbrev pub writes_file : ℕ → List ℕ → ControlFile → Judged
@@ -229,6 +282,8 @@ writes_file g text file.Current = Err Invalid
 writes_file g text file.Events = Err Invalid
 writes_file g text file.EventsLocal = Err Invalid
 writes_file g text file.Max = with_amount (amount_of text) (λ max. Ok (doing.SetMax (record { 0 = g }) max))
+writes_file g text file.Min = with_amount (amount_of text) (λ min. Ok (doing.SetMin (record { 0 = g }) min))
+writes_file g text file.Reclaim = with_amount (amount_of text) (reclaims g)
 
 abbrev pub task_judged : ℕ → Command → Judged
 task_judged t (command.Access place op) = Ok (doing.Try (record { task = record { 0 = t }; place = place; op = op }))
@@ -238,13 +293,21 @@ task_judged t others = Err Invalid
 abbrev pub shell_judged : List Node → Command → Judged
 shell_judged tree (command.Access place op) = Err Invalid
 shell_judged tree command.Exit = Err Invalid
+shell_judged tree command.Daemon = Err Invalid
 shell_judged tree (command.Group path) = Ok (doing.Mkdir path)
 shell_judged tree (command.Task t path) = with_group (find_group tree path) (λ g. Ok (doing.Spawn (record { 0 = t }) (record { 0 = g })))
 shell_judged tree (command.Set path name text) = with_group (find_group tree path) (λ g. with_file g (file_named name) (writes_file g text))
 shell_judged tree (command.Cat path name) = with_group (find_group tree path) (λ g. with_file g (file_named name) (reads_file g))
+shell_judged tree (command.Protection target path) =
+    with_group (find_group tree target) (λ t. with_group (find_group tree path) (λ g. Ok (doing.Show (query.Protection (record { 0 = t }) (record { 0 = g })))))
+
+abbrev pub daemon_judged : Command → Judged
+daemon_judged command.Daemon = Ok doing.Watch
+daemon_judged others = Err Invalid
 
 -- what becomes of a command in its first turn; one that is none of its actor's is Invalid
 abbrev pub judged : List Node → Actor → Command → Judged
 judged tree (actor.Task t) what = task_judged t what
 judged tree actor.Shell what = shell_judged tree what
 judged tree actor.Control what = shell_judged tree what
+judged tree actor.Daemon what = daemon_judged what

@@ -3,24 +3,25 @@
 //! this one.
 
 ghost use Rattle.std.specs.Prelude.{◌≡◌, true, IfOk, IfErr};
-ghost use Rattle.book.specs.Replies.{IsAccessReply, IsReliefReply, IsOkReply, IsExitReply, IsShownReply, IsInReply, IsOutReply};
-ghost use Rattle.driver.specs.Turns.{access_event, wants, ends_with, ends_refused, byte_answer, goes_on, Tried, MadeRoom, MaxSet, Lowered, Made, Ended, WasShown, Closed, Told, Awaits, AwaitsAll};
+ghost use Rattle.book.specs.Replies.{IsAccessReply, IsReliefReply, IsReclaimReply, IsOkReply, IsExitReply, IsShownReply, IsInReply, IsOutReply};
+ghost use Rattle.driver.specs.Turns.{access_event, wants_pages, wants_balance, wants_watch, wants, ends_with, ends_refused, byte_answer, goes_on, Tried, MadeRoom, MaxSet, Lowered, Reclaimed, Balanced, Made, Ended, WasShown, Closed, Told, Awaits, AwaitsAll};
 ghost use Rattle.driver.specs.Tickets.{IsHanded, IsSpendableReply};
 
 use crate::turn::{Access, Asked, Doing, Onward, Turned, Want};
 use book::{Event, InTicket, OutTicket, Reply};
 use control_files::show_text;
 use machine::command::{Answer, Word};
+use machine::config::Watermarks;
 use machine::event::{Cause, Op, Setting};
 use machine::id::GroupId;
 use machine::refusal::Refusal;
 use machine::text::Text;
 use std::alloc::{AllocError, Global};
 
-/// What a command wants in one turn. The event of a [`Want::Call`] has only replies that [`told`]
-/// knows of.
-pub fn ask(doing: Doing) -> Want
-    ensures wants { result ≡ wants doing }
+/// What a command wants in one turn, with the daemon's marks and so many frames free. The event of a
+/// [`Want::Call`] has only replies that [`told`] knows of.
+pub fn ask(doing: Doing, marks: Watermarks, free: u32) -> Want
+    ensures wants { result ≡ wants marks free doing }
     ensures awaits { AwaitsAll result }
 {
     match doing {
@@ -36,6 +37,16 @@ pub fn ask(doing: Doing) -> Want
             },
         ),
         Doing::Lower(group) => Want::Call(Asked::Lower(group), Event::Relieve(Cause::Lower(group))),
+        Doing::SetMin { group, min } => Want::Call(
+            Asked::Make,
+            Event::Set {
+                group,
+                setting: Setting::Min(min),
+            },
+        ),
+        Doing::Reclaim { group, left } => ask_page(group, left),
+        Doing::Watch => watch(marks, free),
+        Doing::Balance => balance(marks, free),
         Doing::Spawn { task, group } => Want::Call(Asked::Make, Event::Spawn { task, group }),
         Doing::Exit(task) => Want::Call(Asked::Exit, Event::Exit(task)),
         Doing::Mkdir(path) => Want::Call(Asked::Make, Event::Mkdir(path)),
@@ -59,6 +70,40 @@ fn access_event(access: Access) -> Event
     }
 }
 
+/// One page of so many is taken.
+fn ask_page(group: GroupId, left: u64) -> Want
+    ensures wants { result ≡ wants_pages group.0 left }
+    ensures awaits { AwaitsAll result }
+{
+    if left == 0 {
+        return Want::End(Answer::Done);
+    }
+    let left = left - 1;
+    Want::Call(Asked::Reclaim { group, left }, Event::ReclaimOne(group))
+}
+
+/// The daemon begins below its low mark.
+fn watch(marks: Watermarks, free: u32) -> Want
+    ensures wants { result ≡ wants_watch marks free }
+    ensures awaits { AwaitsAll result }
+{
+    if free >= marks.low {
+        return Want::End(Answer::Done);
+    }
+    balance(marks, free)
+}
+
+/// And it goes on up to its high mark.
+fn balance(marks: Watermarks, free: u32) -> Want
+    ensures wants { result ≡ wants_balance marks free }
+    ensures awaits { AwaitsAll result }
+{
+    if free >= marks.high {
+        return Want::End(Answer::Done);
+    }
+    Want::Call(Asked::Balance, Event::ReclaimOne(GroupId(0)))
+}
+
 /// What a command makes of the book's reply, a ticket in which goes on with the command or is spent.
 /// It fails only where memory is wanted for a control file's text and refused.
 pub fn told(alloc: Global, asked: Asked, reply: Reply) -> Result<Turned, AllocError>
@@ -72,6 +117,8 @@ pub fn told(alloc: Global, asked: Asked, reply: Reply) -> Result<Turned, AllocEr
         Asked::MakeRoom(access) => Ok(made_room(access, reply)),
         Asked::SetMax(group) => Ok(max_set(group, reply)),
         Asked::Lower(group) => Ok(lowered(group, reply)),
+        Asked::Reclaim { group, left } => Ok(reclaimed(group, left, reply)),
+        Asked::Balance => Ok(balanced(reply)),
         Asked::Make => Ok(made(reply)),
         Asked::Exit => Ok(ended(reply)),
         Asked::Show => shown(alloc, reply),
@@ -115,8 +162,8 @@ pub(crate) fn spend(reply: Reply)
         | Reply::NoFrame
         | Reply::Busy
         | Reply::Killed => {}
-        Reply::Ok | Reply::Room | Reply::Wait | Reply::KilledTask(_) | Reply::NoVictim => {}
-        Reply::Shown(_) | Reply::Refused(_) => {}
+        Reply::Ok | Reply::Room | Reply::Wait | Reply::Nothing => {}
+        Reply::KilledTask(_) | Reply::NoVictim | Reply::Shown(_) | Reply::Refused(_) => {}
     }
 }
 
@@ -180,6 +227,32 @@ fn lowered(group: GroupId, reply: Reply) -> Turned
         Reply::Out(ticket) => Turned::Goes(Doing::Write(Onward::Lower(group), ticket)),
         Reply::Wait => word(Word::Busy),
         Reply::KilledTask(task) => Turned::Kills(task, Doing::Lower(group)),
+        Reply::Refused(cause) => refused(cause),
+        other => never(other),
+    }
+}
+
+fn reclaimed(group: GroupId, left: u64, reply: Reply) -> Turned
+    requires { IsReclaimReply reply }
+    ensures { Reclaimed group.0 left reply result }
+{
+    match reply {
+        Reply::Out(ticket) => Turned::Goes(Doing::Write(Onward::Reclaim { group, left }, ticket)),
+        Reply::Wait => word(Word::Busy),
+        Reply::Nothing => word(Word::Again),
+        Reply::Refused(cause) => refused(cause),
+        other => never(other),
+    }
+}
+
+fn balanced(reply: Reply) -> Turned
+    requires { IsReclaimReply reply }
+    ensures { Balanced reply result }
+{
+    match reply {
+        Reply::Out(ticket) => Turned::Goes(Doing::Write(Onward::Balance, ticket)),
+        Reply::Wait => word(Word::Busy),
+        Reply::Nothing => Turned::Ends(Answer::Done),
         Reply::Refused(cause) => refused(cause),
         other => never(other),
     }
@@ -271,6 +344,8 @@ fn goes_on(onward: Onward) -> Doing
     match onward {
         Onward::Try(access) => Doing::Try(access),
         Onward::Lower(group) => Doing::Lower(group),
+        Onward::Reclaim { group, left } => Doing::Reclaim { group, left },
+        Onward::Balance => Doing::Balance,
     }
 }
 

@@ -95,7 +95,9 @@ fn give_up_doing(book: &mut Book, pass: &mut Pass, doing: Doing)
             give_out(book, pass, ticket)
         }
         Doing::Try(_) | Doing::MakeRoom(_, _) | Doing::SetMax { group: _, max: _ } => {}
-        Doing::Lower(_) | Doing::Spawn { task: _, group: _ } | Doing::Exit(_) => {}
+        Doing::Lower(_) | Doing::SetMin { group: _, min: _ } => {}
+        Doing::Reclaim { group: _, left: _ } | Doing::Watch | Doing::Balance => {}
+        Doing::Spawn { task: _, group: _ } | Doing::Exit(_) => {}
         Doing::Mkdir(_) | Doing::Show(_) => {}
     }
 }

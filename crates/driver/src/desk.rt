@@ -4,8 +4,8 @@ ghost use Rattle.std.specs.Prelude.{◌≡◌, ◌⊎◌, ◌<◌, ◌++◌, [],
 ghost use Rattle.machine.specs.declared.command.Reply.{Reply as Told_by};
 ghost use Rattle.machine.specs.State.{is_config};
 ghost use Rattle.block_store.specs.Device.{Disk};
-ghost use Rattle.driver.specs.Turns.{wants, AwaitsAll};
-ghost use Rattle.driver.specs.Schedule.{Asks, WantTurn, DoingTurn, Turn, Advances, Finishes, Begins, Stepped, Runs, activity_of, first_world};
+ghost use Rattle.driver.specs.Turns.{AwaitsAll};
+ghost use Rattle.driver.specs.Schedule.{Asks, WantTurn, DoingTurn, wants_at, Turn, Advances, Finishes, Begins, Stepped, Runs, activity_of, first_world};
 ghost use Rattle.driver.specs.Tickets.{OwnEvent, OwnDoing, OwnTurned, OwnSeats};
 ghost use Rattle.driver.specs.Seats.{place_of, is_under_way};
 ghost use Rattle.driver.specs.Desks.{world, swap_of, IsOn, IsSame};
@@ -73,22 +73,31 @@ impl Desk {
         told(self.alloc, asked, reply)
     }
 
+    /// What a command that stands there wants, as the book stands.
+    fn want(&self, doing: Doing) -> Want
+        ensures wants { result ≡ wants_at self.now.book doing }
+        ensures awaits { AwaitsAll result }
+    {
+        ask(doing, self.book.watermarks(), self.book.free_frames())
+    }
+
     /// What the book or the device is asked by a command that stands there, and what it makes of the
     /// answer.
     fn serve<D: BlockDevice>(&mut self, device: &mut D, doing: Doing) -> Result<Turned, AllocError>
         requires on { IsOn self.old (D.disk device.old) }
         requires own { OwnDoing (swap_of self.old) doing }
-        ensures turns { IfOk result (λ turned. WantTurn self.old.book (D.disk device.old) (wants doing) turned self.new.book (D.disk device.new)) }
+        ensures turns { IfOk result (λ turned. WantTurn self.old.book (D.disk device.old) (wants_at self.old.book doing) turned self.new.book (D.disk device.new)) }
         ensures own { IfOk result (λ turned. OwnTurned (swap_of self.old) turned) }
         ensures first { AsksFirst self.new }
         ensures opening { self.new.book.state.opening ≡ self.old.book.state.opening }
         ensures seats { self.new.seats ≡ self.old.seats }
         ensures same { IsSame (D.disk device.old) (D.disk device.new) }
     {
-        match ask(doing) {
+        match self.want(doing) {
             Want::Call(asked, event) => self.ask_book(asked, event),
             Want::Read(access, ticket) => Ok(calls::read_in(device, access, ticket)),
             Want::Write(onward, ticket) => Ok(calls::write_out(device, onward, ticket)),
+            Want::End(answer) => Ok(Turned::Ends(answer)),
         }
     }
 

@@ -2,13 +2,14 @@
 //! judged.
 
 ghost use Rattle.std.specs.Prelude.{◌≡◌, ℕ, option_map};
-ghost use Rattle.driver.specs.Turns.{judged, task_judged, shell_judged, with_group, with_file, with_amount, reads_file, writes_file};
+ghost use Rattle.driver.specs.Turns.{judged, task_judged, shell_judged, daemon_judged, with_group, with_file, reads_file, reclaims, writes_file};
 ghost use Rattle.machine.specs.Tree.{find_group};
 ghost use Rattle.machine.specs.Control.{file_named};
 
 use crate::turn::{Access, Doing};
 use book::{Book, Pass};
 use control_files::{file_named, has_file, parse_amount};
+use machine::amount::Amount;
 use machine::command::{Actor, Command};
 use machine::control::ControlFile;
 use machine::event::Query;
@@ -23,6 +24,7 @@ pub fn judge(book: &Book, pass: &mut Pass, actor: Actor, command: Command) -> Re
     match actor {
         Actor::Task(task) => judge_task(task, command),
         Actor::Shell | Actor::Control => judge_shell(book, pass, command),
+        Actor::Daemon => judge_daemon(command),
     }
 }
 
@@ -40,12 +42,21 @@ fn judge_task(task: u32, command: Command) -> Result<Doing, Refusal>
     }
 }
 
+fn judge_daemon(command: Command) -> Result<Doing, Refusal>
+    ensures { result ≡ daemon_judged command }
+{
+    match command {
+        Command::Daemon => Ok(Doing::Watch),
+        _ => Err(Refusal::Invalid),
+    }
+}
+
 fn judge_shell(book: &Book, pass: &mut Pass, command: Command) -> Result<Doing, Refusal>
     ensures judged { result ≡ shell_judged book.now.state.tree command }
     ensures pass { pass.new.worker ≡ pass.old.worker }
 {
     match command {
-        Command::Access { .. } | Command::Exit => Err(Refusal::Invalid),
+        Command::Access { .. } | Command::Exit | Command::Daemon => Err(Refusal::Invalid),
         Command::Group(path) => Ok(Doing::Mkdir(path)),
         Command::Task { task, path } => judge_spawn(book.find(pass, path.as_str()), task),
         Command::Set { path, file, text } => judge_set(
@@ -54,6 +65,10 @@ fn judge_shell(book: &Book, pass: &mut Pass, command: Command) -> Result<Doing, 
             text.as_str(),
         ),
         Command::Cat { path, file } => judge_cat(book.find(pass, path.as_str()), file.as_str()),
+        Command::Protection { target, path } => judge_protection(
+            book.find(pass, target.as_str()),
+            book.find(pass, path.as_str()),
+        ),
     }
 }
 
@@ -66,6 +81,18 @@ fn judge_spawn(group: Option<GroupId>, task: u32) -> Result<Doing, Refusal>
             task: TaskId(task),
             group,
         }),
+    }
+}
+
+fn judge_protection(target: Option<GroupId>, group: Option<GroupId>) -> Result<Doing, Refusal>
+    ensures { result ≡ with_group (option_map (λ g. g.0) target) (λ t. with_group (option_map (λ g. g.0) group) (λ g. Ok (Doing.Show (Query.Protection (record { 0 = t }) (record { 0 = g }))))) }
+{
+    let Some(target) = target else {
+        return Err(Refusal::NoEntry);
+    };
+    match group {
+        None => Err(Refusal::NoEntry),
+        Some(group) => Ok(Doing::Show(Query::Protection { target, group })),
     }
 }
 
@@ -104,6 +131,21 @@ fn write_named(group: GroupId, file: ControlFile, text: &str) -> Result<Doing, R
             group,
             max: parse_amount(text)?,
         }),
+        ControlFile::Min => Ok(Doing::SetMin {
+            group,
+            min: parse_amount(text)?,
+        }),
+        ControlFile::Reclaim => reclaim(group, parse_amount(text)?),
+    }
+}
+
+/// There is no telling how many pages `max` would be.
+fn reclaim(group: GroupId, amount: Amount) -> Result<Doing, Refusal>
+    ensures { result ≡ reclaims group.0 amount }
+{
+    match amount {
+        Amount::Max => Err(Refusal::Invalid),
+        Amount::Pages(left) => Ok(Doing::Reclaim { group, left }),
     }
 }
 
@@ -123,7 +165,7 @@ fn read_file(group: GroupId, file: Option<ControlFile>) -> Result<Doing, Refusal
         None => Err(Refusal::NoEntry),
         Some(file) => {
             if has_file(group, file) {
-                Ok(Doing::Show(query_of(group, file)))
+                read_named(group, file)
             } else {
                 Err(Refusal::NoEntry)
             }
@@ -131,13 +173,15 @@ fn read_file(group: GroupId, file: Option<ControlFile>) -> Result<Doing, Refusal
     }
 }
 
-fn query_of(group: GroupId, file: ControlFile) -> Query
-    ensures { reads_file group.0 file ≡ Ok (Doing.Show result) }
+fn read_named(group: GroupId, file: ControlFile) -> Result<Doing, Refusal>
+    ensures { result ≡ reads_file group.0 file }
 {
     match file {
-        ControlFile::Current => Query::Current(group),
-        ControlFile::Max => Query::Max(group),
-        ControlFile::Events => Query::Events(group),
-        ControlFile::EventsLocal => Query::EventsLocal(group),
+        ControlFile::Current => Ok(Doing::Show(Query::Current(group))),
+        ControlFile::Max => Ok(Doing::Show(Query::Max(group))),
+        ControlFile::Min => Ok(Doing::Show(Query::Min(group))),
+        ControlFile::Events => Ok(Doing::Show(Query::Events(group))),
+        ControlFile::EventsLocal => Ok(Doing::Show(Query::EventsLocal(group))),
+        ControlFile::Reclaim => Err(Refusal::Invalid),
     }
 }

@@ -1,7 +1,7 @@
 //! The headline in the words of its users: laws of every step and of every run. Each is the contract
 //! of a function that does nothing.
 
-ghost use Rattle.driver.specs.Laws.{RunsAreLegal, RunsAreHonest, NoStrangers, ErrorsAreFailures, CurrentCountsPages, EventsAreThoseCounted, ChargesStayWithinMax, OnlyAccessesCharge, KillsComeLast, ReadsGiveLastWrites, PagesShareNoFrame, PagesShareNoBlock, BlocksAreThere, PagesShareNoTicket, PagesAreMemory, TransfersStayCharged, WriteOutsStayCharged, GroupsAreThere};
+ghost use Rattle.driver.specs.Laws.{RunsAreLegal, RunsAreHonest, NoStrangers, ErrorsAreFailures, CurrentCountsPages, EventsAreThoseCounted, ChargesStayWithinMax, OnlyAccessesCharge, KillsComeLast, ReadsGiveLastWrites, PagesShareNoFrame, PagesShareNoBlock, BlocksAreThere, PagesShareNoTicket, PagesAreMemory, TransfersStayCharged, WriteOutsStayCharged, ReclaimsSpareTheProtected, ReclaimsGiveUpLast, ReclaimsKillNobody, HeldPagesAreListed, PagesLeaveInOrder, GroupsAreThere};
 
 /// The history of every run leads from the opening to the run's state, one step of the plain machine
 /// an entry.
@@ -63,6 +63,35 @@ pub fn only_accesses_charge()
 /// of a group at or under it.
 pub fn kills_come_last()
     ensures { KillsComeLast }
+{}
+
+/// A page that is taken was its reclaim's target's own, or of a group below the target that used more
+/// than its effective `memory.min`. No other page changes.
+pub fn reclaims_spare_the_protected()
+    ensures { ReclaimsSpareTheProtected }
+{}
+
+/// A reclaim by `memory.reclaim` or by the daemon answers that there is nothing only where no page can
+/// be taken for its target and none under it is in transfer, and it changes nothing then.
+pub fn reclaims_give_up_last()
+    ensures { ReclaimsGiveUpLast }
+{}
+
+/// A reclaim by `memory.reclaim` or by the daemon kills no task.
+pub fn reclaims_kill_nobody()
+    ensures { ReclaimsKillNobody }
+{}
+
+/// After any run the list of held pages has each page that is in a frame and in no transfer once, and
+/// no other.
+pub fn held_pages_are_listed()
+    ensures { HeldPagesAreListed }
+{}
+
+/// After any run the page that a call takes is its group's first in the list of held pages, in which
+/// new ones come last, and it was that group's turn to give a page to the reclaim's target.
+pub fn pages_leave_in_order()
+    ensures { PagesLeaveInOrder }
 {}
 
 /// Each read that is done gives the byte last written.

@@ -17,6 +17,7 @@ fn number_of(actor: Actor) -> u64
     match actor {
         Actor::Shell => 0,
         Actor::Control => 1,
+        Actor::Daemon => 2,
         Actor::Task(task) => u64::from(task) + 3,
     }
 }
@@ -104,7 +105,9 @@ fn never(doing: Doing)
             ticket.discard();
         }
         Doing::Try(_) | Doing::MakeRoom(_, _) | Doing::SetMax { group: _, max: _ } => {}
-        Doing::Lower(_) | Doing::Spawn { task: _, group: _ } | Doing::Exit(_) => {}
+        Doing::Lower(_) | Doing::SetMin { group: _, min: _ } => {}
+        Doing::Reclaim { group: _, left: _ } | Doing::Watch | Doing::Balance => {}
+        Doing::Spawn { task: _, group: _ } | Doing::Exit(_) => {}
         Doing::Mkdir(_) | Doing::Show(_) => {}
     }
 }

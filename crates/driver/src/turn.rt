@@ -22,6 +22,10 @@ pub enum Onward {
     Try(Access),
     /// Room is made under the group, whose max was set.
     Lower(GroupId),
+    /// So many pages more are taken from the group or from below it.
+    Reclaim { group: GroupId, left: u64 },
+    /// The daemon takes pages.
+    Balance,
 }
 
 /// Where a command stands, its paths found and its texts read: what it asks of the book or of the
@@ -36,6 +40,14 @@ pub enum Doing {
     SetMax { group: GroupId, max: Amount },
     /// Room is made under the group, whose max was set.
     Lower(GroupId),
+    /// The group's min is set.
+    SetMin { group: GroupId, min: Amount },
+    /// So many pages more are taken from the group or from below it.
+    Reclaim { group: GroupId, left: u64 },
+    /// The daemon looks whether it is wanted (kernel: a kswapd that sleeps).
+    Watch,
+    /// The daemon takes pages (kernel: balance_pgdat).
+    Balance,
     Spawn { task: TaskId, group: GroupId },
     Exit(TaskId),
     Mkdir(Text),
@@ -61,7 +73,11 @@ pub enum Asked {
     MakeRoom(Access),
     SetMax(GroupId),
     Lower(GroupId),
-    /// A task or a group is made.
+    /// A page is taken, and so many more will be.
+    Reclaim { group: GroupId, left: u64 },
+    /// A page is taken for the daemon.
+    Balance,
+    /// A task or a group is made, or a min is set.
     Make,
     /// A task ends by itself.
     Exit,
@@ -82,6 +98,8 @@ pub enum Want {
     Read(Access, InTicket),
     /// The ticket's block, written to the device.
     Write(Onward, OutTicket),
+    /// Nothing more: the command ends with this answer.
+    End(Answer),
 }
 
 /// What a turn makes of a command.

@@ -19,16 +19,18 @@ use Rattle.machine.specs.Access.{Meeting, meets, charges, is_fetch}
 use Rattle.machine.specs.Refusals.{refusal}
 use Rattle.machine.specs.Reclaim.{has_takeable, stands, target_of}
 use Rattle.machine.specs.Step.{Step}
+use Rattle.machine.specs.Lists.{Order, first_order, Orders}
 use Rattle.machine.specs.History.{taker, entries_by}
 
--- a state with its history, and how many passes were given out
+-- a state with its history, the order in which pages are taken, and how many passes were given out
 pub record Past : Type 0 where
   pub state : State
   pub history : List Entry
+  pub order : Order
   pub passes : ℕ
 
 abbrev pub first_past : Opening → Past
-first_past opening = record { state = first_state opening; history = []; passes = 0 }
+first_past opening = record { state = first_state opening; history = []; order = first_order; passes = 0 }
 
 -- ---- strangers
 
@@ -83,6 +85,7 @@ task_need s t (Some task) place op = life_need s t place op task task.life
 abbrev pub need : State → Event → ℕ
 need s (event.Access t place op) = task_need s t.0 (task_at s.tasks t.0) place op
 need s (event.Relieve cause) = if stands s cause && has_takeable s (target_of cause) then 2 else 1
+need s (event.ReclaimOne g) = if has_takeable s g.0 then 2 else 1
 need s (event.Arrived ticket bytes) = 0
 need s (event.FetchFailed ticket) = 0
 need s (event.Left ticket) = 0
@@ -111,9 +114,10 @@ grows s what = false
 abbrev pub entry_of : ℕ → List Entry → Event → Reply → Entry
 entry_of worker history what answer = record { worker = record { 0 = worker }; count = length (entries_by worker history) + 1; event = what; reply = answer }
 
--- a step, and exactly one entry more. Which byte a read gives is not the step's to say: IsRight stands beside it
+-- a step, the page in order where one is taken, and exactly one entry more. Which byte a read gives is not the step's to say: IsRight stands beside it
 pub record Answers (old : Past) (worker : ℕ) (what : Event) (answer : Reply) (new : Past) : Type 0 where
   pub steps : Step old.state what answer new.state
+  pub order : Orders old.state old.order what answer new.state new.order
   pub history : new.history ≡ entry_of worker old.history what answer ∷ old.history
   pub passes : new.passes ≡ old.passes
 

@@ -1,5 +1,5 @@
 -- Control files: their names, who has them, amounts and texts (admin-guide/cgroup-v2, "Memory Interface Files", "Conventions").
-use Rattle.std.specs.Prelude.{ℕ, ◌*◌, ◌/◌, ◌-◌, ◌^◌, ◌==◌, ◌&&◌, ◌||◌, nat_lt, not, Bool, if◌then◌else◌, List, [], ◌∷◌, ◌++◌, length, take, slice_index, codes, decimal, Option, Some, None}
+use Rattle.std.specs.Prelude.{ℕ, ◌*◌, ◌/◌, ◌-◌, ◌^◌, ◌==◌, ◌&&◌, ◌||◌, nat_lt, not, Bool, true, if◌then◌else◌, List, [], ◌∷◌, ◌++◌, length, take, slice_index, codes, decimal, Option, Some, None}
 use Rattle.std.specs.Str.{bytes_eq}
 use Rattle.std.specs.Str.Parse.{digits_value}
 use Rattle.machine.specs.declared.amount.Amount.{Amount}
@@ -84,13 +84,17 @@ abbrev pub file_named : List ℕ → Option ControlFile
 file_named name =
     if bytes_eq name (codes "memory.current") then Some file.Current
     else if bytes_eq name (codes "memory.max") then Some file.Max
+    else if bytes_eq name (codes "memory.min") then Some file.Min
     else if bytes_eq name (codes "memory.events") then Some file.Events
     else if bytes_eq name (codes "memory.events.local") then Some file.EventsLocal
+    else if bytes_eq name (codes "memory.reclaim") then Some file.Reclaim
     else None
 
--- the root has none of these
+-- the root has `memory.reclaim` alone
 abbrev pub has_file : ℕ → ControlFile → Bool
 has_file g file.Current = not (g == 0)
 has_file g file.Max = not (g == 0)
+has_file g file.Min = not (g == 0)
 has_file g file.Events = not (g == 0)
 has_file g file.EventsLocal = not (g == 0)
+has_file g file.Reclaim = true

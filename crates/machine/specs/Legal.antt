@@ -1,5 +1,5 @@
 -- Legal histories: each entry is a call that nothing refused, and a step of the machine.
-use Rattle.std.specs.Prelude.{◌≡◌, Bool, true, false, List, [], ◌∷◌, None}
+use Rattle.std.specs.Prelude.{◌≡◌, true, false, List, [], ◌∷◌, None}
 use Rattle.machine.specs.declared.entry.Entry.{Entry}
 use Rattle.machine.specs.State.{Opening, State, first_state}
 use Rattle.machine.specs.Refusals.{refusal}

@@ -15,6 +15,7 @@ pub mod Access
 pub mod Refusals
 pub mod Step
 pub mod History
+pub mod Lists
 pub mod Call
 pub mod Legal
 pub mod Control

@@ -10,7 +10,7 @@ use Rattle.machine.specs.declared.event.Event.TheVariants as event
 use Rattle.machine.specs.declared.refusal.Refusal.{Refusal}
 use Rattle.machine.specs.declared.refusal.Refusal.TheVariants.{Exists, NoEntry, Busy, NoSpace, NoTask, NumberUsed, BadPlace, Invalid}
 use Rattle.machine.specs.Names.{is_path, parent_path}
-use Rattle.machine.specs.Tree.{Node, is_live, chain, has_children, live_groups, find_group}
+use Rattle.machine.specs.Tree.{Node, is_live, under, chain, has_children, live_groups, find_group}
 use Rattle.machine.specs.Tasks.{Tasks, task_at, live_tasks, has_tasks}
 use Rattle.machine.specs.State.{State}
 use Rattle.machine.specs.Access.{is_place}
@@ -64,11 +64,17 @@ group_refusal tree g others = first_cause (not (is_live tree g)) NoEntry others
 abbrev pub file_refusal : List Node → ℕ → Option Refusal
 file_refusal tree g = first_cause (not (is_live tree g) || (g == 0)) NoEntry None
 
+-- a group's protection is asked for a target above it
+abbrev pub below_target : List Node → ℕ → ℕ → Bool
+below_target tree target g = is_live tree target && (is_live tree g && (under tree target g && not (target == g)))
+
 abbrev pub show_refusal : State → Query → Option Refusal
 show_refusal s (query.Current g) = file_refusal s.tree g.0
 show_refusal s (query.Max g) = file_refusal s.tree g.0
+show_refusal s (query.Min g) = file_refusal s.tree g.0
 show_refusal s (query.Events g) = file_refusal s.tree g.0
 show_refusal s (query.EventsLocal g) = file_refusal s.tree g.0
+show_refusal s (query.Protection target g) = first_cause (not (below_target s.tree target.0 g.0)) NoEntry None
 
 abbrev pub spawn_refusal : State → ℕ → ℕ → Option Refusal
 spawn_refusal s t g = group_refusal s.tree g (first_cause (bars_tasks s.tree g) Busy (number_refusal s.tasks t))
@@ -80,6 +86,7 @@ refusal s (event.FetchFailed ticket) = None
 refusal s (event.Left ticket) = None
 refusal s (event.LeaveFailed ticket) = None
 refusal s (event.Relieve cause) = None
+refusal s (event.ReclaimOne g) = group_refusal s.tree g.0 None
 refusal s (event.Spawn t g) = spawn_refusal s t.0 g.0
 refusal s (event.Exit t) = task_refusal (task_at s.tasks t.0) None
 refusal s (event.Mkdir path) = mkdir_refusal s.tree (bars_children s.tasks) path

@@ -1,8 +1,9 @@
 -- The state of the plain machine: what the opening fixed, and its tables. Nothing in it is counted, linked or kept twice.
-use Rattle.std.specs.Prelude.{ℕ, ◌&&◌, nat_lt, nat_le, Bool, false, List, [], ◌∷◌, Option}
+use Rattle.std.specs.Prelude.{ℕ, ◌-◌, ◌&&◌, nat_lt, nat_le, Bool, false, List, [], ◌∷◌, Option}
 use Rattle.machine.specs.declared.amount.Amount.{Amount}
 use Rattle.machine.specs.declared.record.Mapping.{Mapping}
 use Rattle.machine.specs.declared.config.Config.{Config}
+use Rattle.machine.specs.declared.config.Watermarks.{Watermarks}
 use Rattle.machine.specs.Tree.{Node, root}
 use Rattle.machine.specs.Pages.{Pages, charged, used_frames, used_swap}
 use Rattle.machine.specs.Tasks.{Tasks}
@@ -10,21 +11,28 @@ use Rattle.machine.specs.declared.record.Limits.{Limits}
 use Rattle.machine.specs.Counts.{no_limits, Counted, over}
 use Rattle.machine.specs.Protection.{effective, min_of}
 
--- what the opening fixes: frames, swap blocks, the sizes of the files in pages, the trace's limit, and whether protection is recursive
+-- what the opening fixes: frames, swap blocks, the sizes of the files in pages, the daemon's marks, the trace's limit, and whether protection is recursive
 pub record Opening : Type 0 where
   pub frames : ℕ
   pub swap : ℕ
   pub files : List ℕ
+  pub marks : Watermarks
   pub limit : ℕ
   pub recursive : Bool
 
 -- the opening that a configuration asks for
 abbrev pub opening_of : Config → Opening
-opening_of config = record { frames = config.frames; swap = config.swap; files = []; limit = config.trace; recursive = false }
+opening_of config = record { frames = config.frames; swap = config.swap; files = []; marks = config.marks; limit = config.trace; recursive = false }
 
--- within the limits: 1 to 65,536 frames, at most 65,536 swap blocks, and a trace of 1 to 1,048,576 entries
+-- the low mark is at most the high one, and that at most the frames
+abbrev pub are_marks : Watermarks → ℕ → Bool
+are_marks marks frames = nat_le marks.low marks.high && nat_le marks.high frames
+
+-- within the limits: 1 to 65,536 frames, at most 65,536 swap blocks, marks in order, and a trace of 1 to 1,048,576 entries
 abbrev pub is_config : Config → Bool
-is_config config = (nat_le 1 config.frames && nat_le config.frames 65536) && (nat_le config.swap 65536 && (nat_le 1 config.trace && nat_le config.trace 1048576))
+is_config config =
+    (nat_le 1 config.frames && nat_le config.frames 65536)
+    && (nat_le config.swap 65536 && (are_marks config.marks config.frames && (nat_le 1 config.trace && nat_le config.trace 1048576)))
 
 -- the groups, their settings, the pages, the tasks, what the tasks' virtual pages show, and the events that were counted
 pub record State : Type 0 where
@@ -47,6 +55,10 @@ usage s a = charged s.tree s.pages a
 -- the lowest group from g up with no room for one page more
 abbrev pub over_in : State → ℕ → Option ℕ
 over_in s g = over s.tree s.limits (usage s) g
+
+-- how many frames no page has
+abbrev pub free_frames : State → ℕ
+free_frames s = s.opening.frames - used_frames s.pages
 
 abbrev pub is_frame_free : State → Bool
 is_frame_free s = nat_lt (used_frames s.pages) s.opening.frames

@@ -29,7 +29,7 @@ use Rattle.machine.specs.Pages.{Content, Memory, OfFile, Residence, Held, Coming
 use Rattle.machine.specs.declared.record.Limits.{Limits}
 use Rattle.machine.specs.Counts.{no_limits, limits_at, Counted, local, total, counts_by}
 use Rattle.machine.specs.Tasks.{task_at, SetsTask, group_of_task, mapping, mappers, without_task, without_place}
-use Rattle.machine.specs.State.{State, usage, over_in, is_frame_free}
+use Rattle.machine.specs.State.{State, usage, over_in, is_frame_free, effective_min}
 use Rattle.machine.specs.Access.{Meeting, Unmapped, Hits, Transferring, NeedsPage, NeedsCopy, NeedsSwapIn, meets}
 use Rattle.machine.specs.Reclaim.{is_takeable, has_takeable, has_transfer, stands, target_of}
 use Rattle.machine.specs.Victim.{IsVictim}
@@ -175,6 +175,10 @@ abbrev pub ReclaimStep : State → ℕ → Type 0 → Reply → State → Type 0
 ReclaimStep old target Idle answer new =
     MatchBool (has_takeable old target) (Takes old target answer new) (MatchBool (has_transfer old target) (Only old reply.Wait answer new) Idle)
 
+-- a page is taken for whoever asks for one, and nobody is killed for it. (Excludes a reclaim that finds nothing before every group was asked.)
+abbrev pub ReclaimOneStep : State → ℕ → Reply → State → Type 0
+ReclaimOneStep old target answer new = ReclaimStep old target (Only old reply.Nothing answer new) answer new
+
 -- ---- ends of tasks
 
 -- a page after mappings went: an anonymous one that nothing maps is gone, unless it is in transfer, whose end decides
@@ -245,14 +249,17 @@ new_node tree path = record { parent = find_group tree (parent_path path); path 
 
 abbrev pub with_setting : Limits → Setting → Limits
 with_setting limits (setting.Max amount) = record limits { max = amount }
+with_setting limits (setting.Min amount) = record limits { min = amount }
 
 -- ---- what is shown
 
 abbrev pub shown_of : State → Query → Shown
 shown_of s (query.Current g) = shown.Pages (usage s g.0)
 shown_of s (query.Max g) = shown.Amount (limits_at s.limits g.0).max
+shown_of s (query.Min g) = shown.Amount (limits_at s.limits g.0).min
 shown_of s (query.Events g) = shown.Events (counts_by (total s.tree s.counted g.0))
 shown_of s (query.EventsLocal g) = shown.Events (counts_by (local s.counted g.0))
+shown_of s (query.Protection target g) = shown.Amount (effective_min s target.0 g.0)
 
 -- ---- the step
 
@@ -264,6 +271,7 @@ Step old (event.FetchFailed ticket) answer new = EndsTransfer old (λ frame bloc
 Step old (event.Left ticket) answer new = EndsTransfer old (λ frame block. Going frame block ticket.0) on_block answer new
 Step old (event.LeaveFailed ticket) answer new = EndsTransfer old (λ frame block. Going frame block ticket.0) in_frame answer new
 Step old (event.Relieve cause) answer new = RelieveStep old cause answer new
+Step old (event.ReclaimOne g) answer new = ReclaimOneStep old g.0 answer new
 Step old (event.Spawn t g) reply.Ok new = SetsTask old.tasks t.0 g.0 Live new.tasks × (new ≡ record old { tasks = new.tasks })
 Step old (event.Exit t) answer new = TaskStep old (task_at old.tasks t.0) (λ task. Exits old t.0 answer new) answer new
 Step old (event.Mkdir path) reply.Ok new = new ≡ record old { tree = old.tree ++ new_node old.tree path ∷ []; limits = old.limits ++ no_limits ∷ [] }

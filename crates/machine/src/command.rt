@@ -17,10 +17,12 @@ pub enum Actor {
     Shell,
     /// Does what the shell does, beside it.
     Control,
+    /// Takes pages from all groups where few frames are free (kernel: kswapd).
+    Daemon,
 }
 
-/// What an actor is told to do: `Access` and `Exit` are for a task, all others for the shell and for
-/// control.
+/// What an actor is told to do: `Access` and `Exit` are for a task, `Daemon` for the daemon, all
+/// others for the shell and for control.
 #[derive(Debug, Drop)]
 pub enum Command {
     Access { place: Place, op: Op },
@@ -34,6 +36,10 @@ pub enum Command {
     Set { path: Text, file: Text, text: Text },
     /// Prints a control file of the group of a path.
     Cat { path: Text, file: Text },
+    /// Prints how much of its memory the group of a path keeps from a reclaim of the target's.
+    Protection { target: Text, path: Text },
+    /// One run of the daemon.
+    Daemon,
 }
 
 impl Command {
@@ -61,6 +67,11 @@ impl Command {
                 path: path.copy(alloc)?,
                 file: file.copy(alloc)?,
             }),
+            Command::Protection { target, path } => Ok(Command::Protection {
+                target: target.copy(alloc)?,
+                path: path.copy(alloc)?,
+            }),
+            Command::Daemon => Ok(Command::Daemon),
         }
     }
 }
@@ -89,6 +100,8 @@ pub enum Word {
     Io,
     /// `ENOMEM`: nothing can be reclaimed and there is nobody to kill.
     OutOfMemory,
+    /// `EAGAIN`: not as much could be taken as was asked for.
+    Again,
     /// 1,000 turns brought no answer. The command stays under way.
     TurnLimit,
     /// The actor's command is not answered yet.

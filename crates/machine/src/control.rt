@@ -1,14 +1,19 @@
 //! Control files of a group.
 
-/// A control file (admin-guide/cgroup-v2, "Memory Interface Files"). The root has none of them.
+/// A control file (admin-guide/cgroup-v2, "Memory Interface Files"). The root has `memory.reclaim`
+/// alone.
 #[derive(Clone, Copy, Debug, PartialEq, Eq)]
 pub enum ControlFile {
     /// `memory.current`, which is read.
     Current,
     /// `memory.max`, which is read and written.
     Max,
+    /// `memory.min`, which is read and written.
+    Min,
     /// `memory.events`, which is read: what was counted at the group and below it.
     Events,
     /// `memory.events.local`, which is read: what was counted at the group itself.
     EventsLocal,
+    /// `memory.reclaim`, which is written: as much is to be taken from the group and from below it.
+    Reclaim,
 }

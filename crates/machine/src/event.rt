@@ -35,19 +35,26 @@ pub enum Cause {
 pub enum Setting {
     /// `memory.max`
     Max(Amount),
+    /// `memory.min`
+    Min(Amount),
 }
 
-/// Whose numbers are asked for: those of one control file of one group.
+/// Whose numbers are asked for: those of one control file of one group, or a group's protection.
 #[derive(Clone, Copy, Debug, PartialEq, Eq)]
 pub enum Query {
     /// `memory.current`
     Current(GroupId),
     /// `memory.max`
     Max(GroupId),
+    /// `memory.min`
+    Min(GroupId),
     /// `memory.events`
     Events(GroupId),
     /// `memory.events.local`
     EventsLocal(GroupId),
+    /// The effective `memory.min` of a group below the target, for a reclaim of the target (kernel:
+    /// `emin` of a `struct page_counter`).
+    Protection { target: GroupId, group: GroupId },
 }
 
 /// One event of the machine.
@@ -65,6 +72,9 @@ pub enum Event {
     LeaveFailed(TicketId),
     /// Room is wanted (kernel: a turn of `try_to_free_mem_cgroup_pages`, or `mem_cgroup_out_of_memory`).
     Relieve(Cause),
+    /// A page is to be taken from the group or from below it, for whoever asks for it (kernel:
+    /// memory_reclaim, and a turn of kswapd).
+    ReclaimOne(GroupId),
     /// A new task of a group.
     Spawn { task: TaskId, group: GroupId },
     /// A task ends by itself (kernel: `do_exit`, `exit_mmap`).

@@ -12,6 +12,7 @@ impl fmt::Display for Word {
             Word::Busy => f.write_str("busy"),
             Word::Io => f.write_str("EIO"),
             Word::OutOfMemory => f.write_str("ENOMEM"),
+            Word::Again => f.write_str("EAGAIN"),
             Word::TurnLimit => f.write_str("turn limit"),
             Word::Underway => f.write_str("Underway"),
             Word::Refused(refusal) => f.write_str(refusal.name()),
@@ -21,7 +22,8 @@ impl fmt::Display for Word {
 
 impl Reply {
     /// Writes the answer's line: a task's byte or word behind the task's number, a control file's
-    /// text as it is, the word of the shell or of control behind `error`, a kill as `killed N`.
+    /// text as it is, the word of the shell or of control behind `error`, that of the daemon behind
+    /// `daemon`, a kill as `killed N`.
     /// `Done` writes nothing.
     pub fn print<W: Write>(&self, out: &mut W) -> io::Result<()> {
         match &self.answer {
@@ -30,11 +32,12 @@ impl Reply {
             Answer::Kill(task) => writeln!(out, "killed {}", task.0),
             Answer::Byte(byte) => match self.actor {
                 Actor::Task(task) => writeln!(out, "{task} {byte}"),
-                Actor::Shell | Actor::Control => writeln!(out, "{byte}"),
+                Actor::Shell | Actor::Control | Actor::Daemon => writeln!(out, "{byte}"),
             },
             Answer::Word(word) => match self.actor {
                 Actor::Task(task) => writeln!(out, "{task} {word}"),
                 Actor::Shell | Actor::Control => writeln!(out, "error {word}"),
+                Actor::Daemon => writeln!(out, "daemon {word}"),
             },
         }
     }

@@ -37,6 +37,8 @@ pub enum Reply {
     Out(TicketId),
     /// A page is in transfer, and may come free.
     Wait,
+    /// There is no page to be taken, and none in transfer.
+    Nothing,
     /// Relief killed this task.
     KilledTask(TaskId),
     /// Relief found nobody to kill.

@@ -1,3 +1,7 @@
 pub mod Splits
 pub mod LineCuts
 pub mod Loop
+pub mod HeaderLemmas
+pub mod TellLemmas
+pub mod LimitLemmas
+pub mod FirstFrames

@@ -16,22 +16,26 @@ use Rattle.scripts.specs.declared.meaning.Item.{Item}
 use Rattle.scripts.specs.Words.{words_of}
 use Rattle.scripts.specs.Faults.{fault}
 use Rattle.scripts.specs.Meaning.{meaning}
-use Rattle.scripts.specs.Script.{items_of, config_after, default_config, config_of, fails, faults_of, steps_of_item, steps_of, is_command, header_word, before_of, fault_at, IsFaultless, IsFirstFault}
+use Rattle.scripts.specs.Header.{config_after, default_config, config_of, header_frames}
+use Rattle.scripts.specs.Script.{items_of, fails, faults_of, steps_of_item, steps_of, is_command, header_word, around_of, fault_at, IsFaultless, IsFirstFault}
+use Rattle.machine.specs.State.{is_config}
+use Rattle.scripts.proofs.LimitLemmas.{Fits, fits_start, fits_after, fits_end}
 use Rattle.scripts.specs.Reading.{Known, known, at_start, after, option_list}
 
 -- the first n of the lines are read and faultless, and these are left
 pub record SoFar (ls left : List (List ℕ)) (n : ℕ) (k : Known) : Type 0 where
   pub left_is : left ≡ drop n ls
   pub within : n ≤ length ls
-  pub known_is : k ≡ known (items_of (take n ls))
+  pub known_is : k ≡ known (header_frames ls) (items_of (take n ls))
   pub clean : (i : ℕ) → i < n → fault_at ls i ≡ None
+  pub fits : Fits ls left k
 
 -- what a function finds in one item, by what it finds there
 found_one : {A : Type 0} (f : Item → Option A) (i : Item) (o : Option A) → f i ≡ o → filter_map f (i ∷ []) ≡ option_list (f i)
 found_one f i None e = rw e refl
 found_one f i (Some x) e = rw e refl
 
-found_push : {A : Type 0} (f : Item → Option A) (is : List Item) (i : Item) → filter_map f (is ++ i ∷ []) ≡ filter_map f is ++ option_list (f i)
+pub found_push : {A : Type 0} (f : Item → Option A) (is : List Item) (i : Item) → filter_map f (is ++ i ∷ []) ≡ filter_map f is ++ option_list (f i)
 found_push {A} f is i = filter_map-append f is (i ∷ []) ∙ ap (λ (xs : List A). filter_map f is ++ xs) (found_one f i (f i) refl)
 
 or_false : (b c : Bool) → (b || (c || false)) ≡ (b || c)
@@ -39,20 +43,20 @@ or_false true c = refl
 or_false false true = refl
 or_false false false = refl
 
-commands_push : (is : List Item) (i : Item) → list_any is_command (is ++ i ∷ []) ≡ (list_any is_command is || is_command i)
+pub commands_push : (is : List Item) (i : Item) → list_any is_command (is ++ i ∷ []) ≡ (list_any is_command is || is_command i)
 commands_push is i = list_any-append is_command is (i ∷ []) ∙ or_false (list_any is_command is) (is_command i)
 
 steps_push : (is : List Item) (i : Item) → steps_of (is ++ i ∷ []) ≡ steps_of is ++ steps_of_item i
 steps_push is i = flat_map-append steps_of_item is (i ∷ []) ∙ ap (λ (ss : List Step). flat_map steps_of_item is ++ ss) (append-nil (steps_of_item i))
 
 -- one more line of known meaning
-known_push : (is : List Item) (i : Item) → known (is ++ i ∷ []) ≡ after (known is) i
-known_push is i =
+known_push : (frames : ℕ) (is : List Item) (i : Item) → known frames (is ++ i ∷ []) ≡ after (known frames is) i
+known_push frames is i =
     rw (commands_push is i, found_push header_word is i, fold_push config_after default_config is i, found_push (fails call.Read) is i, found_push (fails call.Write) is i, steps_push is i) refl
 
 -- before the first line
-pub starts : (ls : List (List ℕ)) → SoFar ls ls 0 at_start
-starts ls = record { left_is = refl; within = omega arith; known_is = refl; clean = λ i h. absurd (omega arith) }
+pub starts : (ls : List (List ℕ)) → SoFar ls ls 0 (at_start (header_frames ls))
+starts ls = record { left_is = refl; within = omega arith; known_is = refl; clean = λ i h. absurd (omega arith); fits = fits_start ls }
 
 -- the line at a place, and those after it
 record IsNext (ls : List (List ℕ)) (n : ℕ) (line : List ℕ) (more : List (List ℕ)) : Type 0 where
@@ -69,12 +73,12 @@ by_place ls n line more h =
     ]
 
 -- the fault of the next line, by what is known
-fault_is : (ls : List (List ℕ)) (n : ℕ) (k : Known) (line : List ℕ) → k ≡ known (items_of (take n ls)) → get_or ls n [] ≡ line → fault_at ls n ≡ fault k.before line
-fault_is ls n k line e f = ap (λ (x : List ℕ). fault (before_of (items_of (take n ls))) x) f ∙ ap (λ (x : Known). fault x.before line) (sym e)
+fault_is : (ls : List (List ℕ)) (n : ℕ) (k : Known) (line : List ℕ) → k ≡ known (header_frames ls) (items_of (take n ls)) → get_or ls n [] ≡ line → fault_at ls n ≡ fault k.around line
+fault_is ls n k line e f = ap (λ (x : List ℕ). fault (around_of (header_frames ls) (items_of (take n ls))) x) f ∙ ap (λ (x : Known). fault x.around line) (sym e)
 
 -- a faultless line is taken up
 pub goes_on : (ls left : List (List ℕ)) (n : ℕ) (k k' : Known) (line : List ℕ) (more : List (List ℕ)) → SoFar ls left n k → left ≡ line ∷ more
-    → fault k.before line ≡ None → k' ≡ after k (meaning (words_of line)) → SoFar ls more (n + 1) k'
+    → fault k.around line ≡ None → k' ≡ after k (meaning (words_of line)) → SoFar ls more (n + 1) k'
 goes_on ls left n k k' line more so_far e fine added =
     let next = by_place ls n line more (sym so_far.left_is ∙ e) in
     let here : fault_at ls n ≡ None = fault_is ls n k line so_far.known_is next.line_is ∙ fine in
@@ -83,13 +87,14 @@ goes_on ls left n k k' line more so_far e fine added =
     record {
       left_is = sym next.more_is;
       within = omega (arith, next.there);
-      known_is = added ∙ ap (λ (x : Known). after x (meaning (words_of line))) so_far.known_is ∙ sym (known_push (items_of (take n ls)) (meaning (words_of line))) ∙ ap known (sym items);
+      known_is = added ∙ ap (λ (x : Known). after x (meaning (words_of line))) so_far.known_is ∙ sym (known_push (header_frames ls) (items_of (take n ls)) (meaning (words_of line))) ∙ ap (λ (is : List Item). known (header_frames ls) is) (sym items);
       clean = λ i h. elim (cases_lt i n) [ inl lt ↦ so_far.clean i lt | inr le ↦ (let same : i ≡ n = omega arith in subst (λ (j : ℕ). fault_at ls j ≡ None) (sym same) here) ];
+      fits = rw added (fits_after ls left more k line e fine so_far.fits);
     }
 
 -- a faulty line is the first one
 pub faults : (ls left : List (List ℕ)) (n : ℕ) (k : Known) (line : List ℕ) (more : List (List ℕ)) (cause : Cause) → SoFar ls left n k → left ≡ line ∷ more
-    → fault k.before line ≡ Some cause → IsFirstFault ls (n + 1) cause
+    → fault k.around line ≡ Some cause → IsFirstFault ls (n + 1) cause
 faults ls left n k line more cause so_far e faulty =
     let next = by_place ls n line more (sym so_far.left_is ∙ e) in
     let here : fault_at ls n ≡ Some cause = fault_is ls n k line so_far.known_is next.line_is ∙ faulty in
@@ -107,6 +112,7 @@ pub record IsRead (ls : List (List ℕ)) (k : Known) : Type 0 where
   pub read_faults : k.read_faults ≡ faults_of call.Read (items_of ls)
   pub write_faults : k.write_faults ≡ faults_of call.Write (items_of ls)
   pub steps : k.steps ≡ steps_of (items_of ls)
+  pub limits : is_config k.config ≡ true
 
 -- where nothing is left, all is read
 pub ends : (ls : List (List ℕ)) (rest : List ℕ) (n : ℕ) (k : Known) → SoFar ls (lines rest) n k → length rest ≡ 0 → IsRead ls k
@@ -115,11 +121,12 @@ ends ls rest n k so_far e =
     let none : length (drop n ls) ≡ 0 = ap length (sym so_far.left_is) ∙ ap length empty in
     let all : n ≡ length ls = omega (arith, length-drop n ls, none, so_far.within) in
     let whole : take n ls ≡ ls = grind (arith, common_steps) in
-    let known_all : k ≡ known (items_of ls) = so_far.known_is ∙ ap (λ (l : List (List ℕ)). known (items_of l)) whole in
+    let known_all : k ≡ known (header_frames ls) (items_of ls) = so_far.known_is ∙ ap (λ (l : List (List ℕ)). known (header_frames ls) (items_of l)) whole in
     record {
       faultless = λ i h. so_far.clean i (omega (arith, all, h));
       config = ap (λ (x : Known). x.config) known_all;
       read_faults = ap (λ (x : Known). x.read_faults) known_all;
       write_faults = ap (λ (x : Known). x.write_faults) known_all;
       steps = ap (λ (x : Known). x.steps) known_all;
+      limits = fits_end ls k (subst (λ (left : List (List ℕ)). Fits ls left k) empty so_far.fits);
     }

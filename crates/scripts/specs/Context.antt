@@ -1,12 +1,13 @@
--- What a line has to know of the lines before it.
-use Rattle.std.specs.Prelude.{Bool, List}
+-- What a line has to know of the other lines.
+use Rattle.std.specs.Prelude.{ℕ, Bool, List}
 use Rattle.scripts.specs.declared.forms.Word.{Word}
 use Rattle.scripts.specs.declared.context.Context.{Context}
 
--- whether a line that is not of the header stands before, and the words of the header
-pub record Before : Type 0 where
+-- how many frames the header asks for, also behind the line; whether a line that is not of the header stands before, and the words of the header that do
+pub record Around : Type 0 where
+  pub frames : ℕ
   pub commands : Bool
   pub given : List Word
 
-abbrev pub before : Context → Before
-before c = record { commands = c.commands; given = c.given.items }
+abbrev pub around : Context → Around
+around c = record { frames = c.frames; commands = c.commands; given = c.given.items }

@@ -1,21 +1,24 @@
 -- The faults of a line.
-use Rattle.std.specs.Prelude.{ℕ, Bool, true, false, ◌&&◌, ◌||◌, not, List, [], ◌∷◌, ◌^◌, length, Option, Some, None, is_some, nat_lt, nat_le, slice_index, ◌==◌, if◌then◌else◌}
+use Rattle.std.specs.Prelude.{ℕ, Bool, true, false, ◌&&◌, ◌||◌, not, List, [], ◌∷◌, ◌^◌, length, Option, Some, None, is_some, nat_lt, nat_le, if◌then◌else◌}
 use Rattle.std.specs.List.{list_all, list_any, zip}
 use Rattle.std.specs.Str.{is_utf8}
 use denote.Ref.{Bor}
 use Rattle.machine.specs.Names.{is_path}
 use Rattle.machine.specs.Numbers.{is_numeral, number_below}
+use Rattle.machine.specs.State.{are_marks}
 use Rattle.scripts.specs.declared.fault.Cause.{Cause}
 use Rattle.scripts.specs.declared.fault.Cause.TheVariants.{NotText, UnknownWord, MissingArgument, ExtraArgument, BadNumber, BadName, HeaderAfterCommands, HeaderTwice}
 use Rattle.scripts.specs.declared.forms.Word.{Word}
+use Rattle.scripts.specs.declared.forms.Word.TheVariants as word
 use Rattle.scripts.specs.declared.forms.Speaker.TheVariants as speaker
 use Rattle.scripts.specs.declared.forms.Kind.{Kind}
 use Rattle.scripts.specs.declared.forms.Kind.TheVariants.{Number, Path, Actor, Call, Any, Line}
 use Rattle.scripts.specs.declared.forms.Manner.{Manner}
 use Rattle.scripts.specs.declared.forms.Manner.TheVariants as manner
 use Rattle.scripts.specs.Forms.{form_of, word_named, same_word, takes_line, may_stand, actor_named, call_named}
-use Rattle.scripts.specs.Context.{Before}
-use Rattle.scripts.specs.Words.{words_of}
+use Rattle.scripts.specs.Context.{Around}
+use Rattle.scripts.specs.Words.{words_of, is_comment}
+use Rattle.scripts.specs.Meaning.{at, marks_of}
 
 -- what a reference to a word points to
 abbrev pub now : Bor (List ℕ) → List ℕ
@@ -59,51 +62,52 @@ task_fits (Some word) = is_some (number_below (2 ^ 32) word)
 abbrev pub all_fit : (Kind → List ℕ → Bool) → List Kind → List (List ℕ) → Bool
 all_fit fits kinds words = list_all (λ p. fits p.0 p.1) (zip kinds words)
 
+-- the daemon's marks, if the line gives them, are in order and within the frames
+abbrev pub marks_fit : ℕ → Word → List (List ℕ) → Bool
+marks_fit frames w arguments = not (same_word w word.Watermarks) || are_marks (marks_of (at arguments 0) (at arguments 1)) frames
+
 -- the cause of the first test that holds
 abbrev pub first_of : List (Bool × Cause) → Option Cause
 first_of [] = None
 first_of (c ∷ cs) = if c.0 then Some c.1 else first_of cs
 
 -- of a line with a known word, behind a task's number where there is one
-abbrev pub word_faults : Before → Manner → Option (List ℕ) → Word → List (List ℕ) → List (Bool × Cause)
-word_faults before how task word arguments =
+abbrev pub word_faults : Around → Manner → Option (List ℕ) → Word → List (List ℕ) → List (Bool × Cause)
+word_faults around how task word arguments =
     let form = form_of word in
     (not (may_stand how word) || not (all_fit word_fits form.arguments arguments), UnknownWord)
     ∷ (nat_lt (length arguments) (length form.arguments), MissingArgument)
     ∷ (nat_lt (length form.arguments) (length arguments), ExtraArgument)
     ∷ (not (task_fits task) || not (all_fit number_fits form.arguments arguments), BadNumber)
+    ∷ (not (marks_fit around.frames word arguments), BadNumber)
     ∷ (not (all_fit name_fits form.arguments arguments), BadName)
-    ∷ (form.header && before.commands, HeaderAfterCommands)
-    ∷ (form.once && list_any (same_word word) before.given, HeaderTwice)
+    ∷ (form.header && around.commands, HeaderAfterCommands)
+    ∷ (form.once && list_any (same_word word) around.given, HeaderTwice)
     ∷ []
 
-abbrev pub named_faults : Before → Manner → Option (List ℕ) → Option Word → List (List ℕ) → List (Bool × Cause)
-named_faults before how task None arguments = (true, UnknownWord) ∷ []
-named_faults before how task (Some word) arguments = word_faults before how task word arguments
+abbrev pub named_faults : Around → Manner → Option (List ℕ) → Option Word → List (List ℕ) → List (Bool × Cause)
+named_faults around how task None arguments = (true, UnknownWord) ∷ []
+named_faults around how task (Some word) arguments = word_faults around how task word arguments
 
 -- of a line that begins with a task's number
-abbrev pub task_faults : Before → Manner → List ℕ → List (List ℕ) → List (Bool × Cause)
-task_faults before how task [] = (true, MissingArgument) ∷ []
-task_faults before how task (word ∷ arguments) = named_faults before how (Some task) (word_named speaker.Task word) arguments
+abbrev pub task_faults : Around → Manner → List ℕ → List (List ℕ) → List (Bool × Cause)
+task_faults around how task [] = (true, MissingArgument) ∷ []
+task_faults around how task (word ∷ arguments) = named_faults around how (Some task) (word_named speaker.Task word) arguments
 
 -- of a line without its `begin`
-abbrev pub bare_faults : Before → Manner → List (List ℕ) → List (Bool × Cause)
-bare_faults before how [] = (true, MissingArgument) ∷ []
-bare_faults before how (first ∷ more) =
-    if is_numeral first then task_faults before how first more
-    else named_faults before how None (word_named speaker.Shell first) more
+abbrev pub bare_faults : Around → Manner → List (List ℕ) → List (Bool × Cause)
+bare_faults around how [] = (true, MissingArgument) ∷ []
+bare_faults around how (first ∷ more) =
+    if is_numeral first then task_faults around how first more
+    else named_faults around how None (word_named speaker.Shell first) more
 
--- the word begins with '#'
-abbrev pub is_comment : List ℕ → Bool
-is_comment word = slice_index word 0 == 35
-
-abbrev pub line_faults : Before → List (List ℕ) → List (Bool × Cause)
-line_faults before [] = []
-line_faults before (first ∷ more) =
+abbrev pub line_faults : Around → List (List ℕ) → List (Bool × Cause)
+line_faults around [] = []
+line_faults around (first ∷ more) =
     if is_comment first then []
-    else if takes_line (word_named speaker.Shell first) then bare_faults before manner.Begun more
-    else bare_faults before manner.Whole (first ∷ more)
+    else if takes_line (word_named speaker.Shell first) then bare_faults around manner.Begun more
+    else bare_faults around manner.Whole (first ∷ more)
 
 -- why a line is faulty, if it is
-abbrev pub fault : Before → List ℕ → Option Cause
-fault before line = first_of ((not (is_utf8 line), NotText) ∷ line_faults before (words_of line))
+abbrev pub fault : Around → List ℕ → Option Cause
+fault around line = first_of ((not (is_utf8 line), NotText) ∷ line_faults around (words_of line))

@@ -55,21 +55,26 @@ byte = kind.Number 0 255
 abbrev pub form_of : Word → Row
 form_of word.Frames = header (codes "frames") (kind.Number 1 65536 ∷ [])
 form_of word.Swap = header (codes "swap") (kind.Number 0 65536 ∷ [])
+form_of word.Watermarks = header (codes "watermarks") (number ∷ number ∷ [])
 form_of word.Trace = header (codes "trace") (kind.Number 1 1048576 ∷ [])
 form_of word.Fault = header_many (codes "fault") (kind.Call ∷ kind.Number 1 4294967295 ∷ [])
 form_of word.Group = shell (codes "group") (kind.Path ∷ [])
 form_of word.Task = shell (codes "task") (number ∷ kind.Path ∷ [])
 form_of word.Set = shell (codes "set") (kind.Path ∷ kind.Any ∷ kind.Any ∷ [])
 form_of word.Cat = shell (codes "cat") (kind.Path ∷ kind.Any ∷ [])
+form_of word.Protection = shell (codes "prot") (kind.Path ∷ kind.Path ∷ [])
 form_of word.Write = task (codes "write") (number ∷ number ∷ byte ∷ [])
 form_of word.Read = task (codes "read") (number ∷ number ∷ [])
 form_of word.Exit = task (codes "exit") []
+form_of word.Daemon = shell (codes "daemon") []
 form_of word.Begin = part (codes "begin") (kind.Line ∷ [])
 form_of word.Step = part (codes "step") (kind.Actor ∷ [])
 form_of word.Finish = part (codes "finish") (kind.Actor ∷ [])
 
 abbrev pub words : List Word
-words = word.Frames ∷ word.Swap ∷ word.Trace ∷ word.Fault ∷ word.Group ∷ word.Task ∷ word.Set ∷ word.Cat ∷ word.Write ∷ word.Read ∷ word.Exit ∷ word.Begin ∷ word.Step ∷ word.Finish ∷ []
+words =
+    word.Frames ∷ word.Swap ∷ word.Watermarks ∷ word.Trace ∷ word.Fault ∷ word.Group ∷ word.Task ∷ word.Set ∷ word.Cat ∷ word.Protection ∷ word.Write ∷ word.Read ∷ word.Exit
+    ∷ word.Daemon ∷ word.Begin ∷ word.Step ∷ word.Finish ∷ []
 
 abbrev pub same_speaker : Speaker → Speaker → Bool
 same_speaker speaker.Shell speaker.Shell = true
@@ -102,6 +107,7 @@ abbrev pub actor_named : List ℕ → Option Actor
 actor_named text =
     if bytes_eq text (codes "shell") then Some actor.Shell
     else if bytes_eq text (codes "control") then Some actor.Control
+    else if bytes_eq text (codes "daemon") then Some actor.Daemon
     else None
 
 -- the call of the device that has this name
@@ -115,18 +121,21 @@ call_named text =
 abbrev pub place : Word → ℕ
 place word.Frames = 0
 place word.Swap = 1
-place word.Trace = 2
-place word.Fault = 3
-place word.Group = 4
-place word.Task = 5
-place word.Set = 6
-place word.Cat = 7
-place word.Write = 8
-place word.Read = 9
-place word.Exit = 10
-place word.Begin = 11
-place word.Step = 12
-place word.Finish = 13
+place word.Watermarks = 2
+place word.Trace = 3
+place word.Fault = 4
+place word.Group = 5
+place word.Task = 6
+place word.Set = 7
+place word.Cat = 8
+place word.Protection = 9
+place word.Write = 10
+place word.Read = 11
+place word.Exit = 12
+place word.Daemon = 13
+place word.Begin = 14
+place word.Step = 15
+place word.Finish = 16
 
 abbrev pub same_word : Word → Word → Bool
 same_word v w = place v == place w

@@ -1,8 +1,9 @@
 pub mod Words
 pub mod Forms
 pub mod Context
-pub mod Faults
 pub mod Meaning
+pub mod Faults
+pub mod Header
 pub mod Lines
 pub mod Script
 pub mod Reading

@@ -7,6 +7,7 @@ use Rattle.machine.specs.declared.command.Command.TheVariants as command
 use Rattle.machine.specs.declared.event.Place.TheVariants.{Virtual}
 use Rattle.machine.specs.declared.event.Op.{Op}
 use Rattle.machine.specs.declared.event.Op.TheVariants as op
+use Rattle.machine.specs.declared.config.Watermarks.{Watermarks}
 use Rattle.machine.specs.Numbers.{is_numeral, number_below}
 use Rattle.scripts.specs.declared.meaning.Item.{Item}
 use Rattle.scripts.specs.declared.meaning.Item.TheVariants as item
@@ -16,7 +17,7 @@ use Rattle.scripts.specs.declared.forms.Speaker.TheVariants as speaker
 use Rattle.scripts.specs.declared.forms.DeviceCall.{DeviceCall}
 use Rattle.scripts.specs.declared.forms.DeviceCall.TheVariants as call
 use Rattle.scripts.specs.Forms.{word_named, takes_line, actor_named, call_named}
-use Rattle.scripts.specs.Faults.{is_comment}
+use Rattle.scripts.specs.Words.{is_comment}
 
 -- the number that a word writes, below a limit; 0 of a word that writes none, which a faultless line has not
 abbrev pub value : ℕ → List ℕ → ℕ
@@ -43,6 +44,9 @@ actor_value word = unwrap_or (actor_named word) (actor.Task (number_value word))
 abbrev pub call_value : List ℕ → DeviceCall
 call_value word = unwrap_or (call_named word) call.Read
 
+abbrev pub marks_of : List ℕ → List ℕ → Watermarks
+marks_of low high = record { low = number_value low; high = number_value high }
+
 abbrev pub access_to : List ℕ → List ℕ → Op → Command
 access_to page offset op = command.Access (Virtual (number_value page) (number_value offset)) op
 
@@ -50,15 +54,18 @@ access_to page offset op = command.Access (Virtual (number_value page) (number_v
 abbrev pub word_means : Option (List ℕ) → Word → List (List ℕ) → Item
 word_means task word.Frames a = item.Frames (number_value (at a 0))
 word_means task word.Swap a = item.Swap (number_value (at a 0))
+word_means task word.Watermarks a = item.Marks (marks_of (at a 0) (at a 1))
 word_means task word.Trace a = item.Trace (number_value (at a 0))
 word_means task word.Fault a = item.Fails (call_value (at a 0)) (number_value (at a 1))
 word_means task word.Group a = item.Does (actor_of task) (command.Group (at a 0))
 word_means task word.Task a = item.Does (actor_of task) (command.Task (number_value (at a 0)) (at a 1))
 word_means task word.Set a = item.Does (actor_of task) (command.Set (at a 0) (at a 1) (at a 2))
 word_means task word.Cat a = item.Does (actor_of task) (command.Cat (at a 0) (at a 1))
+word_means task word.Protection a = item.Does (actor_of task) (command.Protection (at a 0) (at a 1))
 word_means task word.Write a = item.Does (actor_of task) (access_to (at a 0) (at a 1) (op.Write (byte_value (at a 2))))
 word_means task word.Read a = item.Does (actor_of task) (access_to (at a 0) (at a 1) op.Read)
 word_means task word.Exit a = item.Does (actor_of task) command.Exit
+word_means task word.Daemon a = item.Does actor.Daemon command.Daemon
 word_means task word.Begin a = item.Nothing
 word_means task word.Step a = item.Advances (actor_value (at a 0))
 word_means task word.Finish a = item.Finishes (actor_value (at a 0))

@@ -1,5 +1,5 @@
 -- What has been read of a script, line by line. No public clause cites it.
-use Rattle.std.specs.Prelude.{ℕ, true, ◌||◌, List, [], ◌∷◌, ◌++◌, Option, Some, None}
+use Rattle.std.specs.Prelude.{◌≡◌, ℕ, true, false, ◌&&◌, ◌||◌, List, [], ◌∷◌, ◌++◌, Option, Some, None}
 use Rattle.machine.specs.declared.command.Step.{Step}
 use Rattle.machine.specs.declared.config.Config.{Config}
 use Rattle.scripts.specs.declared.meaning.Item.{Item}
@@ -7,26 +7,31 @@ use Rattle.scripts.specs.declared.forms.Word.TheVariants as word
 use Rattle.scripts.specs.declared.forms.DeviceCall.{DeviceCall}
 use Rattle.scripts.specs.declared.forms.DeviceCall.TheVariants as call
 use Rattle.scripts.specs.declared.script.Reading.{Reading}
-use Rattle.scripts.specs.Context.{Before, before}
-use Rattle.scripts.specs.Script.{config_after, config_of, fails, faults_of, steps_of_item, steps_of, is_command, header_word, before_of}
+use Rattle.scripts.specs.declared.header.Part.{Part}
+use Rattle.scripts.specs.declared.header.Part.TheVariants as part
+use Rattle.std.specs.Str.{is_utf8}
+use Rattle.scripts.specs.Words.{words_of}
+use Rattle.scripts.specs.Context.{Around, around}
+use Rattle.scripts.specs.Header.{config_after, config_of, word_of, goes_on, is_frames}
+use Rattle.scripts.specs.Script.{fails, faults_of, steps_of_item, steps_of, is_command, header_word, around_of}
 
 -- what the lines read so far leave to be known: for the faults of the next line, and for the script
 pub record Known : Type 0 where
-  pub before : Before
+  pub around : Around
   pub config : Config
   pub read_faults : List ℕ
   pub write_faults : List ℕ
   pub steps : List Step
 
 abbrev pub known_by : Reading → Known
-known_by r = record { before = before r.context; config = r.script.config; read_faults = r.script.read_faults.items; write_faults = r.script.write_faults.items; steps = r.script.steps.items }
+known_by r = record { around = around r.context; config = r.script.config; read_faults = r.script.read_faults.items; write_faults = r.script.write_faults.items; steps = r.script.steps.items }
 
--- what lines that say this leave known
-abbrev pub known : List Item → Known
-known is = record { before = before_of is; config = config_of is; read_faults = faults_of call.Read is; write_faults = faults_of call.Write is; steps = steps_of is }
+-- what lines that say this leave known, where the header asks for so many frames
+abbrev pub known : ℕ → List Item → Known
+known frames is = record { around = around_of frames is; config = config_of is; read_faults = faults_of call.Read is; write_faults = faults_of call.Write is; steps = steps_of is }
 
-abbrev pub at_start : Known
-at_start = known []
+abbrev pub at_start : ℕ → Known
+at_start frames = known frames []
 
 abbrev pub option_list : {A : Type 0} → Option A → List A
 option_list None = []
@@ -34,19 +39,25 @@ option_list (Some x) = x ∷ []
 
 -- one more call of the device that is to fail
 abbrev pub with_fault : Known → DeviceCall → ℕ → Known
-with_fault k call.Read n = record k { before = record k.before { given = k.before.given ++ word.Fault ∷ [] }; read_faults = k.read_faults ++ n ∷ [] }
-with_fault k call.Write n = record k { before = record k.before { given = k.before.given ++ word.Fault ∷ [] }; write_faults = k.write_faults ++ n ∷ [] }
+with_fault k call.Read n = record k { around = record k.around { given = k.around.given ++ word.Fault ∷ [] }; read_faults = k.read_faults ++ n ∷ [] }
+with_fault k call.Write n = record k { around = record k.around { given = k.around.given ++ word.Fault ∷ [] }; write_faults = k.write_faults ++ n ∷ [] }
 
 -- one more step, which a command asks for
 abbrev pub with_step : Known → Step → Known
-with_step k s = record k { before = record { commands = true; given = k.before.given }; steps = k.steps ++ s ∷ [] }
+with_step k s = record k { around = record k.around { commands = true }; steps = k.steps ++ s ∷ [] }
 
 -- one more item
 abbrev pub after : Known → Item → Known
 after k i = record {
-  before = record { commands = k.before.commands || is_command i; given = k.before.given ++ option_list (header_word i) };
+  around = record { frames = k.around.frames; commands = k.around.commands || is_command i; given = k.around.given ++ option_list (header_word i) };
   config = config_after k.config i;
   read_faults = k.read_faults ++ option_list (fails call.Read i);
   write_faults = k.write_faults ++ option_list (fails call.Write i);
   steps = k.steps ++ steps_of_item i;
 }
+
+-- what a line is to the header
+abbrev pub IsPart : Part → List ℕ → Type 0
+IsPart part.Frames l = (is_utf8 l ≡ true) × (goes_on (words_of l) ≡ true) × (is_frames (word_of (words_of l)) ≡ true)
+IsPart part.Other l = (is_utf8 l ≡ true) × (goes_on (words_of l) ≡ true) × (is_frames (word_of (words_of l)) ≡ false)
+IsPart part.Behind l = (is_utf8 l && goes_on (words_of l)) ≡ false

@@ -1,9 +1,8 @@
 -- What a script says, and its first faulty line.
-use Rattle.std.specs.Prelude.{◌≡◌, ℕ, ◌+◌, ◌-◌, ◌<◌, ◌≤◌, Bool, true, false, List, [], ◌∷◌, length, map, take, fold, Option, Some, None, slice_index_or}
+use Rattle.std.specs.Prelude.{◌≡◌, ℕ, ◌+◌, ◌-◌, ◌<◌, ◌≤◌, Bool, true, false, List, [], ◌∷◌, length, map, take, Option, Some, None, slice_index_or}
 use Rattle.std.specs.List.{list_any, filter_map, flat_map}
 use Rattle.machine.specs.declared.command.Step.{Step}
 use Rattle.machine.specs.declared.command.Step.TheVariants as step
-use Rattle.machine.specs.declared.config.Config.{Config}
 use Rattle.scripts.specs.declared.meaning.Item.{Item}
 use Rattle.scripts.specs.declared.meaning.Item.TheVariants as item
 use Rattle.scripts.specs.declared.forms.Word.{Word}
@@ -14,33 +13,16 @@ use Rattle.scripts.specs.declared.fault.Cause.{Cause}
 use Rattle.scripts.specs.declared.fault.ScriptFault.{ScriptFault}
 use Rattle.scripts.specs.declared.fault.ScriptFault.TheVariants as script_fault
 use Rattle.scripts.specs.Words.{words_of}
-use Rattle.scripts.specs.Context.{Before}
+use Rattle.scripts.specs.Context.{Around}
 use Rattle.scripts.specs.Faults.{fault}
 use Rattle.scripts.specs.Meaning.{meaning}
+use Rattle.scripts.specs.Header.{header_frames}
 
 -- ---- what a script says
 
 -- what each of these lines says
 abbrev pub items_of : List (List ℕ) → List Item
 items_of ls = map (λ l. meaning (words_of l)) ls
-
--- what holds where the header says nothing
-abbrev pub default_config : Config
-default_config = record { frames = 64; swap = 0; trace = 65536 }
-
-abbrev pub config_after : Config → Item → Config
-config_after c (item.Frames n) = record c { frames = n }
-config_after c (item.Swap n) = record c { swap = n }
-config_after c (item.Trace n) = record c { trace = n }
-config_after c item.Nothing = c
-config_after c (item.Fails what n) = c
-config_after c (item.Does actor what) = c
-config_after c (item.Begins actor what) = c
-config_after c (item.Advances actor) = c
-config_after c (item.Finishes actor) = c
-
-abbrev pub config_of : List Item → Config
-config_of is = fold config_after default_config is
 
 -- which call of the kind is to fail, where the line says so of one
 abbrev pub fails : DeviceCall → Item → Option ℕ
@@ -61,6 +43,7 @@ steps_of_item (item.Finishes actor) = step.Finish actor ∷ []
 steps_of_item item.Nothing = []
 steps_of_item (item.Frames n) = []
 steps_of_item (item.Swap n) = []
+steps_of_item (item.Marks m) = []
 steps_of_item (item.Trace n) = []
 steps_of_item (item.Fails what n) = []
 
@@ -77,12 +60,14 @@ is_command (item.Finishes actor) = true
 is_command item.Nothing = false
 is_command (item.Frames n) = false
 is_command (item.Swap n) = false
+is_command (item.Marks m) = false
 is_command (item.Trace n) = false
 is_command (item.Fails what n) = false
 
 abbrev pub header_word : Item → Option Word
 header_word (item.Frames n) = Some word.Frames
 header_word (item.Swap n) = Some word.Swap
+header_word (item.Marks m) = Some word.Watermarks
 header_word (item.Trace n) = Some word.Trace
 header_word (item.Fails what n) = Some word.Fault
 header_word item.Nothing = None
@@ -91,13 +76,13 @@ header_word (item.Begins actor what) = None
 header_word (item.Advances actor) = None
 header_word (item.Finishes actor) = None
 
--- what stands before a line, where the lines before it say this
-abbrev pub before_of : List Item → Before
-before_of is = record { commands = list_any is_command is; given = filter_map header_word is }
+-- what a line has to know of the others, where the header asks for so many frames and the lines before say this
+abbrev pub around_of : ℕ → List Item → Around
+around_of frames is = record { frames = frames; commands = list_any is_command is; given = filter_map header_word is }
 
 -- why a line is faulty behind those before it, if it is; by its place, from 0
 abbrev pub fault_at : List (List ℕ) → ℕ → Option Cause
-fault_at ls k = fault (before_of (items_of (take k ls))) (slice_index_or ls k [])
+fault_at ls k = fault (around_of (header_frames ls) (items_of (take k ls))) (slice_index_or ls k [])
 
 abbrev pub IsFaultless : List (List ℕ) → Type 0
 IsFaultless ls = (k : ℕ) → k < length ls → fault_at ls k ≡ None

@@ -3,13 +3,16 @@
 ghost use Rattle.std.specs.Prelude.{◌≡◌, map, length, IfNone};
 ghost use Rattle.std.specs.List.{list_all, zip};
 ghost use Rattle.std.specs.Option.{option_map};
+ghost use Rattle.machine.specs.State.{are_marks};
 ghost use Rattle.scripts.specs.Forms.{form_of};
-ghost use Rattle.scripts.specs.Context.{before};
-ghost use Rattle.scripts.specs.Faults.{word_fits, number_fits, name_fits, task_fits, first_of, word_faults, now};
+ghost use Rattle.scripts.specs.Context.{around};
+ghost use Rattle.scripts.specs.Faults.{word_fits, number_fits, name_fits, task_fits, marks_fit, first_of, word_faults, now};
 
 use crate::context::Context;
 use crate::fault::Cause;
 use crate::forms::{Kind, Manner, Word, actor_named, call_named, may_stand};
+use crate::meaning::marks_of;
+use machine::config::Watermarks;
 use text_forms::name::is_path;
 use text_forms::number::{is_digits, number_of};
 
@@ -81,6 +84,23 @@ fn names_fit(kinds: &[Kind], words: &[&str]) -> bool
         .all(|(kind, word)| name_fits(*kind, word))
 }
 
+fn are_marks(marks: Watermarks, frames: u32) -> bool
+    ensures { result ≡ are_marks marks frames }
+{
+    marks.low <= marks.high && marks.high <= frames
+}
+
+/// Whether the daemon's marks, if the line gives them, are in order and within the frames.
+fn marks_fit(frames: u32, word: Word, arguments: &[&str]) -> bool
+    requires { length arguments.now ≡ length (form_of word).arguments }
+    ensures { result ≡ marks_fit frames word (map now arguments.now) }
+{
+    if word != Word::Watermarks {
+        return true;
+    }
+    are_marks(marks_of(arguments[0], arguments[1]), frames)
+}
+
 /// The first fault of a line with this word, which stands behind a task's number where there is one.
 pub fn fault_of_word(
     context: &Context,
@@ -89,7 +109,7 @@ pub fn fault_of_word(
     word: Word,
     arguments: &[&str],
 ) -> Option<Cause>
-    ensures fault { result ≡ first_of (word_faults (before context.now) manner (option_map now task.entry) word (map now arguments.now)) }
+    ensures fault { result ≡ first_of (word_faults (around context.now) manner (option_map now task.entry) word (map now arguments.now)) }
     ensures count { IfNone result (length arguments.now ≡ length (form_of word).arguments) }
 {
     let kinds = word.form().arguments;
@@ -103,6 +123,9 @@ pub fn fault_of_word(
         return Some(Cause::ExtraArgument);
     }
     if !task_fits(task) || !numbers_fit(kinds, arguments) {
+        return Some(Cause::BadNumber);
+    }
+    if !marks_fit(context.frames, word, arguments) {
         return Some(Cause::BadNumber);
     }
     if !names_fit(kinds, arguments) {

@@ -1,32 +1,34 @@
-//! What a line has to know of the lines before it.
+//! What a line has to know of the other lines.
 
 ghost use Rattle.std.specs.Prelude.{◌≡◌, ◌&&◌};
 ghost use Rattle.std.specs.List.{list_any};
 ghost use Rattle.scripts.specs.Forms.{form_of, same_word};
-ghost use Rattle.scripts.specs.Context.{before};
+ghost use Rattle.scripts.specs.Context.{around};
 
 use crate::forms::Word;
 
-/// What stands before a line.
+/// What a line has to know of the other lines.
 #[derive(Debug, Drop)]
 pub struct Context {
-    /// A line that is not of the header.
+    /// How many frames the header asks for, also behind the line.
+    pub frames: u32,
+    /// A line that is not of the header stands before.
     pub commands: bool,
-    /// The words of the header's lines.
+    /// The words of the header's lines that stand before.
     pub given: Vec<Word>,
 }
 
 impl Context {
     /// Whether a line with the word is of the header and comes too late.
     pub fn is_late(&self, word: Word) -> bool
-        ensures { result ≡ ((form_of word).header && (before self.now).commands) }
+        ensures { result ≡ ((form_of word).header && (around self.now).commands) }
     {
         word.form().header && self.commands
     }
 
     /// Whether the word comes at most once and came before.
     pub fn is_repeated(&self, word: Word) -> bool
-        ensures { result ≡ ((form_of word).once && list_any (same_word word) (before self.now).given) }
+        ensures { result ≡ ((form_of word).once && list_any (same_word word) (around self.now).given) }
     {
         word.form().once && self.given.contains(&word)
     }

@@ -54,15 +54,18 @@ pub enum DeviceCall {
 pub enum Word {
     Frames,
     Swap,
+    Watermarks,
     Trace,
     Fault,
     Group,
     Task,
     Set,
     Cat,
+    Protection,
     Write,
     Read,
     Exit,
+    Daemon,
     Begin,
     Step,
     Finish,
@@ -115,18 +118,21 @@ const BYTE: Kind = Kind::Number {
     most: 255,
 };
 
-const WORDS: [Word; 14] = [
+const WORDS: [Word; 17] = [
     Word::Frames,
     Word::Swap,
+    Word::Watermarks,
     Word::Trace,
     Word::Fault,
     Word::Group,
     Word::Task,
     Word::Set,
     Word::Cat,
+    Word::Protection,
     Word::Write,
     Word::Read,
     Word::Exit,
+    Word::Daemon,
     Word::Begin,
     Word::Step,
     Word::Finish,
@@ -215,15 +221,18 @@ impl Word {
         match self {
             Word::Frames => header("frames", &[FRAMES]),
             Word::Swap => header("swap", &[BLOCKS]),
+            Word::Watermarks => header("watermarks", &[NUMBER, NUMBER]),
             Word::Trace => header("trace", &[ENTRIES]),
             Word::Fault => header_many("fault", &[Kind::Call, COUNT]),
             Word::Group => shell("group", &[Kind::Path]),
             Word::Task => shell("task", &[NUMBER, Kind::Path]),
             Word::Set => shell("set", &[Kind::Path, Kind::Any, Kind::Any]),
             Word::Cat => shell("cat", &[Kind::Path, Kind::Any]),
+            Word::Protection => shell("prot", &[Kind::Path, Kind::Path]),
             Word::Write => task("write", &[NUMBER, NUMBER, BYTE]),
             Word::Read => task("read", &[NUMBER, NUMBER]),
             Word::Exit => task("exit", &[]),
+            Word::Daemon => shell("daemon", &[]),
             Word::Begin => part("begin", &[Kind::Line]),
             Word::Step => part("step", &[Kind::Actor]),
             Word::Finish => part("finish", &[Kind::Actor]),
@@ -286,6 +295,7 @@ pub fn actor_named(text: &str) -> Option<Actor>
     match text {
         "shell" => Some(Actor::Shell),
         "control" => Some(Actor::Control),
+        "daemon" => Some(Actor::Daemon),
         _ => None,
     }
 }

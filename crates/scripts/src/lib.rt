@@ -1,14 +1,16 @@
 //! The language of scripts: what the lines of a script mean, and which line is the first faulty one.
 //!
-//! A script is read whole before anything is run. Each line is judged by itself, but for two things
-//! that it needs to know of the lines before it: whether a command stood, and which words the header
-//! had. What a line means takes no heed of faults, and is spoken of for faultless lines alone.
+//! A script is read whole before anything is run. Each line is judged by itself, but for three things
+//! that it needs to know of the others: how many frames the header asks for, whether a command stood
+//! before, and which words of the header did. What a line means takes no heed of faults, and is
+//! spoken of for faultless lines alone.
 #![tactic(auto)]
 
 mod check;
 mod context;
 mod fault;
 mod forms;
+mod header;
 mod line;
 mod lines;
 mod meaning;
@@ -17,4 +19,4 @@ mod words;
 
 pub use fault::{Cause, ScriptFault};
 pub use forms::{DeviceCall, Form, Kind, Speaker, Word, each_word_is_found};
-pub use script::{Mode, Script, one_answer, read};
+pub use script::{Mode, Script, frames_line_has_its_own_fault, one_answer, read};

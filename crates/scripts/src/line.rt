@@ -3,7 +3,7 @@
 ghost use Rattle.std.specs.Prelude.{◌≡◌, map};
 ghost use Rattle.std.specs.Option.{option_map};
 ghost use Rattle.scripts.specs.Words.{words_of};
-ghost use Rattle.scripts.specs.Context.{before};
+ghost use Rattle.scripts.specs.Context.{around};
 ghost use Rattle.scripts.specs.Faults.{now, first_of, named_faults, bare_faults, line_faults, fault};
 ghost use Rattle.scripts.specs.Meaning.{named_means, bare_means, meaning};
 ghost use Rattle.scripts.specs.Lines.{Reads};
@@ -12,10 +12,10 @@ use crate::check::fault_of_word;
 use crate::context::Context;
 use crate::fault::{Cause, LineError};
 use crate::forms::{Manner, Speaker, Word, takes_line, word_named};
+use crate::lines::as_text;
 use crate::meaning::{Item, begun, item_of_word};
 use crate::words::words_of;
 use std::alloc::Global;
-use std::str;
 use text_forms::number::is_digits;
 
 fn read_named(
@@ -27,7 +27,7 @@ fn read_named(
     arguments: &[&str],
 ) -> Result<Item, LineError>
     ensures { Reads result
-        (first_of (named_faults (before context.now) manner (option_map now task.entry) word (map now arguments.now)))
+        (first_of (named_faults (around context.now) manner (option_map now task.entry) word (map now arguments.now)))
         (named_means (option_map now task.entry) word (map now arguments.now)) }
 {
     let Some(word) = word else {
@@ -46,7 +46,7 @@ fn read_bare(
     words: &[&str],
 ) -> Result<Item, LineError>
     ensures { Reads result
-        (first_of (bare_faults (before context.now) manner (map now words.now)))
+        (first_of (bare_faults (around context.now) manner (map now words.now)))
         (bare_means (map now words.now)) }
 {
     let Some((first, more)) = words.split_first() else {
@@ -77,7 +77,7 @@ fn read_bare(
 
 fn read_words(alloc: Global, context: &Context, words: &[&str]) -> Result<Item, LineError>
     ensures { Reads result
-        (first_of (line_faults (before context.now) (map now words.now)))
+        (first_of (line_faults (around context.now) (map now words.now)))
         (meaning (map now words.now)) }
 {
     let Some((first, more)) = words.split_first() else {
@@ -93,11 +93,11 @@ fn read_words(alloc: Global, context: &Context, words: &[&str]) -> Result<Item, 
     read_bare(alloc, context, Manner::Whole, words)
 }
 
-/// What a line says behind those that the context is of.
+/// What a line says among those that the context is of.
 pub fn read_line(alloc: Global, context: &Context, line: &[u8]) -> Result<Item, LineError>
-    ensures { Reads result (fault (before context.now) line.now) (meaning (words_of line.now)) }
+    ensures { Reads result (fault (around context.now) line.now) (meaning (words_of line.now)) }
 {
-    let Ok(text) = str::from_utf8(line) else {
+    let Some(text) = as_text(line) else {
         return Err(LineError::Fault(Cause::NotText));
     };
     let words = words_of(alloc, text)?;

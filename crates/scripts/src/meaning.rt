@@ -2,12 +2,14 @@
 
 ghost use Rattle.std.specs.Prelude.{◌≡◌, map, length, IfOk};
 ghost use Rattle.std.specs.Option.{option_map};
+ghost use Rattle.machine.specs.declared.command.Command.TheVariants.{Protection};
 ghost use Rattle.scripts.specs.Forms.{form_of};
 ghost use Rattle.scripts.specs.Faults.{now};
-ghost use Rattle.scripts.specs.Meaning.{number_value, byte_value, actor_of, actor_value, call_value, access_to, word_means, begun};
+ghost use Rattle.scripts.specs.Meaning.{number_value, byte_value, actor_of, actor_value, call_value, marks_of, access_to, word_means, begun};
 
 use crate::forms::{DeviceCall, Word, actor_named, call_named};
 use machine::command::{Actor, Command};
+use machine::config::Watermarks;
 use machine::event::{Op, Place};
 use machine::text::Text;
 use std::alloc::{AllocError, Global};
@@ -22,6 +24,8 @@ pub enum Item {
     Frames(u32),
     /// So many swap blocks.
     Swap(u32),
+    /// The daemon's marks.
+    Marks(Watermarks),
     /// So many entries of the trace.
     Trace(u32),
     /// This call of the device fails, counted from 1 among those of its kind.
@@ -78,6 +82,24 @@ fn call_value(word: &str) -> DeviceCall
     call_named(word).unwrap_or(DeviceCall::Read)
 }
 
+pub fn marks_of(low: &str, high: &str) -> Watermarks
+    ensures { result ≡ marks_of low.now high.now }
+{
+    Watermarks {
+        low: number_value(low),
+        high: number_value(high),
+    }
+}
+
+fn protection(alloc: Global, target: &str, path: &str) -> Result<Command, AllocError>
+    ensures { IfOk result (λ command. command ≡ Protection target.now path.now) }
+{
+    Ok(Command::Protection {
+        target: text_of(alloc, target)?,
+        path: text_of(alloc, path)?,
+    })
+}
+
 fn access_to(page: &str, offset: &str, op: Op) -> Command
     ensures { result ≡ access_to page.now offset.now op }
 {
@@ -101,6 +123,7 @@ pub fn item_of_word(
     let command = match word {
         Word::Frames => return Ok(Item::Frames(number_value(arguments[0]))),
         Word::Swap => return Ok(Item::Swap(number_value(arguments[0]))),
+        Word::Watermarks => return Ok(Item::Marks(marks_of(arguments[0], arguments[1]))),
         Word::Trace => return Ok(Item::Trace(number_value(arguments[0]))),
         Word::Fault => {
             let call = call_value(arguments[0]);
@@ -120,12 +143,14 @@ pub fn item_of_word(
             path: text_of(alloc, arguments[0])?,
             file: text_of(alloc, arguments[1])?,
         },
+        Word::Protection => protection(alloc, arguments[0], arguments[1])?,
         Word::Write => {
             let byte = byte_value(arguments[2]);
             access_to(arguments[0], arguments[1], Op::Write(byte))
         }
         Word::Read => access_to(arguments[0], arguments[1], Op::Read),
         Word::Exit => Command::Exit,
+        Word::Daemon => return Ok(Item::Does(Actor::Daemon, Command::Daemon)),
         // The line behind it tells what is begun.
         Word::Begin => return Ok(Item::Nothing),
         Word::Step => return Ok(Item::Advances(actor_value(arguments[0]))),

@@ -1,31 +1,28 @@
 //! Scripts.
 
-ghost use Rattle.std.specs.Prelude.{◌≡◌, ◌⊎◌, ℕ, List, IfOk, IfErr, OnOk};
+ghost use Rattle.std.specs.Prelude.{◌≡◌, ◌<◌, ◌⊎◌, ℕ, List, [], length, slice_index_or, true, IfOk, IfErr, OnOk};
 ghost use Rattle.std.specs.Str.Lines.{lines};
+ghost use Rattle.machine.specs.State.{is_config};
 ghost use Rattle.scripts.specs.declared.fault.Cause.{Cause};
 ghost use Rattle.scripts.specs.declared.forms.DeviceCall.TheVariants.{Read, Write};
 ghost use Rattle.scripts.specs.Words.{words_of};
 ghost use Rattle.scripts.specs.Faults.{fault};
 ghost use Rattle.scripts.specs.Meaning.{meaning};
 ghost use Rattle.scripts.specs.Lines.{Adds};
-ghost use Rattle.scripts.specs.Script.{items_of, config_of, faults_of, steps_of, IsFaultless, IsFirstFault, NamesFirstFault};
+ghost use Rattle.scripts.specs.Header.{config_of, at_frames, frames_line};
+ghost use Rattle.scripts.specs.Script.{items_of, faults_of, steps_of, fault_at, IsFaultless, IsFirstFault, NamesFirstFault};
 ghost use Rattle.scripts.specs.Reading.{known_by, at_start, with_fault, with_step, after};
 
 use crate::context::Context;
 use crate::fault::{LineError, ScriptFault};
 use crate::forms::{DeviceCall, Word};
+use crate::header::{DEFAULT_CONFIG, header_frames};
 use crate::line::read_line;
 use crate::lines::first_line;
 use crate::meaning::Item;
 use machine::command::Step;
 use machine::config::Config;
 use std::alloc::{AllocError, Global};
-
-const DEFAULT_CONFIG: Config = Config {
-    frames: 64,
-    swap: 0,
-    trace: 65_536,
-};
 
 /// What a script is read for.
 #[derive(Clone, Copy, Debug, PartialEq, Eq)]
@@ -55,11 +52,12 @@ struct Reading {
 }
 
 impl Reading {
-    fn new(alloc: Global) -> Reading
-        ensures { known_by result ≡ at_start }
+    fn new(alloc: Global, frames: u32) -> Reading
+        ensures { known_by result ≡ at_start frames }
     {
         Reading {
             context: Context {
+                frames,
                 commands: false,
                 given: Vec::new(alloc),
             },
@@ -104,6 +102,10 @@ impl Reading {
                 self.context.given.push(Word::Swap)?;
                 self.script.config.swap = swap;
             }
+            Item::Marks(marks) => {
+                self.context.given.push(Word::Watermarks)?;
+                self.script.config.marks = marks;
+            }
             Item::Trace(trace) => {
                 self.context.given.push(Word::Trace)?;
                 self.script.config.trace = trace;
@@ -122,7 +124,7 @@ impl Reading {
 
     fn add_line(&mut self, alloc: Global, line: &[u8]) -> Result<(), LineError>
         ensures { Adds result
-            (fault (known_by self.old).before line.now)
+            (fault (known_by self.old).around line.now)
             (known_by self.new ≡ after (known_by self.old) (meaning (words_of line.now))) }
     {
         let item = read_line(alloc, &self.context, line)?;
@@ -134,12 +136,16 @@ impl Reading {
 fn read_schedule(alloc: Global, text: &[u8]) -> Result<Script, ScriptFault>
     ensures faultless { IfOk result (λ _. IsFaultless (lines text.now)) }
     ensures config { IfOk result (λ s. s.config ≡ config_of (items_of (lines text.now))) }
+    ensures limits { IfOk result (λ s. is_config s.config ≡ true) }
     ensures read_faults { IfOk result (λ s. s.read_faults.items ≡ faults_of Read (items_of (lines text.now))) }
     ensures write_faults { IfOk result (λ s. s.write_faults.items ≡ faults_of Write (items_of (lines text.now))) }
     ensures steps { IfOk result (λ s. s.steps.items ≡ steps_of (items_of (lines text.now))) }
     ensures fault { IfErr result (λ e. NamesFirstFault e (lines text.now)) }
 {
-    let mut reading = Reading::new(alloc);
+    let Ok(frames) = header_frames(alloc, text) else {
+        return Err(ScriptFault::Memory);
+    };
+    let mut reading = Reading::new(alloc, frames);
     let mut rest = text;
     let mut number = 0;
     while !rest.is_empty() {
@@ -163,6 +169,7 @@ fn read_schedule(alloc: Global, text: &[u8]) -> Result<Script, ScriptFault>
 pub fn read(alloc: Global, text: &[u8], mode: Mode) -> Result<Script, ScriptFault>
     ensures faultless { IfOk result (λ _. IsFaultless (lines text.now)) }
     ensures config { IfOk result (λ s. s.config ≡ config_of (items_of (lines text.now))) }
+    ensures limits { IfOk result (λ s. is_config s.config ≡ true) }
     ensures read_faults { IfOk result (λ s. s.read_faults.items ≡ faults_of Read (items_of (lines text.now))) }
     ensures write_faults { IfOk result (λ s. s.write_faults.items ≡ faults_of Write (items_of (lines text.now))) }
     ensures steps { IfOk result (λ s. s.steps.items ≡ steps_of (items_of (lines text.now))) }
@@ -178,4 +185,10 @@ pub fn one_answer()
     ensures some { (ls : List (List ℕ)) → IsFaultless ls ⊎ ((n : ℕ) × (c : Cause) × IsFirstFault ls n c) }
     ensures not_both { (ls : List (List ℕ)) (n : ℕ) (c : Cause) → IsFirstFault ls n c → IsFaultless ls → ⊥ }
     ensures one { (ls : List (List ℕ)) (m n : ℕ) (c d : Cause) → IsFirstFault ls m c → IsFirstFault ls n d → (m ≡ n) × (c ≡ d) }
+{}
+
+/// A law: the `frames` line that the daemon's marks are compared with is one of the script's lines, and
+/// whether it has a fault, and which, is as for every line.
+pub fn frames_line_has_its_own_fault()
+    ensures { (ls : List (List ℕ)) (l : List ℕ) → frames_line ls ≡ Some l → (k : ℕ) × (k < length ls) × (slice_index_or ls k [] ≡ l) × (fault_at ls k ≡ fault at_frames l) }
 {}

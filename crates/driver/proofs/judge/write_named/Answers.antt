@@ -5,8 +5,8 @@ use Rattle.machine.specs.declared.amount.Amount.{Amount}
 use Rattle.machine.specs.declared.refusal.Refusal.{Refusal}
 use Rattle.machine.specs.declared.refusal.Refusal.TheVariants.{Invalid}
 use Rattle.machine.specs.Control.{amount_of}
-use Rattle.driver.specs.declared.turn.Doing.TheVariants.{SetMax}
-use Rattle.driver.specs.Turns.{Judged, with_amount}
+use Rattle.driver.specs.declared.turn.Doing.TheVariants.{SetMax, SetMin}
+use Rattle.driver.specs.Turns.{Judged, reclaims, with_amount}
 use Rattle.driver.proofs.judge.write_named.Goals as goal
 
 -- what is no amount is refused, and what is one goes on
@@ -26,3 +26,21 @@ returns-in_err-parse_amount-in-Max c =
 pub returns-in_ok-parse_amount-in-Max : goal.returns-in_ok-parse_amount-in-Max
 returns-in_ok-parse_amount-in-Max c =
     rw c.in-Max.is (amount-goes-on (amount_of c.args.text.now) (λ max. Ok (SetMax c.args.group max)) c.in_ok-parse_amount-in-Max.field-0 (sym c.in_ok-parse_amount-in-Max.ensures))
+
+pub returns-in_err-parse_amount-in-Min : goal.returns-in_err-parse_amount-in-Min
+returns-in_err-parse_amount-in-Min c =
+    let p = err_from_is_err_and c.from_residual-in_err-parse_amount-in-Min.result c.from_residual-in_err-parse_amount-in-Min.ensures.1 in
+    rw (p.1, p.2, c.in-Min.is) (amount-refused (amount_of c.args.text.now) (λ min. Ok (SetMin c.args.group min)) c.in_err-parse_amount-in-Min.field-0.0 (sym c.in_err-parse_amount-in-Min.ensures))
+
+pub returns-in_ok-parse_amount-in-Min : goal.returns-in_ok-parse_amount-in-Min
+returns-in_ok-parse_amount-in-Min c =
+    rw c.in-Min.is (amount-goes-on (amount_of c.args.text.now) (λ min. Ok (SetMin c.args.group min)) c.in_ok-parse_amount-in-Min.field-0 (sym c.in_ok-parse_amount-in-Min.ensures))
+
+pub returns-in_err-parse_amount-in-Reclaim : goal.returns-in_err-parse_amount-in-Reclaim
+returns-in_err-parse_amount-in-Reclaim c =
+    let p = err_from_is_err_and c.from_residual-in_err-parse_amount-in-Reclaim.result c.from_residual-in_err-parse_amount-in-Reclaim.ensures.1 in
+    rw (p.1, p.2, c.in-Reclaim.is) (amount-refused (amount_of c.args.text.now) (reclaims c.args.group.0) c.in_err-parse_amount-in-Reclaim.field-0.0 (sym c.in_err-parse_amount-in-Reclaim.ensures))
+
+pub returns-in_ok-parse_amount-in-Reclaim : goal.returns-in_ok-parse_amount-in-Reclaim
+returns-in_ok-parse_amount-in-Reclaim c =
+    rw (c.reclaim.ensures, c.in-Reclaim.is) (amount-goes-on (amount_of c.args.text.now) (reclaims c.args.group.0) c.in_ok-parse_amount-in-Reclaim.field-0 (sym c.in_ok-parse_amount-in-Reclaim.ensures))

@@ -7,7 +7,7 @@ use Rattle.scripts.proofs.script.read_schedule.Goals as goal
 pub loop-rest-preserved : goal.loop-rest-preserved
 loop-rest-preserved c = (
   goes_on (lines c.args.text.now) (lines c.loop-rest.rest.now) c.loop-rest.number (known_by c.loop-rest.reading) (known_by c.add_line.new.self)
-      c.first_line.result.0.now (lines c.first_line.result.1.now) c.loop-rest.invariant.0 c.first_line.ensures.lines c.in-Ok.ensures.0 c.in-Ok.ensures.1,
+      c.first_line.result.0.now (lines c.first_line.result.1.now) c.loop-rest.invariant.0 c.first_line.ensures.lines c.in-Ok-add_line.ensures.0 c.in-Ok-add_line.ensures.1,
   omega arith,
 )
 
@@ -25,6 +25,11 @@ pub returns-clause-config : goal.returns-clause-config
 returns-clause-config c =
     let empty : length c.loop-rest.rest.now ≡ 0 = search rules in
     (ends (lines c.args.text.now) c.loop-rest.rest.now c.loop-rest.number (known_by c.loop-rest.reading) c.loop-rest.invariant.0 empty).config
+
+pub returns-clause-limits : goal.returns-clause-limits
+returns-clause-limits c =
+    let empty : length c.loop-rest.rest.now ≡ 0 = search rules in
+    (ends (lines c.args.text.now) c.loop-rest.rest.now c.loop-rest.number (known_by c.loop-rest.reading) c.loop-rest.invariant.0 empty).limits
 
 pub returns-clause-read_faults : goal.returns-clause-read_faults
 returns-clause-read_faults c =

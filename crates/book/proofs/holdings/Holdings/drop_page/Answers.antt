@@ -3,7 +3,10 @@ use Rattle.machine.specs.Slots.{there_and}
 use Rattle.machine.specs.Pages.{is_held, is_in_transfer}
 use Rattle.machine.proofs.SlotLemmas.{one_if}
 use Rattle.pages.specs.Records.{page_of}
-use Rattle.book.proofs.HoldingLemmas.{holding-step, relists-same, relists-out, not-going}
+use Rattle.book.proofs.HoldingLemmas.{holding-step, relists-same, relists-out, not-going, same-view}
+use Rattle.book.specs.Keeping.{as_number}
+use Rattle.book.proofs.EntryLemmas.{grouped-same, grouped-out, absent}
+use Rattle.book.proofs.OrderLemmas.{listed-held, goes-on-out}
 use Rattle.book.proofs.holdings.Holdings.drop_page.Goals as goal
 
 pub invariant_of-self : goal.invariant_of-self
@@ -26,9 +29,28 @@ invariant_of-self c =
       frames = c.release.ensures.frames;
       held = relists-out is_held h.held.numbers _ h.pages.pages p p from None refl dropped.kept refl c.self.invariant.held c.remove.ensures.counts c.remove.ensures.fewer;
       moving = relists-same is_in_transfer h.moving.numbers p from None settled;
+      held_groups = grouped-out h.held h.pages.pages pages p from None dropped.kept dropped.gone c.self.invariant.held_groups c.remove.new.self p c.remove.ensures.entries c.remove.ensures.others refl;
+      moving_groups = grouped-same h.moving h.pages.pages pages p from None dropped.kept dropped.gone c.self.invariant.moving_groups (absent h.moving p from None (c.self.invariant.moving.once p ∙ ap as_number unmoved));
       held_room = c.remove.ensures.room;
       moving_room = refl;
       spares = omega (arith, spares, going);
       tickets = (let none = ap one_if settled in omega (arith, tickets, none));
     })
     c.self.invariant
+
+pub returns : goal.returns
+returns c =
+    let h = c.self.inside in
+    let p = c.args.page.0 in
+    let dropped = c.drop_page-kept.ensures in
+    let from = Some (page_of c.drop_page-kept.result) in
+    let pages = c.drop_page-kept.new.self.pages in
+    let groups = c.release.ensures.groups in
+    rw (← c.self.view_is)
+    (record {
+      gone = dropped.gone;
+      bytes = dropped.bytes;
+      flights = dropped.flights;
+      order = goes-on-out h.pages.pages pages h.held.numbers (listed-held h.held.numbers h.pages.pages c.self.invariant.held) p from None dropped.kept dropped.gone c.remove.new.self.numbers p c.remove.ensures.others refl refl;
+      others = same-view h (record h { pages = c.drop_page-kept.new.self; counters = c.release.new.counters; pool = c.release.new.pool; slots = c.release.new.slots; held = c.remove.new.self }) groups.tree groups.limits groups.room c.release.ensures.frames c.release.ensures.blocks;
+    })

@@ -8,6 +8,8 @@ use Rattle.book.specs.Holdings.{IsGranted}
 use Rattle.book.specs.Keeping.{holdings_of}
 use Rattle.book.proofs.CountLemmas.{charge-usage}
 use Rattle.book.proofs.HoldingLemmas.{kept-step, holding-step, relists-same, relists-in, same-view, ticket-free}
+use Rattle.book.proofs.EntryLemmas.{grouped-same, grouped-in, equal}
+use Rattle.book.proofs.OrderLemmas.{listed-held, goes-on-at}
 use Rattle.book.proofs.GrantLemmas.{stands-live, room-free, few-charged, over-granted, none-free, granted, granted-out, granted-frame, granted-free, holding-back}
 use Rattle.book.proofs.holdings.Holdings.fetch.Goals as goal
 
@@ -93,6 +95,8 @@ invariant_of-self-2 c =
       frames = room.frame.frames;
       held = relists-same is_held h.held.numbers p from to refl;
       moving = relists-in is_in_transfer h.moving.numbers c.push.new.self.numbers p p from to refl refl refl c.push.ensures.counts c.push.ensures.more;
+      held_groups = grouped-same h.held h.pages.pages pages p from to stood starts.placed c.self.invariant.held_groups (λ x listed own. own);
+      moving_groups = grouped-in h.moving h.pages.pages pages p from to stood starts.placed c.self.invariant.moving_groups c.push.new.self (c.group_of-group.result, c.args.page) c.push.ensures.entries c.push.ensures.last refl (equal g c.group_of-group.result.0 room.group) (λ x listed own. own);
       held_room = refl;
       moving_room = c.push.ensures.room;
       spares = omega (arith, spares);
@@ -124,6 +128,7 @@ returns-clause-fetches c =
         placed = begins.starts.placed;
         bytes = begins.bytes;
         listed = begins.starts.listed;
+        order = goes-on-at h.pages.pages c.start_in-ticket.new.self.pages h.held.numbers (listed-held h.held.numbers h.pages.pages c.self.invariant.held) p _ _ stood begins.starts.placed refl;
         others = same-view h (record h { pages = c.start_in-ticket.new.self; counters = c.take_room.new.counters; pool = c.take_room.new.pool; moving = c.push.new.self }) groups.tree groups.limits groups.room room.frame.frames refl;
       },
     ))

@@ -4,7 +4,9 @@ use Rattle.machine.specs.Pages.{page_at, is_in_transfer}
 use Rattle.machine.specs.Step.{new_page}
 use Rattle.pages.specs.PageTable.{PageTable, byte_in}
 use Rattle.book.proofs.CountLemmas.{charge-usage}
-use Rattle.book.proofs.HoldingLemmas.{kept-step, holding-step, relists-same, same-view}
+use Rattle.book.proofs.HoldingLemmas.{kept-step, holding-step, relists-same, same-view, own}
+use Rattle.book.proofs.EntryLemmas.{grouped-same, grouped-in}
+use Rattle.book.proofs.OrderLemmas.{listed-held, goes-on-in}
 use Rattle.book.proofs.GrantLemmas.{room-free, few-charged, over-granted, none-free, granted, granted-out, granted-frame, granted-free, holding-back}
 use Rattle.book.proofs.holdings.Holdings.hold.Goals as goal
 
@@ -72,6 +74,8 @@ invariant_of-self-2 c =
       frames = room.frame.frames;
       held = record { once = λ n. (let k = c.push.ensures.counts n in omega (arith, k)); len = omega (arith, more) };
       moving = relists-same is_in_transfer h.moving.numbers p None (Some (new_page g f)) refl;
+      held_groups = grouped-in h.held h.pages.pages pages p None (Some (new_page g f)) free placed c.self.invariant.held_groups c.push.new.self (c.args.group, c.hold-page.result) c.push.ensures.entries c.push.ensures.last refl (own g) (λ x listed none. absurd cc);
+      moving_groups = grouped-same h.moving h.pages.pages pages p None (Some (new_page g f)) free placed c.self.invariant.moving_groups (λ x listed none. absurd cc);
       held_room = c.push.ensures.room;
       moving_room = refl;
       spares = omega (arith, spares);
@@ -102,6 +106,7 @@ returns-clause-grants c =
         placed = placed;
         bytes = λ q o. c.hold-page.ensures.bytes q o ∙ ap (λ (t : PageTable). cond (q == p) (cond (c.args.offset == o) c.args.byte 0) (byte_in t.bytes q o)) c.reserve_page.ensures.pages;
         flights = c.hold-page.ensures.flights ∙ ap (λ (t : PageTable). t.flights) c.reserve_page.ensures.pages;
+        order = goes-on-in h.pages.pages pages h.held.numbers (listed-held h.held.numbers h.pages.pages c.self.invariant.held) p None (Some (new_page g f)) free placed c.push.new.self.numbers p c.push.ensures.last refl refl refl;
         others = same-view h (record h { pages = c.hold-page.new.self; counters = c.take_room.new.counters; pool = c.take_room.new.pool; held = c.push.new.self }) groups.tree groups.limits groups.room room.frame.frames refl;
       },
     )

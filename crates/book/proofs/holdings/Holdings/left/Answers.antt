@@ -1,4 +1,4 @@
-use Rattle.std.proofs.Common.{◌≡◌, ◌<◌, ◌+◌, Some, refl, sym, subst, arith}
+use Rattle.std.proofs.Common.{◌≡◌, ◌<◌, ◌+◌, Some, refl, sym, ap, ◌∙◌, subst, arith}
 use Rattle.machine.specs.Pages.{Going, Away}
 use Rattle.frames.specs.Pool.{PoolOf, free_count}
 use Rattle.page_counter.specs.Counts.{Charges, IsOut}
@@ -6,7 +6,8 @@ use Rattle.pages.specs.PageTable.{anon_page}
 use Rattle.book.specs.Room.{LacksFrame}
 use Rattle.book.specs.Keeping.{IsHolding}
 use Rattle.book.proofs.CountLemmas.{page-out}
-use Rattle.book.proofs.HoldingLemmas.{frame-out, under-ticket}
+use Rattle.book.proofs.HoldingLemmas.{frame-out, under-ticket, same-view}
+use Rattle.book.proofs.OrderLemmas.{listed-held, goes-on-at}
 use Rattle.book.proofs.GrantLemmas.{stands-live}
 use Rattle.book.proofs.SettleLemmas.{holding-away}
 use Rattle.book.proofs.holdings.Holdings.left.Goals as goal
@@ -47,4 +48,17 @@ invariant_of-self c =
     let spares = back.spares in
     let uncharged = subst (λ x. Charges c.give_room.new.counters h.counters x) charge c.give_room.ensures.uncharged in
     subst (λ (pool : PoolOf). IsHolding (record h { pages = c.end_out-frame.new.self; pool = pool; counters = c.give_room.new.counters; moving = c.remove.new.self })) (sym c.give_spare.ensures)
-    (holding-away h c.self.invariant w.0 w.1 c.args.ticket.number w.2 w.3 c.page_of_ticket-page.result.0 (Going w.2 w.3 c.args.ticket.number) same w.4 refl refl refl c.end_out-frame.new.self c.give_room.new.pool c.give_room.new.counters c.remove.new.self (c.give_room.new.pool.spares + 1) ends back uncharged (omega (arith, spares)) c.remove.ensures.counts c.remove.ensures.fewer c.remove.ensures.room)
+    (holding-away h c.self.invariant w.0 w.1 c.args.ticket.number w.2 w.3 (record { 0 = w.1 }, c.page_of_ticket-page.result) (Going w.2 w.3 c.args.ticket.number) same w.4 refl refl refl c.end_out-frame.new.self c.give_room.new.pool c.give_room.new.counters c.remove.new.self (c.give_room.new.pool.spares + 1) ends back uncharged (omega (arith, spares)) c.remove.ensures.counts c.remove.ensures.fewer c.remove.ensures.entries c.remove.ensures.others c.remove.ensures.room)
+
+pub returns-clause-settles : goal.returns-clause-settles
+returns-clause-settles c =
+    let h = c.self.inside in
+    let groups = c.give_room.ensures.uncharged.groups in
+    rw (← c.self.view_is) (λ p g f b stood.
+    let ends = (c.end_out-frame.ensures.ends p g f b stood).ends in
+    record {
+      placed = ends.placed;
+      unlisted = ends.unlisted;
+      order = goes-on-at h.pages.pages c.end_out-frame.new.self.pages h.held.numbers (listed-held h.held.numbers h.pages.pages c.self.invariant.held) p _ _ stood ends.placed refl;
+      others = same-view h (record h { pages = c.end_out-frame.new.self; pool = c.give_spare.new.self; counters = c.give_room.new.counters; moving = c.remove.new.self }) (sym groups.tree) (sym groups.limits) (sym groups.room) (ap (λ (q : PoolOf). q.frames) c.give_spare.ensures ∙ sym c.give_room.ensures.frame.frames) refl;
+    })

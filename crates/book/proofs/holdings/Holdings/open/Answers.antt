@@ -4,7 +4,7 @@ use Rattle.machine.specs.Pages.{has_frame, has_this_frame, has_swap, is_held, is
 use Rattle.book.specs.Keeping.{has_this_block, is_going}
 use Rattle.book.proofs.BalanceLemmas.{balanced-open}
 use Rattle.book.proofs.CountLemmas.{counted-open}
-use Rattle.book.proofs.HoldingLemmas.{listed-open}
+use Rattle.book.proofs.HoldingLemmas.{listed-open, grouped-open}
 use Rattle.book.proofs.holdings.Holdings.open.Goals as goal
 
 pub invariant_of-result : goal.invariant_of-result
@@ -31,6 +31,8 @@ invariant_of-result c =
       few = omega (arith, frames, fits);
       held = listed-open is_held _ _ c.in_ok-held.ensures.numbers none;
       moving = listed-open is_in_transfer _ _ c.in_ok-moving.ensures.numbers none;
+      held_groups = grouped-open _ pages.pages c.in_ok-held.ensures.entries c.in_ok-held.ensures.numbers;
+      moving_groups = grouped-open _ pages.pages c.in_ok-moving.ensures.entries c.in_ok-moving.ensures.numbers;
       held_room = omega (arith, frames, held_room);
       moving_room = omega (arith, frames, moving_room);
       spares = omega (arith, frames, spares, going);

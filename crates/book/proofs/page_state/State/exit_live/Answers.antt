@@ -1,20 +1,18 @@
-use Rattle.std.proofs.Common.{◌≡◌, ◌∙◌, ℕ, List, Some, refl, sym, ap, subst}
+use Rattle.std.proofs.Common.{◌≡◌, ◌∙◌, List, Some, refl, sym, ap, subst}
 use Rattle.machine.specs.declared.record.Life.TheVariants.{Exited}
 use Rattle.machine.specs.declared.record.Mapping.{Mapping}
-use Rattle.machine.specs.declared.record.Limits.{Limits}
-use Rattle.machine.specs.declared.amount.Amount.TheVariants.{Pages as PagesOf}
 use Rattle.machine.specs.Tree.{Node}
-use Rattle.machine.specs.Counts.{limits_at}
 use Rattle.machine.specs.Tasks.{task_at, group_of_task}
 use Rattle.book.specs.Holdings.{HoldingsOf}
 use Rattle.book.specs.Contents.{Contents, AreMapped}
 use Rattle.book.specs.Drops.{DropsPages}
-use Rattle.book.specs.Kin.{AreKin}
+use Rattle.group_tree.specs.Kin.{AreKin}
 use Rattle.book.specs.Parts.{contents_of, is_let_go}
 use Rattle.book.proofs.EndLemmas.{serves-exit}
 use Rattle.book.proofs.DropLemmas.{unmaps, pages_stay, bytes_stay, moving_alike, mapped_after}
 use Rattle.book.proofs.TransferLemmas.{in_transfer-alike}
 use Rattle.book.proofs.StateLemmas.{homes-ended}
+use Rattle.book.proofs.OrderLemmas.{goes-on-listed}
 use Rattle.book.proofs.page_state.State.exit_live.Goals as goal
 
 pub invariant_of-self : goal.invariant_of-self
@@ -34,7 +32,8 @@ invariant_of-self c =
       mapped = subst (λ (ms : List Mapping). AreMapped c.drop_pages.new.holdings.stored.pages c.exit.new.self.tasks ms) (sym c.exit.ensures.mappings)
           (mapped_after t s.holdings.stored c.drop_pages.new.holdings.stored s.spaces.tasks s.spaces.mappings c.self.invariant.mapped s.holdings.stored.flights are drops Exited (group_of_task s.spaces.tasks t) c.exit.new.self.tasks c.exit.ensures.ends);
       homes = homes-ended s.tree s.spaces.tasks c.exit.new.self.tasks t (group_of_task s.spaces.tasks t) Exited refl c.exit.ensures.ends c.self.invariant.homes;
-      open_groups = subst (λ (ls : List Limits). (g : ℕ) → (limits_at ls g).min ≡ PagesOf 0) (sym (ap (λ (h : HoldingsOf). h.limits) stays)) c.self.invariant.open_groups;
+      listed = goes-on-listed _ _ _ _ c.drop_pages.ensures.order;
+      cursors = c.self.invariant.cursors;
     }
 
 pub returns : goal.returns
@@ -60,5 +59,7 @@ returns c =
       bytes = bytes_stay t s.holdings.stored now s.spaces.tasks s.spaces.mappings c.self.invariant.mapped s.holdings.stored.flights are drops;
       moving = in_transfer-alike s.holdings.stored.pages now.pages (moving_alike t s.holdings.stored now s.spaces.tasks s.spaces.mappings c.self.invariant.mapped s.holdings.stored.flights are drops);
       flights = c.drop_pages.ensures.flights;
+      goes = c.drop_pages.ensures.order;
+      cursors = refl;
     })
     (λ counted told. told))

@@ -21,7 +21,7 @@ returns-in-Read c =
     rw (← c.self.view_is)
     (λ worker entry. rw (c.in-Read.is, byte)
     (record {
-      serves = serves-hit_read old worker touch.task.0 touch.at touch.offset c.args.page.0 held.0 c.args.frame.0 touch.known known c.requires.live shown held.1 c.requires.place;
+      serves = serves-hit_read old worker touch.task.0 touch.at touch.offset c.args.page.0 held.0 c.args.frame.0 touch.known known c.requires.live shown held.1 c.requires.place c.self.invariant.listed;
       gives = tt;
       replies = tt;
     }))
@@ -39,7 +39,7 @@ returns-in-Write c =
     (record {
       serves = serves-hit_write old _ worker touch.task.0 touch.at touch.offset c.in-Write.byte c.args.page.0 held.0 c.args.frame.0 touch.known c.self.invariant.mapped known c.requires.live shown held.1
           (ap (λ (h : HoldingsOf). record (old.tables) { pages = h.stored.pages; limits = h.limits }) c.write.ensures.others ∙ ap (λ (ps : Pages). record (old.tables) { pages = ps }) c.write.ensures.pages)
-          c.write.ensures.bytes c.write.ensures.flights (λ counted told. told);
+          c.write.ensures.bytes c.write.ensures.flights c.self.invariant.listed (ap (λ (h : HoldingsOf). record (old.order) { held = h.held }) c.write.ensures.others) (λ counted told. told);
       gives = tt;
       replies = tt;
     }))

@@ -1,10 +1,8 @@
 use Rattle.std.proofs.Common.{◌≡◌, ◌∙◌, ◌++◌, ◌∷◌, [], true, false, ℕ, List, Some, refl, sym, ap, subst}
 use Rattle.machine.specs.declared.record.Life.TheVariants.{Killed}
 use Rattle.machine.specs.declared.record.Mapping.{Mapping}
-use Rattle.machine.specs.declared.record.Limits.{Limits}
 use Rattle.machine.specs.declared.record.Key.TheVariants as key
-use Rattle.machine.specs.declared.amount.Amount.TheVariants.{Pages as PagesOf}
-use Rattle.machine.specs.Counts.{Counted, limits_at}
+use Rattle.machine.specs.Counts.{Counted}
 use Rattle.machine.specs.Tree.{Node, is_live, under}
 use Rattle.machine.specs.Tasks.{group_of_task}
 use Rattle.machine.specs.Reclaim.{stands, target_of, has_takeable, has_transfer}
@@ -15,13 +13,14 @@ use Rattle.group_tree.proofs.LineageLemmas.{live-within}
 use Rattle.book.specs.Holdings.{HoldingsOf}
 use Rattle.book.specs.Contents.{Contents, AreFew, AreMapped}
 use Rattle.book.specs.Drops.{DropsPages}
-use Rattle.book.specs.Kin.{AreKin}
+use Rattle.group_tree.specs.Kin.{AreKin}
 use Rattle.book.specs.Parts.{contents_of, is_let_go}
 use Rattle.book.proofs.EndLemmas.{serves-kill}
 use Rattle.book.proofs.DropLemmas.{unmaps, pages_stay, bytes_stay, moving_alike, mapped_after}
 use Rattle.book.proofs.TransferLemmas.{in_transfer-alike}
 use Rattle.book.proofs.StateLemmas.{homes-ended, target-live, victim-lives, known-home}
 use Rattle.book.proofs.TallyLemmas.{tells-on, tells-two, others-kept}
+use Rattle.book.proofs.OrderLemmas.{goes-on-listed}
 use Rattle.book.proofs.page_state.State.kill.Goals as goal
 
 pub count-requires-clause-live : goal.count-requires-clause-live
@@ -67,7 +66,8 @@ invariant_of-self c =
       mapped = subst (λ (ms : List Mapping). AreMapped c.drop_pages.new.holdings.stored.pages c.exit.new.self.tasks ms) (sym c.exit.ensures.mappings)
           (mapped_after t s.holdings.stored c.drop_pages.new.holdings.stored s.spaces.tasks s.spaces.mappings c.self.invariant.mapped s.holdings.stored.flights are drops Killed (group_of_task s.spaces.tasks t) c.exit.new.self.tasks c.exit.ensures.ends);
       homes = homes-ended s.tree s.spaces.tasks c.exit.new.self.tasks t (group_of_task s.spaces.tasks t) Killed refl c.exit.ensures.ends c.self.invariant.homes;
-      open_groups = subst (λ (ls : List Limits). (g : ℕ) → (limits_at ls g).min ≡ PagesOf 0) (sym (ap (λ (h : HoldingsOf). h.limits) stays)) c.self.invariant.open_groups;
+      listed = goes-on-listed _ _ _ _ c.drop_pages.ensures.order;
+      cursors = c.self.invariant.cursors;
     }
 
 pub returns : goal.returns
@@ -96,6 +96,8 @@ returns c =
       bytes = bytes_stay t s.holdings.stored now s.spaces.tasks s.spaces.mappings c.self.invariant.mapped s.holdings.stored.flights are drops;
       moving = in_transfer-alike s.holdings.stored.pages now.pages (moving_alike t s.holdings.stored now s.spaces.tasks s.spaces.mappings c.self.invariant.mapped s.holdings.stored.flights are drops);
       flights = c.drop_pages.ensures.flights;
+      goes = c.drop_pages.ensures.order;
+      cursors = refl;
     })
     (tells-on s.events c.count-2.new.self _ (subst (λ (g : ℕ). (cs : List Counted) → Tells s.events cs → Tells c.count-2.new.self (cs ++ (count_of (target_of c.args.cause) key.Oom ∷ count_of g key.OomKill ∷ []))) (sym home)
     (subst (λ (g : ℕ). (cs : List Counted) → Tells s.events cs → Tells c.count-2.new.self (cs ++ (count_of g key.Oom ∷ count_of c.in-Some.known.group.0 key.OomKill ∷ []))) c.target.ensures

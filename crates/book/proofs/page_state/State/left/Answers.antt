@@ -1,21 +1,20 @@
-use Rattle.std.proofs.Common.{◌≡◌, ◌∙◌, ℕ, true, false, List, Option, refl, sym, ap, subst}
+use Rattle.std.proofs.Common.{◌≡◌, ◌∙◌, ◌==◌, ℕ, true, false, List, Option, refl, sym, ap, subst}
 use Rattle.std.specs.Prelude.{IsSome}
 use Rattle.machine.specs.declared.event.Event.TheVariants as event
-use Rattle.machine.specs.declared.record.Limits.{Limits}
-use Rattle.machine.specs.declared.amount.Amount.TheVariants.{Pages as PagesOf}
 use Rattle.machine.specs.Slots.{at as at_flight, there_and}
 use Rattle.machine.specs.State.{State}
 use Rattle.pages.specs.declared.flight.Flight.{Flight}
 use Rattle.machine.specs.Tree.{Node}
-use Rattle.machine.specs.Counts.{limits_at}
 use Rattle.machine.specs.Pages.{Going, Away, is_in_transfer, is_going_out}
+use Rattle.machine.specs.Tasks.{mappers}
 use Rattle.pages.specs.PageTable.{anon_page, is_under_ticket}
-use Rattle.book.specs.Holdings.{HoldingsOf, with_stored}
+use Rattle.book.specs.Holdings.{HoldingsOf, with_order}
 use Rattle.book.specs.Contents.{Contents, counting}
-use Rattle.book.specs.Kin.{AreKin}
+use Rattle.group_tree.specs.Kin.{AreKin}
 use Rattle.book.specs.Parts.{contents_of}
 use Rattle.book.proofs.TransferLemmas.{unlike, going-stands, going-under, going-at}
 use Rattle.book.proofs.MoveLemmas.{ends-on_block, serves-end, mapped-ended, settled-then, bytes-others}
+use Rattle.book.proofs.OrderLemmas.{goes-on-listed, goes-on-let_go}
 use Rattle.book.proofs.page_state.State.left.Goals as goal
 
 pub page_under-page-requires : goal.page_under-page-requires
@@ -73,7 +72,8 @@ invariant_of-self c =
     (subst (λ (s : Contents). is_under_ticket s.tables.pages p c.number.result.0 ≡ true) (sym c.self.view_is) c.page_under-page.ensures) in
     let at = going-at s.holdings.stored.pages s.holdings.stored.flights are p n flies under in
     let settles = c.left.ensures.settles p at.0 at.1 at.2 at.3 in
-    let same = c.drop_unmapped.ensures.others ∙ ap (λ (h : HoldingsOf). with_stored h c.drop_unmapped.new.holdings.stored) settles.others in
+    let same = c.drop_unmapped.ensures.others ∙ ap (λ (h : HoldingsOf). with_order h c.drop_unmapped.new.holdings.stored c.drop_unmapped.new.holdings.held) settles.others in
+    let goes = goes-on-let_go _ _ _ _ _ _ p (mappers s.spaces.mappings p == 0) settles.order c.drop_unmapped.ensures.pages c.drop_unmapped.ensures.order in
     let placed = settled-then s.holdings.stored.pages c.left.new.self.stored.pages c.drop_unmapped.new.holdings.stored.pages s.spaces.mappings p at.0 (Away at.2) settles.placed c.drop_unmapped.ensures.pages in
     record {
       sized = c.self.invariant.sized;
@@ -83,7 +83,8 @@ invariant_of-self c =
       counted_kin = c.self.invariant.counted_kin;
       mapped = mapped-ended s.holdings.stored.pages c.drop_unmapped.new.holdings.stored.pages s.spaces.tasks s.spaces.mappings p at.0 (anon_page at.0 (Going at.1 at.2 n)) (Away at.2) c.self.invariant.mapped at.3 placed;
       homes = c.self.invariant.homes;
-      open_groups = subst (λ (ls : List Limits). (g : ℕ) → (limits_at ls g).min ≡ PagesOf 0) (sym (ap (λ (h : HoldingsOf). h.limits) same)) c.self.invariant.open_groups;
+      listed = goes-on-listed _ _ _ _ goes;
+      cursors = c.self.invariant.cursors;
     }
 
 pub returns : goal.returns
@@ -99,7 +100,8 @@ returns c =
     let settles = c.left.ensures.settles p at.0 at.1 at.2 at.3 in
     let now = c.drop_unmapped.new.holdings.stored in
     let old : Contents = contents_of s in
-    let same = c.drop_unmapped.ensures.others ∙ ap (λ (h : HoldingsOf). with_stored h now) settles.others in
+    let same = c.drop_unmapped.ensures.others ∙ ap (λ (h : HoldingsOf). with_order h now c.drop_unmapped.new.holdings.held) settles.others in
+    let goes = goes-on-let_go _ _ _ _ _ _ p (mappers s.spaces.mappings p == 0) settles.order c.drop_unmapped.ensures.pages c.drop_unmapped.ensures.order in
     let placed = settled-then s.holdings.stored.pages c.left.new.self.stored.pages now.pages s.spaces.mappings p at.0 (Away at.2) settles.placed c.drop_unmapped.ensures.pages in
     let tables = ap (λ (h : HoldingsOf). record (old.tables) { limits = h.limits; pages = now.pages }) same in
     let mid = c.left.ensures.bytes p at.0 at.1 at.2 at.3 in
@@ -108,5 +110,5 @@ returns c =
     (record { changed = ap (λ (fs : List (Option Flight)). at_flight fs n) c.drop_unmapped.ensures.flights ∙ settles.unlisted.changed; others = λ m other. ap (λ (fs : List (Option Flight)). at_flight fs m) c.drop_unmapped.ensures.flights ∙ settles.unlisted.others m other })
     (λ q o other. bytes-others c.left.new.self.stored.bytes now.bytes s.spaces.mappings p c.drop_unmapped.ensures.bytes q o other ∙ mid q o other)
     (λ counted told. ends-on_block (counting old.tables counted) _ p at.0 at.1 at.2 (λ f b. Going f b n) at.3 placed (ap (λ (x : State). counting x counted) tables))
-    (λ counted told. told) tt (λ spot. refl) (λ u g. refl)
+    (goes, refl) (λ counted told. told) tt (λ spot. refl) (λ u g. refl)
     (λ t v o shown there. unlike false there refl))

@@ -1,4 +1,4 @@
-use Rattle.std.proofs.Common.{◌≡◌, ◌∙◌, ◌++◌, ◌∷◌, [], List, Some, refl, sym, ap, subst}
+use Rattle.std.proofs.Common.{rules, ◌≡◌, ◌∙◌, ◌++◌, ◌∷◌, [], List, Some, refl, sym, ap, subst}
 use Rattle.machine.specs.declared.record.Limits.{Limits}
 use Rattle.machine.specs.Names.{parent_path}
 use Rattle.machine.specs.Tree.{Node, find_group}
@@ -13,7 +13,8 @@ use Rattle.book.specs.Parts.{contents_of}
 use Rattle.book.proofs.KinLemmas.{kin-push, live-push}
 use Rattle.book.proofs.TallyLemmas.{tells-on}
 use Rattle.book.proofs.ServeLemmas.{serves-mkdir}
-use Rattle.book.proofs.StateLemmas.{open-push}
+use Rattle.book.proofs.OrderLemmas.{goes-on-still, goes-on-listed}
+use Rattle.book.proofs.CursorLemmas.{cursors-push}
 use Rattle.book.proofs.page_state.State.mkdir_below.Goals as goal
 
 pub invariant_of-self-2 : goal.invariant_of-self-2
@@ -23,6 +24,7 @@ invariant_of-self-2 c =
     let parent = subst (λ (s : Contents). find_group s.tables.tree (parent_path path) ≡ Some c.args.parent.0) (sym c.self.view_is) c.requires.parent in
     let same = c.in_ok-reserve_group.ensures.same in
     let stored = c.add_group.ensures.stored ∙ ap (λ (h : HoldingsOf). h.stored) same in
+    let held = c.add_group.ensures.held ∙ ap (λ (h : HoldingsOf). h.held) same in
     let kin = c.add_group.ensures.kin ∙ ap (λ (h : HoldingsOf). h.kin ++ bare (Some c.args.parent.0) ∷ []) same in
     let counted = c.add_reserved.ensures.tree ∙ ap (λ (t : List Node). t ++ bare (Some c.args.parent.0) ∷ []) c.in_ok-reserve.ensures.tree in
     record {
@@ -33,7 +35,9 @@ invariant_of-self-2 c =
       counted_kin = rw (counted, c.in_ok-group.ensures.ok) (kin-push s.events.tree s.tree c.args.parent.0 (new_node s.tree path) c.self.invariant.counted_kin parent refl);
       mapped = subst (λ (ps : Pages). AreMapped ps s.spaces.tasks s.spaces.mappings) (sym (ap (λ (st : Stored). st.pages) stored)) c.self.invariant.mapped;
       homes = λ t alive. rw c.in_ok-group.ensures.ok (live-push s.tree (new_node s.tree path) (group_of_task s.spaces.tasks t) (c.self.invariant.homes t alive));
-      open_groups = open-push s.holdings.limits c.add_group.new.self.limits c.self.invariant.open_groups (c.add_group.ensures.limits ∙ ap (λ (h : HoldingsOf). h.limits ++ no_limits ∷ []) same);
+      listed = goes-on-listed _ _ _ _
+          (goes-on-still _ _ _ _ c.self.invariant.listed (ap (λ (st : Stored). st.pages) stored) held);
+      cursors = rw c.in_ok-group.ensures.ok (cursors-push s.tree (new_node s.tree path) s.cursors.cursors _ c.self.invariant.cursors (search rules));
     }
 
 pub returns-clause-serves : goal.returns-clause-serves
@@ -42,6 +46,7 @@ returns-clause-serves c =
     let old : Contents = contents_of s in
     let same = c.in_ok-reserve_group.ensures.same in
     let stored = c.add_group.ensures.stored ∙ ap (λ (h : HoldingsOf). h.stored) same in
+    let held = c.add_group.ensures.held ∙ ap (λ (h : HoldingsOf). h.held) same in
     let limits = c.add_group.ensures.limits ∙ ap (λ (h : HoldingsOf). h.limits ++ no_limits ∷ []) same in
     rw (← c.self.view_is)
     (λ worker. serves-mkdir old _ worker c.args.path.now
@@ -50,4 +55,5 @@ returns-clause-serves c =
     ∙ ap (λ (st : Stored). record (old.tables) { tree = s.tree ++ new_node s.tree c.args.path.now ∷ []; limits = s.holdings.limits ++ no_limits ∷ []; pages = st.pages }) stored)
     (ap (λ (st : Stored). st.bytes) stored)
     (ap (λ (st : Stored). st.flights) stored)
+    c.self.invariant.listed held (search rules)
     (tells-on s.events c.add_reserved.new.self (λ cs. cs) (λ cs told. c.add_reserved.ensures.told cs (c.in_ok-reserve.ensures.told cs told))))

@@ -1,7 +1,9 @@
-use Rattle.std.proofs.Common.{ap}
+use Rattle.std.proofs.Common.{◌≡◌, ℕ, List, refl, sym, ap, subst}
+use Rattle.std.specs.List.{filter}
+use Rattle.machine.specs.Lists.{is_held_at}
 use Rattle.book.specs.Holdings.{Stored}
 use Rattle.book.proofs.KinLemmas.{kin-root}
-use Rattle.book.proofs.StateLemmas.{mapped-open, homes-open, open-first}
+use Rattle.book.proofs.StateLemmas.{mapped-open, homes-open}
 use Rattle.book.proofs.page_state.State.open.Goals as goal
 
 pub invariant_of-result : goal.invariant_of-result
@@ -13,7 +15,8 @@ invariant_of-result c =
       swap = c.in_ok-holdings.ensures.swap;
       held_kin = rw (c.in_ok-holdings.ensures.kin, tree) kin-root;
       counted_kin = rw (c.in_ok-events.ensures.tree, tree) kin-root;
-      mapped = mapped-open c.in_ok-holdings.holdings.stored.pages c.new-2.result.tasks c.new-2.result.mappings (ap (λ (s : Stored). s.pages) c.in_ok-holdings.ensures.stored) c.new-2.ensures.mappings;
-      homes = homes-open c.in_ok-tree.tree c.new-2.result.tasks c.new-2.ensures.tasks;
-      open_groups = open-first c.in_ok-holdings.holdings.limits c.in_ok-holdings.ensures.limits;
+      mapped = mapped-open c.in_ok-holdings.holdings.stored.pages c.new-3.result.tasks c.new-3.result.mappings (ap (λ (s : Stored). s.pages) c.in_ok-holdings.ensures.stored) c.new-3.ensures.mappings;
+      homes = homes-open c.in_ok-tree.tree c.new-3.result.tasks c.new-3.ensures.tasks;
+      listed = subst (λ (held : List ℕ). filter (is_held_at c.in_ok-holdings.holdings.stored.pages) held ≡ held) (sym c.in_ok-holdings.ensures.held) refl;
+      cursors = rw (c.in_ok-cursors.ensures, tree) refl;
     }

@@ -31,5 +31,5 @@ returns c =
     (subst (λ (s : Contents). has_takeable s.tables (target_of c.args.cause) ≡ false) (sym c.self.view_is) c.requires.untakeable)
     (subst (λ (s : Contents). has_transfer s.tables (target_of c.args.cause) ≡ false) (sym c.self.view_is) c.requires.settled)
     (subst (λ (s : Contents). IsVictim s.tables.tree s.tables.tasks s.tables.mappings (target_of c.args.cause) None) (sym c.self.view_is) c.requires.nobody)
-    refl refl refl
+    refl refl refl c.self.invariant.listed refl
     (tells-on s.events c.count.new.self _ (subst (λ (g : ℕ). (cs : List Counted) → Tells s.events cs → Tells c.count.new.self (cs ++ count_of g key.Oom ∷ [])) c.target.ensures c.count.ensures.told)))

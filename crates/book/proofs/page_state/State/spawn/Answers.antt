@@ -20,7 +20,8 @@ invariant_of-self-2 c =
       counted_kin = c.self.invariant.counted_kin;
       mapped = mapped-spawned s.holdings.stored.pages s.spaces.tasks c.spawn.new.self.tasks s.spaces.mappings c.spawn.new.self.mappings c.args.task.0 c.args.group.0 c.self.invariant.mapped c.in_ok-spawn.ensures.starts c.in_ok-spawn.ensures.mappings;
       homes = homes-spawned s.tree s.spaces.tasks c.spawn.new.self.tasks c.args.task.0 c.args.group.0 live c.in_ok-spawn.ensures.starts c.self.invariant.homes;
-      open_groups = c.self.invariant.open_groups;
+      listed = c.self.invariant.listed;
+      cursors = c.self.invariant.cursors;
     }
 
 pub returns-clause-serves : goal.returns-clause-serves
@@ -29,4 +30,4 @@ returns-clause-serves c =
     let none = spawn-unused old.tables c.args.task.0 c.args.group.0 (subst (λ (s : Contents). spawn_refusal s.tables c.args.task.0 c.args.group.0 ≡ None) (sym c.self.view_is) c.requires) in
     rw (← c.self.view_is)
     (λ worker. serves-spawn old _ worker c.args.task.0 c.args.group.0 c.self.invariant.mapped none c.in_ok-spawn.ensures.starts
-    (ap (λ (ms : List Mapping). record (old.tables) { tasks = c.spawn.new.self.tasks; mappings = ms }) c.in_ok-spawn.ensures.mappings) refl refl (λ counted told. told))
+    (ap (λ (ms : List Mapping). record (old.tables) { tasks = c.spawn.new.self.tasks; mappings = ms }) c.in_ok-spawn.ensures.mappings) refl refl c.self.invariant.listed refl (λ counted told. told))

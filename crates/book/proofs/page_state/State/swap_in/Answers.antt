@@ -1,10 +1,7 @@
 use Rattle.std.proofs.Common.{◌≡◌, ◌<◌, ◌∙◌, true, ℕ, List, Option, Some, refl, sym, ap, subst}
 use Rattle.std.specs.Prelude.{IfSome}
 use Rattle.machine.specs.declared.record.Key.TheVariants as key
-use Rattle.machine.specs.declared.record.Limits.{Limits}
-use Rattle.machine.specs.declared.amount.Amount.TheVariants.{Pages as PagesOf}
 use Rattle.machine.specs.Tree.{Node, is_live}
-use Rattle.machine.specs.Counts.{limits_at}
 use Rattle.machine.specs.Pages.{Page, Away, Coming, used_frames, charged}
 use Rattle.machine.specs.Tasks.{task_at, mapped_at}
 use Rattle.pages.specs.PageTable.{Stands, anon_page}
@@ -14,13 +11,16 @@ use Rattle.book.specs.declared.holdings.Fetched.{Fetched}
 use Rattle.book.specs.declared.holdings.Fetched.TheVariants as fetched
 use Rattle.book.specs.Holdings.{HoldingsOf, Fetches}
 use Rattle.book.specs.Contents.{Contents, AreFew, AreMapped}
-use Rattle.book.specs.Kin.{AreKin}
+use Rattle.group_tree.specs.Kin.{AreKin}
 use Rattle.book.specs.Parts.{contents_of}
 use Rattle.book.proofs.KinLemmas.{kin-over, over-live}
 use Rattle.book.proofs.TallyLemmas.{tells-on}
 use Rattle.book.proofs.ServeLemmas.{serves-over, serves-no_frame, away-over, away-no_frame}
 use Rattle.book.proofs.MoveLemmas.{serves-fetch, away-grows, mapped-begun}
 use Rattle.book.proofs.StateLemmas.{free-true, free-false, on-err}
+use Rattle.std.specs.List.{filter}
+use Rattle.machine.specs.Lists.{is_held_at}
+use Rattle.book.proofs.OrderLemmas.{goes-on-listed}
 use Rattle.book.proofs.page_state.State.swap_in.Goals as goal
 
 pub returns-in_err-fetched-clause-grows : goal.returns-in_err-fetched-clause-grows
@@ -72,7 +72,8 @@ invariant_of-self-in-Over c =
       counted_kin = subst (λ (k : List Node). AreKin k s.tree) (sym c.count.ensures.tree) c.self.invariant.counted_kin;
       mapped = subst (λ (h : HoldingsOf). AreMapped h.stored.pages s.spaces.tasks s.spaces.mappings) (sym same) c.self.invariant.mapped;
       homes = c.self.invariant.homes;
-      open_groups = subst (λ (ls : List Limits). (g : ℕ) → (limits_at ls g).min ≡ PagesOf 0) (sym (ap (λ (h : HoldingsOf). h.limits) same)) c.self.invariant.open_groups;
+      listed = subst (λ (h : HoldingsOf). filter (is_held_at h.stored.pages) h.held ≡ h.held) (sym same) c.self.invariant.listed;
+      cursors = c.self.invariant.cursors;
     }
 
 pub invariant_of-self-in-NoFrame : goal.invariant_of-self-in-NoFrame
@@ -92,7 +93,8 @@ invariant_of-self-in-NoFrame c =
       counted_kin = c.self.invariant.counted_kin;
       mapped = subst (λ (h : HoldingsOf). AreMapped h.stored.pages s.spaces.tasks s.spaces.mappings) (sym same) c.self.invariant.mapped;
       homes = c.self.invariant.homes;
-      open_groups = subst (λ (ls : List Limits). (g : ℕ) → (limits_at ls g).min ≡ PagesOf 0) (sym (ap (λ (h : HoldingsOf). h.limits) same)) c.self.invariant.open_groups;
+      listed = subst (λ (h : HoldingsOf). filter (is_held_at h.stored.pages) h.held ≡ h.held) (sym same) c.self.invariant.listed;
+      cursors = c.self.invariant.cursors;
     }
 
 pub invariant_of-self-in-Coming : goal.invariant_of-self-in-Coming
@@ -113,7 +115,8 @@ invariant_of-self-in-Coming c =
       counted_kin = c.self.invariant.counted_kin;
       mapped = mapped-begun s.holdings.stored.pages c.fetch.new.self.stored.pages s.spaces.tasks s.spaces.mappings p (anon_page away.0 (Away away.1)) (anon_page away.0 (Coming begins.frame away.1 c.in-Coming.ticket.number)) c.self.invariant.mapped away.2 begins.placed refl;
       homes = c.self.invariant.homes;
-      open_groups = subst (λ (ls : List Limits). (g : ℕ) → (limits_at ls g).min ≡ PagesOf 0) (sym (ap (λ (h : HoldingsOf). h.limits) same)) c.self.invariant.open_groups;
+      listed = goes-on-listed _ _ _ _ begins.order;
+      cursors = c.self.invariant.cursors;
     }
 
 pub returns-in-Over-clause-answers : goal.returns-in-Over-clause-answers
@@ -132,7 +135,7 @@ returns-in-Over-clause-answers c =
       serves = serves-over old _ c.args.worker.0 touch.task.0 touch.at touch.offset c.in-Over.full.0 touch.op touch.known known c.requires.live
           (away-over old.tables touch.task.0 touch.at touch.offset p away.0 touch.known.group.0 away.1 c.in-Over.full.0 touch.op shown away.2 over)
           (ap (λ (h : HoldingsOf). record (old.tables) { limits = h.limits; pages = h.stored.pages }) comes.1)
-          (ap (λ (h : HoldingsOf). h.stored.bytes) comes.1) (ap (λ (h : HoldingsOf). h.stored.flights) comes.1)
+          (ap (λ (h : HoldingsOf). h.stored.bytes) comes.1) (ap (λ (h : HoldingsOf). h.stored.flights) comes.1) c.self.invariant.listed (ap (λ (h : HoldingsOf). record (old.order) { held = h.held }) comes.1)
           (tells-on s.events c.count.new.self _ c.count.ensures.told);
       gives = tt;
       replies = tt;
@@ -155,7 +158,7 @@ returns-in-NoFrame-clause-answers c =
           (away-no_frame old.tables touch.task.0 touch.at touch.offset p away.0 touch.known.group.0 away.1 touch.op shown away.2 over
           (free-false (used_frames s.holdings.stored.pages) s.holdings.frames _ comes.1 c.self.invariant.frames))
           (ap (λ (h : HoldingsOf). record (old.tables) { limits = h.limits; pages = h.stored.pages }) comes.2)
-          (ap (λ (h : HoldingsOf). h.stored.bytes) comes.2) (ap (λ (h : HoldingsOf). h.stored.flights) comes.2)
+          (ap (λ (h : HoldingsOf). h.stored.bytes) comes.2) (ap (λ (h : HoldingsOf). h.stored.flights) comes.2) c.self.invariant.listed (ap (λ (h : HoldingsOf). record (old.order) { held = h.held }) comes.2)
           (λ counted told. told);
       gives = tt;
       replies = tt;
@@ -182,7 +185,7 @@ returns-in-Coming-clause-answers c =
           (record { in_range = subst (λ n. begins.frame < n) c.self.invariant.frames begins.in_range; unused = begins.unused })
           begins.ticket_free begins.placed
           (ap (λ (h : HoldingsOf). record (old.tables) { limits = h.limits; pages = c.fetch.new.self.stored.pages }) begins.others)
-          begins.bytes begins.listed (λ counted told. told);
+          begins.bytes begins.listed begins.order refl (λ counted told. told);
       gives = (
         p,
         away.0,

@@ -1,11 +1,8 @@
-use Rattle.std.proofs.Common.{◌≡◌, ◌<◌, ◌∙◌, ◌++◌, ◌∷◌, [], true, ℕ, List, None, Some, sym, ap, subst}
+use Rattle.std.proofs.Common.{◌≡◌, ◌<◌, ◌∙◌, ◌++◌, ◌∷◌, [], true, ℕ, List, None, Some, refl, sym, ap, subst}
 use Rattle.std.specs.Prelude.{is_some}
 use Rattle.machine.specs.declared.record.Key.TheVariants as key
 use Rattle.machine.specs.declared.record.Mapping.{Mapping}
-use Rattle.machine.specs.declared.record.Limits.{Limits}
-use Rattle.machine.specs.declared.amount.Amount.TheVariants.{Pages as PagesOf}
 use Rattle.machine.specs.declared.event.Op.TheVariants.{Write}
-use Rattle.machine.specs.Counts.{limits_at}
 use Rattle.machine.specs.Tree.{Node, is_live}
 use Rattle.machine.specs.Pages.{used_frames, charged}
 use Rattle.machine.specs.Tasks.{Tasks, task_at, mapped_at, mapping, lives, group_of_task}
@@ -13,13 +10,14 @@ use Rattle.machine.specs.Step.{new_page}
 use Rattle.book.specs.declared.holdings.Grant.{Grant}
 use Rattle.book.specs.Holdings.{HoldingsOf, Grants}
 use Rattle.book.specs.Contents.{Contents, AreFew}
-use Rattle.book.specs.Kin.{AreKin}
+use Rattle.group_tree.specs.Kin.{AreKin}
 use Rattle.book.specs.Parts.{contents_of}
 use Rattle.book.proofs.KinLemmas.{kin-over, over-live}
 use Rattle.book.proofs.TallyLemmas.{tells-on}
 use Rattle.book.proofs.ServeLemmas.{serves-over, serves-no_frame, unmapped-over, unmapped-no_frame}
 use Rattle.book.proofs.TouchLemmas.{serves-made}
 use Rattle.book.proofs.StateLemmas.{known-home, known-lives, mapped-pushed, write-grows, free-true, free-false, on-err}
+use Rattle.book.proofs.OrderLemmas.{goes-on-listed}
 use Rattle.book.proofs.page_state.State.write_new.Goals as goal
 
 pub returns-in_err-granted-clause-grows : goal.returns-in_err-granted-clause-grows
@@ -74,7 +72,8 @@ invariant_of-self-in-Page c =
           c.self.invariant.mapped adds.slot_free adds.placed (ap is_some known) tasks
           (c.map.ensures.mappings ∙ ap (λ (ms : List Mapping). ms ++ mapping t c.args.touch.at c.in-Page.page.0 ∷ []) c.hold.ensures.mappings);
       homes = subst (λ (ts : Tasks). (u : ℕ) → lives ts u ≡ true → is_live s.tree (group_of_task ts u) ≡ true) (sym tasks) c.self.invariant.homes;
-      open_groups = subst (λ (ls : List Limits). (g : ℕ) → (limits_at ls g).min ≡ PagesOf 0) (sym (ap (λ (h : HoldingsOf). h.limits) stays)) c.self.invariant.open_groups;
+      listed = goes-on-listed _ _ _ _ adds.order;
+      cursors = c.self.invariant.cursors;
     }
 
 pub returns-in-Over-clause-answers : goal.returns-in-Over-clause-answers
@@ -97,7 +96,7 @@ returns-in-Over-clause-answers c =
           (ap (λ (h : HoldingsOf). record (old.tables) { limits = h.limits; pages = h.stored.pages; tasks = c.hold.new.spaces.tasks; mappings = c.hold.new.spaces.mappings }) grants.1
           ∙ ap (λ (ts : Tasks). record (old.tables) { tasks = ts; mappings = c.hold.new.spaces.mappings }) c.hold.ensures.tasks
           ∙ ap (λ (ms : List Mapping). record (old.tables) { mappings = ms }) c.hold.ensures.mappings)
-          (ap (λ (h : HoldingsOf). h.stored.bytes) grants.1) (ap (λ (h : HoldingsOf). h.stored.flights) grants.1)
+          (ap (λ (h : HoldingsOf). h.stored.bytes) grants.1) (ap (λ (h : HoldingsOf). h.stored.flights) grants.1) c.self.invariant.listed (ap (λ (h : HoldingsOf). record (old.order) { held = h.held }) grants.1)
           (tells-on s.events c.count.new.self _ c.count.ensures.told);
     })
 
@@ -121,7 +120,7 @@ returns-in-NoFrame-clause-answers c =
           (ap (λ (h : HoldingsOf). record (old.tables) { limits = h.limits; pages = h.stored.pages; tasks = c.hold.new.spaces.tasks; mappings = c.hold.new.spaces.mappings }) grants.2
           ∙ ap (λ (ts : Tasks). record (old.tables) { tasks = ts; mappings = c.hold.new.spaces.mappings }) c.hold.ensures.tasks
           ∙ ap (λ (ms : List Mapping). record (old.tables) { mappings = ms }) c.hold.ensures.mappings)
-          (ap (λ (h : HoldingsOf). h.stored.bytes) grants.2) (ap (λ (h : HoldingsOf). h.stored.flights) grants.2)
+          (ap (λ (h : HoldingsOf). h.stored.bytes) grants.2) (ap (λ (h : HoldingsOf). h.stored.flights) grants.2) c.self.invariant.listed (ap (λ (h : HoldingsOf). record (old.order) { held = h.held }) grants.2)
           (λ counted told. told);
     })
 
@@ -148,5 +147,5 @@ returns-in-Page-clause-answers c =
           (ap (λ (h : HoldingsOf). record (old.tables) { limits = h.limits; pages = c.hold.new.self.stored.pages; tasks = c.map.new.self.tasks; mappings = c.map.new.self.mappings }) adds.others
           ∙ ap (λ (ts : Tasks). record (old.tables) { pages = c.hold.new.self.stored.pages; tasks = ts; mappings = c.map.new.self.mappings }) (c.map.ensures.tasks ∙ c.hold.ensures.tasks)
           ∙ ap (λ (ms : List Mapping). record (old.tables) { pages = c.hold.new.self.stored.pages; mappings = ms }) pushed)
-          adds.bytes adds.flights (λ counted told. told);
+          adds.bytes adds.flights adds.order refl (λ counted told. told);
     })

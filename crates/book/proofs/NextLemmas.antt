@@ -1,0 +1,304 @@
+-- Which pages a reclaim may take, and which is next, by the queue of the pages in frames and by the table of pages.
+use Rattle.std.proofs.Common.{◌≡◌, ◌≢◌, inl, inr, ℕ, suc, ◌+◌, ◌<◌, ◌≤◌, ◌==◌, ◌&&◌, ◌||◌, not, Bool, true, false, cond, List, [], ◌∷◌, length, get_or, take, drop, Option, Some, None, refl, sym, ap, ◌∙◌, subst, arith}
+use Rattle.std.specs.Prelude.{IfSome, find, option_map, slice_set, nat_lt}
+use Rattle.std.specs.List.{All, list_any}
+use Rattle.std.proofs.lemmas.Bool.Decides.{nat_tests}
+use Rattle.std.proofs.lemmas.List.Elements.{All-head, All-tail, All-append, All-take, All-drop}
+use Rattle.std.proofs.lemmas.List.Folds.{list_any_at}
+use Rattle.machine.specs.declared.amount.Amount.{Amount}
+use Rattle.machine.specs.declared.id.GroupId.{GroupId}
+use Rattle.machine.specs.declared.id.PageId.{PageId}
+use Rattle.machine.specs.Amounts.{exceeds}
+use Rattle.machine.specs.Slots.{there_and, any_there}
+use Rattle.machine.specs.Tree.{Node, IsTree, is_live, under, preorder}
+use Rattle.machine.specs.Pages.{Page, Pages, page_at, is_anon, is_held, charged, used_swap}
+use Rattle.machine.specs.Protection.{effective, min_of, opens}
+use Rattle.machine.specs.Order.{round_from, place_in, asking_order, served_by, cursor_at}
+use Rattle.machine.specs.Lists.{is_page_of, is_held_at}
+use Rattle.machine.proofs.TreeLemmas.{eq_cases}
+use Rattle.group_tree.specs.Groups.{IsGroupTree}
+use Rattle.group_tree.specs.Kin.{AreKin}
+use Rattle.group_tree.proofs.LineageLemmas.{live-within}
+use Rattle.page_counter.specs.Counts.{usage_of}
+use Rattle.protection.proofs.CallerLemmas.{effective-same}
+use Rattle.pages.specs.PageTable.{anon_page}
+use Rattle.reclaim.specs.Pass.{is_open, oldest_of, gives, is_any_takeable}
+use Rattle.reclaim.specs.Walk.{AreAsked}
+use Rattle.reclaim.proofs.PassLemmas.{asked-all}
+use Rattle.book.specs.declared.holdings.Holdings.TheInside.{Inside}
+use Rattle.book.specs.Queue.{QueueOf, numbers_of, page_count}
+use Rattle.book.specs.Holdings.{takes, gives_of, IsNext}
+use Rattle.book.specs.Keeping.{holdings_of, as_number, AreGrouped, AreListed, IsHolding}
+use Rattle.book.proofs.KinLemmas.{kin-charged}
+use Rattle.book.proofs.QueueLemmas.{count-at, at-counted}
+use Rattle.book.proofs.HoldingLemmas.{any-listed, listed-any}
+
+-- ---- tests over lists
+
+module _ {X : Type 0} where
+  none_passes : (f : X → Bool) (xs : List X) → list_any f xs ≡ false → All (λ x. f x ≡ false) xs
+  none_passes f xs none =
+      λ k d lt.
+      elim (f (get_or xs k d)) as (λ b. f (get_or xs k d) ≡ b → b ≡ false) [
+        | true ↦ λ is. (let some : true ≡ false = sym (list_any_at f xs k d lt is) ∙ none in some)
+        | false ↦ λ is. refl
+      ] refl
+
+  -- one that passes is among them
+  one_passes : {Q : Type 0} (P : X → Type 0) (f : X → Bool) (xs : List X) → All P xs → list_any f xs ≡ true → ((x : X) → P x → f x ≡ true → Q) → Q
+  one_passes P f [] all some use_it = absurd cc
+  one_passes {Q} P f (x ∷ xs) all some use_it = by_test (one_passes P f xs (All-tail P x xs all)) (f x) refl some
+    where
+      by_test : (list_any f xs ≡ true → ((y : X) → P y → f y ≡ true → Q) → Q) → (b : Bool) → f x ≡ b → (b || list_any f xs) ≡ true → Q
+      by_test rest true is e = use_it x (All-head P x xs all) is
+      by_test rest false is e = rest e use_it
+
+  find_agree : (f h : X → Bool) (xs : List X) → All (λ x. f x ≡ h x) xs → find f xs ≡ find h xs
+  find_agree f h [] same = refl
+  find_agree f h (x ∷ xs) same =
+      ap (λ b. cond b (Some x) (find f xs)) (All-head (λ y. f y ≡ h y) x xs same) ∙ ap (λ rest. cond (h x) (Some x) rest) (find_agree f h xs (All-tail (λ y. f y ≡ h y) x xs same))
+
+  -- what is found is among them, and passes
+  found_passes : (P : X → Type 0) (f : X → Bool) (xs : List X) (y : X) → All P xs → find f xs ≡ Some y → P y × (f y ≡ true)
+  found_passes P f [] y all e = absurd cc
+  found_passes P f (x ∷ xs) y all e = by_test (found_passes P f xs y (All-tail P x xs all)) (f x) refl e
+    where
+      by_test : (find f xs ≡ Some y → P y × (f y ≡ true)) → (b : Bool) → f x ≡ b → cond b (Some x) (find f xs) ≡ Some y → P y × (f y ≡ true)
+      by_test rest true is found = let same : x ≡ y = cc in (subst P same (All-head P x xs all), ap f (sym same) ∙ is)
+      by_test rest false is found = rest found
+
+-- ---- tests over the table
+
+and_false : (b : Bool) → (b && false) ≡ false
+and_false true = refl
+and_false false = refl
+
+-- one test is another and a condition
+any_both : (f h : Page → Bool) (b : Bool) (pages : Pages) → ((p : ℕ) → there_and h (page_at pages p) ≡ (b && there_and f (page_at pages p))) → any_there h pages ≡ (b && any_there f pages)
+any_both f h b [] same = sym (and_false b)
+any_both f h b (slot ∷ pages) same = both (there_and f slot) (any_there f pages) (same 0) (any_both f h b pages (λ p. same (suc p)))
+  where
+    shared : (c x y : Bool) → ((c && x) || (c && y)) ≡ (c && (x || y))
+    shared true x y = refl
+    shared false x y = refl
+
+    both : (x y : Bool) → there_and h slot ≡ (b && x) → any_there h pages ≡ (b && y) → (there_and h slot || any_there h pages) ≡ (b && (x || y))
+    both x y p q = ap (λ c. c || any_there h pages) p ∙ ap (λ c. (b && x) || c) q ∙ shared b x y
+
+-- a page of the group passes as its group does
+of_group : (more : ℕ → Bool) (slot : Option Page) (g : ℕ) → there_and (λ (page : Page). page.group == g) slot ≡ true → there_and (λ (page : Page). more page.group) slot ≡ more g
+of_group more None g own = absurd cc
+of_group more (Some page) g own = let same : page.group ≡ g = grind (arith, nat_tests, own) in ap more same
+
+some_held : (b : Bool) → 1 ≤ as_number b → b ≡ true
+some_held true e = refl
+some_held false e = absurd (omega (arith, e))
+
+-- a test of the groups of a queue is that test of its pages
+module _ (test : Page → Bool) (more : ℕ → Bool) (queue : QueueOf) (pages : Pages) (listed : AreListed test queue.numbers pages) (grouped : AreGrouped queue pages) where
+  abbrev Stays : GroupId × PageId → Type 0
+  Stays entry = (is_page_of pages entry.0.0 entry.1.0 ≡ true) × (1 ≤ page_count queue.numbers entry.1.0)
+
+  all_stay : All Stays queue.entries
+  all_stay = λ k d lt. (grouped.groups k d lt, subst (λ (ns : List ℕ). 1 ≤ page_count ns (get_or queue.entries k d).1.0) (sym grouped.numbers) (count-at queue.entries k d lt))
+
+  pub any-entries : list_any (λ (entry : GroupId × PageId). more entry.0.0) queue.entries ≡ any_there (λ page. test page && more page.group) pages
+  any-entries =
+      elim (list_any (λ (entry : GroupId × PageId). more entry.0.0) queue.entries) as (λ b. list_any (λ (entry : GroupId × PageId). more entry.0.0) queue.entries ≡ b → b ≡ any_there (λ page. test page && more page.group) pages) [
+        | true ↦ λ is. sym
+            (one_passes Stays (λ (entry : GroupId × PageId). more entry.0.0) queue.entries all_stay is
+            (λ entry own passes. listed-any test (λ page. more page.group) queue.numbers pages entry.1.0 listed own.1 (of_group more (page_at pages entry.1.0) entry.0.0 own.0 ∙ passes)))
+        | false ↦ λ is. sym
+            (any-listed test (λ page. more page.group) queue.numbers pages listed
+            (λ p counted.
+            at-counted (λ q. there_and (λ page. more page.group) (page_at pages q) ≡ false) queue.entries
+            (λ k d lt. of_group more (page_at pages (get_or queue.entries k d).1.0) (get_or queue.entries k d).0.0 (grouped.groups k d lt) ∙ none_passes (λ (entry : GroupId × PageId). more entry.0.0) queue.entries is k d lt)
+            p (subst (λ (ns : List ℕ). 1 ≤ page_count ns p) grouped.numbers counted)))
+      ] refl
+
+-- ---- the groups
+
+same_open : (is_target : Bool) {n m : ℕ} {e k : Amount} → n ≡ m → e ≡ k → (is_target || exceeds n e) ≡ (is_target || exceeds m k)
+same_open is_target p q = cc
+
+module _ (h : Inside) (is : IsHolding h) (tree : List Node) (are : AreKin h.counters.tree tree) where
+  -- what is counted is what is charged
+  usages : (a : ℕ) → a < length tree → usage_of h.counters a ≡ charged tree h.pages.pages a
+  usages a lt = let len = are.len in is.kept.counted.counts a (omega (arith, len, lt)) ∙ kin-charged h.counters.tree tree are h.pages.pages a
+
+  live_at : (p : ℕ) → IfSome (page_at h.pages.pages p) (λ page. is_live tree page.group ≡ true)
+  live_at p = by_slot (page_at h.pages.pages p) (is.kept.counted.live p)
+    where
+      by_slot : (slot : Option Page) → IfSome slot (λ page. is_live h.counters.tree page.group ≡ true) → IfSome slot (λ page. is_live tree page.group ≡ true)
+      by_slot None live = tt
+      by_slot (Some page) live = sym (are.living page.group) ∙ live
+
+  -- the pages in frames are of live groups
+  pub entries-live : All (λ (entry : GroupId × PageId). is_live tree entry.0.0 ≡ true) h.held.entries
+  entries-live =
+      λ k d lt.
+      let entry : GroupId × PageId = get_or h.held.entries k d in
+      by_slot (page_at h.pages.pages entry.1.0) entry.0.0 (is.held_groups.groups k d lt) (live_at entry.1.0)
+    where
+      by_slot : (slot : Option Page) (g : ℕ) → there_and (λ (page : Page). page.group == g) slot ≡ true → IfSome slot (λ page. is_live tree page.group ≡ true) → is_live tree g ≡ true
+      by_slot None g own live = absurd cc
+      by_slot (Some page) g own live = let same : page.group ≡ g = grind (arith, nat_tests, own) in ap (is_live tree) (sym same) ∙ live
+
+  module _ (order : IsTree tree) (target : ℕ) where
+    pub effective-charged : (g : ℕ) → is_live tree g ≡ true → target ≢ g → under tree target g ≡ true
+        → effective false tree (min_of h.counters.limits) (usage_of h.counters) target g ≡ effective false tree (min_of h.counters.limits) (charged tree h.pages.pages) target g
+    effective-charged g live differs below = effective-same tree order target false (min_of h.counters.limits) (usage_of h.counters) (charged tree h.pages.pages) usages g (live-within tree g live) differs below
+
+    open-same : (g : ℕ) → is_live tree g ≡ true → under tree target g ≡ true → opens false tree h.counters.limits (charged tree h.pages.pages) target g ≡ is_open tree h.counters target g
+    open-same g live below =
+        elim (eq_cases g target) [
+          | inl same ↦
+              (let hit : (g == target) ≡ true = grind (arith, nat_tests, same) in
+              ap (λ b. b || exceeds (charged tree h.pages.pages g) (effective false tree (min_of h.counters.limits) (charged tree h.pages.pages) target g)) hit
+              ∙ sym (ap (λ b. b || exceeds (usage_of h.counters g) (effective false tree (min_of h.counters.limits) (usage_of h.counters) target g)) hit))
+          | inr other ↦ same_open (g == target) (sym (usages g (live-within tree g live))) (sym (effective-charged g live (λ e. other (sym e)) below))
+        ]
+
+    module _ (memory : (p : ℕ) → IfSome (page_at h.pages.pages p) (λ page. page ≡ anon_page page.group page.residence)) where
+      -- a swap block is free
+      abbrev free : Bool
+      free = nat_lt (used_swap h.pages.pages) h.slots.blocks
+
+      -- the page stands in a frame, and its group is open to the target
+      abbrev is_taken : Page → Bool
+      is_taken page = is_held page && (under tree target page.group && is_open tree h.counters target page.group)
+
+      takes-slot : (p : ℕ) → there_and (takes (holdings_of h) tree target) (page_at h.pages.pages p) ≡ (free && there_and is_taken (page_at h.pages.pages p))
+      takes-slot p = by_slot (page_at h.pages.pages p) (memory p) (live_at p)
+        where
+          shuffle : (t u o o' b : Bool) → (u ≡ true → o ≡ o') → (((t && u) && o) && b) ≡ (b && (t && (u && o')))
+          shuffle false u o o' b same = sym (and_false b)
+          shuffle true false o o' b same = sym (and_false b)
+          shuffle true true o o' true same = ap (λ x. x && true) (same refl) ∙ and_true o'
+            where
+              and_true : (x : Bool) → (x && true) ≡ x
+              and_true true = refl
+              and_true false = refl
+          shuffle true true o o' false same = and_false o
+
+          by_slot : (slot : Option Page) → IfSome slot (λ page. page ≡ anon_page page.group page.residence) → IfSome slot (λ page. is_live tree page.group ≡ true)
+              → there_and (takes (holdings_of h) tree target) slot ≡ (free && there_and is_taken slot)
+          by_slot None anon live = sym (and_false free)
+          by_slot (Some page) anon live =
+              let swaps : (not (is_anon page.content) || free) ≡ free = ap (λ (x : Page). not (is_anon x.content) || free) anon in
+              ap (λ b. ((is_held page && under tree target page.group) && opens false tree h.counters.limits (charged tree h.pages.pages) target page.group) && b) swaps
+              ∙ shuffle (is_held page) (under tree target page.group) (opens false tree h.counters.limits (charged tree h.pages.pages) target page.group) (is_open tree h.counters target page.group) free (open-same page.group live)
+
+      -- a page may be taken, by the table and by the queue
+      pub takeable-is : any_there (takes (holdings_of h) tree target) h.pages.pages ≡ is_any_takeable tree h.counters h.held.entries (nat_lt (used_swap h.pages.pages) h.slots.blocks) target
+      takeable-is =
+          any_both is_taken (takes (holdings_of h) tree target) free h.pages.pages takes-slot
+          ∙ ap (λ b. free && b) (sym (any-entries is_held (λ g. under tree target g && is_open tree h.counters target g) h.held h.pages.pages is.held is.held_groups))
+
+      -- a group below the target gives one, by the table and by the queue
+      gives-same : (g : ℕ) → is_live tree g ≡ true → under tree target g ≡ true → gives_of (holdings_of h) tree target g ≡ gives tree h.counters h.held.entries free target g
+      gives-same g live below =
+          any_both (λ page. is_held page && (page.group == g)) (λ page. (page.group == g) && takes (holdings_of h) tree target page) (free && is_open tree h.counters target g) h.pages.pages
+          (λ p. by_slot (page_at h.pages.pages p) (takes-slot p))
+          ∙ regroup free (is_open tree h.counters target g) (any_there (λ page. is_held page && (page.group == g)) h.pages.pages)
+          ∙ ap (λ b. free && (is_open tree h.counters target g && b)) (sym (any-entries is_held (λ x. x == g) h.held h.pages.pages is.held is.held_groups))
+        where
+          regroup : (a b c : Bool) → ((a && b) && c) ≡ (a && (b && c))
+          regroup true b c = refl
+          regroup false b c = refl
+
+          own_bits : (t u o b : Bool) → u ≡ true → (b && (t && (u && o))) ≡ ((b && o) && (t && true))
+          own_bits true true true true e = refl
+          own_bits true true true false e = refl
+          own_bits true true false true e = refl
+          own_bits true true false false e = refl
+          own_bits false true o b e = and_false b ∙ sym (and_false (b && o))
+          own_bits t false o b e = absurd cc
+
+          by_test : (page : Page) (e : Bool) → (page.group == g) ≡ e → takes (holdings_of h) tree target page ≡ (free && is_taken page)
+              → (e && takes (holdings_of h) tree target page) ≡ ((free && is_open tree h.counters target g) && (is_held page && e))
+          by_test page true own is_so =
+              let same : page.group ≡ g = grind (arith, nat_tests, own) in
+              is_so ∙ ap (λ x. free && (is_held page && (under tree target x && is_open tree h.counters target x))) same
+              ∙ own_bits (is_held page) (under tree target g) (is_open tree h.counters target g) free below
+          by_test page false own is_so = sym (ap (λ b. (free && is_open tree h.counters target g) && b) (and_false (is_held page)) ∙ and_false (free && is_open tree h.counters target g))
+
+          by_slot : (slot : Option Page) → there_and (takes (holdings_of h) tree target) slot ≡ (free && there_and is_taken slot)
+              → there_and (λ page. (page.group == g) && takes (holdings_of h) tree target page) slot ≡ ((free && is_open tree h.counters target g) && there_and (λ page. is_held page && (page.group == g)) slot)
+          by_slot None is_so = sym (and_false (free && is_open tree h.counters target g))
+          by_slot (Some page) is_so = by_test page (page.group == g) refl is_so
+
+      -- the oldest page of a group, by the table and by the queue
+      first-of : (g : ℕ) (entries : List (GroupId × PageId)) → All (λ (entry : GroupId × PageId). is_page_of h.pages.pages entry.0.0 entry.1.0 ≡ true) entries
+          → find (is_page_of h.pages.pages g) (numbers_of entries) ≡ option_map (λ (entry : GroupId × PageId). entry.1.0) (find (λ (entry : GroupId × PageId). entry.0.0 == g) entries)
+      first-of g [] all = refl
+      first-of g (entry ∷ entries) all =
+          by_test (entry.0.0 == g)
+          (of_group (λ x. x == g) (page_at h.pages.pages entry.1.0) entry.0.0 (All-head (λ (e : GroupId × PageId). is_page_of h.pages.pages e.0.0 e.1.0 ≡ true) entry entries all))
+          (first-of g entries (All-tail (λ (e : GroupId × PageId). is_page_of h.pages.pages e.0.0 e.1.0 ≡ true) entry entries all))
+        where
+          by_test : (b : Bool) → is_page_of h.pages.pages g entry.1.0 ≡ b
+              → find (is_page_of h.pages.pages g) (numbers_of entries) ≡ option_map (λ (e : GroupId × PageId). e.1.0) (find (λ (e : GroupId × PageId). e.0.0 == g) entries)
+              → cond (is_page_of h.pages.pages g entry.1.0) (Some entry.1.0) (find (is_page_of h.pages.pages g) (numbers_of entries))
+              ≡ option_map (λ (e : GroupId × PageId). e.1.0) (cond b (Some entry) (find (λ (e : GroupId × PageId). e.0.0 == g) entries))
+          by_test true is_so rest = ap (λ b. cond b (Some entry.1.0) (find (is_page_of h.pages.pages g) (numbers_of entries))) is_so
+          by_test false is_so rest = ap (λ b. cond b (Some entry.1.0) (find (is_page_of h.pages.pages g) (numbers_of entries))) is_so ∙ rest
+
+      module _ (groups : IsGroupTree tree) (live : is_live tree target ≡ true) where
+        asked : (last : Option ℕ) → AreAsked tree target (asking_order tree target last)
+        asked last = round (preorder tree target) (place_in (preorder tree target) last) (asked-all tree target groups live)
+          where
+            round : (gs : List ℕ) (place : Option ℕ) → AreAsked tree target gs → AreAsked tree target (round_from gs place)
+            round gs None all = all
+            round gs (Some k) all =
+                All-append (λ g. (is_live tree g ≡ true) × (under tree target g ≡ true)) (drop (k + 1) gs) (take (k + 1) gs)
+                (All-drop (λ g. (is_live tree g ≡ true) × (under tree target g ≡ true)) (k + 1) gs all) (All-take (λ g. (is_live tree g ≡ true) × (under tree target g ≡ true)) (k + 1) gs all)
+
+        served-same : (last : Option ℕ) → served_by tree (gives_of (holdings_of h) tree target) target last ≡ served_by tree (gives tree h.counters h.held.entries free target) target last
+        served-same last =
+            find_agree (gives_of (holdings_of h) tree target) (gives tree h.counters h.held.entries free target) (asking_order tree target last)
+            (λ k d lt. let here = asked last k d lt in gives-same (get_or (asking_order tree target last) k d) here.0 here.1)
+
+        -- what the cursors tell is what the table tells
+        pub next-is : (cursors cursors' : List (Option ℕ)) (entry : GroupId × PageId)
+            → Some entry.0.0 ≡ served_by tree (gives tree h.counters h.held.entries (nat_lt (used_swap h.pages.pages) h.slots.blocks) target) target (cursor_at cursors target) → oldest_of h.held.entries entry.0.0 ≡ Some entry
+            → cursors' ≡ slice_set cursors target (Some entry.0.0) → IsNext (holdings_of h) tree cursors target entry.1.0 cursors'
+        next-is cursors cursors' entry serves oldest moves =
+            let g : ℕ = entry.0.0 in
+            let at_group = found_passes (λ x. (is_live tree x ≡ true) × (under tree target x ≡ true)) (gives tree h.counters h.held.entries free target) (asking_order tree target (cursor_at cursors target)) g (asked (cursor_at cursors target)) (sym serves) in
+            let at_entry = found_passes (λ (e : GroupId × PageId). is_page_of h.pages.pages e.0.0 e.1.0 ≡ true) (λ (e : GroupId × PageId). e.0.0 == g) h.held.entries entry is.held_groups.groups oldest in
+            let in_frame = found_passes (λ (e : GroupId × PageId). is_held_at h.pages.pages e.1.0 ≡ true) (λ (e : GroupId × PageId). e.0.0 == g) h.held.entries entry entries_held oldest in
+            record {
+              g = g;
+              next = served-same (cursor_at cursors target) ∙ sym serves;
+              first = ap (find (is_page_of h.pages.pages g)) is.held_groups.numbers ∙ first-of g h.held.entries is.held_groups.groups ∙ ap (option_map (λ (e : GroupId × PageId). e.1.0)) oldest;
+              takeable = takes-slot entry.1.0 ∙ both_true free (there_and is_taken (page_at h.pages.pages entry.1.0)) (left_true free _ at_group.1)
+                  (slot_taken (page_at h.pages.pages entry.1.0) at_entry.0 in_frame.0 at_group.0.1 (left_true (is_open tree h.counters target g) _ (right_true free _ at_group.1)));
+              moves = moves;
+            }
+          where
+            both_true : (a b : Bool) → a ≡ true → b ≡ true → (a && b) ≡ true
+            both_true true b p q = q
+            both_true false b p q = p
+
+            left_true : (a b : Bool) → (a && b) ≡ true → a ≡ true
+            left_true true b e = refl
+            left_true false b e = e
+
+            right_true : (a b : Bool) → (a && b) ≡ true → b ≡ true
+            right_true true b e = e
+            right_true false b e = absurd cc
+
+            entries_held : All (λ (e : GroupId × PageId). is_held_at h.pages.pages e.1.0 ≡ true) h.held.entries
+            entries_held =
+                λ k d lt.
+                some_held (is_held_at h.pages.pages (get_or h.held.entries k d).1.0)
+                (let once = is.held.once (get_or h.held.entries k d).1.0 in let some = subst (λ (ns : List ℕ). 1 ≤ page_count ns (get_or h.held.entries k d).1.0) (sym is.held_groups.numbers) (count-at h.held.entries k d lt) in omega (arith, once, some))
+
+            slot_taken : (slot : Option Page) → there_and (λ (page : Page). page.group == entry.0.0) slot ≡ true → there_and is_held slot ≡ true → under tree target entry.0.0 ≡ true → is_open tree h.counters target entry.0.0 ≡ true
+                → there_and is_taken slot ≡ true
+            slot_taken None own held below opened = absurd cc
+            slot_taken (Some page) own held below opened =
+                let same : page.group ≡ entry.0.0 = grind (arith, nat_tests, own) in
+                both_true (is_held page) (under tree target page.group && is_open tree h.counters target page.group) held
+                (ap (λ x. under tree target x && is_open tree h.counters target x) same ∙ both_true (under tree target entry.0.0) (is_open tree h.counters target entry.0.0) below opened)

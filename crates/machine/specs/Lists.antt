@@ -1,0 +1,75 @@
+-- Which page a reclaim takes: the list of the held pages, and the group that was served last (mm/vmscan.c: shrink_node_memcgs).
+use Rattle.std.specs.Prelude.{◌≡◌, ℕ, ◌≤◌, ◌==◌, ◌&&◌, not, Bool, false, List, [], ◌∷◌, ◌++◌, length, filter, find, slice_set, Option, Some, None}
+use Rattle.std.specs.List.{list_any}
+use Rattle.machine.specs.declared.event.Event.{Event}
+use Rattle.machine.specs.declared.event.Event.TheVariants as event
+use Rattle.machine.specs.declared.reply.Reply.{Reply}
+use Rattle.machine.specs.declared.reply.Reply.TheVariants as reply
+use Rattle.machine.specs.Slots.{there_and, any_there}
+use Rattle.machine.specs.Pages.{Page, Pages, page_at, is_held}
+use Rattle.machine.specs.Order.{served_by, cursor_at}
+use Rattle.machine.specs.State.{State}
+use Rattle.machine.specs.Reclaim.{is_takeable, target_of}
+
+-- the pages in frames that are in no transfer, in the order in which they came there; and by target the group that was served last for it
+pub record Order : Type 0 where
+  pub held : List ℕ
+  pub cursors : List (Option ℕ)
+
+-- no page, and the root for which no group was served
+abbrev pub first_order : Order
+first_order = record { held = []; cursors = None ∷ [] }
+
+-- ---- the group and the page
+
+-- a page of the group is takeable for the target
+abbrev pub is_takeable_of : State → ℕ → ℕ → Page → Bool
+is_takeable_of s target g page = (page.group == g) && is_takeable s target page
+
+abbrev pub gives : State → ℕ → ℕ → Bool
+gives s target g = any_there (is_takeable_of s target g) s.pages
+
+-- the group that gives a page to a reclaim of the target
+abbrev pub served : State → Order → ℕ → Option ℕ
+served s order target = served_by s.tree (gives s target) target (cursor_at order.cursors target)
+
+abbrev pub is_page_of : Pages → ℕ → ℕ → Bool
+is_page_of pages g p = there_and (λ page. page.group == g) (page_at pages p)
+
+-- a page was taken for the target: of the group that is served the one that has been in its frame for longest. The target's cursor then names the group.
+-- (Excludes one cursor for all targets, and a newer page that leaves before an older one.)
+pub record TakesNext (old : State) (order : Order) (target : ℕ) (new : State) (order' : Order) : Type 0 where
+  pub g : ℕ
+  pub p : ℕ
+  pub next : served old order target ≡ Some g
+  pub first : find (is_page_of old.pages g) order.held ≡ Some p
+  pub taken : there_and is_held (page_at new.pages p) ≡ false
+  pub moves : order'.cursors ≡ slice_set order.cursors target (Some g)
+
+-- ---- how the order goes on
+
+abbrev pub is_held_at : Pages → ℕ → Bool
+is_held_at pages p = there_and is_held (page_at pages p)
+
+-- held from now on
+abbrev pub is_fresh : Pages → Pages → ℕ → Bool
+is_fresh before after p = is_held_at after p && not (is_held_at before p)
+
+-- what is held no more leaves the list, all others stay in their order, and what is held from now on, at most one page an event, comes behind them
+pub record GoesOn (before : Pages) (held : List ℕ) (after : Pages) (held' : List ℕ) : Type 0 where
+  pub fresh : List ℕ
+  pub few : length fresh ≤ 1
+  pub which : (p : ℕ) → list_any (λ q. q == p) fresh ≡ is_fresh before after p
+  pub list : held' ≡ filter (is_held_at after) held ++ fresh
+
+-- a cursor moves where a page is taken, and a new group has one. (Excludes a cursor that moves though no page was taken.)
+abbrev pub CursorsGoOn : State → Order → Event → Reply → State → Order → Type 0
+CursorsGoOn old order (event.Relieve cause) (reply.Out ticket) new order' = TakesNext old order (target_of cause) new order'
+CursorsGoOn old order (event.Relieve cause) reply.Dropped new order' = TakesNext old order (target_of cause) new order'
+CursorsGoOn old order (event.ReclaimOne g) (reply.Out ticket) new order' = TakesNext old order g.0 new order'
+CursorsGoOn old order (event.ReclaimOne g) reply.Dropped new order' = TakesNext old order g.0 new order'
+CursorsGoOn old order (event.Mkdir path) answer new order' = order'.cursors ≡ order.cursors ++ None ∷ []
+CursorsGoOn old order what answer new order' = order'.cursors ≡ order.cursors
+
+abbrev pub Orders : State → Order → Event → Reply → State → Order → Type 0
+Orders old order what answer new order' = GoesOn old.pages order.held new.pages order'.held × CursorsGoOn old order what answer new order'

@@ -1,0 +1,132 @@
+-- The header's first `frames` line has at its place the fault that it has alone.
+use Rattle.std.proofs.Common.{◌≡◌, ℕ, ◌<◌, Bool, true, false, ◌||◌, List, [], ◌∷◌, ◌++◌, length, take, get_or, Option, Some, None, refl, sym, ap, ◌∙◌, subst, arith}
+use Rattle.std.specs.List.{list_any, filter_map}
+use Rattle.std.specs.Str.{is_utf8}
+use Rattle.std.proofs.Math.Seq.{get_or-append_seam, take-append_seam}
+use Rattle.std.proofs.lemmas.List.{append_assoc, length-append, map_push}
+use Rattle.std.proofs.lemmas.List.Folds.{list_any-append}
+use Rattle.machine.specs.Numbers.{is_numeral}
+use Rattle.scripts.specs.declared.meaning.Item.{Item}
+use Rattle.scripts.specs.declared.forms.Word.{Word}
+use Rattle.scripts.specs.declared.forms.Word.TheVariants as word
+use Rattle.scripts.specs.declared.forms.Speaker.TheVariants as speaker
+use Rattle.scripts.specs.declared.forms.Manner.TheVariants as manner
+use Rattle.scripts.specs.declared.header.Part.TheVariants as part
+use Rattle.scripts.specs.Words.{words_of, is_comment}
+use Rattle.scripts.specs.Forms.{word_named}
+use Rattle.scripts.specs.Context.{Around}
+use Rattle.scripts.specs.Meaning.{meaning}
+use Rattle.scripts.specs.Faults.{fault, first_of, line_faults, word_faults}
+use Rattle.scripts.specs.Header.{word_of, goes_on, is_of_header, is_frames, at_frames, frames_line, header_frames}
+use Rattle.scripts.specs.Script.{items_of, is_command, header_word, around_of, fault_at}
+use Rattle.scripts.specs.Reading.{IsPart, option_list}
+use Rattle.scripts.proofs.HeaderLemmas.{frames_line-other, frames_line-frames, frames_line-behind}
+use Rattle.scripts.proofs.TellLemmas.{faults_by, meaning_by, not_skipped, no_number}
+use Rattle.scripts.proofs.LimitLemmas.{given_frames}
+use Rattle.scripts.proofs.Loop.{commands_push, found_push}
+
+-- ---- the lines before it
+
+-- neither a command nor a `frames` line
+abbrev IsQuiet : Item → Type 0
+IsQuiet i = (is_command i ≡ false) × (given_frames (option_list (header_word i)) ≡ false)
+
+quiet_by : (first : List ℕ) (ws : List (List ℕ)) (comment : Bool) (o : Option Word) (number : Bool)
+    → (number ≡ true → is_of_header o ≡ false) → (comment || is_of_header o) ≡ true → is_frames o ≡ false → IsQuiet (meaning_by first ws comment o number)
+quiet_by first ws true o number f g h = (refl, refl)
+quiet_by first ws false None number f g h = absurd cc
+quiet_by first ws false (Some w) true f g h = (let e : is_of_header (Some w) ≡ false = f refl in absurd cc)
+quiet_by first ws false (Some word.Frames) false f g h = absurd cc
+quiet_by first ws false (Some word.Swap) false f g h = (refl, refl)
+quiet_by first ws false (Some word.Watermarks) false f g h = (refl, refl)
+quiet_by first ws false (Some word.Trace) false f g h = (refl, refl)
+quiet_by first ws false (Some word.Fault) false f g h = (refl, refl)
+quiet_by first ws false (Some _) false f g h = absurd cc
+
+quiet_words : (ws : List (List ℕ)) → goes_on ws ≡ true → is_frames (word_of ws) ≡ false → IsQuiet (meaning ws)
+quiet_words [] g h = (refl, refl)
+quiet_words (first ∷ ws) g h = quiet_by first ws (is_comment first) (word_named speaker.Shell first) (is_numeral first) (no_number first) g h
+
+-- ---- the line itself
+
+-- nothing before a line of which this holds
+record IsClear (a : Around) : Type 0 where
+  commands : a.commands ≡ false
+  given : given_frames a.given ≡ false
+
+same_word_fault : (a : Around) (ws : List (List ℕ)) → IsClear a → first_of (word_faults a manner.Whole None word.Frames ws) ≡ first_of (word_faults at_frames manner.Whole None word.Frames ws)
+same_word_fault a ws c = rw (c.commands, c.given) refl
+
+same_by : (a : Around) (first : List ℕ) (ws : List (List ℕ)) (comment : Bool) (o : Option Word) (number : Bool) → IsClear a
+    → (o ≡ Some word.Frames → comment ≡ false) → (number ≡ true → is_of_header o ≡ false) → is_frames o ≡ true
+    → first_of (faults_by a first ws comment o number) ≡ first_of (faults_by at_frames first ws comment o number)
+same_by a first ws comment None number c f g h = absurd cc
+same_by a first ws true (Some word.Frames) number c f g h = (let e : true ≡ false = f refl in absurd cc)
+same_by a first ws false (Some word.Frames) true c f g h = (let e : true ≡ false = g refl in absurd cc)
+same_by a first ws false (Some word.Frames) false c f g h = same_word_fault a ws c
+same_by a first ws comment (Some _) number c f g h = absurd cc
+
+same_words : (a : Around) (ws : List (List ℕ)) → IsClear a → is_frames (word_of ws) ≡ true → first_of (line_faults a ws) ≡ first_of (line_faults at_frames ws)
+same_words a [] c h = absurd cc
+same_words a (first ∷ ws) c h = same_by a first ws (is_comment first) (word_named speaker.Shell first) (is_numeral first) c (not_skipped first) (no_number first) h
+
+same_fault : (a : Around) (l : List ℕ) → IsClear a → IsPart part.Frames l → fault a l ≡ fault at_frames l
+same_fault a l c p = rw p.0 (same_words a (words_of l) c p.2)
+
+-- ---- going over the lines
+
+-- the line stands among these, and has there the fault that it has alone
+abbrev IsFound : List (List ℕ) → List ℕ → Type 0
+IsFound ls l = (k : ℕ) × (k < length ls) × (get_or ls k [] ≡ l) × (fault_at ls k ≡ fault at_frames l)
+
+some_is : {A : Type 0} {x y : A} → Some x ≡ Some y → x ≡ y
+some_is e = cc
+
+none_is : {A : Type 0} (o : Option A) (x : A) → o ≡ None → o ≡ Some x → ⊥
+none_is o x e f = absurd cc
+
+here : (ls done rest : List (List ℕ)) (x : List ℕ) → ls ≡ done ++ x ∷ rest → IsClear (around_of (header_frames ls) (items_of done)) → IsPart part.Frames x → IsFound ls x
+here ls done rest x e c p =
+    let taken : take (length done) ls ≡ done = ap (take (length done)) e ∙ take-append_seam done (x ∷ rest) in
+    let line : get_or ls (length done) [] ≡ x = ap (λ (xs : List (List ℕ)). get_or xs (length done) []) e ∙ get_or-append_seam done x rest [] in
+    let within : length done < length ls = omega (arith, ap length e, length-append done (x ∷ rest)) in (
+      length done,
+      within,
+      line,
+      ap (λ (xs : List (List ℕ)). fault (around_of (header_frames ls) (items_of xs)) (get_or ls (length done) [])) taken
+          ∙ ap (λ (y : List ℕ). fault (around_of (header_frames ls) (items_of done)) y) line
+          ∙ same_fault (around_of (header_frames ls) (items_of done)) x c p,
+    )
+
+both_false : (b c : Bool) → b ≡ false → c ≡ false → (b || c) ≡ false
+both_false b c e f = rw (e, f) refl
+
+-- one quiet line more
+more_clear : (frames : ℕ) (done : List (List ℕ)) (x : List ℕ) → IsClear (around_of frames (items_of done)) → IsQuiet (meaning (words_of x)) → IsClear (around_of frames (items_of (done ++ x ∷ [])))
+more_clear frames done x c q =
+    let i = meaning (words_of x) in
+    let items : items_of (done ++ x ∷ []) ≡ items_of done ++ i ∷ [] = map_push (λ (l : List ℕ). meaning (words_of l)) done x in
+    record {
+      commands = ap (list_any is_command) items ∙ commands_push (items_of done) i ∙ both_false (list_any is_command (items_of done)) (is_command i) c.commands q.0;
+      given = ap (λ (is : List Item). given_frames (filter_map header_word is)) items ∙ ap given_frames (found_push header_word (items_of done) i)
+          ∙ list_any-append _ (filter_map header_word (items_of done)) (option_list (header_word i))
+          ∙ both_false (given_frames (filter_map header_word (items_of done))) (given_frames (option_list (header_word i))) c.given q.1;
+    }
+
+further : (ls done rest : List (List ℕ)) (l : List ℕ) → ls ≡ done ++ rest → IsClear (around_of (header_frames ls) (items_of done)) → frames_line rest ≡ Some l → IsFound ls l
+further ls done [] l e c h = absurd cc
+further ls done (x ∷ rest) l e c h =
+    elim (is_utf8 x) as (λ b. is_utf8 x ≡ b → IsFound ls l) [
+      | false ↦ λ u. absurd (none_is (frames_line (x ∷ rest)) l (frames_line-behind x rest (rw u refl)) h)
+      | true ↦ λ u. elim (goes_on (words_of x)) as (λ b. goes_on (words_of x) ≡ b → IsFound ls l) [
+        | false ↦ λ g. absurd (none_is (frames_line (x ∷ rest)) l (frames_line-behind x rest (rw (u, g) refl)) h)
+        | true ↦ λ g. elim (is_frames (word_of (words_of x))) as (λ b. is_frames (word_of (words_of x)) ≡ b → IsFound ls l) [
+          | true ↦ λ f. (let same : x ≡ l = some_is (sym (frames_line-frames x rest (u, g, f)) ∙ h) in subst (λ (y : List ℕ). IsFound ls y) same (here ls done rest x e c (u, g, f)))
+          | false ↦ λ f. further ls (done ++ x ∷ []) rest l (e ∙ sym (append_assoc done (x ∷ []) rest)) (more_clear (header_frames ls) done x c (quiet_words (words_of x) g f))
+              (sym (frames_line-other x rest (u, g, f)) ∙ h)
+        ] refl
+      ] refl
+    ] refl
+
+pub own_fault : (ls : List (List ℕ)) (l : List ℕ) → frames_line ls ≡ Some l → IsFound ls l
+own_fault ls l h = further ls [] ls l refl (record { commands = refl; given = refl }) h

@@ -1,0 +1,155 @@
+-- What is read of a faultless script keeps the configuration within the machine's limits.
+use Rattle.std.proofs.Common.{◌≡◌, ℕ, Bool, true, false, ◌||◌, List, [], ◌∷◌, ◌++◌, Some, None, ◌⊎◌, inl, inr, refl, sym, ap, ◌∙◌, arith}
+use Rattle.std.specs.Prelude.{nat_le}
+use Rattle.std.specs.List.{list_any}
+use Rattle.std.specs.Str.{is_utf8}
+use Rattle.std.proofs.lemmas.Bool.Decides.{nat_tests}
+use Rattle.std.proofs.lemmas.List.Folds.{list_any-append}
+use Rattle.machine.specs.State.{are_marks, is_config}
+use Rattle.scripts.specs.declared.meaning.Item.{Item}
+use Rattle.scripts.specs.declared.meaning.Item.TheVariants as item
+use Rattle.scripts.specs.declared.forms.Word.{Word}
+use Rattle.scripts.specs.declared.forms.Word.TheVariants as word
+use Rattle.scripts.specs.Words.{words_of}
+use Rattle.scripts.specs.Forms.{same_word}
+use Rattle.scripts.specs.Meaning.{meaning}
+use Rattle.scripts.specs.Faults.{fault, is_within}
+use Rattle.scripts.specs.Header.{word_of, goes_on, is_frames, at_frames, default_config, frames_line, frames_asked, header_frames}
+use Rattle.scripts.specs.Reading.{Known, at_start, after}
+use Rattle.scripts.proofs.HeaderLemmas.{frames_line-other, frames_line-frames, frames_line-behind}
+use Rattle.scripts.proofs.TellLemmas.{both, Tells, tells}
+
+abbrev pub given_frames : List Word → Bool
+given_frames given = list_any (same_word word.Frames) given
+
+-- the header's frames were asked for, or it ended without, or what is left of it asks for them
+abbrev Asked : List (List ℕ) → List (List ℕ) → ℕ → Bool → List Word → Type 0
+Asked ls left frames commands given =
+    ((frames ≡ header_frames ls) × (given_frames given ≡ true))
+    ⊎ (((frames ≡ default_config.frames) × (header_frames ls ≡ default_config.frames) × (commands ≡ true))
+    ⊎ ((frames ≡ default_config.frames) × (frames_line ls ≡ frames_line left)))
+
+-- what the lines before those left leave known fits, in a script of these lines
+pub record Fits (ls left : List (List ℕ)) (k : Known) : Type 0 where
+  pub around : k.around.frames ≡ header_frames ls
+  pub frames : is_within 1 65536 (Some k.config.frames) ≡ true
+  pub swap : nat_le k.config.swap 65536 ≡ true
+  pub marks : are_marks k.config.marks (header_frames ls) ≡ true
+  pub trace : is_within 1 1048576 (Some k.config.trace) ≡ true
+  pub asked : Asked ls left k.config.frames k.around.commands k.around.given
+
+or_true : (b : Bool) → (b || true) ≡ true
+or_true true = refl
+or_true false = refl
+
+-- a line that asks for no frames, of the header
+other : (ls left more : List (List ℕ)) (n : ℕ) (b c : Bool) (given new : List Word) → frames_line left ≡ frames_line more → Asked ls left n b given → Asked ls more n (b || c) (given ++ new)
+other ls left more n b c given new e (inl p) = inl (p.0, list_any-append (same_word word.Frames) given new ∙ rw p.1 refl)
+other ls left more n b c given new e (inr (inl p)) = inr (inl (p.0, p.1, rw p.2 refl))
+other ls left more n b c given new e (inr (inr p)) = inr (inr (p.0, p.1 ∙ e))
+
+-- one that ends it
+command : (ls left more : List (List ℕ)) (n : ℕ) (b : Bool) (given new : List Word) → frames_line left ≡ None → Asked ls left n b given → Asked ls more n (b || true) (given ++ new)
+command ls left more n b given new e (inl p) = inl (p.0, list_any-append (same_word word.Frames) given new ∙ rw p.1 refl)
+command ls left more n b given new e (inr (inl p)) = inr (inl (p.0, p.1, or_true b))
+command ls left more n b given new e (inr (inr p)) = inr (inl (p.0, ap frames_asked (p.1 ∙ e), or_true b))
+
+-- the first that asks for frames
+first : (ls left more : List (List ℕ)) (m n : ℕ) (b c : Bool) (given : List Word) (l : List ℕ) → b ≡ false → given_frames given ≡ false → frames_line left ≡ Some l → frames_asked (Some l) ≡ n
+    → Asked ls left m b given → Asked ls more n c (given ++ word.Frames ∷ [])
+first ls left more m n b c given l e f g h (inl p) = absurd cc
+first ls left more m n b c given l e f g h (inr (inl p)) = absurd cc
+first ls left more m n b c given l e f g h (inr (inr p)) =
+    inl (sym (ap frames_asked (p.1 ∙ g) ∙ h), list_any-append (same_word word.Frames) given (word.Frames ∷ []) ∙ or_true (given_frames given))
+
+-- ---- one line more
+
+abbrev Line : Known → List ℕ → Item → Type 0
+Line k l i = (is_utf8 l ≡ true) × Tells k.around (goes_on (words_of l)) (is_frames (word_of (words_of l))) (fault at_frames l) i
+
+step : (ls left more : List (List ℕ)) (k : Known) (l : List ℕ) (i : Item) → left ≡ l ∷ more → meaning (words_of l) ≡ i → Line k l i → Fits ls left k → Fits ls more (after k i)
+step ls left more k l (item.Frames n) e m (u, t) f =
+    let asks : frames_asked (Some l) ≡ n = rw (t.2, m) refl in
+    record {
+      around = f.around;
+      frames = t.3;
+      swap = f.swap;
+      marks = f.marks;
+      trace = f.trace;
+      asked = first ls left more k.config.frames n k.around.commands (k.around.commands || false) k.around.given l t.4 t.5 (ap frames_line e ∙ frames_line-frames l more (u, t.0, t.1)) asks f.asked;
+    }
+step ls left more k l (item.Swap n) e m (u, t) f =
+    record {
+      around = f.around;
+      frames = f.frames;
+      swap = (both (nat_le 0 n) (nat_le n 65536) t.2).1;
+      marks = f.marks;
+      trace = f.trace;
+      asked = other ls left more k.config.frames k.around.commands false k.around.given (word.Swap ∷ []) (ap frames_line e ∙ frames_line-other l more (u, t.0, t.1)) f.asked;
+    }
+step ls left more k l (item.Marks n) e m (u, t) f =
+    record {
+      around = f.around;
+      frames = f.frames;
+      swap = f.swap;
+      marks = ap (are_marks n) (sym f.around) ∙ t.2;
+      trace = f.trace;
+      asked = other ls left more k.config.frames k.around.commands false k.around.given (word.Watermarks ∷ []) (ap frames_line e ∙ frames_line-other l more (u, t.0, t.1)) f.asked;
+    }
+step ls left more k l (item.Trace n) e m (u, t) f =
+    record {
+      around = f.around;
+      frames = f.frames;
+      swap = f.swap;
+      marks = f.marks;
+      trace = t.2;
+      asked = other ls left more k.config.frames k.around.commands false k.around.given (word.Trace ∷ []) (ap frames_line e ∙ frames_line-other l more (u, t.0, t.1)) f.asked;
+    }
+step ls left more k l (item.Fails what n) e m (u, t) f =
+    record {
+      around = f.around;
+      frames = f.frames;
+      swap = f.swap;
+      marks = f.marks;
+      trace = f.trace;
+      asked = other ls left more k.config.frames k.around.commands false k.around.given (word.Fault ∷ []) (ap frames_line e ∙ frames_line-other l more (u, t.0, t.1)) f.asked;
+    }
+step ls left more k l item.Nothing e m (u, t) f =
+    record {
+      around = f.around;
+      frames = f.frames;
+      swap = f.swap;
+      marks = f.marks;
+      trace = f.trace;
+      asked = other ls left more k.config.frames k.around.commands false k.around.given [] (ap frames_line e ∙ frames_line-other l more (u, t.0, t.1)) f.asked;
+    }
+step ls left more k l _ e m (u, t) f =
+    record {
+      around = f.around;
+      frames = f.frames;
+      swap = f.swap;
+      marks = f.marks;
+      trace = f.trace;
+      asked = command ls left more k.config.frames k.around.commands k.around.given [] (ap frames_line e ∙ frames_line-behind l more (rw (u, t) refl)) f.asked;
+    }
+
+any : (n : ℕ) → nat_le 0 n ≡ true
+any n = grind (arith, nat_tests)
+
+pub fits_start : (ls : List (List ℕ)) → Fits ls ls (at_start (header_frames ls))
+fits_start ls = record { around = refl; frames = refl; swap = refl; marks = any (header_frames ls); trace = refl; asked = inr (inr (refl, refl)) }
+
+pub fits_after : (ls left more : List (List ℕ)) (k : Known) (l : List ℕ) → left ≡ l ∷ more → fault k.around l ≡ None → Fits ls left k → Fits ls more (after k (meaning (words_of l)))
+fits_after ls left more k l e fine f = step ls left more k l (meaning (words_of l)) e refl (tells k.around l fine) f
+
+-- where nothing is left the frames are the header's
+at_end : (ls : List (List ℕ)) (n : ℕ) (b : Bool) (given : List Word) → Asked ls [] n b given → n ≡ header_frames ls
+at_end ls n b given (inl p) = p.0
+at_end ls n b given (inr (inl p)) = p.0 ∙ sym p.1
+at_end ls n b given (inr (inr p)) = p.0 ∙ sym (ap frames_asked p.1)
+
+pub fits_end : (ls : List (List ℕ)) (k : Known) → Fits ls [] k → is_config k.config ≡ true
+fits_end ls k f =
+    let e : k.config.frames ≡ header_frames ls = at_end ls k.config.frames k.around.commands k.around.given f.asked in
+    let marks : are_marks k.config.marks k.config.frames ≡ true = ap (are_marks k.config.marks) e ∙ f.marks in
+    rw (f.frames, f.swap, marks, f.trace) refl

@@ -1,0 +1,134 @@
+//! How many frames the header asks for.
+
+ghost use Rattle.std.specs.Prelude.{◌≡◌, map, IfOk};
+ghost use Rattle.std.specs.Str.Lines.{lines};
+ghost use Rattle.scripts.specs.Faults.{now};
+ghost use Rattle.scripts.specs.Header.{word_of, is_skipped, is_of_header, is_frames, goes_on, frames_of, frames_asked, header_frames};
+ghost use Rattle.scripts.specs.Reading.{IsPart};
+
+use crate::context::Context;
+use crate::fault::LineError;
+use crate::forms::{Speaker, Word, word_named};
+use crate::line::read_line;
+use crate::lines::{as_text, first_line};
+use crate::meaning::Item;
+use crate::words::words_of;
+use machine::config::{Config, Watermarks};
+use std::alloc::{AllocError, Global};
+
+/// What holds where the header says nothing.
+pub const DEFAULT_CONFIG: Config = Config {
+    frames: 64,
+    swap: 0,
+    marks: Watermarks { low: 0, high: 0 },
+    trace: 65_536,
+};
+
+/// What a line is to the header.
+enum Part {
+    /// It begins with `frames`.
+    Frames,
+    /// It is another of the header's lines, or is skipped.
+    Other,
+    /// The header ends before it.
+    Behind,
+}
+
+fn word_of(words: &[&str]) -> Option<Word>
+    ensures { result ≡ word_of (map now words.now) }
+{
+    match words.first() {
+        Some(first) => word_named(Speaker::Shell, first),
+        None => None,
+    }
+}
+
+fn is_skipped(words: &[&str]) -> bool
+    ensures { result ≡ is_skipped (map now words.now) }
+{
+    match words.first() {
+        Some(first) => first.starts_with('#'),
+        None => true,
+    }
+}
+
+fn is_of_header(word: Option<Word>) -> bool
+    ensures { result ≡ is_of_header word }
+{
+    match word {
+        Some(word) => word.form().header,
+        None => false,
+    }
+}
+
+fn is_frames(word: Option<Word>) -> bool
+    ensures { result ≡ is_frames word }
+{
+    match word {
+        Some(word) => word == Word::Frames,
+        None => false,
+    }
+}
+
+fn goes_on(words: &[&str]) -> bool
+    ensures { result ≡ goes_on (map now words.now) }
+{
+    is_skipped(words) || is_of_header(word_of(words))
+}
+
+fn part_of(alloc: Global, line: &[u8]) -> Result<Part, AllocError>
+    ensures { IfOk result (λ part. IsPart part line.now) }
+{
+    let Some(text) = as_text(line) else {
+        return Ok(Part::Behind);
+    };
+    let words = words_of(alloc, text)?;
+    if !goes_on(words.as_slice()) {
+        return Ok(Part::Behind);
+    }
+    if is_frames(word_of(words.as_slice())) {
+        return Ok(Part::Frames);
+    }
+    Ok(Part::Other)
+}
+
+fn frames_of(item: &Item) -> u32
+    ensures { result ≡ frames_of item.now }
+{
+    match item {
+        Item::Frames(frames) => *frames,
+        _ => DEFAULT_CONFIG.frames,
+    }
+}
+
+fn frames_asked(alloc: Global, line: &[u8]) -> Result<u32, AllocError>
+    ensures { IfOk result (λ frames. frames ≡ frames_asked (Some line.now)) }
+{
+    let context = Context {
+        frames: DEFAULT_CONFIG.frames,
+        commands: false,
+        given: Vec::new(alloc),
+    };
+    match read_line(alloc, &context, line) {
+        Ok(item) => Ok(frames_of(&item)),
+        Err(LineError::Fault(_)) => Ok(DEFAULT_CONFIG.frames),
+        Err(LineError::Memory) => Err(AllocError),
+    }
+}
+
+/// How many frames the header asks for, by the first of its lines that begins with `frames`; the
+/// default where there is none, or that line has a fault.
+pub fn header_frames(alloc: Global, text: &[u8]) -> Result<u32, AllocError>
+    ensures { IfOk result (λ frames. frames ≡ header_frames (lines text.now)) }
+{
+    let mut rest = text;
+    while !rest.is_empty() {
+        let (line, after) = first_line(rest);
+        match part_of(alloc, line)? {
+            Part::Other => rest = after,
+            Part::Frames => return frames_asked(alloc, line),
+            Part::Behind => return Ok(DEFAULT_CONFIG.frames),
+        }
+    }
+    Ok(DEFAULT_CONFIG.frames)
+}
