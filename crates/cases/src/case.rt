@@ -5,10 +5,22 @@
 //! it is refused with. Behind these, blank lines and lines that begin with `#` belong to no case; nor do
 //! lines before the first.
 
+ghost use Rattle.std.specs.Prelude.{◌≡◌, ◌==◌, ◌&&◌, length, if◌then◌else◌};
+ghost use Rattle.std.specs.Str.{bytes_eq};
+
 use std::alloc::{AllocError, Global};
 use std::io;
 use std::io::Write;
 use subcommands::schedule;
+
+/// The part of a case that a line belongs to.
+#[derive(Clone, Copy)]
+enum Part {
+    /// The script.
+    Script,
+    /// What the program prints.
+    Printed,
+}
 
 /// A script, with what the program must write for it.
 #[derive(Drop)]
@@ -17,8 +29,8 @@ pub struct Case {
     script: String,
     out: String,
     err: String,
-    /// What the next line of the file is: a line of what is printed, or one of the script.
-    prints: bool,
+    /// Where the next line of the file belongs.
+    next: Part,
 }
 
 impl Case {
@@ -28,27 +40,35 @@ impl Case {
             script: String::new(alloc),
             out: String::new(alloc),
             err: String::new(alloc),
-            prints: false,
+            next: Part::Script,
         })
     }
 
     /// Takes a line of the file.
     fn add(&mut self, line: &str) -> Result<(), AllocError> {
         if line == "-- prints" {
-            self.prints = true;
+            self.next = Part::Printed;
             return Ok(());
         }
         if let Some(fault) = line.strip_prefix("-- faults ") {
-            self.prints = true;
+            self.next = Part::Printed;
             return add_line(&mut self.err, fault);
         }
-        if !self.prints {
-            return add_line(&mut self.script, line);
+        match self.next {
+            Part::Script => add_line(&mut self.script, line),
+            Part::Printed if line.is_empty() || line.starts_with('#') => Ok(()),
+            Part::Printed => add_line(&mut self.out, line),
         }
-        if line.is_empty() || line.starts_with('#') {
-            return Ok(());
-        }
-        add_line(&mut self.out, line)
+    }
+
+    /// Whether a run came out as the file says: each byte that it wrote, and its exit status, which is
+    /// 1 where a fault is named, and else 0.
+    fn is_met(&self, status: u8, out: &[u8], err: &[u8]) -> bool
+        ensures { result ≡ (status == (if length self.now.err.bytes.items == 0 then 0 else 1)
+            && (bytes_eq out.now self.now.out.bytes.items && bytes_eq err.now self.now.err.bytes.items)) }
+    {
+        let wanted = if self.err.is_empty() { 0 } else { 1 };
+        status == wanted && out == self.out.as_bytes() && err == self.err.as_bytes()
     }
 
     /// Runs the script, and says what came of it where that is not what must come.
@@ -57,11 +77,7 @@ impl Case {
         let mut out = Vec::new(alloc);
         let mut err = Vec::new(alloc);
         let status = schedule(alloc, &mut script, &mut out, &mut err);
-        let wanted = if self.err.is_empty() { 0 } else { 1 };
-        if status == wanted
-            && out.as_slice() == self.out.as_bytes()
-            && err.as_slice() == self.err.as_bytes()
-        {
+        if self.is_met(status, &out, &err) {
             return Ok(());
         }
         writeln!(to, "{file}: {}: status {status}", self.name)?;

@@ -37,8 +37,10 @@ fn run_all<R: Env + Files + AllocGlobal, W: Write>(rt: &R, out: &mut W) -> io::R
 }
 
 fn main(rt: HostRuntime) -> ExitCode {
-    match run_all(&rt, &mut rt.stdout()) {
-        Ok(()) => ExitCode::SUCCESS,
-        Err(_) => ExitCode::FAILURE,
-    }
+    let Err(fault) = run_all(&rt, &mut rt.stdout()) else {
+        return ExitCode::SUCCESS;
+    };
+    // The status tells of the failure even where its line can't be written.
+    let _ = writeln!(rt.stderr(), "{fault}");
+    ExitCode::FAILURE
 }
