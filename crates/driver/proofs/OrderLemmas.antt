@@ -1,6 +1,6 @@
 -- In which order pages leave: the list of held pages is right after every run, and the page that is taken is the first of its group there.
 use Rattle.std.proofs.Common.{◌≡◌, inl, inr, ℕ, ◌+◌, ◌≤◌, ◌==◌, ◌&&◌, not, Bool, true, false, cond, List, [], ◌∷◌, ◌++◌, length, Option, Some, None, refl, sym, ap, ◌∙◌, subst, arith}
-use Rattle.std.specs.Prelude.{find, filter, count_by}
+use Rattle.std.specs.Prelude.{find, filter, count_by, slice_set}
 use Rattle.std.specs.List.{list_any}
 use Rattle.std.proofs.lemmas.List.Sums.{sum_by-cons, sum_by-append}
 use Rattle.machine.specs.declared.config.Config.{Config}
@@ -29,7 +29,7 @@ use Rattle.driver.specs.declared.turn.Turned.{Turned}
 use Rattle.driver.specs.declared.turn.Want.{Want}
 use Rattle.driver.specs.declared.turn.Want.TheVariants as want
 use Rattle.driver.specs.Schedule.{World, first_world, with_activity, WantTurn, wants_at, DoingTurn}
-use Rattle.driver.specs.Laws.{took_for, TakesUnprotected, LeavesInOrder, HeldPagesAreListed, PagesLeaveInOrder}
+use Rattle.driver.specs.Laws.{took_for, TakesUnprotected, LeavesInOrder, HeldPagesAreListed, HeldPagesGoOn, PagesLeaveInOrder}
 use Rattle.driver.proofs.MoveLemmas.{some_inj, never_some, unlike, same_true, own_number}
 use Rattle.driver.proofs.Keeps.{is_idle, FineOutcome, IsAt, runs_keep}
 use Rattle.driver.proofs.Tickets.{Tickets, tickets_rest, tickets_turn, tickets_first}
@@ -126,6 +126,9 @@ called_or {P} old new worker what answer same answers called = by_test (knows_ti
     by_cause (Some why) h = same h.1
     by_cause None h = by_test (is_trace_full old what) (λ k. same k.1) (served_or old new worker what answer same answers) h
 
+pub held_pages_go_on : HeldPagesGoOn
+held_pages_go_on old new worker what answer called = called_or old new worker what answer (λ same. inl same) (λ h. inr h.order.0) called
+
 listed-called : (old new : Past) (worker : ℕ) (what : Event) (answer : Reply) → Called old worker what answer new → Listed old → Listed new
 unfolding count_of
 listed-called old new worker what answer called listed =
@@ -201,7 +204,7 @@ listed_held past test p listed found = by_held (is_held_at past.state.pages p) r
 
 leaves_in_order : (old new : Past) (target : ℕ) → Listed old → TakesUnprotected old.state target new.state → TakesNext old.state old.order target new.state new.order → LeavesInOrder old target new
 leaves_in_order old new target listed taken next =
-    record { taken = taken; turn = next.next ∙ ap (λ (g : ℕ). Some g) group; oldest = subst (λ (q : ℕ). find (is_page_of old.state.pages taken.page.group) old.order.held ≡ Some q) same (ap (λ (g : ℕ). find (is_page_of old.state.pages g) old.order.held) (sym group) ∙ next.first) }
+    record { taken = taken; turn = next.next ∙ ap (λ (g : ℕ). Some g) group; cursor = next.moves ∙ ap (λ (g : ℕ). slice_set old.order.cursors target (Some g)) group; oldest = subst (λ (q : ℕ). find (is_page_of old.state.pages taken.page.group) old.order.held ≡ Some q) same (ap (λ (g : ℕ). find (is_page_of old.state.pages g) old.order.held) (sym group) ∙ next.first) }
   where
     same : next.p ≡ taken.p
     same =

@@ -1,5 +1,5 @@
 -- The headline in the words of its users: what holds of every step and of every run.
-use Rattle.std.specs.Prelude.{◌≡◌, ◌≢◌, ◌⊎◌, ℕ, ◌+◌, ◌<◌, ◌≤◌, ◌==◌, true, false, if◌then◌else◌, List, ◌∷◌, ◌++◌, count_by, find, Option, Some, None, slice_get}
+use Rattle.std.specs.Prelude.{◌≡◌, ◌≢◌, ◌⊎◌, ℕ, ◌+◌, ◌<◌, ◌≤◌, ◌==◌, true, false, if◌then◌else◌, List, ◌∷◌, ◌++◌, count_by, find, Option, Some, None, slice_get, slice_set}
 use Rattle.machine.specs.declared.config.Config.{Config}
 use Rattle.machine.specs.declared.entry.Entry.{Entry}
 use Rattle.machine.specs.declared.id.GroupId.{GroupId}
@@ -25,7 +25,7 @@ use Rattle.machine.specs.Pages.{Page, page_at, is_anon, is_held, frame_at, block
 use Rattle.machine.specs.Tasks.{lives, group_of_task}
 use Rattle.machine.specs.State.{Opening, State, usage, effective_min, opening_of}
 use Rattle.machine.specs.Reclaim.{is_idle, target_of}
-use Rattle.machine.specs.Lists.{is_held_at, is_page_of, served}
+use Rattle.machine.specs.Lists.{is_held_at, is_page_of, served, GoesOn}
 use Rattle.machine.specs.Victim.{is_candidate}
 use Rattle.machine.specs.Step.{Step}
 use Rattle.machine.specs.Call.{Past, Called}
@@ -150,11 +150,19 @@ HeldPagesAreListed =
     (config : Config) (before : Disk) (steps : List Line) (answers : List Told_by) (end : World) → Runs (first_world config before) steps answers end
     → (p : ℕ) → count_by (λ q. q == p) end.past.order.held ≡ (if is_held_at end.past.state.pages p then 1 else 0)
 
--- a page was taken for the target, and it was its group's turn to give one, and the page the first of its group's in the list of held pages
+-- a call that changes anything lets the held pages go on in their order: what is held no more leaves the list, all others stay as they stood, and what comes to be held, one page at most, comes behind them.
+-- (Excludes a list whose order is made up anew, and a page that comes to be held before another.)
+abbrev pub HeldPagesGoOn : Type 0
+HeldPagesGoOn =
+    (before after : Past) (worker : ℕ) (what : Event) (answer : Reply) → Called before worker what answer after
+    → (after ≡ before) ⊎ GoesOn before.state.pages before.order.held after.state.pages after.order.held
+
+-- a page was taken for the target, and it was its group's turn to give one, and the page the first of its group's in the list of held pages. The target's cursor then names the group
 pub record LeavesInOrder (before : Past) (target : ℕ) (after : Past) : Type 0 where
   pub taken : TakesUnprotected before.state target after.state
   pub turn : served before.state before.order target ≡ Some taken.page.group
   pub oldest : find (is_page_of before.state.pages taken.page.group) before.order.held ≡ Some taken.p
+  pub cursor : after.order.cursors ≡ slice_set before.order.cursors target (Some taken.page.group)
 
 -- so it is with each page that a call takes, wherever a run leads to. (Excludes a newer page that leaves before an older one of its group, and a group that gives pages out of its turn.)
 abbrev pub PagesLeaveInOrder : Type 0

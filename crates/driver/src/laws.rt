@@ -1,7 +1,7 @@
 //! The headline in the words of its users: laws of every step and of every run. Each is the contract
 //! of a function that does nothing.
 
-ghost use Rattle.driver.specs.Laws.{RunsAreLegal, RunsAreHonest, NoStrangers, ErrorsAreFailures, CurrentCountsPages, EventsAreThoseCounted, ChargesStayWithinMax, OnlyAccessesCharge, KillsComeLast, ReadsGiveLastWrites, PagesShareNoFrame, PagesShareNoBlock, BlocksAreThere, PagesShareNoTicket, PagesAreMemory, TransfersStayCharged, WriteOutsStayCharged, ReclaimsSpareTheProtected, ReclaimsGiveUpLast, ReclaimsKillNobody, HeldPagesAreListed, PagesLeaveInOrder, GroupsAreThere};
+ghost use Rattle.driver.specs.Laws.{RunsAreLegal, RunsAreHonest, NoStrangers, ErrorsAreFailures, CurrentCountsPages, EventsAreThoseCounted, ChargesStayWithinMax, OnlyAccessesCharge, KillsComeLast, ReadsGiveLastWrites, PagesShareNoFrame, PagesShareNoBlock, BlocksAreThere, PagesShareNoTicket, PagesAreMemory, TransfersStayCharged, WriteOutsStayCharged, ReclaimsSpareTheProtected, ReclaimsGiveUpLast, ReclaimsKillNobody, HeldPagesAreListed, HeldPagesGoOn, PagesLeaveInOrder, GroupsAreThere};
 
 /// The history of every run leads from the opening to the run's state, one step of the plain machine
 /// an entry.
@@ -88,8 +88,14 @@ pub fn held_pages_are_listed()
     ensures { HeldPagesAreListed }
 {}
 
-/// After any run the page that a call takes is its group's first in the list of held pages, in which
-/// new ones come last, and it was that group's turn to give a page to the reclaim's target.
+/// A call that changes anything lets the held pages go on in their order. What is held no more leaves
+/// their list, all others stay as they stood, and what comes to be held, one page at most, comes last.
+pub fn held_pages_go_on()
+    ensures { HeldPagesGoOn }
+{}
+
+/// After any run the page that a call takes is its group's first in the list of held pages, and it was
+/// that group's turn to give a page to the reclaim's target. Then the target's cursor names the group.
 pub fn pages_leave_in_order()
     ensures { PagesLeaveInOrder }
 {}

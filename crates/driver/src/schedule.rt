@@ -26,6 +26,7 @@ pub fn run<D: BlockDevice>(
     ensures sized { IfOk result (λ answers. fits config (D.disk device.old) ≡ true) }
     ensures errors { IfOk result (λ answers. errors answers.items + (D.disk device.old).failures ≤ (D.disk device.new).failures) }
     ensures err { IfErr result (λ cause. (cause ≡ Refusal.Invalid) × (fits config (D.disk device.old) ≡ false) ⊎ (cause ≡ Refusal.NoMemory) × (fits config (D.disk device.old) ≡ true)) }
+    ensures untouched { fits config (D.disk device.old) ≡ false → D.disk device.new ≡ D.disk device.old }
     ensures blocks { length (D.disk device.new).contents ≡ length (D.disk device.old).contents }
     ensures limit { (D.disk device.new).fault_limit ≡ (D.disk device.old).fault_limit }
 {
