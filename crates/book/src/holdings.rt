@@ -166,7 +166,7 @@ impl Holdings {
         self.counters.set_max(group, max);
     }
 
-    /// Up to how many pages of the group and of those below it are protected from reclaim.
+    /// Up to how many pages that it uses, with all below it, the group asks to be protected.
     pub fn min(&self, group: GroupId) -> Amount
         requires { is_live self.now.kin group.0 ≡ true }
         ensures { result ≡ (limits_at self.now.limits group.0).min }
@@ -182,7 +182,7 @@ impl Holdings {
         self.counters.set_min(group, min);
     }
 
-    /// How much of its memory a group below the target keeps from a reclaim of the target.
+    /// The effective `memory.min` of a group below the target, for a reclaim of the target.
     pub fn protection(&self, tree: &Tree, target: GroupId, group: GroupId) -> Amount
         requires kin { AreKin self.now.kin tree.now }
         requires live { is_live tree.now group.0 ≡ true }

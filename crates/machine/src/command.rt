@@ -36,7 +36,7 @@ pub enum Command {
     Set { path: Text, file: Text, text: Text },
     /// Prints a control file of the group of a path.
     Cat { path: Text, file: Text },
-    /// Prints how much of its memory the group of a path keeps from a reclaim of the target's.
+    /// Prints the effective `memory.min` of the group of a path, for a reclaim of the target's.
     Protection { target: Text, path: Text },
     /// One run of the daemon.
     Daemon,

@@ -154,7 +154,7 @@ impl Counters {
         self.limits[group.0 as usize].max = max;
     }
 
-    /// Up to how many pages of the group and of those below it are protected from reclaim,
+    /// Up to how many pages that it uses, with all below it, the group asks to be protected,
     /// `memory.min`.
     pub fn min(&self, group: GroupId) -> Amount
         requires live { is_live self.now.tree group.0 ≡ true }
@@ -163,7 +163,7 @@ impl Counters {
         self.limits[group.0 as usize].min
     }
 
-    /// Sets up to how many pages of the group and of those below it are protected from reclaim
+    /// Sets up to how many pages that it uses, with all below it, the group asks to be protected
     /// (kernel: page_counter_set_min).
     pub fn set_min(&mut self, group: GroupId, min: Amount)
         requires live { is_live self.old.tree group.0 ≡ true }

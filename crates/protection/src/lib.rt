@@ -35,8 +35,8 @@ use machine::amount::Amount;
 use machine::id::GroupId;
 use page_counter::Counters;
 
-/// A group's effective `memory.min`: up to how many of its pages, and of those below it, a reclaim
-/// of the target leaves it (kernel: effective_protection). The target is above the group.
+/// A group's effective `memory.min`: while it uses no more, with all below it, a reclaim of the
+/// target takes no page of its own (kernel: effective_protection). The target is above the group.
 pub fn effective(tree: &Tree, counters: &Counters, target: GroupId, group: GroupId) -> Amount
     requires kin { AreKin counters.now.tree tree.now }
     requires live { is_live tree.now group.0 ≡ true }
