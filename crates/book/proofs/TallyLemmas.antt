@@ -8,9 +8,8 @@ use Rattle.machine.specs.Counts.{Counted, is_key, total, counts_by}
 use Rattle.group_tree.specs.Lineages.{IsLineage}
 use Rattle.group_tree.proofs.LineageLemmas.{live-within}
 use Rattle.events.specs.Tallies.{Tallies, Tells, total_of}
-use Rattle.book.specs.Contents.{AreFew}
+use Rattle.book.specs.Contents.{AreFew, without_room}
 use Rattle.group_tree.specs.Kin.{AreKin}
-use Rattle.book.specs.Kin.{without_room}
 use Rattle.book.proofs.KinLemmas.{kin-total}
 
 pub tells-roomless : (t : Tallies) (c : List Counted) → Tells t c → Tells (without_room t) c

@@ -33,6 +33,10 @@ pub record Contents : Type 0 where
   pub tallies : Tallies
   pub flights : List (Option Flight)
 
+-- what was counted, whatever memory there is for groups to come
+abbrev pub without_room : Tallies → Tallies
+without_room t = record t { room = 0 }
+
 -- each page in the order is in a frame
 abbrev pub InOrder : Contents → Type 0
 InOrder c = filter (is_held_at c.tables.pages) c.order.held ≡ c.order.held

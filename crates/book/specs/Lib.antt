@@ -6,7 +6,6 @@ pub mod Keeping
 pub mod Queue
 pub mod Room
 pub mod Contents
-pub mod Kin
 pub mod Serves
 pub mod Drops
 pub mod Parts

@@ -17,10 +17,9 @@ use Rattle.pages.specs.declared.standing.Standing.TheVariants as standing
 use Rattle.book.specs.declared.event.Reply.{Reply as Given}
 use Rattle.book.specs.declared.page_state.State.TheInside.{Inside}
 use Rattle.book.specs.Events.{reply_of}
-use Rattle.book.specs.Contents.{Contents, AreMapped}
+use Rattle.book.specs.Contents.{Contents, AreMapped, without_room}
 use Rattle.book.specs.Drops.{is_gone}
 use Rattle.group_tree.specs.Kin.{AreKin}
-use Rattle.book.specs.Kin.{without_room}
 use Rattle.book.specs.Serves.{Serves, GivesTicket, RepliesTo}
 
 abbrev pub contents_of : Inside → Contents
