@@ -56,7 +56,7 @@ need-counting s c what = refl
 
 -- and so with the page that is next
 next-counting : (old new : State) (c d : List Counted) (order order' : Order) (target : ℕ) → TakesNext old order target new order' → TakesNext (counting old c) order target (counting new d) order'
-next-counting old new c d order order' target h = record { g = h.g; p = h.p; next = h.next; first = h.first; taken = h.taken; moves = h.moves }
+next-counting old new c d order order' target h = record { g = h.g; p = h.p; next = h.next; first = h.first; was = h.was; taken = h.taken; moves = h.moves }
 
 cursors-counting : (old new : State) (c d : List Counted) (order order' : Order) (what : Event) (answer : Reply) → CursorsGoOn old order what answer new order' → CursorsGoOn (counting old c) order what answer (counting new d) order'
 cursors-counting old new c d order order' (event.Relieve cause) (reply.Out ticket) h = next-counting old new c d order order' (target_of cause) h

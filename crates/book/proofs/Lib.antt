@@ -12,7 +12,6 @@ pub mod NextLemmas
 pub mod KinLemmas
 pub mod TallyLemmas
 pub mod TransferLemmas
-pub mod CursorLemmas
 pub mod ServeLemmas
 pub mod StateLemmas
 pub mod DropLemmas

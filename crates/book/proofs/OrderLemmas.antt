@@ -6,13 +6,12 @@ use Rattle.std.proofs.lemmas.List.Elements.{All-head, All-tail, All-append, filt
 use Rattle.std.proofs.lemmas.List.Folds.{list_any_at}
 use Rattle.machine.specs.Slots.{Changes, there_and}
 use Rattle.machine.specs.Pages.{Page, Pages, page_at, is_held}
-use Rattle.machine.specs.Lists.{is_held_at, GoesOn}
+use Rattle.machine.specs.Lists.{is_held_at, ListsHeld, GoesOn}
 use Rattle.machine.proofs.TreeLemmas.{eq_cases}
-use Rattle.book.specs.Queue.{page_count}
 use Rattle.book.specs.Holdings.{Stored}
 use Rattle.book.specs.Drops.{DropsPages}
-use Rattle.book.specs.Keeping.{as_number, AreListed}
-use Rattle.book.proofs.QueueLemmas.{number-at, any_counts, counts_any}
+use Rattle.book.specs.Keeping.{as_number}
+use Rattle.book.proofs.QueueLemmas.{number-at}
 
 -- ---- filters
 
@@ -82,32 +81,8 @@ some_is : (b : Bool) → 1 ≤ as_number b → b ≡ true
 some_is true e = refl
 some_is false e = absurd (omega (arith, e))
 
-pub listed-held : (xs : List ℕ) (pages : Pages) → AreListed is_held xs pages → AllHeld pages xs
-listed-held xs pages listed =
-    λ k d lt. let once = listed.once (get_or xs k d) in let some = number-at xs k d lt in some_is (is_held_at pages (get_or xs k d)) (omega (arith, once, some))
-
--- a number is in the list where it is counted
-any-count : (xs : List ℕ) (p : ℕ) (b : Bool) → page_count xs p ≡ as_number b → list_any (λ q. q == p) xs ≡ b
-any-count xs p b once =
-    elim (list_any (λ q. q == p) xs) as (λ c. list_any (λ q. q == p) xs ≡ c → c ≡ b) [
-      | true ↦ λ is. sym (some_is b (let some = any_counts (λ q. q == p) xs is in omega (arith, some, once)))
-      | false ↦ λ is. (let none = counts_any (λ q. q == p) xs is in no_number b (omega (arith, none, once)))
-    ] refl
-  where
-    no_number : (c : Bool) → as_number c ≡ 0 → false ≡ c
-    no_number true e = absurd (omega (arith, e))
-    no_number false e = refl
-
--- it is in the list just if it is held
-pub listed-any-held : (xs : List ℕ) (pages : Pages) → AreListed is_held xs pages → (p : ℕ) → list_any (λ q. q == p) xs ≡ is_held_at pages p
-listed-any-held xs pages listed p = any-count xs p (is_held_at pages p) (listed.once p)
-
-pub in-list-held : (xs : List ℕ) (pages : Pages) → ((p : ℕ) → list_any (λ q. q == p) xs ≡ is_held_at pages p) → AllHeld pages xs
-in-list-held xs pages exact =
-    λ k d lt. sym (exact (get_or xs k d)) ∙ list_any_at (λ q. q == get_or xs k d) xs k d lt (own (get_or xs k d))
-  where
-    own : (n : ℕ) → (n == n) ≡ true
-    own n = grind (arith, nat_tests)
+pub listed-held : (xs : List ℕ) (pages : Pages) → ListsHeld pages xs → AllHeld pages xs
+listed-held xs pages lists = λ k d lt. let once = lists (get_or xs k d) in let some = number-at xs k d lt in some_is (is_held_at pages (get_or xs k d)) (omega (arith, once, some))
 
 -- ---- one change
 

@@ -11,7 +11,7 @@ use Rattle.machine.specs.Protection.{opens}
 use Rattle.machine.specs.Order.{served_by, cursor_at}
 use Rattle.machine.specs.State.{State, opening_of, is_swap_free}
 use Rattle.machine.specs.Reclaim.{is_open, is_takeable, has_takeable}
-use Rattle.machine.specs.Lists.{TakesNext}
+use Rattle.machine.specs.Lists.{is_held_at, TakesNext}
 use Rattle.pages.specs.declared.flight.Flight.{Flight}
 use Rattle.pages.specs.PageTable.{anon_page, Stands, AreInFlight}
 use Rattle.book.specs.Holdings.{HoldingsOf, takes, IsNext}
@@ -62,14 +62,15 @@ module _ (config : Config) (tree : List Node) (h : HoldingsOf) (tasks : Tasks) (
   takeable-alike = ap (λ (test : Page → Bool). any_there test h.stored.pages) takes-alike
 
   -- the page that is next, once it was taken
-  pub takes-next : (cursors cursors' : List (Option ℕ)) (p : ℕ) → IsNext h tree cursors target p cursors' → (new : State) (held' : List ℕ) → there_and is_held (page_at new.pages p) ≡ false
+  pub takes-next : (cursors cursors' : List (Option ℕ)) (p : ℕ) → IsNext h tree cursors target p cursors' → (new : State) (held' : List ℕ) → is_held_at h.stored.pages p ≡ true → is_held_at new.pages p ≡ false
       → TakesNext (tables_of config tree h tasks mappings) (record { held = h.held; cursors = cursors }) target new (record { held = held'; cursors = cursors' })
-  takes-next cursors cursors' p is new held' taken =
+  takes-next cursors cursors' p is new held' was taken =
       record {
         g = is.g;
         p = p;
         next = sym (ap (λ (test : Page → Bool). served_by tree (λ g. any_there (λ page. (page.group == g) && test page) h.stored.pages) target (cursor_at cursors target)) takes-alike) ∙ is.next;
         first = is.first;
+        was = was;
         taken = taken;
         moves = is.moves;
       }

@@ -6,6 +6,7 @@ ghost use Rattle.machine.specs.Pages.{used_frames, is_coming_in, is_going_out};
 ghost use Rattle.machine.specs.State.{opening_of, are_marks, is_config};
 ghost use Rattle.machine.specs.Refusals.{refusal};
 ghost use Rattle.machine.specs.Legal.{Legal};
+ghost use Rattle.machine.specs.Lists.{ListsHeld};
 ghost use Rattle.machine.specs.History.{Right, IsRight, Honest, Numbered, taker};
 ghost use Rattle.machine.specs.Call.{first_past, is_worker, is_trace_full, Called};
 ghost use Rattle.machine.specs.declared.event.Event.TheVariants as plain;
@@ -337,11 +338,14 @@ impl Book {
         self.state.watermarks()
     }
 
-    /// Nothing is done: what holds of every book's history.
+    /// Nothing is done: what holds of every book's history, and of the order in which its pages are taken:
+    /// the list has each held page once and no other, and each group has a cursor.
     pub fn history_is_right(&self)
         ensures legal { Legal self.now.state.opening self.now.history self.now.state }
         ensures right { Honest self.now.history → Right self.now.history }
         ensures numbered { Numbered self.now.history }
+        ensures listed { ListsHeld self.now.state.pages self.now.order.held }
+        ensures cursors { length self.now.order.cursors ≡ length self.now.state.tree }
     {
         self.state.is_joined();
     }

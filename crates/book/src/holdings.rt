@@ -1,9 +1,9 @@
 //! The pages, with the frames, the charges and the swap slots that they own.
 
 ghost use Rattle.std.specs.Prelude.{◌≡◌, ◌≢◌, ℕ, ◌+◌, ◌<◌, ◌==◌, ◌&&◌, ◌++◌, ◌∷◌, [], true, false, None, Some, IsSome, IfSome, IfNone, IfOk, OnOk, OnErr, nat_lt, length, slice_set, slice_index, if◌then◌else◌};
-ghost use Rattle.std.specs.List.{list_any};
 ghost use Rattle.machine.specs.Slots.{any_there};
 ghost use Rattle.machine.specs.Tree.{is_live, under};
+ghost use Rattle.machine.specs.Lists.{ListsHeld};
 ghost use Rattle.machine.specs.Pages as residence;
 ghost use Rattle.machine.specs.Pages.{Page, page_at, is_in_transfer, in_transfer, charged, used_frames, used_swap};
 ghost use Rattle.machine.specs.Counts.{no_limits, limits_at};
@@ -253,7 +253,7 @@ impl Holdings {
         ensures limits { length self.now.limits ≡ length self.now.kin }
         ensures groups { (p : ℕ) → IfSome (page_at self.now.stored.pages p) (λ page. is_live self.now.kin page.group ≡ true) }
         ensures flights { AreInFlight self.now.stored.pages self.now.stored.flights }
-        ensures held { (p : ℕ) → list_any (λ q. q == p) self.now.held ≡ is_held_in self.now.stored.pages p }
+        ensures held { ListsHeld self.now.stored.pages self.now.held }
     {
         self.counters.are_counted();
         self.pages.are_in_flight();

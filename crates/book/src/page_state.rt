@@ -1,12 +1,12 @@
 //! The parts of a book joined: one change of the machine's tables a call, in all parts at once.
 
-ghost use Rattle.std.specs.Prelude.{◌≡◌, ℕ, ◌+◌, ◌≤◌, [], None, true, IfOk, OnErr};
+ghost use Rattle.std.specs.Prelude.{◌≡◌, ℕ, ◌+◌, ◌≤◌, [], None, true, IfOk, OnErr, length};
 ghost use Rattle.machine.specs.Tree.{is_live};
 ghost use Rattle.machine.specs.State.{first_state, opening_of, is_config};
 ghost use Rattle.machine.specs.Refusals.{refusal};
 ghost use Rattle.machine.specs.Pages.{used_frames, in_transfer};
 ghost use Rattle.machine.specs.Call.{grows};
-ghost use Rattle.machine.specs.Lists.{first_order};
+ghost use Rattle.machine.specs.Lists.{first_order, ListsHeld};
 ghost use Rattle.group_tree.specs.Lineages.{IsLineage};
 ghost use Rattle.events.specs.Tallies.{Tells};
 ghost use Rattle.pages.specs.PageTable.{AreInFlight};
@@ -124,13 +124,15 @@ impl State {
 
     /// Nothing is done: what the opening fixed is within its limits, the groups whose events are counted
     /// hang together, the root is there, the transfers in flight are those of the pages in transfer,
-    /// and each page in the order is in a frame.
+    /// the order has the held pages, each once, and each group has its cursor.
     pub fn is_joined(&self)
         ensures limit { self.now.tables.opening.limit ≤ 1048576 }
         ensures lineage { IsLineage self.now.tallies.tree }
         ensures root { is_live self.now.tables.tree 0 ≡ true }
         ensures flights { AreInFlight self.now.tables.pages self.now.flights }
         ensures order { InOrder self.now }
+        ensures listed { ListsHeld self.now.tables.pages self.now.order.held }
+        ensures cursors { length self.now.order.cursors ≡ length self.now.tables.tree }
     {
         self.events.are_told();
         self.holdings.are_counted();

@@ -5,6 +5,8 @@ use Rattle.std.specs.List.{list_any}
 use Rattle.std.proofs.lemmas.List.Sums.{sum_by-cons, sum_by-append}
 use Rattle.machine.specs.declared.config.Config.{Config}
 use Rattle.machine.specs.declared.command.Actor.{Actor}
+use Rattle.machine.specs.declared.command.Step.{Step as Line}
+use Rattle.machine.specs.declared.command.Reply.{Reply as Told_by}
 use Rattle.machine.specs.declared.event.Event.{Event}
 use Rattle.machine.specs.declared.event.Event.TheVariants as event
 use Rattle.machine.specs.declared.refusal.Refusal.{Refusal}
@@ -14,12 +16,15 @@ use Rattle.machine.specs.declared.reply.Reply.TheVariants as reply
 use Rattle.machine.specs.Slots.{there_and}
 use Rattle.machine.specs.Pages.{Page, Pages, page_at, is_held}
 use Rattle.machine.specs.State.{State}
-use Rattle.machine.specs.Lists.{Order, TakesNext, is_page_of, is_held_at, is_fresh, GoesOn, CursorsGoOn}
+use Rattle.machine.specs.Reclaim.{target_of}
+use Rattle.machine.specs.Lists.{Order, TakesNext, is_page_of, is_held_at, ListsHeld, is_fresh, GoesOn, CursorsGoOn}
 use Rattle.machine.specs.Refusals.{refusal}
 use Rattle.machine.specs.Call.{Past, Answers, Served, JudgedBy, Called, knows_ticket, is_trace_full}
+use Rattle.machine.specs.Step.{new_node}
 use Rattle.machine.proofs.TreeLemmas.{eq_cases}
 use Rattle.machine.proofs.SlotLemmas.{one_if}
 use Rattle.machine.proofs.MappingLemmas.{find-passes, find-counts}
+use Rattle.machine.proofs.CursorLemmas.{cursors-push, cursors-set}
 use Rattle.block_store.specs.Device.{Disk}
 use Rattle.book.specs.Events.{event_of, reply_of}
 use Rattle.driver.specs.declared.turn.Activity.{Activity}
@@ -28,8 +33,9 @@ use Rattle.driver.specs.declared.turn.Outcome.{Outcome}
 use Rattle.driver.specs.declared.turn.Turned.{Turned}
 use Rattle.driver.specs.declared.turn.Want.{Want}
 use Rattle.driver.specs.declared.turn.Want.TheVariants as want
-use Rattle.driver.specs.Schedule.{World, first_world, with_activity, WantTurn, wants_at, DoingTurn}
-use Rattle.driver.specs.Laws.{took_for, TakesUnprotected, LeavesInOrder, HeldPagesAreListed, HeldPagesGoOn, PagesLeaveInOrder}
+use Rattle.driver.specs.Schedule.{World, first_world, with_activity, WantTurn, wants_at, DoingTurn, Runs}
+use Rattle.driver.specs.Laws.{took_for, TakesUnprotected, LeavesInOrder, HeldPagesAreListed, GroupsHaveCursors, HeldPagesGoOn, PagesLeaveInOrder}
+use Rattle.driver.proofs.OpeningLemmas.{tree_after, step_tree}
 use Rattle.driver.proofs.MoveLemmas.{some_inj, never_some, unlike, same_true, own_number}
 use Rattle.driver.proofs.Keeps.{is_idle, FineOutcome, IsAt, runs_keep}
 use Rattle.driver.proofs.Tickets.{Tickets, tickets_rest, tickets_turn, tickets_first}
@@ -91,11 +97,11 @@ module _ (p : ℕ) where
 
 -- ---- the list of held pages
 
--- each page that is in a frame and in no transfer is in the list once, and no other is
 abbrev pub Listed : Past → Type 0
-Listed past = (p : ℕ) → count_by (λ q. q == p) past.order.held ≡ one_if (is_held_at past.state.pages p)
+Listed past = ListsHeld past.state.pages past.order.held
 
-listed-on : (before after : Pages) (held held' : List ℕ) → GoesOn before held after held' → ((p : ℕ) → count_of p held ≡ one_if (is_held_at before p)) → (p : ℕ) → count_of p held' ≡ one_if (is_held_at after p)
+listed-on : (before after : Pages) (held held' : List ℕ) → GoesOn before held after held' → ListsHeld before held → ListsHeld after held'
+unfolding count_of
 listed-on before after held held' goes listed p =
     let sum : count_of p held' ≡ count_of p (filter (is_held_at after) held) + count_of p goes.fresh = ap (count_of p) goes.list ∙ count-append p (filter (is_held_at after) held) goes.fresh in
     let new : count_of p goes.fresh ≡ one_if (is_fresh before after p) = count-few p goes.fresh goes.few ∙ ap one_if (goes.which p) in
@@ -129,37 +135,62 @@ called_or {P} old new worker what answer same answers called = by_test (knows_ti
 pub held_pages_go_on : HeldPagesGoOn
 held_pages_go_on old new worker what answer called = called_or old new worker what answer (λ same. inl same) (λ h. inr h.order.0) called
 
-listed-called : (old new : Past) (worker : ℕ) (what : Event) (answer : Reply) → Called old worker what answer new → Listed old → Listed new
-unfolding count_of
-listed-called old new worker what answer called listed =
-    called_or old new worker what answer (λ same. subst Listed (sym same) listed) (λ h. listed-on old.state.pages new.state.pages old.order.held new.order.held h.order.0 listed) called
+-- ---- the cursors
+
+cursors-on : (old new : State) (order order' : Order) (what : Event) (answer : Reply) → CursorsGoOn old order what answer new order' → new.tree ≡ tree_after old what → length order.cursors ≡ length old.tree
+    → length order'.cursors ≡ length new.tree
+cursors-on old new order order' (event.Relieve cause) (reply.Out ticket) h tree same = cursors-set order.cursors order'.cursors (target_of cause) h.g h.moves ∙ same ∙ sym (ap length tree)
+cursors-on old new order order' (event.Relieve cause) reply.Dropped h tree same = cursors-set order.cursors order'.cursors (target_of cause) h.g h.moves ∙ same ∙ sym (ap length tree)
+cursors-on old new order order' (event.ReclaimOne g) (reply.Out ticket) h tree same = cursors-set order.cursors order'.cursors g.0 h.g h.moves ∙ same ∙ sym (ap length tree)
+cursors-on old new order order' (event.ReclaimOne g) reply.Dropped h tree same = cursors-set order.cursors order'.cursors g.0 h.g h.moves ∙ same ∙ sym (ap length tree)
+cursors-on old new order order' (event.Mkdir path) answer h tree same = cursors-push old.tree (new_node old.tree path) order.cursors order'.cursors same h ∙ sym (ap length tree)
+cursors-on old new order order' what answer h tree same = ap length h ∙ same ∙ sym (ap length tree)
+
+-- the list is right, and each group has its cursor
+pub record IsOrdered (past : Past) : Type 0 where
+  pub listed : Listed past
+  pub cursors : length past.order.cursors ≡ length past.state.tree
+
+ordered-called : (old new : Past) (worker : ℕ) (what : Event) (answer : Reply) → Called old worker what answer new → IsOrdered old → IsOrdered new
+ordered-called old new worker what answer called was =
+    called_or old new worker what answer (λ same. subst IsOrdered (sym same) was)
+    (λ h. record {
+      listed = listed-on old.state.pages new.state.pages old.order.held new.order.held h.order.0 was.listed;
+      cursors = cursors-on old.state new.state old.order new.order what answer h.order.1 (step_tree old.state what answer new.state h.steps) was.cursors;
+    }) called
 
 -- ---- runs
 
 pub record Ordered (w : World) : Type 0 where
   pub tickets : Tickets w
-  pub listed : Listed w.past
+  pub order : IsOrdered w.past
 
 ordered_rest : (w : World) (who : Actor) (what : Activity) → is_idle what ≡ true → Ordered w → Ordered (record w { seats = with_activity who what w.seats })
-ordered_rest w who what idle h = record { tickets = tickets_rest w who what idle h.tickets; listed = h.listed }
+ordered_rest w who what idle h = record { tickets = tickets_rest w who what idle h.tickets; order = h.order }
 
-want_listed : (past past' : Past) (disk disk' : Disk) (wanted : Want) (turned : Turned) → WantTurn past disk wanted turned past' disk' → Listed past → Listed past'
-want_listed past past' disk disk' (want.Call remembers what) turned turn h = listed-called past past' 0 (event_of what) (reply_of turn.0.said) turn.0.called h
-want_listed past past' disk disk' (want.Read access ticket) turned turn h = subst Listed (sym turn.1) h
-want_listed past past' disk disk' (want.Write on ticket) turned turn h = subst Listed (sym turn.1) h
-want_listed past past' disk disk' (want.End said) turned turn h = subst Listed (sym turn.1) h
+want_ordered : (past past' : Past) (disk disk' : Disk) (wanted : Want) (turned : Turned) → WantTurn past disk wanted turned past' disk' → IsOrdered past → IsOrdered past'
+want_ordered past past' disk disk' (want.Call remembers what) turned turn h = ordered-called past past' 0 (event_of what) (reply_of turn.0.said) turn.0.called h
+want_ordered past past' disk disk' (want.Read access ticket) turned turn h = subst IsOrdered (sym turn.1) h
+want_ordered past past' disk disk' (want.Write on ticket) turned turn h = subst IsOrdered (sym turn.1) h
+want_ordered past past' disk disk' (want.End said) turned turn h = subst IsOrdered (sym turn.1) h
 
 ordered_turn : (old new : World) (who : Actor) (now : Doing) (outcome : Outcome) → IsAt old who now → DoingTurn old who now outcome new → Ordered old → Ordered new × FineOutcome outcome
 ordered_turn old new who now outcome at turn h =
     let ticketed = tickets_turn old new who now outcome at turn h.tickets in
-    (record { tickets = ticketed.0; listed = want_listed old.past new.past old.disk new.disk (wants_at old.past now) turn.turned turn.turns h.listed }, ticketed.1)
+    (record { tickets = ticketed.0; order = want_ordered old.past new.past old.disk new.disk (wants_at old.past now) turn.turned turn.turns h.order }, ticketed.1)
 
 ordered_first : (config : Config) (disk : Disk) → Ordered (first_world config disk)
-ordered_first config disk = record { tickets = tickets_first config disk; listed = λ p. refl }
+ordered_first config disk = record { tickets = tickets_first config disk; order = record { listed = λ p. refl; cursors = refl } }
+
+runs_ordered : (config : Config) (before : Disk) (lines : List Line) (answers : List Told_by) (end : World) → Runs (first_world config before) lines answers end → IsOrdered end.past
+runs_ordered config before lines answers end runs =
+    (runs_keep Ordered ordered_rest ordered_turn (first_world config before) end lines answers runs (ordered_first config before)).0.order
 
 pub held_pages_are_listed : HeldPagesAreListed
-held_pages_are_listed config before lines answers end runs =
-    (runs_keep Ordered ordered_rest ordered_turn (first_world config before) end lines answers runs (ordered_first config before)).0.listed
+held_pages_are_listed config before lines answers end runs = (runs_ordered config before lines answers end runs).listed
+
+pub groups_have_cursors : GroupsHaveCursors
+groups_have_cursors config before lines answers end runs = (runs_ordered config before lines answers end runs).cursors
 
 -- ---- the page that is taken
 

@@ -1,5 +1,5 @@
 -- The headline in the words of its users: what holds of every step and of every run.
-use Rattle.std.specs.Prelude.{◌≡◌, ◌≢◌, ◌⊎◌, ℕ, ◌+◌, ◌<◌, ◌≤◌, ◌==◌, true, false, if◌then◌else◌, List, ◌∷◌, ◌++◌, count_by, find, Option, Some, None, slice_get, slice_set}
+use Rattle.std.specs.Prelude.{◌≡◌, ◌≢◌, ◌⊎◌, ℕ, ◌+◌, ◌<◌, ◌≤◌, true, false, List, ◌∷◌, ◌++◌, length, find, Option, Some, None, slice_get, slice_set}
 use Rattle.machine.specs.declared.config.Config.{Config}
 use Rattle.machine.specs.declared.entry.Entry.{Entry}
 use Rattle.machine.specs.declared.id.GroupId.{GroupId}
@@ -25,7 +25,7 @@ use Rattle.machine.specs.Pages.{Page, page_at, is_anon, is_held, frame_at, block
 use Rattle.machine.specs.Tasks.{lives, group_of_task}
 use Rattle.machine.specs.State.{Opening, State, usage, effective_min, opening_of}
 use Rattle.machine.specs.Reclaim.{is_idle, target_of}
-use Rattle.machine.specs.Lists.{is_held_at, is_page_of, served, GoesOn}
+use Rattle.machine.specs.Lists.{is_page_of, ListsHeld, served, GoesOn}
 use Rattle.machine.specs.Victim.{is_candidate}
 use Rattle.machine.specs.Step.{Step}
 use Rattle.machine.specs.Call.{Past, Called}
@@ -148,7 +148,13 @@ ReclaimsKillNobody =
 abbrev pub HeldPagesAreListed : Type 0
 HeldPagesAreListed =
     (config : Config) (before : Disk) (steps : List Line) (answers : List Told_by) (end : World) → Runs (first_world config before) steps answers end
-    → (p : ℕ) → count_by (λ q. q == p) end.past.order.held ≡ (if is_held_at end.past.state.pages p then 1 else 0)
+    → ListsHeld end.past.state.pages end.past.order.held
+
+-- whatever a run leads to, each group has a cursor of its own, as the target of a reclaim
+abbrev pub GroupsHaveCursors : Type 0
+GroupsHaveCursors =
+    (config : Config) (before : Disk) (steps : List Line) (answers : List Told_by) (end : World) → Runs (first_world config before) steps answers end
+    → length end.past.order.cursors ≡ length end.past.state.tree
 
 -- a call that changes anything lets the held pages go on in their order: what is held no more leaves the list, all others stay as they stood, and what comes to be held, one page at most, comes behind them.
 -- (Excludes a list whose order is made up anew, and a page that comes to be held before another.)

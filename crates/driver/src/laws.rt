@@ -1,7 +1,7 @@
 //! The headline in the words of its users: laws of every step and of every run. Each is the contract
 //! of a function that does nothing.
 
-ghost use Rattle.driver.specs.Laws.{RunsAreLegal, RunsAreHonest, NoStrangers, ErrorsAreFailures, CurrentCountsPages, EventsAreThoseCounted, ChargesStayWithinMax, OnlyAccessesCharge, KillsComeLast, ReadsGiveLastWrites, PagesShareNoFrame, PagesShareNoBlock, BlocksAreThere, PagesShareNoTicket, PagesAreMemory, TransfersStayCharged, WriteOutsStayCharged, ReclaimsSpareTheProtected, ReclaimsGiveUpLast, ReclaimsKillNobody, HeldPagesAreListed, HeldPagesGoOn, PagesLeaveInOrder, GroupsAreThere};
+ghost use Rattle.driver.specs.Laws.{RunsAreLegal, RunsAreHonest, NoStrangers, ErrorsAreFailures, CurrentCountsPages, EventsAreThoseCounted, ChargesStayWithinMax, OnlyAccessesCharge, KillsComeLast, ReadsGiveLastWrites, PagesShareNoFrame, PagesShareNoBlock, BlocksAreThere, PagesShareNoTicket, PagesAreMemory, TransfersStayCharged, WriteOutsStayCharged, ReclaimsSpareTheProtected, ReclaimsGiveUpLast, ReclaimsKillNobody, HeldPagesAreListed, GroupsHaveCursors, HeldPagesGoOn, PagesLeaveInOrder, GroupsAreThere};
 
 /// The history of every run leads from the opening to the run's state, one step of the plain machine
 /// an entry.
@@ -86,6 +86,12 @@ pub fn reclaims_kill_nobody()
 /// no other.
 pub fn held_pages_are_listed()
     ensures { HeldPagesAreListed }
+{}
+
+/// After any run each group has a cursor of its own, which names the group that was served last for a
+/// reclaim of it.
+pub fn groups_have_cursors()
+    ensures { GroupsHaveCursors }
 {}
 
 /// A call that changes anything lets the held pages go on in their order. What is held no more leaves

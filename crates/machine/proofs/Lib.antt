@@ -1,3 +1,4 @@
 pub mod TreeLemmas
 pub mod SlotLemmas
 pub mod MappingLemmas
+pub mod CursorLemmas

@@ -1,5 +1,5 @@
 -- Which page a reclaim takes: the list of the held pages, and the group that was served last (mm/vmscan.c: shrink_node_memcgs).
-use Rattle.std.specs.Prelude.{◌≡◌, ℕ, ◌≤◌, ◌==◌, ◌&&◌, not, Bool, false, List, [], ◌∷◌, ◌++◌, length, filter, find, slice_set, Option, Some, None}
+use Rattle.std.specs.Prelude.{◌≡◌, ℕ, ◌≤◌, ◌==◌, ◌&&◌, not, if◌then◌else◌, Bool, true, false, List, [], ◌∷◌, ◌++◌, length, count_by, filter, find, slice_set, Option, Some, None}
 use Rattle.std.specs.List.{list_any}
 use Rattle.machine.specs.declared.event.Event.{Event}
 use Rattle.machine.specs.declared.event.Event.TheVariants as event
@@ -36,6 +36,13 @@ served s order target = served_by s.tree (gives s target) target (cursor_at orde
 abbrev pub is_page_of : Pages → ℕ → ℕ → Bool
 is_page_of pages g p = there_and (λ page. page.group == g) (page_at pages p)
 
+abbrev pub is_held_at : Pages → ℕ → Bool
+is_held_at pages p = there_and is_held (page_at pages p)
+
+-- each page that is in a frame and in no transfer is in the list once, and no other page is
+abbrev pub ListsHeld : Pages → List ℕ → Type 0
+ListsHeld pages held = (p : ℕ) → count_by (λ q. q == p) held ≡ (if is_held_at pages p then 1 else 0)
+
 -- a page was taken for the target: of the group that is served the one that has been in its frame for longest. The target's cursor then names the group.
 -- (Excludes one cursor for all targets, and a newer page that leaves before an older one.)
 pub record TakesNext (old : State) (order : Order) (target : ℕ) (new : State) (order' : Order) : Type 0 where
@@ -43,13 +50,11 @@ pub record TakesNext (old : State) (order : Order) (target : ℕ) (new : State) 
   pub p : ℕ
   pub next : served old order target ≡ Some g
   pub first : find (is_page_of old.pages g) order.held ≡ Some p
-  pub taken : there_and is_held (page_at new.pages p) ≡ false
+  pub was : is_held_at old.pages p ≡ true
+  pub taken : is_held_at new.pages p ≡ false
   pub moves : order'.cursors ≡ slice_set order.cursors target (Some g)
 
 -- ---- how the order goes on
-
-abbrev pub is_held_at : Pages → ℕ → Bool
-is_held_at pages p = there_and is_held (page_at pages p)
 
 -- held from now on
 abbrev pub is_fresh : Pages → Pages → ℕ → Bool

@@ -1,7 +1,7 @@
 use Rattle.std.proofs.Common.{◌∙◌, refl, ap, arith}
 use Rattle.book.specs.Holdings.{HoldingsOf, with_order}
 use Rattle.book.proofs.DropLemmas.{next_there, drops_next}
-use Rattle.book.proofs.OrderLemmas.{in-list-held, goes-on-same, goes-on-then, dropped-less}
+use Rattle.book.proofs.OrderLemmas.{listed-held, goes-on-same, goes-on-then, dropped-less}
 use Rattle.book.proofs.unmap.drop_pages.Goals as goal
 
 pub loop-mapping-init : goal.loop-mapping-init
@@ -9,7 +9,7 @@ loop-mapping-init c =
     let old = c.args.holdings.now in (
       record { pages = λ q. refl; bytes = λ q o. refl },
       refl,
-      goes-on-same old.stored.pages old.stored.pages old.held (in-list-held old.held old.stored.pages c.are_counted.ensures.held) (λ q. refl),
+      goes-on-same old.stored.pages old.stored.pages old.held (listed-held old.held old.stored.pages c.are_counted.ensures.held) (λ q. refl),
       refl,
     )
 

@@ -56,6 +56,6 @@ returns-clause-settles c =
     record {
       placed = ends.placed;
       unlisted = ends.unlisted;
-      order = goes-on-in h.pages.pages c.end_in-slot.new.self.pages h.held.numbers (listed-held h.held.numbers h.pages.pages c.self.invariant.held) p _ _ stood ends.placed c.push.new.self.numbers c.page_of_ticket-page.result.0 c.push.ensures.last same refl refl;
+      order = goes-on-in h.pages.pages c.end_in-slot.new.self.pages h.held.numbers (listed-held h.held.numbers h.pages.pages c.self.invariant.held.once) p _ _ stood ends.placed c.push.new.self.numbers c.page_of_ticket-page.result.0 c.push.ensures.last same refl refl;
       others = same-view h (record h { pages = c.end_in-slot.new.self; slots = c.give.new.self; held = c.push.new.self; moving = c.remove.new.self }) refl refl refl refl c.give.ensures.blocks;
     })

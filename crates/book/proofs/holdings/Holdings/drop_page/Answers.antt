@@ -51,6 +51,6 @@ returns c =
       gone = dropped.gone;
       bytes = dropped.bytes;
       flights = dropped.flights;
-      order = goes-on-out h.pages.pages pages h.held.numbers (listed-held h.held.numbers h.pages.pages c.self.invariant.held) p from None dropped.kept dropped.gone c.remove.new.self.numbers p c.remove.ensures.others refl refl;
+      order = goes-on-out h.pages.pages pages h.held.numbers (listed-held h.held.numbers h.pages.pages c.self.invariant.held.once) p from None dropped.kept dropped.gone c.remove.new.self.numbers p c.remove.ensures.others refl refl;
       others = same-view h (record h { pages = c.drop_page-kept.new.self; counters = c.release.new.counters; pool = c.release.new.pool; slots = c.release.new.slots; held = c.remove.new.self }) groups.tree groups.limits groups.room c.release.ensures.frames c.release.ensures.blocks;
     })

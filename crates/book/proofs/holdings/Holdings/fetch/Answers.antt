@@ -128,7 +128,7 @@ returns-clause-fetches c =
         placed = begins.starts.placed;
         bytes = begins.bytes;
         listed = begins.starts.listed;
-        order = goes-on-at h.pages.pages c.start_in-ticket.new.self.pages h.held.numbers (listed-held h.held.numbers h.pages.pages c.self.invariant.held) p _ _ stood begins.starts.placed refl;
+        order = goes-on-at h.pages.pages c.start_in-ticket.new.self.pages h.held.numbers (listed-held h.held.numbers h.pages.pages c.self.invariant.held.once) p _ _ stood begins.starts.placed refl;
         others = same-view h (record h { pages = c.start_in-ticket.new.self; counters = c.take_room.new.counters; pool = c.take_room.new.pool; moving = c.push.new.self }) groups.tree groups.limits groups.room room.frame.frames refl;
       },
     ))

@@ -106,7 +106,7 @@ returns-clause-grants c =
         placed = placed;
         bytes = λ q o. c.hold-page.ensures.bytes q o ∙ ap (λ (t : PageTable). cond (q == p) (cond (c.args.offset == o) c.args.byte 0) (byte_in t.bytes q o)) c.reserve_page.ensures.pages;
         flights = c.hold-page.ensures.flights ∙ ap (λ (t : PageTable). t.flights) c.reserve_page.ensures.pages;
-        order = goes-on-in h.pages.pages pages h.held.numbers (listed-held h.held.numbers h.pages.pages c.self.invariant.held) p None (Some (new_page g f)) free placed c.push.new.self.numbers p c.push.ensures.last refl refl refl;
+        order = goes-on-in h.pages.pages pages h.held.numbers (listed-held h.held.numbers h.pages.pages c.self.invariant.held.once) p None (Some (new_page g f)) free placed c.push.new.self.numbers p c.push.ensures.last refl refl refl;
         others = same-view h (record h { pages = c.hold-page.new.self; counters = c.take_room.new.counters; pool = c.take_room.new.pool; held = c.push.new.self }) groups.tree groups.limits groups.room room.frame.frames refl;
       },
     )

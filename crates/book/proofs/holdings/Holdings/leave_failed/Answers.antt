@@ -59,6 +59,6 @@ returns-clause-settles c =
     record {
       placed = ends.placed;
       unlisted = ends.unlisted;
-      order = goes-on-in h.pages.pages c.fail_out-slot.new.self.pages h.held.numbers (listed-held h.held.numbers h.pages.pages c.self.invariant.held) p _ _ stood ends.placed c.push.new.self.numbers c.page_of_ticket-page.result.0 c.push.ensures.last same refl refl;
+      order = goes-on-in h.pages.pages c.fail_out-slot.new.self.pages h.held.numbers (listed-held h.held.numbers h.pages.pages c.self.invariant.held.once) p _ _ stood ends.placed c.push.new.self.numbers c.page_of_ticket-page.result.0 c.push.ensures.last same refl refl;
       others = same-view h (record h { pages = c.fail_out-slot.new.self; pool = c.give_spare.new.self; slots = c.give.new.self; held = c.push.new.self; moving = c.remove.new.self }) refl refl refl (ap (λ (q : PoolOf). q.frames) c.give_spare.ensures) c.give.ensures.blocks;
     })

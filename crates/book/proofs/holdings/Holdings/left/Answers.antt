@@ -59,6 +59,6 @@ returns-clause-settles c =
     record {
       placed = ends.placed;
       unlisted = ends.unlisted;
-      order = goes-on-at h.pages.pages c.end_out-frame.new.self.pages h.held.numbers (listed-held h.held.numbers h.pages.pages c.self.invariant.held) p _ _ stood ends.placed refl;
+      order = goes-on-at h.pages.pages c.end_out-frame.new.self.pages h.held.numbers (listed-held h.held.numbers h.pages.pages c.self.invariant.held.once) p _ _ stood ends.placed refl;
       others = same-view h (record h { pages = c.end_out-frame.new.self; pool = c.give_spare.new.self; counters = c.give_room.new.counters; moving = c.remove.new.self }) (sym groups.tree) (sym groups.limits) (sym groups.room) (ap (λ (q : PoolOf). q.frames) c.give_spare.ensures ∙ sym c.give_room.ensures.frame.frames) refl;
     })

@@ -95,6 +95,6 @@ returns c =
       placed = subst (λ x. Changes h.pages.pages c.start_out-ticket.new.self.pages p (Some (anon_page g (Going f x ticket.number)))) block begins.starts.placed;
       bytes = begins.bytes;
       listed = begins.starts.listed;
-      order = goes-on-out h.pages.pages c.start_out-ticket.new.self.pages h.held.numbers (listed-held h.held.numbers h.pages.pages c.self.invariant.held) p _ _ stood begins.starts.placed c.remove.new.self.numbers p c.remove.ensures.others refl refl;
+      order = goes-on-out h.pages.pages c.start_out-ticket.new.self.pages h.held.numbers (listed-held h.held.numbers h.pages.pages c.self.invariant.held.once) p _ _ stood begins.starts.placed c.remove.new.self.numbers p c.remove.ensures.others refl refl;
       others = same-view h (record h { pages = c.start_out-ticket.new.self; pool = c.take_spare-spare.new.pool; slots = c.take_slot-slot.new.slots; held = c.remove.new.self; moving = c.push.new.self }) refl refl refl (sym (ap (λ (q : PoolOf). q.frames) c.take_spare-spare.ensures)) slots.blocks;
     })

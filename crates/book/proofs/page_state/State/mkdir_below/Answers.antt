@@ -14,7 +14,7 @@ use Rattle.book.proofs.KinLemmas.{kin-push, live-push}
 use Rattle.book.proofs.TallyLemmas.{tells-on}
 use Rattle.book.proofs.ServeLemmas.{serves-mkdir}
 use Rattle.book.proofs.OrderLemmas.{goes-on-still, goes-on-listed}
-use Rattle.book.proofs.CursorLemmas.{cursors-push}
+use Rattle.machine.proofs.CursorLemmas.{cursors-push}
 use Rattle.book.proofs.page_state.State.mkdir_below.Goals as goal
 
 pub invariant_of-self-2 : goal.invariant_of-self-2

@@ -8,7 +8,7 @@ use Rattle.book.specs.Holdings.{HoldingsOf}
 use Rattle.book.specs.Contents.{Contents}
 use Rattle.book.specs.Parts.{contents_of}
 use Rattle.book.proofs.OrderLemmas.{goes-on-listed}
-use Rattle.book.proofs.CursorLemmas.{cursors-set}
+use Rattle.machine.proofs.CursorLemmas.{cursors-set}
 use Rattle.book.proofs.MoveLemmas.{serves-taken, replies-out, mapped-begun}
 use Rattle.book.proofs.ReliefLemmas.{takeable-alike, taken-page, takes-next}
 use Rattle.book.proofs.page_state.State.take.Goals as goal
@@ -63,7 +63,8 @@ returns-clause-taken c =
             bytes = begins.bytes;
             listed = begins.listed;
             goes = begins.order;
-            next = takes-next s.config s.tree s.holdings s.spaces.tasks s.spaces.mappings c.self.invariant.swap target s.cursors.cursors c.next_page.new.cursors.cursors p next _ c.write_out.new.self.held (ap (there_and is_held) begins.placed.changed);
+            next = takes-next s.config s.tree s.holdings s.spaces.tasks s.spaces.mappings c.self.invariant.swap target s.cursors.cursors c.next_page.new.cursors.cursors p next _ c.write_out.new.self.held
+                (ap (there_and is_held) held.2) (ap (there_and is_held) begins.placed.changed);
           })
           (λ counted told. told) what asks;
       gives = (p, held.0, held.1, begins.placed.changed, begins.given, λ o within. begins.holds o within ∙ sym (begins.bytes p o));
