@@ -23,7 +23,7 @@ use Rattle.machine.specs.Call.{Past, Answers, Served, JudgedBy, Called, knows_ti
 use Rattle.machine.specs.Step.{new_node}
 use Rattle.machine.proofs.TreeLemmas.{eq_cases}
 use Rattle.machine.proofs.SlotLemmas.{one_if}
-use Rattle.machine.proofs.MappingLemmas.{find-passes, find-counts}
+use Rattle.machine.proofs.MappingLemmas.{find-passes}
 use Rattle.machine.proofs.CursorLemmas.{cursors-push, cursors-set}
 use Rattle.block_store.specs.Device.{Disk}
 use Rattle.book.specs.Events.{event_of, reply_of}
@@ -36,7 +36,7 @@ use Rattle.driver.specs.declared.turn.Want.TheVariants as want
 use Rattle.driver.specs.Schedule.{World, first_world, with_activity, WantTurn, wants_at, DoingTurn, Runs}
 use Rattle.driver.specs.Laws.{took_for, TakesUnprotected, LeavesInOrder, HeldPagesAreListed, GroupsHaveCursors, HeldPagesGoOn, PagesLeaveInOrder}
 use Rattle.driver.proofs.OpeningLemmas.{tree_after, step_tree}
-use Rattle.driver.proofs.MoveLemmas.{some_inj, never_some, unlike, same_true, own_number}
+use Rattle.driver.proofs.MoveLemmas.{some_inj, never_some, unlike, same_true}
 use Rattle.driver.proofs.Keeps.{is_idle, FineOutcome, IsAt, runs_keep}
 use Rattle.driver.proofs.Tickets.{Tickets, tickets_rest, tickets_turn, tickets_first}
 use Rattle.driver.proofs.LawLemmas.{by_test}
@@ -222,19 +222,8 @@ module _ (old new : Past) (worker : ℕ) (what : Event) (answer : Reply) (target
       by_cause (Some why) h = not_refused why h.0
       by_cause None h = by_test (is_trace_full old what) (λ k. not_refused TraceFull k.0) (served_answers answer refl) h
 
-listed_held : (past : Past) (test : ℕ → Bool) (p : ℕ) → Listed past → find test past.order.held ≡ Some p → is_held_at past.state.pages p ≡ true
-listed_held past test p listed found = by_held (is_held_at past.state.pages p) refl
-  where
-    by_held : (b : Bool) → is_held_at past.state.pages p ≡ b → b ≡ true
-    by_held true is = refl
-    by_held false is =
-        absurd
-        (let one = find-counts test (λ q. q == p) past.order.held p found (own_number p) in
-        let none : count_by (λ q. q == p) past.order.held ≡ 0 = listed p ∙ ap one_if is in
-        omega (arith, one, none))
-
-leaves_in_order : (old new : Past) (target : ℕ) → Listed old → TakesUnprotected old.state target new.state → TakesNext old.state old.order target new.state new.order → LeavesInOrder old target new
-leaves_in_order old new target listed taken next =
+leaves_in_order : (old new : Past) (target : ℕ) → TakesUnprotected old.state target new.state → TakesNext old.state old.order target new.state new.order → LeavesInOrder old target new
+leaves_in_order old new target taken next =
     record { taken = taken; turn = next.next ∙ ap (λ (g : ℕ). Some g) group; cursor = next.moves ∙ ap (λ (g : ℕ). slice_set old.order.cursors target (Some g)) group; oldest = subst (λ (q : ℕ). find (is_page_of old.state.pages taken.page.group) old.order.held ≡ Some q) same (ap (λ (g : ℕ). find (is_page_of old.state.pages g) old.order.held) (sym group) ∙ next.first) }
   where
     same : next.p ≡ taken.p
@@ -242,8 +231,7 @@ leaves_in_order old new target listed taken next =
         elim (eq_cases next.p taken.p) [
           | inl e ↦ e
           | inr differs ↦
-              unlike (is_held_at old.state.pages next.p) (listed_held old (is_page_of old.state.pages next.g) next.p listed next.first)
-              (ap (there_and is_held) (sym (taken.others next.p differs)) ∙ next.taken)
+              unlike (is_held_at old.state.pages next.p) next.was (ap (there_and is_held) (sym (taken.others next.p differs)) ∙ next.taken)
         ]
 
     group : next.g ≡ taken.page.group
@@ -253,8 +241,7 @@ leaves_in_order old new target listed taken next =
         sym (same_true taken.page.group next.g here)
 
 pub pages_leave_in_order : PagesLeaveInOrder
-pages_leave_in_order config before lines answers end runs new what answer target took called =
-    let served = called_answers end.past new 0 what answer target took called in
-    leaves_in_order end.past new target (held_pages_are_listed config before lines answers end runs)
-    (reclaims_spare_the_protected end.past.state new.state what answer target took served.steps)
-    (takes_next end.past.state new.state end.past.order new.order what answer target took served.order.1)
+pages_leave_in_order old new worker what answer target took called =
+    let served = called_answers old new worker what answer target took called in
+    leaves_in_order old new target (reclaims_spare_the_protected old.state new.state what answer target took served.steps)
+    (takes_next old.state new.state old.order new.order what answer target took served.order.1)

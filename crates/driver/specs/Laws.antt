@@ -170,11 +170,11 @@ pub record LeavesInOrder (before : Past) (target : ℕ) (after : Past) : Type 0 
   pub oldest : find (is_page_of before.state.pages taken.page.group) before.order.held ≡ Some taken.p
   pub cursor : after.order.cursors ≡ slice_set before.order.cursors target (Some taken.page.group)
 
--- so it is with each page that a call takes, wherever a run leads to. (Excludes a newer page that leaves before an older one of its group, and a group that gives pages out of its turn.)
+-- so it is with each page that a call takes. (Excludes a newer page that leaves before an older one of its group, and a group that gives pages out of its turn.)
 abbrev pub PagesLeaveInOrder : Type 0
 PagesLeaveInOrder =
-    (config : Config) (before : Disk) (steps : List Line) (answers : List Told_by) (end : World) → Runs (first_world config before) steps answers end
-    → (after : Past) (what : Event) (answer : Reply) (target : ℕ) → took_for what answer ≡ Some target → Called end.past 0 what answer after → LeavesInOrder end.past target after
+    (before after : Past) (worker : ℕ) (what : Event) (answer : Reply) (target : ℕ) → took_for what answer ≡ Some target → Called before worker what answer after
+    → LeavesInOrder before target after
 
 -- each read in a right history gave the last write before it
 abbrev pub ReadsGiveLastWrites : Type 0

@@ -100,8 +100,8 @@ pub fn held_pages_go_on()
     ensures { HeldPagesGoOn }
 {}
 
-/// After any run the page that a call takes is its group's first in the list of held pages, and it was
-/// that group's turn to give a page to the reclaim's target. Then the target's cursor names the group.
+/// The page that a call takes is its group's first in the list of held pages, and it was that group's
+/// turn to give a page to the reclaim's target. Then the target's cursor names the group.
 pub fn pages_leave_in_order()
     ensures { PagesLeaveInOrder }
 {}
