@@ -97,9 +97,6 @@ module _ (p : ℕ) where
 
 -- ---- the list of held pages
 
-abbrev pub Listed : Past → Type 0
-Listed past = ListsHeld past.state.pages past.order.held
-
 listed-on : (before after : Pages) (held held' : List ℕ) → GoesOn before held after held' → ListsHeld before held → ListsHeld after held'
 unfolding count_of
 listed-on before after held held' goes listed p =
@@ -148,7 +145,7 @@ cursors-on old new order order' what answer h tree same = ap length h ∙ same �
 
 -- the list is right, and each group has its cursor
 pub record IsOrdered (past : Past) : Type 0 where
-  pub listed : Listed past
+  pub listed : ListsHeld past.state.pages past.order.held
   pub cursors : length past.order.cursors ≡ length past.state.tree
 
 ordered-called : (old new : Past) (worker : ℕ) (what : Event) (answer : Reply) → Called old worker what answer new → IsOrdered old → IsOrdered new

@@ -150,7 +150,7 @@ HeldPagesAreListed =
     (config : Config) (before : Disk) (steps : List Line) (answers : List Told_by) (end : World) → Runs (first_world config before) steps answers end
     → ListsHeld end.past.state.pages end.past.order.held
 
--- whatever a run leads to, each group has a cursor of its own, as the target of a reclaim
+-- whatever a run leads to, each group has a cursor of its own, as the target of a reclaim. (Excludes a target whose cursor stays though pages are taken for it, since there is none.)
 abbrev pub GroupsHaveCursors : Type 0
 GroupsHaveCursors =
     (config : Config) (before : Disk) (steps : List Line) (answers : List Told_by) (end : World) → Runs (first_world config before) steps answers end
