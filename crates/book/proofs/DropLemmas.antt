@@ -2,6 +2,7 @@
 use Rattle.std.proofs.Common.{◌≡◌, ◌≢◌, inl, inr, ℕ, zero, suc, ◌+◌, ◌<◌, ◌≤◌, ◌==◌, ◌&&◌, ◌||◌, not, Bool, true, false, cond, List, [], ◌∷◌, Option, Some, None, refl, sym, ap, ◌∙◌, subst, arith, length, get_or, add-one}
 use Rattle.std.specs.Prelude.{IfSome, IsSome, is_some, take, count_by}
 use Rattle.std.specs.List.{list_any}
+use Rattle.std.proofs.lemmas.Bool.{and_parts, and_right}
 use Rattle.std.proofs.lemmas.List.Sums.{sum_by-cons}
 use Rattle.std.proofs.lemmas.Bool.Decides.{nat_tests}
 use Rattle.machine.specs.declared.record.Mapping.{Mapping}
@@ -65,13 +66,9 @@ not_gone_yet t p (m ∷ ms) zero d lt once is = refl
 not_gone_yet t p (m ∷ ms) (suc i) d lt once is =
     let all = sum_by-cons (λ (y : Mapping). one_if (is_to p y)) m ms in
     elim (shows_to t p m) as (λ b. shows_to t p m ≡ b → (b || is_gone t (take i ms) p) ≡ false) [
-      | true ↦ λ hit. absurd (let here = ap one_if (both_true (is_of t m) (is_to p m) hit).1 in let later = counted_at p ms i d (omega (arith, lt)) (both_true (is_of t (get_or ms i d)) (is_to p (get_or ms i d)) is).1 in omega (arith, all, once, here, later))
+      | true ↦ λ hit. absurd (let here = ap one_if (and_parts (is_of t m) (is_to p m) hit).1 in let later = counted_at p ms i d (omega (arith, lt)) (and_parts (is_of t (get_or ms i d)) (is_to p (get_or ms i d)) is).1 in omega (arith, all, once, here, later))
       | false ↦ λ miss. not_gone_yet t p ms i d (omega (arith, lt)) (omega (arith, all, once)) is
     ] refl
-  where
-    both_true : (a b : Bool) → (a && b) ≡ true → (a ≡ true) × (b ≡ true)
-    both_true true b e = (refl, e)
-    both_true false b e = cc
 
 there_one : (slot : Option Page) → is_there slot ≤ 1
 there_one None = omega arith
@@ -141,10 +138,6 @@ module _ (t : ℕ) (old new : Stored) (tasks : Tasks) (ms : List Mapping) (mappe
   some_test : (n : ℕ) → 1 ≤ n → (n == 0) ≡ false
   some_test n e = grind (arith, nat_tests, e)
 
-  and_false : (b : Bool) → (b && false) ≡ false
-  and_false true = refl
-  and_false false = refl
-
   -- what another task maps has no mapping of this one
   others_stay : (u v q : ℕ) → u ≢ t → mapped_at ms u v ≡ Some q → is_gone t ms q ≡ false
   others_stay u v q other e =
@@ -161,7 +154,7 @@ module _ (t : ℕ) (old new : Stored) (tasks : Tasks) (ms : List Mapping) (mappe
   stay_pages q is = drops.pages q ∙ ap (λ b. cond (b && not (is_moving_in old.pages q)) None (page_at old.pages q)) is
 
   moving_stay : (q : ℕ) → is_moving_in old.pages q ≡ true → page_at new.pages q ≡ page_at old.pages q
-  moving_stay q is = drops.pages q ∙ ap (λ b. cond (is_gone t ms q && not b) None (page_at old.pages q)) is ∙ ap (λ b. cond b None (page_at old.pages q)) (and_false (is_gone t ms q))
+  moving_stay q is = drops.pages q ∙ ap (λ b. cond (is_gone t ms q && not b) None (page_at old.pages q)) is ∙ ap (λ b. cond b None (page_at old.pages q)) (and_right (is_gone t ms q) false refl)
 
   let_go : (q : ℕ) → is_gone t ms q ≡ true → is_moving_in old.pages q ≡ false → page_at new.pages q ≡ None
   let_go q is rests =
@@ -190,7 +183,7 @@ module _ (t : ℕ) (old new : Stored) (tasks : Tasks) (ms : List Mapping) (mappe
           by_moving : (m : Bool) → in_transfer_at page.residence ≡ m → page_at new.pages q ≡ still (without_task ms t) q (Some page)
           by_moving true moves =
               moving_stay q (ap (there_and is_in_transfer) e ∙ moves) ∙ e
-              ∙ sym (still_by q page false e (ap (λ b. (mappers (without_task ms t) q == 0) && not b) moves ∙ and_false (mappers (without_task ms t) q == 0)))
+              ∙ sym (still_by q page false e (ap (λ b. (mappers (without_task ms t) q == 0) && not b) moves ∙ and_right (mappers (without_task ms t) q == 0) false refl))
           by_moving false rests =
               let split = mappers-split t q ms in
               let most : mappers ms q ≤ 1 = subst (λ (slot : Option Page). mappers ms q ≤ is_there slot) e (mapped.most q) in

@@ -1,5 +1,6 @@
 -- What a task's end is to the plain machine.
 use Rattle.std.proofs.Common.{◌≡◌, ◌≢◌, inl, inr, ℕ, ◌≤◌, true, false, List, [], ◌∷◌, ◌++◌, Option, Some, None, refl, sym, ap, ◌∙◌, arith}
+use Rattle.std.proofs.lemmas.Bool.{or_right}
 use Rattle.machine.specs.declared.record.Key.TheVariants as key
 use Rattle.machine.specs.declared.record.Life.{Life}
 use Rattle.machine.specs.declared.record.Life.TheVariants.{Live, Exited, Killed}
@@ -20,12 +21,12 @@ use Rattle.machine.specs.Lists.{GoesOn, Orders}
 use Rattle.machine.specs.Victim.{IsVictim}
 use Rattle.machine.specs.Step.{Unmaps, count_of}
 use Rattle.machine.specs.History.{InTask, Says, follow}
+use Rattle.machine.proofs.Values.{unlike}
 use Rattle.machine.proofs.TreeLemmas.{eq_cases}
 use Rattle.machine.proofs.MappingLemmas.{mapped_at-without_task}
 use Rattle.events.specs.Tallies.{Tells}
 use Rattle.book.specs.Contents.{Contents, counting, Steps, Tallied, byte_shown, byte_at_spot, is_in_memory, is_known, ReadsByte}
 use Rattle.book.specs.Serves.{Serves, starts}
-use Rattle.book.proofs.TransferLemmas.{or_right, unlike}
 use Rattle.book.proofs.ServeLemmas.{IsQuiet, flights-kept, live_step, relieve_step, stands_counting, relief-needs}
 
 -- what a task's end leaves to the others

@@ -21,9 +21,6 @@ is_of g slot = there_and (λ (page : Page). page.group == g) slot
 abbrev pub KeepsGroup : QueueOf → ℕ → Option Page → Option Page → Type 0
 KeepsGroup queue p from to = (g : ℕ) → 1 ≤ page_count queue.numbers p → is_of g from ≡ true → is_of g to ≡ true
 
-pub equal : (n m : ℕ) → n ≡ m → (n == m) ≡ true
-equal n m e = grind (arith, nat_tests, e)
-
 module _ (queue : QueueOf) (pages pages' : Pages) (p : ℕ) (from to : Option Page) (stood : page_at pages p ≡ from) (changes : Changes pages pages' p to) (grouped : AreGrouped queue pages) where
   groups-kept : KeepsGroup queue p from to → All (λ (entry : GroupId × PageId). is_page_of pages' entry.0.0 entry.1.0 ≡ true) queue.entries
   groups-kept keeps =

@@ -1,8 +1,7 @@
 -- One entry more: what a history tells goes on to hold.
-use Rattle.std.proofs.Common.{◌≡◌, inl, inr, ℕ, ◌+◌, ◌<◌, ◌==◌, ◌||◌, Bool, true, false, cond, List, ◌∷◌, Option, Some, None, refl, sym, ap, ◌∙◌, subst, arith, length, add-one}
+use Rattle.std.proofs.Common.{◌≡◌, inl, inr, ℕ, ◌+◌, ◌<◌, ◌==◌, ◌||◌, Bool, true, false, cond, List, ◌∷◌, Option, Some, None, eq-eqb, ne_eqb, refl, sym, ap, ◌∙◌, subst, length, add-one}
 use Rattle.std.specs.Prelude.{slice_index, slice_set, IfSome}
 use Rattle.std.proofs.lemmas.List.{get_or-set_same, get_or-set_other}
-use Rattle.std.proofs.lemmas.Bool.Decides.{nat_tests}
 use Rattle.machine.specs.declared.entry.Entry.{Entry}
 use Rattle.machine.specs.declared.record.Life.{Life}
 use Rattle.machine.specs.declared.record.Life.TheVariants.{Live, Exited, Killed}
@@ -36,12 +35,6 @@ use Rattle.book.specs.Serves.{Serves, starts}
 use Rattle.book.specs.Told.{group_in, counted_in, state_of, IsFetched, IsHistory}
 
 -- ---- tests
-
-true_same : (a b : ℕ) → a ≡ b → (a == b) ≡ true
-true_same a b e = grind (arith, nat_tests, e)
-
-false_other : (a b : ℕ) → (a ≡ b → ⊥) → (a == b) ≡ false
-false_other a b e = grind (arith, nat_tests, e)
 
 or_true : (a b : Bool) → (a || b) ≡ true → (a ≡ true → ⊥) → b ≡ true
 or_true true b e never = absurd (never refl)
@@ -107,13 +100,13 @@ fetch_began : (history : List Entry) (worker : ℕ) (what : Event) (answer : Rep
 fetch_began history worker (event.Access u (Virtual w o) Read) (reply.Fetch m) t v n began =
     record {
       fetch = record { spot = InTask u.0 w o; earlier = history };
-      found = ap (λ b. cond b (Some (record { spot = InTask u.0 w o; earlier = history })) (fetch_of n history)) (true_same m.0 n began.0);
+      found = ap (λ b. cond b (Some (record { spot = InTask u.0 w o; earlier = history })) (fetch_of n history)) (eq-eqb m.0 n began.0);
       same = λ o lt. ap (λ (u : ℕ). last history (InTask u w o)) began.1 ∙ ap (λ (w : ℕ). last history (InTask t w o)) began.2;
     }
 fetch_began history worker (event.Access u (Virtual w o) (Write b)) (reply.Fetch m) t v n began =
     record {
       fetch = record { spot = InTask u.0 w o; earlier = history };
-      found = ap (λ b. cond b (Some (record { spot = InTask u.0 w o; earlier = history })) (fetch_of n history)) (true_same m.0 n began.0);
+      found = ap (λ b. cond b (Some (record { spot = InTask u.0 w o; earlier = history })) (fetch_of n history)) (eq-eqb m.0 n began.0);
       same = λ o lt. ap (λ (u : ℕ). last history (InTask u w o)) began.1 ∙ ap (λ (w : ℕ). last history (InTask t w o)) began.2;
     }
 fetch_began history worker what answer t v n began = absurd began
@@ -200,13 +193,13 @@ module _ (old new : Contents) (history : List Entry) (counts : List ℕ) (worker
   counted_on w =
       elim (eq_cases w worker) [
         | inl same ↦
-            (let hit : (worker == w) ≡ true = true_same worker w (sym same) in
+            (let hit : (worker == w) ≡ true = eq-eqb worker w (sym same) in
             ap (slice_index (slice_set counts worker (slice_index counts worker + 1))) same ∙ get_or-set_same counts worker (slice_index counts worker + 1) 0 h.passed
             ∙ ap (λ n. n + 1) (ap (slice_index counts) (sym same) ∙ h.told.counted w)
             ∙ add-one (length (entries_by w history))
             ∙ ap (λ b. length (cond b (entry_of worker history what answer ∷ entries_by w history) (entries_by w history))) (sym hit))
         | inr other ↦
-            (let miss : (worker == w) ≡ false = false_other worker w (λ e. other (sym e)) in
+            (let miss : (worker == w) ≡ false = ne_eqb worker w (λ e. other (sym e)) in
             get_or-set_other counts worker w (slice_index counts worker + 1) 0 other ∙ h.told.counted w
             ∙ ap (λ b. length (cond b (entry_of worker history what answer ∷ entries_by w history) (entries_by w history))) (sym miss))
       ]

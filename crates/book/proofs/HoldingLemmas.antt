@@ -13,7 +13,7 @@ use Rattle.machine.specs.Lists.{is_page_of}
 use Rattle.machine.specs.declared.record.Limits.{Limits}
 use Rattle.machine.specs.Slots.{at, Changes, there_and, count_there, any_there}
 use Rattle.machine.specs.Tree.{Node, is_live}
-use Rattle.machine.specs.Pages.{Residence, Held, Coming, Going, Away, Page, Pages, page_at, is_some_number, frame_at, block_at, ticket_at, is_number, is_held_at, in_transfer_at, has_frame, has_this_frame, has_swap, is_held, is_in_transfer, in_transfer, used_frames, is_ticket_taken}
+use Rattle.machine.specs.Pages.{Residence, Held, Coming, Going, Away, Page, Pages, page_at, is_some_number, frame_at, block_at, ticket_at, is_number, is_held_at, in_transfer_at, has_frame, has_this_frame, has_swap, is_held, is_held_in, is_in_transfer, in_transfer, used_frames, is_ticket_taken}
 use Rattle.machine.proofs.SlotLemmas.{one_if, any_there-none, count_there-none}
 use Rattle.group_tree.specs.Lineages.{IsLineage}
 use Rattle.frames.specs.Pool.{PoolOf, free_count}
@@ -22,7 +22,7 @@ use Rattle.page_counter.specs.Counts.{Counts, over_in}
 use Rattle.pages.specs.declared.flight.Flight.{Flight}
 use Rattle.pages.specs.declared.kept.Kept.{Kept}
 use Rattle.pages.specs.Records.{page_of}
-use Rattle.pages.specs.PageTable.{anon_page, Stands, is_held_in, is_under_ticket, AreInFlight}
+use Rattle.pages.specs.PageTable.{anon_page, Stands, is_under_ticket, AreInFlight}
 use Rattle.book.specs.declared.holdings.Holdings.TheInside.{Inside}
 use Rattle.book.specs.Queue.{QueueOf, numbers_of, page_count}
 use Rattle.book.specs.Holdings.{with_order, over_of, would_grant}

@@ -10,6 +10,7 @@ use Rattle.machine.specs.Slots.{count_there}
 use Rattle.machine.specs.Tree.{Node, no_node, root, node_at, is_live, under_at}
 use Rattle.machine.specs.Pages.{Page, Pages, has_frame, charged}
 use Rattle.machine.specs.Counts.{Counted, is_full, over_at, over, is_key, total}
+use Rattle.machine.proofs.Values.{some_inj}
 use Rattle.machine.proofs.TreeLemmas.{same_chain, same_under, lt_cases, over_at-None, over_at-step}
 use Rattle.group_tree.specs.Lineages.{bare, IsLineage}
 use Rattle.group_tree.proofs.LineageLemmas.{live-within}
@@ -91,9 +92,6 @@ live-push tree x g live = ap (λ (n : Node). n.live) (get_or_append_left tree (x
 
 -- the lowest group without room is a live one
 module _ (tree : List Node) (is : IsLineage tree) (limits : List Limits) (count : ℕ → ℕ) (a : ℕ) where
-  some_inj : {x y : ℕ} → Some x ≡ Some y → x ≡ y
-  some_inj e = cc
-
   -- from what holds of the groups below a number
   over-live-by : (g : ℕ) → ((p : ℕ) → p < g → is_live tree p ≡ true → over_at tree limits count (Some p) ≡ Some a → is_live tree a ≡ true) → is_live tree g ≡ true → over_at tree limits count (Some g) ≡ Some a → is_live tree a ≡ true
   over-live-by g lower live e = by_full (is_full limits count g) (sym (over_at-step tree is.earlier_parents limits count g) ∙ e)

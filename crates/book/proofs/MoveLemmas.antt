@@ -1,6 +1,7 @@
 -- What a page that comes to stand elsewhere is to the plain machine: transfers that begin and end.
-use Rattle.std.proofs.Common.{◌≡◌, ◌≢◌, ◌⊎◌, inl, inr, ℕ, ◌+◌, ◌≤◌, ◌==◌, ◌&&◌, Bool, true, false, cond, if◌then◌else◌, List, Option, Some, None, refl, sym, ap, subst, ◌∙◌, arith}
+use Rattle.std.proofs.Common.{◌≡◌, ◌≢◌, ◌⊎◌, inl, inr, ℕ, ◌+◌, ◌≤◌, ◌==◌, ◌&&◌, Bool, true, false, cond, if◌then◌else◌, List, Option, Some, None, eqb-true, eq-eqb, ne_eqb, refl, sym, ap, subst, ◌∙◌, arith}
 use Rattle.std.specs.Prelude.{IfSome}
+use Rattle.std.proofs.lemmas.Bool.{and_parts, or_right}
 use Rattle.std.proofs.lemmas.Bool.Decides.{nat_tests}
 use Rattle.machine.specs.declared.record.Life.TheVariants.{Live}
 use Rattle.machine.specs.declared.record.Task.{Task}
@@ -25,6 +26,7 @@ use Rattle.machine.specs.Reclaim.{stands, target_of, is_takeable, has_takeable}
 use Rattle.machine.specs.Lists.{GoesOn, TakesNext, CursorsGoOn, Orders}
 use Rattle.machine.specs.Step.{MeetStep, StartsFetch, Takes, RelieveStep, ReclaimOneStep, EndsTransfer, in_frame, on_block, IsFreeFrame, IsFreeBlock}
 use Rattle.machine.specs.History.{Spot, InTask, Says, Nothing, says, follow, ticket_given, taker_or}
+use Rattle.machine.proofs.Values.{unlike}
 use Rattle.machine.proofs.TreeLemmas.{eq_cases}
 use Rattle.machine.proofs.SlotLemmas.{one_if}
 use Rattle.machine.proofs.MappingLemmas.{mapped_at-mappers, mapped_at-one}
@@ -36,7 +38,7 @@ use Rattle.book.specs.Serves.{Serves, RepliesTo, starts, is_refused}
 use Rattle.book.specs.declared.event.Reply.TheVariants as given
 use Rattle.pages.specs.Tickets.{TicketOf}
 use Rattle.book.specs.Parts.{AsksPage}
-use Rattle.book.proofs.TransferLemmas.{same_true, true_same, false_other, both_true, or_right, unlike, free-other, any-some, under-taken, coming-under, in_transfer-changes}
+use Rattle.book.proofs.TransferLemmas.{free-other, any-some, under-taken, coming-under, in_transfer-changes}
 use Rattle.book.proofs.ServeLemmas.{flight-kept, live_step, granted_step, stands_counting}
 
 abbrev residence_or : Option Page → Residence
@@ -132,9 +134,9 @@ flights-begun old new worker p n answer given listed m =
     subst (λ (x : Option ℕ). IfSome (at new.flights m) (λ f. Some f.worker.0 ≡ taker_or m x worker (worker_of (at old.flights m)))) (sym given)
     (elim (eq_cases m n) [
       | inl same ↦
-          by_slot (at new.flights m) (ap (at new.flights) same ∙ listed.changed) (true_same n m (sym same))
+          by_slot (at new.flights m) (ap (at new.flights) same ∙ listed.changed) (eq-eqb n m (sym same))
       | inr other ↦
-          subst (λ (b : Bool). IfSome (at new.flights m) (λ f. Some f.worker.0 ≡ cond b (Some worker) (worker_of (at old.flights m)))) (sym (false_other n m (λ e. other (sym e))))
+          subst (λ (b : Bool). IfSome (at new.flights m) (λ f. Some f.worker.0 ≡ cond b (Some worker) (worker_of (at old.flights m)))) (sym (ne_eqb n m (λ e. other (sym e))))
           (flight-kept (at new.flights m) (at old.flights m) (listed.others m other))
     ])
   where
@@ -217,8 +219,8 @@ serves-fetch old new worker t v o p g f b n op task mapped known live shown away
 
     both_of : (u w : ℕ) → mapped_at old.tables.mappings u w ≡ Some p → (t ≡ u) × (v ≡ w)
     both_of u w is =
-        let tests = both_true (t == u) (v == w) (mapped_at-one old.tables.mappings t v u w p once shown is) in
-        (same_true t u tests.0, same_true v w tests.1)
+        let tests = and_parts (t == u) (v == w) (mapped_at-one old.tables.mappings t v u w p once shown is) in
+        (eqb-true t u tests.0, eqb-true v w tests.1)
 
 -- ---- a write-out begins
 
@@ -442,7 +444,7 @@ mapped-ended pages pages' tasks mappings p g page residence mapped there changes
     settled_one (Some page) = elim (is_in_transfer page) as (λ b. cond b 0 1 ≤ 1) [ true ↦ omega arith | false ↦ omega arith ]
 
     most_by : (n : ℕ) (b : Bool) → (n == 0) ≡ b → n ≤ 1 → n ≤ is_there (cond b None (Some (anon_page g residence)))
-    most_by n true is le = let none = same_true n 0 is in omega (arith, none)
+    most_by n true is le = let none = eqb-true n 0 is in omega (arith, none)
     most_by n false is le = le
 
     least_by : (n : ℕ) (b : Bool) → (n == 0) ≡ b → is_settled (cond b None (Some (anon_page g residence))) ≤ n
@@ -470,7 +472,7 @@ settled-then pages mid pages' mappings p g residence settles goes =
 -- the bytes of other pages stay, and those of a page that something maps
 pub bytes-others : (mid new : List (Option (List ℕ))) (mappings : List Mapping) (p : ℕ) → ((q o : ℕ) → byte_in new q o ≡ (if (q == p) && (mappers mappings p == 0) then 0 else byte_in mid q o))
     → (q o : ℕ) → q ≢ p → byte_in new q o ≡ byte_in mid q o
-bytes-others mid new mappings p bytes q o other = bytes q o ∙ ap (λ b. cond (b && (mappers mappings p == 0)) 0 (byte_in mid q o)) (false_other q p other)
+bytes-others mid new mappings p bytes q o other = bytes q o ∙ ap (λ b. cond (b && (mappers mappings p == 0)) 0 (byte_in mid q o)) (ne_eqb q p other)
 
 pub bytes-own : (mid new : List (Option (List ℕ))) (mappings : List Mapping) (p t v : ℕ) → ((q o : ℕ) → byte_in new q o ≡ (if (q == p) && (mappers mappings p == 0) then 0 else byte_in mid q o))
     → mapped_at mappings t v ≡ Some p → (o : ℕ) → byte_in new p o ≡ byte_in mid p o

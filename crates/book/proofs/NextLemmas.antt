@@ -2,6 +2,7 @@
 use Rattle.std.proofs.Common.{◌≡◌, ◌≢◌, inl, inr, ℕ, suc, ◌+◌, ◌<◌, ◌≤◌, ◌==◌, ◌&&◌, ◌||◌, not, Bool, true, false, cond, List, [], ◌∷◌, length, get_or, take, drop, Option, Some, None, refl, sym, ap, ◌∙◌, subst, arith}
 use Rattle.std.specs.Prelude.{IfSome, find, option_map, slice_set, nat_lt}
 use Rattle.std.specs.List.{All, list_any}
+use Rattle.std.proofs.lemmas.Bool.{and_parts, and_from, and_right}
 use Rattle.std.proofs.lemmas.Bool.Decides.{nat_tests}
 use Rattle.std.proofs.lemmas.List.Elements.{All-head, All-tail, All-append, All-take, All-drop}
 use Rattle.std.proofs.lemmas.List.Folds.{list_any_at}
@@ -11,10 +12,10 @@ use Rattle.machine.specs.declared.id.PageId.{PageId}
 use Rattle.machine.specs.Amounts.{exceeds}
 use Rattle.machine.specs.Slots.{there_and, any_there}
 use Rattle.machine.specs.Tree.{Node, IsTree, is_live, under, preorder}
-use Rattle.machine.specs.Pages.{Page, Pages, page_at, is_anon, is_held, charged, used_swap}
+use Rattle.machine.specs.Pages.{Page, Pages, page_at, is_anon, is_held, is_held_in, charged, used_swap}
 use Rattle.machine.specs.Protection.{effective, min_of, opens}
 use Rattle.machine.specs.Order.{round_from, place_in, asking_order, served_by, cursor_at}
-use Rattle.machine.specs.Lists.{is_page_of, is_held_at}
+use Rattle.machine.specs.Lists.{is_page_of}
 use Rattle.machine.proofs.TreeLemmas.{eq_cases}
 use Rattle.group_tree.specs.Groups.{IsGroupTree}
 use Rattle.group_tree.specs.Kin.{AreKin}
@@ -69,13 +70,9 @@ module _ {X : Type 0} where
 
 -- ---- tests over the table
 
-and_false : (b : Bool) → (b && false) ≡ false
-and_false true = refl
-and_false false = refl
-
 -- one test is another and a condition
 any_both : (f h : Page → Bool) (b : Bool) (pages : Pages) → ((p : ℕ) → there_and h (page_at pages p) ≡ (b && there_and f (page_at pages p))) → any_there h pages ≡ (b && any_there f pages)
-any_both f h b [] same = sym (and_false b)
+any_both f h b [] same = sym (and_right b false refl)
 any_both f h b (slot ∷ pages) same = both (there_and f slot) (any_there f pages) (same 0) (any_both f h b pages (λ p. same (suc p)))
   where
     shared : (c x y : Bool) → ((c && x) || (c && y)) ≡ (c && (x || y))
@@ -172,18 +169,18 @@ module _ (h : Inside) (is : IsHolding h) (tree : List Node) (are : AreKin h.coun
       takes-slot p = by_slot (page_at h.pages.pages p) (memory p) (live_at p)
         where
           shuffle : (t u o o' b : Bool) → (u ≡ true → o ≡ o') → (((t && u) && o) && b) ≡ (b && (t && (u && o')))
-          shuffle false u o o' b same = sym (and_false b)
-          shuffle true false o o' b same = sym (and_false b)
+          shuffle false u o o' b same = sym (and_right b false refl)
+          shuffle true false o o' b same = sym (and_right b false refl)
           shuffle true true o o' true same = ap (λ x. x && true) (same refl) ∙ and_true o'
             where
               and_true : (x : Bool) → (x && true) ≡ x
               and_true true = refl
               and_true false = refl
-          shuffle true true o o' false same = and_false o
+          shuffle true true o o' false same = and_right o false refl
 
           by_slot : (slot : Option Page) → IfSome slot (λ page. page ≡ anon_page page.group page.residence) → IfSome slot (λ page. is_live tree page.group ≡ true)
               → there_and (takes (holdings_of h) tree target) slot ≡ (free && there_and is_taken slot)
-          by_slot None anon live = sym (and_false free)
+          by_slot None anon live = sym (and_right free false refl)
           by_slot (Some page) anon live =
               let swaps : (not (is_anon page.content) || free) ≡ free = ap (λ (x : Page). not (is_anon x.content) || free) anon in
               ap (λ b. ((is_held page && under tree target page.group) && opens false tree h.counters.limits (charged tree h.pages.pages) target page.group) && b) swaps
@@ -212,7 +209,7 @@ module _ (h : Inside) (is : IsHolding h) (tree : List Node) (are : AreKin h.coun
           own_bits true true true false e = refl
           own_bits true true false true e = refl
           own_bits true true false false e = refl
-          own_bits false true o b e = and_false b ∙ sym (and_false (b && o))
+          own_bits false true o b e = and_right b false refl ∙ sym (and_right (b && o) false refl)
           own_bits t false o b e = absurd cc
 
           by_test : (page : Page) (e : Bool) → (page.group == g) ≡ e → takes (holdings_of h) tree target page ≡ (free && is_taken page)
@@ -221,11 +218,11 @@ module _ (h : Inside) (is : IsHolding h) (tree : List Node) (are : AreKin h.coun
               let same : page.group ≡ g = grind (arith, nat_tests, own) in
               is_so ∙ ap (λ x. free && (is_held page && (under tree target x && is_open tree h.counters target x))) same
               ∙ own_bits (is_held page) (under tree target g) (is_open tree h.counters target g) free below
-          by_test page false own is_so = sym (ap (λ b. (free && is_open tree h.counters target g) && b) (and_false (is_held page)) ∙ and_false (free && is_open tree h.counters target g))
+          by_test page false own is_so = sym (ap (λ b. (free && is_open tree h.counters target g) && b) (and_right (is_held page) false refl) ∙ and_right (free && is_open tree h.counters target g) false refl)
 
           by_slot : (slot : Option Page) → there_and (takes (holdings_of h) tree target) slot ≡ (free && there_and is_taken slot)
               → there_and (λ page. (page.group == g) && takes (holdings_of h) tree target page) slot ≡ ((free && is_open tree h.counters target g) && there_and (λ page. is_held page && (page.group == g)) slot)
-          by_slot None is_so = sym (and_false (free && is_open tree h.counters target g))
+          by_slot None is_so = sym (and_right (free && is_open tree h.counters target g) false refl)
           by_slot (Some page) is_so = by_test page (page.group == g) refl is_so
 
       -- the oldest page of a group, by the table and by the queue
@@ -267,32 +264,20 @@ module _ (h : Inside) (is : IsHolding h) (tree : List Node) (are : AreKin h.coun
             let g : ℕ = entry.0.0 in
             let at_group = found_passes (λ x. (is_live tree x ≡ true) × (under tree target x ≡ true)) (gives tree h.counters h.held.entries free target) (asking_order tree target (cursor_at cursors target)) g (asked (cursor_at cursors target)) (sym serves) in
             let at_entry = found_passes (λ (e : GroupId × PageId). is_page_of h.pages.pages e.0.0 e.1.0 ≡ true) (λ (e : GroupId × PageId). e.0.0 == g) h.held.entries entry is.held_groups.groups oldest in
-            let in_frame = found_passes (λ (e : GroupId × PageId). is_held_at h.pages.pages e.1.0 ≡ true) (λ (e : GroupId × PageId). e.0.0 == g) h.held.entries entry entries_held oldest in
+            let in_frame = found_passes (λ (e : GroupId × PageId). is_held_in h.pages.pages e.1.0 ≡ true) (λ (e : GroupId × PageId). e.0.0 == g) h.held.entries entry entries_held oldest in
             record {
               g = g;
               next = served-same (cursor_at cursors target) ∙ sym serves;
               first = ap (find (is_page_of h.pages.pages g)) is.held_groups.numbers ∙ first-of g h.held.entries is.held_groups.groups ∙ ap (option_map (λ (e : GroupId × PageId). e.1.0)) oldest;
-              takeable = takes-slot entry.1.0 ∙ both_true free (there_and is_taken (page_at h.pages.pages entry.1.0)) (left_true free _ at_group.1)
-                  (slot_taken (page_at h.pages.pages entry.1.0) at_entry.0 in_frame.0 at_group.0.1 (left_true (is_open tree h.counters target g) _ (right_true free _ at_group.1)));
+              takeable = takes-slot entry.1.0 ∙ and_from free (there_and is_taken (page_at h.pages.pages entry.1.0)) (and_parts free _ at_group.1).0
+                  (slot_taken (page_at h.pages.pages entry.1.0) at_entry.0 in_frame.0 at_group.0.1 (and_parts (is_open tree h.counters target g) _ (and_parts free _ at_group.1).1).0);
               moves = moves;
             }
           where
-            both_true : (a b : Bool) → a ≡ true → b ≡ true → (a && b) ≡ true
-            both_true true b p q = q
-            both_true false b p q = p
-
-            left_true : (a b : Bool) → (a && b) ≡ true → a ≡ true
-            left_true true b e = refl
-            left_true false b e = e
-
-            right_true : (a b : Bool) → (a && b) ≡ true → b ≡ true
-            right_true true b e = e
-            right_true false b e = absurd cc
-
-            entries_held : All (λ (e : GroupId × PageId). is_held_at h.pages.pages e.1.0 ≡ true) h.held.entries
+            entries_held : All (λ (e : GroupId × PageId). is_held_in h.pages.pages e.1.0 ≡ true) h.held.entries
             entries_held =
                 λ k d lt.
-                some_held (is_held_at h.pages.pages (get_or h.held.entries k d).1.0)
+                some_held (is_held_in h.pages.pages (get_or h.held.entries k d).1.0)
                 (let once = is.held.once (get_or h.held.entries k d).1.0 in let some = subst (λ (ns : List ℕ). 1 ≤ page_count ns (get_or h.held.entries k d).1.0) (sym is.held_groups.numbers) (count-at h.held.entries k d lt) in omega (arith, once, some))
 
             slot_taken : (slot : Option Page) → there_and (λ (page : Page). page.group == entry.0.0) slot ≡ true → there_and is_held slot ≡ true → under tree target entry.0.0 ≡ true → is_open tree h.counters target entry.0.0 ≡ true
@@ -300,5 +285,5 @@ module _ (h : Inside) (is : IsHolding h) (tree : List Node) (are : AreKin h.coun
             slot_taken None own held below opened = absurd cc
             slot_taken (Some page) own held below opened =
                 let same : page.group ≡ entry.0.0 = grind (arith, nat_tests, own) in
-                both_true (is_held page) (under tree target page.group && is_open tree h.counters target page.group) held
-                (ap (λ x. under tree target x && is_open tree h.counters target x) same ∙ both_true (under tree target entry.0.0) (is_open tree h.counters target entry.0.0) below opened)
+                and_from (is_held page) (under tree target page.group && is_open tree h.counters target page.group) held
+                (ap (λ x. under tree target x && is_open tree h.counters target x) same ∙ and_from (under tree target entry.0.0) (is_open tree h.counters target entry.0.0) below opened)

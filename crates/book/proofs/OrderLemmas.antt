@@ -1,13 +1,15 @@
 -- The pages in frames go on in their order, over one change and over several.
-use Rattle.std.proofs.Common.{◌≡◌, ◌≢◌, inl, inr, ℕ, ◌≤◌, ◌==◌, ◌&&◌, ◌||◌, not, Bool, true, false, cond, List, [], ◌∷◌, ◌++◌, length, get_or, append-nil, Option, None, refl, sym, ap, ◌∙◌, subst, arith}
+use Rattle.std.proofs.Common.{◌≡◌, ◌≢◌, inl, inr, ℕ, ◌≤◌, ◌==◌, ◌&&◌, ◌||◌, not, Bool, true, false, cond, List, [], ◌∷◌, ◌++◌, length, get_or, append-nil, Option, None, eq-eqb, ne_eqb, refl, sym, ap, ◌∙◌, subst, arith}
 use Rattle.std.specs.List.{All, filter, list_any}
+use Rattle.std.proofs.lemmas.Bool.{and_parts, and_right}
 use Rattle.std.proofs.lemmas.Bool.Decides.{nat_tests}
 use Rattle.std.proofs.lemmas.List.Elements.{All-head, All-tail, All-append, filter-append, filter_passes}
 use Rattle.std.proofs.lemmas.List.Folds.{list_any_at}
 use Rattle.machine.specs.Slots.{Changes, there_and}
-use Rattle.machine.specs.Pages.{Page, Pages, page_at, is_held}
-use Rattle.machine.specs.Lists.{is_held_at, ListsHeld, GoesOn}
+use Rattle.machine.specs.Pages.{Page, Pages, page_at, is_held, is_held_in}
+use Rattle.machine.specs.Lists.{ListsHeld, GoesOn}
 use Rattle.machine.proofs.TreeLemmas.{eq_cases}
+use Rattle.book.specs.Contents.{Contents}
 use Rattle.book.specs.Holdings.{Stored}
 use Rattle.book.specs.Drops.{DropsPages}
 use Rattle.book.specs.Keeping.{as_number}
@@ -55,11 +57,7 @@ any-filter f (x ∷ xs) p =
         → list_any (λ q. q == p) (cond (f x) (x ∷ filter f xs) (filter f xs)) ≡ (((x == p) || list_any (λ q. q == p) xs) && b)
     here y true hit fx rest = ap (λ c. list_any (λ q. q == p) (cond c (x ∷ filter f xs) (filter f xs))) fx ∙ ap (λ c. c || list_any (λ q. q == p) (filter f xs)) hit ∙ sym (ap (λ c. (c || list_any (λ q. q == p) xs) && true) hit)
     here y false hit fx rest =
-        ap (λ c. list_any (λ q. q == p) (cond c (x ∷ filter f xs) (filter f xs))) fx ∙ rest ∙ and_false (list_any (λ q. q == p) xs) ∙ sym (and_false ((x == p) || list_any (λ q. q == p) xs))
-      where
-        and_false : (c : Bool) → (c && false) ≡ false
-        and_false true = refl
-        and_false false = refl
+        ap (λ c. list_any (λ q. q == p) (cond c (x ∷ filter f xs) (filter f xs))) fx ∙ rest ∙ and_right (list_any (λ q. q == p) xs) false refl ∙ sym (and_right ((x == p) || list_any (λ q. q == p) xs) false refl)
 
     past : (b : Bool) → (x == p) ≡ false → list_any (λ q. q == p) (filter f xs) ≡ (list_any (λ q. q == p) xs && f p)
         → list_any (λ q. q == p) (cond b (x ∷ filter f xs) (filter f xs)) ≡ (((x == p) || list_any (λ q. q == p) xs) && f p)
@@ -75,14 +73,14 @@ no-number (x ∷ xs) none = let hit : (x == x) ≡ true = grind (arith, nat_test
 
 -- the list has no page but those that are held
 abbrev pub AllHeld : Pages → List ℕ → Type 0
-AllHeld pages xs = All (λ q. is_held_at pages q ≡ true) xs
+AllHeld pages xs = All (λ q. is_held_in pages q ≡ true) xs
 
 some_is : (b : Bool) → 1 ≤ as_number b → b ≡ true
 some_is true e = refl
 some_is false e = absurd (omega (arith, e))
 
 pub listed-held : (xs : List ℕ) (pages : Pages) → ListsHeld pages xs → AllHeld pages xs
-listed-held xs pages lists = λ k d lt. let once = lists (get_or xs k d) in let some = number-at xs k d lt in some_is (is_held_at pages (get_or xs k d)) (omega (arith, once, some))
+listed-held xs pages lists = λ k d lt. let once = lists (get_or xs k d) in let some = number-at xs k d lt in some_is (is_held_in pages (get_or xs k d)) (omega (arith, once, some))
 
 -- ---- one change
 
@@ -94,23 +92,23 @@ none_fresh : (b c : Bool) → b ≡ c → false ≡ (b && not c)
 none_fresh b c same = never c ∙ ap (λ x. x && not c) (sym same)
 
 -- the same pages are held
-pub goes-on-same : (pages pages' : Pages) (xs : List ℕ) → AllHeld pages xs → ((q : ℕ) → is_held_at pages' q ≡ is_held_at pages q) → GoesOn pages xs pages' xs
+pub goes-on-same : (pages pages' : Pages) (xs : List ℕ) → AllHeld pages xs → ((q : ℕ) → is_held_in pages' q ≡ is_held_in pages q) → GoesOn pages xs pages' xs
 goes-on-same pages pages' xs held alike =
     record {
       fresh = [];
       few = omega arith;
-      which = λ q. none_fresh (is_held_at pages' q) (is_held_at pages q) (alike q);
-      list = sym (append-nil (filter (is_held_at pages') xs) ∙ filter-all (is_held_at pages') xs (λ k d lt. alike (get_or xs k d) ∙ held k d lt));
+      which = λ q. none_fresh (is_held_in pages' q) (is_held_in pages q) (alike q);
+      list = sym (append-nil (filter (is_held_in pages') xs) ∙ filter-all (is_held_in pages') xs (λ k d lt. alike (get_or xs k d) ∙ held k d lt));
     }
 
 module _ (pages pages' : Pages) (xs : List ℕ) (held : AllHeld pages xs) (p : ℕ) (from to : Option Page) (stood : page_at pages p ≡ from) (changes : Changes pages pages' p to) where
-  was : (q : ℕ) → q ≡ p → is_held_at pages q ≡ there_and is_held from
-  was q same = ap (is_held_at pages) same ∙ ap (there_and is_held) stood
+  was : (q : ℕ) → q ≡ p → is_held_in pages q ≡ there_and is_held from
+  was q same = ap (is_held_in pages) same ∙ ap (there_and is_held) stood
 
-  is_now : (q : ℕ) → q ≡ p → is_held_at pages' q ≡ there_and is_held to
-  is_now q same = ap (is_held_at pages') same ∙ ap (there_and is_held) changes.changed
+  is_now : (q : ℕ) → q ≡ p → is_held_in pages' q ≡ there_and is_held to
+  is_now q same = ap (is_held_in pages') same ∙ ap (there_and is_held) changes.changed
 
-  elsewhere : (q : ℕ) → q ≢ p → is_held_at pages' q ≡ is_held_at pages q
+  elsewhere : (q : ℕ) → q ≢ p → is_held_in pages' q ≡ is_held_in pages q
   elsewhere q other = ap (there_and is_held) (changes.others q other)
 
   -- a page that is held stays so, and one that is not held too
@@ -126,25 +124,19 @@ module _ (pages pages' : Pages) (xs : List ℕ) (held : AllHeld pages xs) (p : �
         few = omega arith;
         which = λ q.
             elim (eq_cases q p) [
-              | inl here ↦ sym (ap (λ b. b && not (is_held_at pages q)) (is_now q here ∙ gone))
-              | inr other ↦ none_fresh (is_held_at pages' q) (is_held_at pages q) (elsewhere q other)
+              | inl here ↦ sym (ap (λ b. b && not (is_held_in pages q)) (is_now q here ∙ gone))
+              | inr other ↦ none_fresh (is_held_in pages' q) (is_held_in pages q) (elsewhere q other)
             ];
         list = list
-            ∙ filter-alike (λ n. not (n == page)) (is_held_at pages') xs
+            ∙ filter-alike (λ n. not (n == page)) (is_held_in pages') xs
             (λ k d lt.
             let q : ℕ = get_or xs k d in
             elim (eq_cases q p) [
-              | inl here ↦ ap not (equal q page (here ∙ sym same)) ∙ sym (is_now q here ∙ gone)
-              | inr other ↦ ap not (unequal q page (λ e. other (e ∙ same))) ∙ sym (elsewhere q other ∙ held k d lt)
+              | inl here ↦ ap not (eq-eqb q page (here ∙ sym same)) ∙ sym (is_now q here ∙ gone)
+              | inr other ↦ ap not (ne_eqb q page (λ e. other (e ∙ same))) ∙ sym (elsewhere q other ∙ held k d lt)
             ])
-            ∙ sym (append-nil (filter (is_held_at pages') xs));
+            ∙ sym (append-nil (filter (is_held_in pages') xs));
       }
-    where
-      equal : (n m : ℕ) → n ≡ m → (n == m) ≡ true
-      equal n m e = grind (arith, nat_tests, e)
-
-      unequal : (n m : ℕ) → n ≢ m → (n == m) ≡ false
-      unequal n m e = grind (arith, nat_tests, e)
 
   -- a page came behind all others
   pub goes-on-in : (xs' : List ℕ) (page : ℕ) → xs' ≡ xs ++ page ∷ [] → page ≡ p → there_and is_held from ≡ false → there_and is_held to ≡ true → GoesOn pages xs pages' xs'
@@ -154,14 +146,14 @@ module _ (pages pages' : Pages) (xs : List ℕ) (held : AllHeld pages xs) (p : �
         few = omega arith;
         which = λ q.
             elim (eq_cases q p) [
-              | inl here ↦ (let hit : (page == q) ≡ true = equal page q (same ∙ sym here) in ap (λ b. b || false) hit ∙ sym (ap (λ b. b && not (is_held_at pages q)) (is_now q here ∙ present) ∙ ap not (was q here ∙ absent)))
+              | inl here ↦ (let hit : (page == q) ≡ true = eq-eqb page q (same ∙ sym here) in ap (λ b. b || false) hit ∙ sym (ap (λ b. b && not (is_held_in pages q)) (is_now q here ∙ present) ∙ ap not (was q here ∙ absent)))
               | inr other ↦
-                  (let miss : (page == q) ≡ false = unequal page q (λ e. other (sym e ∙ same)) in ap (λ b. b || false) miss ∙ none_fresh (is_held_at pages' q) (is_held_at pages q) (elsewhere q other))
+                  (let miss : (page == q) ≡ false = ne_eqb page q (λ e. other (sym e ∙ same)) in ap (λ b. b || false) miss ∙ none_fresh (is_held_in pages' q) (is_held_in pages q) (elsewhere q other))
             ];
         list = list
             ∙ ap (λ ys. ys ++ page ∷ [])
             (sym
-            (filter-all (is_held_at pages') xs
+            (filter-all (is_held_in pages') xs
             (λ k d lt.
             let q : ℕ = get_or xs k d in
             elim (eq_cases q p) [
@@ -169,26 +161,20 @@ module _ (pages pages' : Pages) (xs : List ℕ) (held : AllHeld pages xs) (p : �
               | inr other ↦ elsewhere q other ∙ held k d lt
             ])));
       }
-    where
-      equal : (n m : ℕ) → n ≡ m → (n == m) ≡ true
-      equal n m e = grind (arith, nat_tests, e)
-
-      unequal : (n m : ℕ) → n ≢ m → (n == m) ≡ false
-      unequal n m e = grind (arith, nat_tests, e)
 
 -- ---- several changes
 
 module _ (before between after : Pages) (xs ys zs : List ℕ) (first : GoesOn before xs between ys) (second : GoesOn between ys after zs) where
   -- where the second brings none
-  pub goes-on-then : ((p : ℕ) → is_held_at after p ≡ true → is_held_at between p ≡ true) → GoesOn before xs after zs
+  pub goes-on-then : ((p : ℕ) → is_held_in after p ≡ true → is_held_in between p ≡ true) → GoesOn before xs after zs
   goes-on-then less =
       record {
-        fresh = filter (is_held_at after) first.fresh;
-        few = (let short = filter-length (is_held_at after) first.fresh in let one = first.few in omega (arith, short, one));
-        which = λ p. any-filter (is_held_at after) first.fresh p ∙ ap (λ b. b && is_held_at after p) (first.which p) ∙ fresh_still (is_held_at before p) (is_held_at between p) (is_held_at after p) (less p);
-        list = second.list ∙ ap (λ (ns : List ℕ). filter (is_held_at after) ys ++ ns) (no-number second.fresh none) ∙ append-nil (filter (is_held_at after) ys) ∙ ap (filter (is_held_at after)) first.list
-            ∙ filter-append (is_held_at after) (filter (is_held_at between) xs) first.fresh
-            ∙ ap (λ (ns : List ℕ). ns ++ filter (is_held_at after) first.fresh) (filter-filter (is_held_at after) (is_held_at between) less xs);
+        fresh = filter (is_held_in after) first.fresh;
+        few = (let short = filter-length (is_held_in after) first.fresh in let one = first.few in omega (arith, short, one));
+        which = λ p. any-filter (is_held_in after) first.fresh p ∙ ap (λ b. b && is_held_in after p) (first.which p) ∙ fresh_still (is_held_in before p) (is_held_in between p) (is_held_in after p) (less p);
+        list = second.list ∙ ap (λ (ns : List ℕ). filter (is_held_in after) ys ++ ns) (no-number second.fresh none) ∙ append-nil (filter (is_held_in after) ys) ∙ ap (filter (is_held_in after)) first.list
+            ∙ filter-append (is_held_in after) (filter (is_held_in between) xs) first.fresh
+            ∙ ap (λ (ns : List ℕ). ns ++ filter (is_held_in after) first.fresh) (filter-filter (is_held_in after) (is_held_in between) less xs);
       }
     where
       fresh_still : (a b c : Bool) → (c ≡ true → b ≡ true) → ((b && not a) && c) ≡ (c && not a)
@@ -208,18 +194,18 @@ module _ (before between after : Pages) (xs ys zs : List ℕ) (first : GoesOn be
       old_already false false h = refl
 
       none : (p : ℕ) → list_any (λ q. q == p) second.fresh ≡ false
-      none p = second.which p ∙ old_already (is_held_at between p) (is_held_at after p) (less p)
+      none p = second.which p ∙ old_already (is_held_in between p) (is_held_in after p) (less p)
 
   -- where the first brings none, and what it takes does not come back
-  pub goes-on-after : ((p : ℕ) → is_held_at between p ≡ true → is_held_at before p ≡ true) → ((p : ℕ) → is_held_at before p ≡ true → is_held_at after p ≡ true → is_held_at between p ≡ true) → AllHeld before xs
+  pub goes-on-after : ((p : ℕ) → is_held_in between p ≡ true → is_held_in before p ≡ true) → ((p : ℕ) → is_held_in before p ≡ true → is_held_in after p ≡ true → is_held_in between p ≡ true) → AllHeld before xs
       → GoesOn before xs after zs
   goes-on-after less stays held =
       record {
         fresh = second.fresh;
         few = second.few;
-        which = λ p. second.which p ∙ fresh_then (is_held_at before p) (is_held_at between p) (is_held_at after p) (less p) (stays p);
+        which = λ p. second.which p ∙ fresh_then (is_held_in before p) (is_held_in between p) (is_held_in after p) (less p) (stays p);
         list = second.list
-            ∙ ap (λ (ns : List ℕ). filter (is_held_at after) ns ++ second.fresh) (first.list ∙ ap (λ (ns : List ℕ). filter (is_held_at between) xs ++ ns) (no-number first.fresh none) ∙ append-nil (filter (is_held_at between) xs))
+            ∙ ap (λ (ns : List ℕ). filter (is_held_in after) ns ++ second.fresh) (first.list ∙ ap (λ (ns : List ℕ). filter (is_held_in between) xs ++ ns) (no-number first.fresh none) ∙ append-nil (filter (is_held_in between) xs))
             ∙ ap (λ (ns : List ℕ). ns ++ second.fresh) (twice xs held);
       }
     where
@@ -237,51 +223,54 @@ module _ (before between after : Pages) (xs ys zs : List ℕ) (first : GoesOn be
       old_already false false h = refl
 
       none : (p : ℕ) → list_any (λ q. q == p) first.fresh ≡ false
-      none p = first.which p ∙ old_already (is_held_at before p) (is_held_at between p) (less p)
+      none p = first.which p ∙ old_already (is_held_in before p) (is_held_in between p) (less p)
 
-      twice : (ns : List ℕ) → AllHeld before ns → filter (is_held_at after) (filter (is_held_at between) ns) ≡ filter (is_held_at after) ns
+      twice : (ns : List ℕ) → AllHeld before ns → filter (is_held_in after) (filter (is_held_in between) ns) ≡ filter (is_held_in after) ns
       twice [] all = refl
-      twice (n ∷ ns) all = by_tests (twice ns (All-tail (λ q. is_held_at before q ≡ true) n ns all)) (is_held_at between n) (is_held_at after n) refl refl
+      twice (n ∷ ns) all = by_tests (twice ns (All-tail (λ q. is_held_in before q ≡ true) n ns all)) (is_held_in between n) (is_held_in after n) refl refl
         where
-          by_tests : filter (is_held_at after) (filter (is_held_at between) ns) ≡ filter (is_held_at after) ns → (b c : Bool) → is_held_at between n ≡ b → is_held_at after n ≡ c
-              → filter (is_held_at after) (cond b (n ∷ filter (is_held_at between) ns) (filter (is_held_at between) ns)) ≡ cond (is_held_at after n) (n ∷ filter (is_held_at after) ns) (filter (is_held_at after) ns)
-          by_tests rest true c hb ha = ap (λ (l : List ℕ). cond (is_held_at after n) (n ∷ l) l) rest
-          by_tests rest false true hb ha = let also = stays n (All-head (λ q. is_held_at before q ≡ true) n ns all) ha in cc
-          by_tests rest false false hb ha = rest ∙ sym (ap (λ b. cond b (n ∷ filter (is_held_at after) ns) (filter (is_held_at after) ns)) ha)
+          by_tests : filter (is_held_in after) (filter (is_held_in between) ns) ≡ filter (is_held_in after) ns → (b c : Bool) → is_held_in between n ≡ b → is_held_in after n ≡ c
+              → filter (is_held_in after) (cond b (n ∷ filter (is_held_in between) ns) (filter (is_held_in between) ns)) ≡ cond (is_held_in after n) (n ∷ filter (is_held_in after) ns) (filter (is_held_in after) ns)
+          by_tests rest true c hb ha = ap (λ (l : List ℕ). cond (is_held_in after n) (n ∷ l) l) rest
+          by_tests rest false true hb ha = let also = stays n (All-head (λ q. is_held_in before q ≡ true) n ns all) ha in cc
+          by_tests rest false false hb ha = rest ∙ sym (ap (λ b. cond b (n ∷ filter (is_held_in after) ns) (filter (is_held_in after) ns)) ha)
 
 -- all that the list has after a change is held
 pub goes-on-held : (before after : Pages) (xs ys : List ℕ) → GoesOn before xs after ys → AllHeld after ys
 goes-on-held before after xs ys on =
     subst (AllHeld after) (sym on.list)
-    (All-append (λ q. is_held_at after q ≡ true) (filter (is_held_at after) xs) on.fresh (filter_passes (is_held_at after) xs)
+    (All-append (λ q. is_held_in after q ≡ true) (filter (is_held_in after) xs) on.fresh (filter_passes (is_held_in after) xs)
     (λ k d lt.
     let q : ℕ = get_or on.fresh k d in
-    both_left (is_held_at after q) (not (is_held_at before q)) (sym (on.which q) ∙ list_any_at (λ n. n == q) on.fresh k d lt (own q))))
+    (and_parts (is_held_in after q) (not (is_held_in before q)) (sym (on.which q) ∙ list_any_at (λ n. n == q) on.fresh k d lt (own q))).0))
   where
     own : (n : ℕ) → (n == n) ≡ true
     own n = grind (arith, nat_tests)
 
-    both_left : (b c : Bool) → (b && c) ≡ true → b ≡ true
-    both_left true c e = refl
-    both_left false c e = e
-
 -- where pages went, no page came to be held
-pub dropped-less : (old new : Stored) (gone : ℕ → Bool) → DropsPages old new gone → (p : ℕ) → is_held_at new.pages p ≡ true → is_held_at old.pages p ≡ true
+pub dropped-less : (old new : Stored) (gone : ℕ → Bool) → DropsPages old new gone → (p : ℕ) → is_held_in new.pages p ≡ true → is_held_in old.pages p ≡ true
 dropped-less old new gone drops p held = by_gone (gone p) (page_at old.pages p) (sym (ap (there_and is_held) (drops.pages p)) ∙ held)
   where
     by_gone : (b : Bool) (slot : Option Page) → there_and is_held (cond b None slot) ≡ true → there_and is_held slot ≡ true
     by_gone true slot e = absurd cc
     by_gone false slot e = e
 
+-- each page in the order is in a frame
+abbrev pub InOrder : Contents → Type 0
+InOrder c = filter (is_held_in c.tables.pages) c.order.held ≡ c.order.held
+
+pub in-order : (c : Contents) → ListsHeld c.tables.pages c.order.held → InOrder c
+in-order c lists = filter-all (is_held_in c.tables.pages) c.order.held (listed-held c.order.held c.tables.pages lists)
+
 -- a list of which all is held is what a filter for that leaves of it
-pub goes-on-listed : (before after : Pages) (xs ys : List ℕ) → GoesOn before xs after ys → filter (is_held_at after) ys ≡ ys
-goes-on-listed before after xs ys on = filter-all (is_held_at after) ys (goes-on-held before after xs ys on)
+pub goes-on-listed : (before after : Pages) (xs ys : List ℕ) → GoesOn before xs after ys → filter (is_held_in after) ys ≡ ys
+goes-on-listed before after xs ys on = filter-all (is_held_in after) ys (goes-on-held before after xs ys on)
 
 -- nothing changes
-pub goes-on-still : (before after : Pages) (xs ys : List ℕ) → filter (is_held_at before) xs ≡ xs → after ≡ before → ys ≡ xs → GoesOn before xs after ys
+pub goes-on-still : (before after : Pages) (xs ys : List ℕ) → filter (is_held_in before) xs ≡ xs → after ≡ before → ys ≡ xs → GoesOn before xs after ys
 goes-on-still before after xs ys listed same_pages same_list =
     rw (same_pages, same_list)
-    (record { fresh = []; few = omega arith; which = λ p. never (is_held_at before p); list = sym (append-nil (filter (is_held_at before) xs) ∙ listed) })
+    (record { fresh = []; few = omega arith; which = λ p. never (is_held_in before p); list = sym (append-nil (filter (is_held_in before) xs) ∙ listed) })
 
 -- the second change lets go of one page at most
 pub goes-on-let_go : (before between after : Pages) (xs ys zs : List ℕ) (p : ℕ) (gone : Bool) → GoesOn before xs between ys → Changes between after p (cond gone None (page_at between p)) → GoesOn between ys after zs
@@ -292,9 +281,9 @@ goes-on-let_go before between after xs ys zs p gone first changes second = goes-
     at_most true slot e = absurd (cc)
     at_most false slot e = e
 
-    fewer : (q : ℕ) → is_held_at after q ≡ true → is_held_at between q ≡ true
+    fewer : (q : ℕ) → is_held_in after q ≡ true → is_held_in between q ≡ true
     fewer q e =
         elim (eq_cases q p) [
-          | inl same ↦ ap (is_held_at between) same ∙ at_most gone (page_at between p) (sym (ap (there_and is_held) changes.changed) ∙ sym (ap (is_held_at after) same) ∙ e)
+          | inl same ↦ ap (is_held_in between) same ∙ at_most gone (page_at between p) (sym (ap (there_and is_held) changes.changed) ∙ sym (ap (is_held_in after) same) ∙ e)
           | inr other ↦ sym (ap (there_and is_held) (changes.others q other)) ∙ e
         ]

@@ -5,17 +5,18 @@ use Rattle.machine.specs.declared.config.Config.{Config}
 use Rattle.machine.specs.declared.record.Mapping.{Mapping}
 use Rattle.machine.specs.Slots.{there_and, any_there}
 use Rattle.machine.specs.Tree.{Node, under}
-use Rattle.machine.specs.Pages.{Residence, Held, Coming, Going, Away, Page, page_at, is_anon, is_held, charged, used_swap}
+use Rattle.machine.specs.Pages.{Residence, Held, Coming, Going, Away, Page, page_at, is_anon, is_held, is_held_in, charged, used_swap}
 use Rattle.machine.specs.Tasks.{Tasks}
 use Rattle.machine.specs.Protection.{opens}
 use Rattle.machine.specs.Order.{served_by, cursor_at}
 use Rattle.machine.specs.State.{State, opening_of, is_swap_free}
 use Rattle.machine.specs.Reclaim.{is_open, is_takeable, has_takeable}
-use Rattle.machine.specs.Lists.{is_held_at, TakesNext}
+use Rattle.machine.specs.Lists.{TakesNext}
+use Rattle.machine.proofs.Values.{unlike}
 use Rattle.pages.specs.declared.flight.Flight.{Flight}
 use Rattle.pages.specs.PageTable.{anon_page, Stands, AreInFlight}
 use Rattle.book.specs.Holdings.{HoldingsOf, takes, IsNext}
-use Rattle.book.proofs.TransferLemmas.{unlike, stands-so}
+use Rattle.book.proofs.TransferLemmas.{stands-so}
 
 -- ---- a page that may be taken
 
@@ -62,7 +63,7 @@ module _ (config : Config) (tree : List Node) (h : HoldingsOf) (tasks : Tasks) (
   takeable-alike = ap (λ (test : Page → Bool). any_there test h.stored.pages) takes-alike
 
   -- the page that is next, once it was taken
-  pub takes-next : (cursors cursors' : List (Option ℕ)) (p : ℕ) → IsNext h tree cursors target p cursors' → (new : State) (held' : List ℕ) → is_held_at h.stored.pages p ≡ true → is_held_at new.pages p ≡ false
+  pub takes-next : (cursors cursors' : List (Option ℕ)) (p : ℕ) → IsNext h tree cursors target p cursors' → (new : State) (held' : List ℕ) → is_held_in h.stored.pages p ≡ true → is_held_in new.pages p ≡ false
       → TakesNext (tables_of config tree h tasks mappings) (record { held = h.held; cursors = cursors }) target new (record { held = held'; cursors = cursors' })
   takes-next cursors cursors' p is new held' was taken =
       record {

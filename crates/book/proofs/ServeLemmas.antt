@@ -1,6 +1,7 @@
 -- What each change of the parts is to the plain machine: changes that move no page.
 use Rattle.std.proofs.Common.{◌≡◌, inr, ℕ, ◌<◌, ◌≤◌, ◌&&◌, Bool, true, false, cond, List, [], ◌∷◌, ◌++◌, Option, Some, None, refl, sym, ap, subst, ◌∙◌, arith}
 use Rattle.std.specs.Prelude.{IfSome, slice_set}
+use Rattle.std.proofs.lemmas.Bool.{or_right}
 use Rattle.machine.specs.declared.record.Key.TheVariants as key
 use Rattle.machine.specs.declared.record.Life.{Life}
 use Rattle.machine.specs.declared.record.Life.TheVariants.{Live, Exited, Killed}
@@ -34,10 +35,9 @@ use Rattle.machine.specs.History.{Spot, InTask, Says, Nothing, says, follow, tic
 use Rattle.pages.specs.PageTable.{byte_in, Stands}
 use Rattle.pages.specs.declared.flight.Flight.{Flight}
 use Rattle.events.specs.Tallies.{Tells}
-use Rattle.book.specs.Contents.{Contents, InOrder, counting, Steps, Tallied, group_after, byte_shown, byte_at, byte_at_spot, is_in_memory, is_known, knows, ReadsByte, ChangesFlights, worker_of}
+use Rattle.book.specs.Contents.{Contents, counting, Steps, Tallied, group_after, byte_shown, byte_at, byte_at_spot, is_in_memory, is_known, knows, ReadsByte, ChangesFlights, worker_of}
 use Rattle.book.specs.Serves.{Serves, starts, is_refused}
-use Rattle.book.proofs.TransferLemmas.{or_right}
-use Rattle.book.proofs.OrderLemmas.{goes-on-still}
+use Rattle.book.proofs.OrderLemmas.{InOrder, goes-on-still}
 
 -- ---- where nothing changes that an event may tell of
 

@@ -1,5 +1,5 @@
 -- Transfers end: a page is in its frame, or on its block alone.
-use Rattle.std.proofs.Common.{◌≡◌, ℕ, ◌+◌, ◌==◌, ◌&&◌, not, true, false, cond, [], ◌∷◌, ◌++◌, length, Option, Some, refl, sym, ap, arith}
+use Rattle.std.proofs.Common.{◌≡◌, ℕ, ◌+◌, ◌==◌, ◌&&◌, not, true, false, cond, [], ◌∷◌, ◌++◌, length, Option, Some, eq-eqb, refl, sym, ap, arith}
 use Rattle.std.specs.List.{filter}
 use Rattle.machine.specs.declared.id.GroupId.{GroupId}
 use Rattle.machine.specs.declared.id.PageId.{PageId}
@@ -16,7 +16,7 @@ use Rattle.book.specs.Queue.{QueueOf, page_count}
 use Rattle.book.specs.Room.{LacksFrame}
 use Rattle.book.specs.Keeping.{is_leaving_at, IsHolding}
 use Rattle.book.proofs.CountLemmas.{uncharge-usage}
-use Rattle.book.proofs.EntryLemmas.{grouped-same, grouped-in, grouped-out, equal}
+use Rattle.book.proofs.EntryLemmas.{grouped-same, grouped-in, grouped-out}
 use Rattle.book.proofs.HoldingLemmas.{kept-step, holding-step, relists-same, relists-in, relists-out}
 use Rattle.book.proofs.GrantLemmas.{stands-live}
 
@@ -108,7 +108,7 @@ module _ (h : Inside) (is : IsHolding h) (p g n f b : ℕ) (entry : GroupId × P
         frames = refl;
         held = relists-in is_held h.held.numbers held'.numbers entry.1.0 p from to same (not_held r moves) refl came came_more;
         moving = relists-out is_in_transfer h.moving.numbers moving'.numbers h.pages.pages entry.1.0 p from to same stood refl is.moving counts fewer;
-        held_groups = grouped-in h.held h.pages.pages pages'.pages p from to stood ends.placed is.held_groups held' entry came_entries came_numbers same (equal g entry.0.0 (sym owned)) (λ x listed own. own);
+        held_groups = grouped-in h.held h.pages.pages pages'.pages p from to stood ends.placed is.held_groups held' entry came_entries came_numbers same (eq-eqb g entry.0.0 (sym owned)) (λ x listed own. own);
         moving_groups = grouped-out h.moving h.pages.pages pages'.pages p from to stood ends.placed is.moving_groups moving' entry.1.0 entries numbers same;
         held_room = held_room;
         moving_room = room;

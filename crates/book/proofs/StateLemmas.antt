@@ -1,5 +1,5 @@
 -- The joined parts at their opening, and what a refusal that does not come says.
-use Rattle.std.proofs.Common.{◌≡◌, inl, inr, ℕ, ◌+◌, ◌<◌, ◌≤◌, ◌≢◌, ◌==◌, ◌&&◌, ◌++◌, ◌∷◌, not, Bool, true, false, cond, List, [], Option, Some, None, refl, sym, ap, ◌∙◌, arith}
+use Rattle.std.proofs.Common.{◌≡◌, inl, inr, ℕ, ◌+◌, ◌<◌, ◌≤◌, ◌≢◌, ◌==◌, ◌&&◌, ◌++◌, ◌∷◌, not, Bool, true, false, cond, List, [], Option, Some, None, eqb-true, eq-eqb, ne_eqb, refl, sym, ap, ◌∙◌, arith}
 use Rattle.std.specs.Prelude.{is_some, nat_le, nat_lt, IsSome, option_map, Result, Ok, Err, OnErr}
 use Rattle.machine.specs.declared.record.Life.{Life}
 use Rattle.machine.specs.declared.record.Life.TheVariants.{Live, Exited, Killed}
@@ -26,14 +26,16 @@ use Rattle.machine.specs.Call.{grows}
 use Rattle.machine.specs.Reclaim.{stands, target_of}
 use Rattle.machine.specs.Victim.{is_candidate, is_live_under}
 use Rattle.machine.specs.Refusals.{first_cause, life_refusal, task_refusal, number_refusal, bars_tasks, spawn_refusal}
+use Rattle.std.proofs.lemmas.Bool.{and_parts}
 use Rattle.std.proofs.lemmas.Bool.Decides.{nat_tests}
+use Rattle.machine.proofs.Values.{some_inj, unlike}
 use Rattle.machine.proofs.TreeLemmas.{eq_cases}
 use Rattle.machine.proofs.SlotLemmas.{one_if}
 use Rattle.machine.proofs.MappingLemmas.{mapped_at-mappers, mapped_at-push_other, mappers-push}
 use Rattle.pages.specs.PageTable.{anon_page, Stands, standing_of, AreInFlight}
 use Rattle.pages.specs.declared.standing.Standing.{Standing}
 use Rattle.pages.specs.declared.standing.Standing.TheVariants as standing
-use Rattle.book.proofs.TransferLemmas.{same_true, true_same, false_other, both_true, stands-so}
+use Rattle.book.proofs.TransferLemmas.{stands-so}
 use Rattle.book.specs.Contents.{AreMapped, is_there, is_settled}
 
 pub mapped-open : (pages : Pages) (tasks : Tasks) (mappings : List Mapping) → pages ≡ [] → mappings ≡ [] → AreMapped pages tasks mappings
@@ -88,7 +90,7 @@ mapped-push pages pages' tasks mappings t v p page mapped free changes known = r
     at_p : (q : ℕ) → q ≡ p → mappers (mappings ++ mapping t v p ∷ []) q ≡ 1
     at_p q same =
         let more = mappers-push mappings t v p q in
-        let hit : one_if (p == q) ≡ 1 = ap one_if (true_same p q (sym same)) in
+        let hit : one_if (p == q) ≡ 1 = ap one_if (eq-eqb p q (sym same)) in
         let before = mapped.most q in
         let none : is_there (page_at pages q) ≡ 0 = ap (λ (x : ℕ). is_there (page_at pages x)) same ∙ ap is_there free in
         omega (arith, more, hit, before, none)
@@ -96,7 +98,7 @@ mapped-push pages pages' tasks mappings t v p page mapped free changes known = r
     elsewhere : (q : ℕ) → q ≢ p → mappers (mappings ++ mapping t v p ∷ []) q ≡ mappers mappings q
     elsewhere q other =
         let more = mappers-push mappings t v p q in
-        let miss : one_if (p == q) ≡ 0 = ap one_if (false_other p q (λ e. other (sym e))) in
+        let miss : one_if (p == q) ≡ 0 = ap one_if (ne_eqb p q (λ e. other (sym e))) in
         omega (arith, more, miss)
 
     settled_one : (slot : Option Page) → is_settled slot ≤ 1
@@ -121,7 +123,7 @@ mapped-push pages pages' tasks mappings t v p page mapped free changes known = r
     owned u w q e = by_test ((t == u) && (v == w)) refl
       where
         by_test : (b : Bool) → ((t == u) && (v == w)) ≡ b → is_some (task_at tasks u) ≡ true
-        by_test true hit = ap (λ (x : ℕ). is_some (task_at tasks x)) (sym (same_true t u (both_true (t == u) (v == w) hit).0)) ∙ known
+        by_test true hit = ap (λ (x : ℕ). is_some (task_at tasks x)) (sym (eqb-true t u (and_parts (t == u) (v == w) hit).0)) ∙ known
         by_test false miss = mapped.owned u w q (sym (mapped_at-push_other mappings t v p u w miss) ∙ e)
 
 -- the same, of tables that were made so
@@ -156,9 +158,6 @@ homes-ended tree old new t g ended dead sets homes u alive =
       | inl same ↦ absurd (unlike (lives new u) alive (ap (λ (x : ℕ). lives new x) same ∙ ap (there_and is_live_task) sets.changed ∙ dead))
       | inr other ↦ ap (λ (slot : Option Task). is_live tree (group_of slot)) (sets.others u other) ∙ homes u (sym (ap (there_and is_live_task) (sets.others u other)) ∙ alive)
     ]
-  where
-    unlike : (b : Bool) → b ≡ true → b ≡ false → ⊥
-    unlike b e f = cc
 
 pub homes-spawned : (tree : List Node) (old new : Tasks) (t g : ℕ) → is_live tree g ≡ true → SetsTask old t g Live new → ((u : ℕ) → lives old u ≡ true → is_live tree (group_of_task old u) ≡ true)
     → (u : ℕ) → lives new u ≡ true → is_live tree (group_of_task new u) ≡ true
@@ -185,8 +184,8 @@ spawn-live s t g e = by_live (is_live s.tree g) refl e
 
 -- the group for which relief is wanted is there
 pub target-live : (s : State) (why : Cause) → is_live s.tree 0 ≡ true → stands s why ≡ true → is_live s.tree (target_of why) ≡ true
-target-live s (cause.Charge g) root e = (both_true (is_live s.tree g.0) _ e).0
-target-live s (cause.Lower g) root e = (both_true (is_live s.tree g.0) _ e).0
+target-live s (cause.Charge g) root e = (and_parts (is_live s.tree g.0) _ e).0
+target-live s (cause.Lower g) root e = (and_parts (is_live s.tree g.0) _ e).0
 target-live s cause.Frame root e = root
 
 -- a victim is a live task of a group that is there
@@ -195,7 +194,7 @@ victim-lives tree tasks limit t e = by_slot (task_at tasks t) e
   where
     by_slot : (slot : Option Task) → there_and (is_live_under tree limit) slot ≡ true → there_and is_live_task slot ≡ true
     by_slot None h = cc
-    by_slot (Some task) h = (both_true (is_live_task task) _ h).0
+    by_slot (Some task) h = (and_parts (is_live_task task) _ h).0
 
 pub homes-open : (tree : List Node) (tasks : Tasks) → tasks ≡ [] → (t : ℕ) → lives tasks t ≡ true → is_live tree (group_of_task tasks t) ≡ true
 homes-open tree tasks none t alive = absurd (let dead : lives tasks t ≡ false = ap (λ (ts : Tasks). lives ts t) none in cc)
@@ -231,9 +230,6 @@ pub standing-some : (pages : Pages) (flights : List (Option Flight)) → AreInFl
     → (g : ℕ) × (r : Residence) × Stands pages p g r × (standing_of r ≡ found)
 standing-some pages flights are p found e = by_slot (page_at pages p) refl e
   where
-    some_inj : {x y : Standing} → Some x ≡ Some y → x ≡ y
-    some_inj e = cc
-
     by_slot : (slot : Option Page) → page_at pages p ≡ slot → Some found ≡ option_map (λ (page : Page). standing_of page.residence) slot
         → (g : ℕ) × (r : Residence) × Stands pages p g r × (standing_of r ≡ found)
     by_slot None is e = cc

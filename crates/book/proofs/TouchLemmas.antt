@@ -1,6 +1,7 @@
 -- What a task's write to its page, a page made for it, and its begin are to the plain machine.
-use Rattle.std.proofs.Common.{◌≡◌, ◌≢◌, inl, inr, ℕ, ◌≤◌, ◌==◌, ◌&&◌, ◌||◌, Bool, true, false, cond, if◌then◌else◌, List, [], ◌∷◌, ◌++◌, Option, Some, None, refl, sym, ap, ◌∙◌, arith}
+use Rattle.std.proofs.Common.{◌≡◌, ◌≢◌, inl, inr, ℕ, ◌≤◌, ◌==◌, ◌&&◌, ◌||◌, Bool, true, false, cond, if◌then◌else◌, List, [], ◌∷◌, ◌++◌, Option, Some, None, eqb-true, eq-eqb, ne_eqb, refl, sym, ap, ◌∙◌, arith}
 use Rattle.std.specs.Prelude.{nat_lt, is_some}
+use Rattle.std.proofs.lemmas.Bool.{and_parts}
 use Rattle.std.proofs.lemmas.Bool.Decides.{nat_tests}
 use Rattle.machine.specs.declared.record.Life.TheVariants.{Live}
 use Rattle.machine.specs.declared.record.Task.{Task}
@@ -18,15 +19,17 @@ use Rattle.machine.specs.Access.{meets}
 use Rattle.machine.specs.Lists.{GoesOn}
 use Rattle.machine.specs.Step.{MeetStep, MakesPage, IsFreeFrame, new_page}
 use Rattle.machine.specs.History.{Spot, InTask, Byte, Nothing, follow, says_if}
+use Rattle.machine.proofs.Values.{some_inj, unlike}
 use Rattle.machine.proofs.TreeLemmas.{eq_cases}
 use Rattle.machine.proofs.SlotLemmas.{one_if}
 use Rattle.machine.proofs.MappingLemmas.{mapped_at-mappers, mapped_at-one, mapped_at-push, mapped_at-push_other}
 use Rattle.pages.specs.PageTable.{byte_in, Stands, anon_page}
 use Rattle.events.specs.Tallies.{Tells}
-use Rattle.book.specs.Contents.{Contents, InOrder, counting, byte_shown, byte_at, byte_at_spot, is_in_memory, is_known, knows, StaysComing, AreMapped, is_there}
+use Rattle.book.specs.Contents.{Contents, counting, byte_shown, byte_at, byte_at_spot, is_in_memory, is_known, knows, StaysComing, AreMapped, is_there}
 use Rattle.book.specs.Serves.{Serves}
-use Rattle.book.proofs.TransferLemmas.{same_true, true_same, false_other, both_true, unlike, in_transfer-changes}
+use Rattle.book.proofs.TransferLemmas.{in_transfer-changes}
 use Rattle.book.proofs.ServeLemmas.{order-still, flights-kept, live_step, granted_step, access-needs}
+use Rattle.book.proofs.OrderLemmas.{InOrder}
 
 -- tests that hold together are one
 alike : (a b : Bool) → (a ≡ true → b ≡ true) → (b ≡ true → a ≡ true) → a ≡ b
@@ -57,9 +60,6 @@ silent_elsewhere false y z b never = refl
 written_at : (d x y z : Bool) (b n : ℕ) (before : Spot → ℕ) (spot : Spot) → d ≡ (x && y) → n ≡ before spot → cond (d && z) b n ≡ follow (says_if (x && (y && z)) (Byte b)) before spot
 written_at d x y z b n before spot is e =
     ap (λ t. cond (t && z) b n) is ∙ ap (λ t. cond t b n) (assoc x y z) ∙ ap (cond (x && (y && z)) b) e ∙ sym (follow_if (x && (y && z)) b before spot)
-
-some_inj : {x y : ℕ} → Some x ≡ Some y → x ≡ y
-some_inj e = cc
 
 unlike_held : {P : Type 0} (slot : Option Page) (g f g' f' b' n' : ℕ) → slot ≡ Some (anon_page g (Held f)) → slot ≡ Some (anon_page g' (Coming f' b' n')) → P
 unlike_held slot g f g' f' b' n' is also = unlike (there_and is_in_transfer slot) (ap (there_and is_in_transfer) also) (ap (there_and is_in_transfer) is)
@@ -117,8 +117,8 @@ serves-hit_write old new worker t v o b p g f task mapped is living shown page t
 
     here : (u w : ℕ) → ((t == u) && (v == w)) ≡ true → mapped_at old.tables.mappings u w ≡ Some p
     here u w hit =
-        let both = both_true (t == u) (v == w) hit in
-        ap (λ (x : ℕ). mapped_at old.tables.mappings x w) (sym (same_true t u both.0)) ∙ ap (mapped_at old.tables.mappings t) (sym (same_true v w both.1)) ∙ shown
+        let both = and_parts (t == u) (v == w) hit in
+        ap (λ (x : ℕ). mapped_at old.tables.mappings x w) (sym (eqb-true t u both.0)) ∙ ap (mapped_at old.tables.mappings t) (sym (eqb-true v w both.1)) ∙ shown
 
     at_place : (u w k : ℕ) (m : Option ℕ) → mapped_at old.tables.mappings u w ≡ m
         → byte_shown new.bytes m k ≡ follow (says_if ((t == u) && ((v == w) && (o == k))) (Byte b)) (byte_at_spot old) (InTask u w k)
@@ -129,8 +129,8 @@ serves-hit_write old new worker t v o b p g f task mapped is living shown page t
         bytes q k
         ∙ written_at (q == p) (t == u) (v == w) (o == k) b (byte_in old.bytes q k) (byte_at_spot old) (InTask u w k)
         (alike (q == p) ((t == u) && (v == w))
-        (λ hit. mapped_at-one old.tables.mappings t v u w p once shown (e ∙ ap Some (same_true q p hit)))
-        (λ hit. true_same q p (some_inj (sym e ∙ here u w hit))))
+        (λ hit. mapped_at-one old.tables.mappings t v u w p once shown (e ∙ ap Some (eqb-true q p hit)))
+        (λ hit. eq-eqb q p (some_inj (sym e ∙ here u w hit))))
         (ap (λ m. byte_shown old.bytes m k) (sym e))
 
 pub serves-made : (old new : Contents) (worker t v o b p f : ℕ) (task : Task) → AreMapped old.tables.pages old.tables.tasks old.tables.mappings
@@ -178,24 +178,24 @@ serves-made old new worker t v o b p f task mapped is living none under free fra
 
     at_old : (u w k : ℕ) (m : Option ℕ) → mapped_at old.tables.mappings u w ≡ m → byte_shown new.bytes m k ≡ byte_shown old.bytes m k
     at_old u w k None e = refl
-    at_old u w k (Some q) e = bytes q k ∙ ap (λ x. cond x (if o == k then b else 0) (byte_in old.bytes q k)) (false_other q p (unmade q (mapped_at-mappers old.tables.mappings u w q e)))
+    at_old u w k (Some q) e = bytes q k ∙ ap (λ x. cond x (if o == k then b else 0) (byte_in old.bytes q k)) (ne_eqb q p (unmade q (mapped_at-mappers old.tables.mappings u w q e)))
 
     unshown : (u w : ℕ) → ((t == u) && (v == w)) ≡ true → mapped_at old.tables.mappings u w ≡ None
     unshown u w hit =
-        let ts = same_true t u (both_true (t == u) (v == w) hit).0 in
-        let vs = same_true v w (both_true (t == u) (v == w) hit).1 in
+        let ts = eqb-true t u (and_parts (t == u) (v == w) hit).0 in
+        let vs = eqb-true v w (and_parts (t == u) (v == w) hit).1 in
         ap (λ (x : ℕ). mapped_at old.tables.mappings x w) (sym ts) ∙ ap (mapped_at old.tables.mappings t) (sym vs) ∙ none
 
     shows : (u w : ℕ) → ((t == u) && (v == w)) ≡ true → mapped_at pushed u w ≡ Some p
     shows u w hit =
-        let ts = same_true t u (both_true (t == u) (v == w) hit).0 in
-        let vs = same_true v w (both_true (t == u) (v == w) hit).1 in
+        let ts = eqb-true t u (and_parts (t == u) (v == w) hit).0 in
+        let vs = eqb-true v w (and_parts (t == u) (v == w) hit).1 in
         ap (λ (x : ℕ). mapped_at pushed x w) (sym ts) ∙ ap (mapped_at pushed t) (sym vs) ∙ mapped_at-push old.tables.mappings t v p none
 
     at_place : (u w k : ℕ) (test : Bool) → ((t == u) && (v == w)) ≡ test
         → byte_shown new.bytes (mapped_at pushed u w) k ≡ follow (says_if ((t == u) && ((v == w) && (o == k))) (Byte b)) (byte_at_spot old) (InTask u w k)
     at_place u w k true hit =
-        ap (λ m. byte_shown new.bytes m k) (shows u w hit) ∙ bytes p k ∙ ap (λ x. cond x (if o == k then b else 0) (byte_in old.bytes p k)) (true_same p p refl)
+        ap (λ m. byte_shown new.bytes m k) (shows u w hit) ∙ bytes p k ∙ ap (λ x. cond x (if o == k then b else 0) (byte_in old.bytes p k)) (eq-eqb p p refl)
         ∙ written_at true (t == u) (v == w) (o == k) b 0 (byte_at_spot old) (InTask u w k) (sym hit) (sym (ap (λ m. byte_shown old.bytes m k) (unshown u w hit)))
     at_place u w k false miss =
         ap (λ m. byte_shown new.bytes m k) (mapped_at-push_other old.tables.mappings t v p u w miss) ∙ at_old u w k (mapped_at old.tables.mappings u w) refl
@@ -244,8 +244,8 @@ serves-spawn old new worker t g mapped none sets tables bytes flights listed ord
       tallied = tells;
       groups = λ u.
           elim (eq_cases t u) [
-            | inl same ↦ ap group_of (ap (at new.tables.tasks) (sym same) ∙ sets.changed) ∙ ap (λ b. cond b g (group_of_task old.tables.tasks u)) (sym (true_same t u same))
-            | inr other ↦ ap group_of (sets.others u (λ e. other (sym e))) ∙ ap (λ b. cond b g (group_of_task old.tables.tasks u)) (sym (false_other t u other))
+            | inl same ↦ ap group_of (ap (at new.tables.tasks) (sym same) ∙ sets.changed) ∙ ap (λ b. cond b g (group_of_task old.tables.tasks u)) (sym (eq-eqb t u same))
+            | inr other ↦ ap group_of (sets.others u (λ e. other (sym e))) ∙ ap (λ b. cond b g (group_of_task old.tables.tasks u)) (sym (ne_eqb t u other))
           ];
       reads = tt;
       bytes = λ u v o alive within known. inr (
@@ -257,14 +257,14 @@ serves-spawn old new worker t g mapped none sets tables bytes flights listed ord
           inr (record {
             shown = before;
             stands = sym (ap (λ (s : State). page_at s.pages q) tables) ∙ stands;
-            quiet = λ k. ap (λ b. says_if b (Byte 0)) (false_other t u (λ same. absurd (let wrong : None ≡ Some q = sym (unshown u v same) ∙ before in cc)));
+            quiet = λ k. ap (λ b. says_if b (Byte 0)) (ne_eqb t u (λ same. absurd (let wrong : None ≡ Some q = sym (unshown u v same) ∙ before in cc)));
             other = refl;
           }));
       flights = flights-kept old new worker reply.Ok refl flights;
       living = λ u h.
           elim (eq_cases t u) [
-            | inl same ↦ ap (λ b. b || lives old.tables.tasks u) (true_same t u same)
-            | inr other ↦ ap (λ b. b || lives old.tables.tasks u) (false_other t u other) ∙ sym (ap (there_and is_live_task) (sets.others u (λ e. other (sym e)))) ∙ h
+            | inl same ↦ ap (λ b. b || lives old.tables.tasks u) (eq-eqb t u same)
+            | inr other ↦ ap (λ b. b || lives old.tables.tasks u) (ne_eqb t u other) ∙ sym (ap (there_and is_live_task) (sets.others u (λ e. other (sym e)))) ∙ h
           ];
       kept = (let same = ap (λ (s : State). in_transfer s.pages) tables in omega (arith, same));
       given = refl;
@@ -277,6 +277,6 @@ serves-spawn old new worker t g mapped none sets tables bytes flights listed ord
     said : (u v o : ℕ) → byte_at old u v o ≡ follow (says_if (t == u) (Byte 0)) (byte_at_spot old) (InTask u v o)
     said u v o =
         elim (eq_cases t u) [
-          | inl same ↦ ap (λ m. byte_shown old.bytes m o) (unshown u v same) ∙ ap (λ b. follow (says_if b (Byte 0)) (byte_at_spot old) (InTask u v o)) (sym (true_same t u same))
-          | inr other ↦ ap (λ b. follow (says_if b (Byte 0)) (byte_at_spot old) (InTask u v o)) (sym (false_other t u other))
+          | inl same ↦ ap (λ m. byte_shown old.bytes m o) (unshown u v same) ∙ ap (λ b. follow (says_if b (Byte 0)) (byte_at_spot old) (InTask u v o)) (sym (eq-eqb t u same))
+          | inr other ↦ ap (λ b. follow (says_if b (Byte 0)) (byte_at_spot old) (InTask u v o)) (sym (ne_eqb t u other))
         ]

@@ -1,43 +1,15 @@
 -- Pages in transfer: which they are, by their tickets, and how many.
-use Rattle.std.proofs.Common.{◌≡◌, ◌≢◌, ℕ, zero, suc, ◌+◌, ◌==◌, ◌&&◌, ◌||◌, Bool, true, false, List, [], ◌∷◌, Option, Some, None, refl, sym, ap, subst, ◌∙◌, arith}
+use Rattle.std.proofs.Common.{◌≡◌, ℕ, zero, suc, ◌+◌, ◌||◌, Bool, true, false, List, [], ◌∷◌, Option, Some, None, eqb-true, eq-eqb, ne_eqb, refl, sym, ap, subst, ◌∙◌, arith}
 use Rattle.std.specs.Prelude.{IfSome, option_map}
+use Rattle.std.proofs.lemmas.Bool.{or_right, false_from_ne_true}
 use Rattle.std.proofs.lemmas.List.Sums.{sum_by-cons}
-use Rattle.std.proofs.lemmas.Bool.Decides.{nat_tests}
 use Rattle.machine.specs.Slots.{at, Changes, there_and, count_there, any_there}
 use Rattle.machine.specs.Pages.{Residence, Held, Coming, Going, Away, Page, Pages, page_at, is_number, ticket_at, is_in_transfer, in_transfer, is_ticket_taken, is_coming_at, is_going_at, is_coming_in, is_going_out}
+use Rattle.machine.proofs.Values.{some_inj, unlike}
 use Rattle.machine.proofs.SlotLemmas.{one_if, count_there-changes, count_there-none, any_there-none}
 use Rattle.pages.specs.declared.flight.Flight.{Flight}
 use Rattle.pages.specs.PageTable.{anon_page, Stands, is_under_ticket, is_moving_in, AreInFlight}
 use Rattle.book.specs.Parts.{is_coming, is_going}
-
--- ---- tests
-
-pub same_true : (a b : ℕ) → (a == b) ≡ true → a ≡ b
-same_true a b e = grind (arith, nat_tests, e)
-
-pub true_same : (a b : ℕ) → a ≡ b → (a == b) ≡ true
-true_same a b e = grind (arith, nat_tests, e)
-
-pub self_true : (a : ℕ) → (a == a) ≡ true
-self_true a = true_same a a refl
-
-pub false_other : (a b : ℕ) → a ≢ b → (a == b) ≡ false
-false_other a b e = grind (arith, nat_tests, e)
-
-pub both_true : (a b : Bool) → (a && b) ≡ true → (a ≡ true) × (b ≡ true)
-both_true true b e = (refl, e)
-both_true false b e = cc
-
-pub unlike : {P : Type 0} (b : Bool) → b ≡ true → b ≡ false → P
-unlike b e f = cc
-
-pub not_true : (b : Bool) → (b ≡ true → ⊥) → b ≡ false
-not_true true never = absurd (never refl)
-not_true false never = refl
-
-pub or_right : (a b : Bool) → b ≡ true → (a || b) ≡ true
-or_right true b e = refl
-or_right false b e = e
 
 module _ {T : Type 0} (test : T → Bool) where
   -- tables that test alike at each number have as many that pass
@@ -66,7 +38,7 @@ module _ {T : Type 0} (test : T → Bool) where
       by_test true is = any-some xs p is
       by_test false is =
           any_there-none test xs
-          (count_there-none test xs (λ q. not_true (there_and test (at xs q)) (λ hit. unlike (there_and test (at xs p)) (ap (λ (x : ℕ). there_and test (at xs x)) (sym (only q hit)) ∙ hit) is)))
+          (count_there-none test xs (λ q. false_from_ne_true (there_and test (at xs q)) (λ hit. unlike (there_and test (at xs p)) (ap (λ (x : ℕ). there_and test (at xs x)) (sym (only q hit)) ∙ hit) is)))
 
   pub any-none : (xs : List (Option T)) → ((q : ℕ) → there_and test (at xs q) ≡ false) → any_there test xs ≡ false
   any-none xs none = any_there-none test xs (count_there-none test xs none)
@@ -83,17 +55,17 @@ module _ {T : Type 0} (test : T → Bool) where
 -- ---- tickets
 
 pub coming-under : (pages : Pages) (p g f b n : ℕ) → Stands pages p g (Coming f b n) → is_under_ticket pages p n ≡ true
-coming-under pages p g f b n stands = ap (there_and (λ (page : Page). is_number (ticket_at page.residence) n)) stands ∙ true_same n n refl
+coming-under pages p g f b n stands = ap (there_and (λ (page : Page). is_number (ticket_at page.residence) n)) stands ∙ eq-eqb n n refl
 
 pub going-under : (pages : Pages) (p g f b n : ℕ) → Stands pages p g (Going f b n) → is_under_ticket pages p n ≡ true
-going-under pages p g f b n stands = ap (there_and (λ (page : Page). is_number (ticket_at page.residence) n)) stands ∙ true_same n n refl
+going-under pages p g f b n stands = ap (there_and (λ (page : Page). is_number (ticket_at page.residence) n)) stands ∙ eq-eqb n n refl
 
 pub under-taken : (pages : Pages) (p n : ℕ) → is_under_ticket pages p n ≡ true → is_ticket_taken pages n ≡ true
 under-taken pages p n e = any-some (λ (page : Page). is_number (ticket_at page.residence) n) pages p e
 
 -- a ticket that is free is none of those that are taken
 pub free-other : (pages : Pages) (m n : ℕ) → is_ticket_taken pages m ≡ false → is_ticket_taken pages n ≡ true → is_number (Some m) n ≡ false
-free-other pages m n free taken = false_other m n (λ same. unlike (is_ticket_taken pages n) taken (ap (is_ticket_taken pages) (sym same) ∙ free))
+free-other pages m n free taken = ne_eqb m n (λ same. unlike (is_ticket_taken pages n) taken (ap (is_ticket_taken pages) (sym same) ∙ free))
 
 -- the ticket of a page that is being read in is that of its transfer
 ticket_of_coming : (r : Residence) (n : ℕ) → is_coming_at n r ≡ true → is_number (ticket_at r) n ≡ true
@@ -115,9 +87,6 @@ coming_under_ticket (Some page) n e = ticket_of_coming page.residence n e
 going_under_ticket : (slot : Option Page) (n : ℕ) → there_and (λ (page : Page). is_going_at n page.residence) slot ≡ true → there_and (λ (page : Page). is_number (ticket_at page.residence) n) slot ≡ true
 going_under_ticket None n e = cc
 going_under_ticket (Some page) n e = ticket_of_going page.residence n e
-
-some_inj : {T : Type 0} {x y : T} → Some x ≡ Some y → x ≡ y
-some_inj e = cc
 
 module _ (pages : Pages) (flights : List (Option Flight)) (are : AreInFlight pages flights) where
   -- the page under a ticket is that of its flight
@@ -167,12 +136,12 @@ module _ (pages : Pages) (flights : List (Option Flight)) (are : AreInFlight pag
   pub coming_in-none : (n : ℕ) → at flights n ≡ None → is_coming_in pages n ≡ false
   coming_in-none n none =
       any-none (λ (page : Page). is_coming_at n page.residence) pages
-      (λ q. not_true (there_and (λ (page : Page). is_coming_at n page.residence) (page_at pages q)) (λ hit. unlisted q n none (coming_under_ticket (page_at pages q) n hit)))
+      (λ q. false_from_ne_true (there_and (λ (page : Page). is_coming_at n page.residence) (page_at pages q)) (λ hit. unlisted q n none (coming_under_ticket (page_at pages q) n hit)))
 
   pub going_out-none : (n : ℕ) → at flights n ≡ None → is_going_out pages n ≡ false
   going_out-none n none =
       any-none (λ (page : Page). is_going_at n page.residence) pages
-      (λ q. not_true (there_and (λ (page : Page). is_going_at n page.residence) (page_at pages q)) (λ hit. unlisted q n none (going_under_ticket (page_at pages q) n hit)))
+      (λ q. false_from_ne_true (there_and (λ (page : Page). is_going_at n page.residence) (page_at pages q)) (λ hit. unlisted q n none (going_under_ticket (page_at pages q) n hit)))
 
   -- a page that is there is one of memory
   pub stands-so : (p : ℕ) (page : Page) → page_at pages p ≡ Some page → Stands pages p page.group page.residence
@@ -186,7 +155,7 @@ module _ (pages : Pages) (flights : List (Option Flight)) (are : AreInFlight pag
     where
       by_residence : (p : ℕ) (page : Page) (r : Residence) → page.residence ≡ r → Stands pages p page.group page.residence → is_coming_at n r ≡ true → (p : ℕ) × (g : ℕ) × (f : ℕ) × (b : ℕ) × Stands pages p g (Coming f b n)
       by_residence p page (Held f) is stands hit = cc
-      by_residence p page (Coming f b m) is stands hit = (p, page.group, f, b, stands ∙ ap (λ (r : Residence). Some (anon_page page.group r)) is ∙ ap (λ (m : ℕ). Some (anon_page page.group (Coming f b m))) (same_true m n hit))
+      by_residence p page (Coming f b m) is stands hit = (p, page.group, f, b, stands ∙ ap (λ (r : Residence). Some (anon_page page.group r)) is ∙ ap (λ (m : ℕ). Some (anon_page page.group (Coming f b m))) (eqb-true m n hit))
       by_residence p page (Going f b m) is stands hit = cc
       by_residence p page (Away b) is stands hit = cc
 
@@ -202,7 +171,7 @@ module _ (pages : Pages) (flights : List (Option Flight)) (are : AreInFlight pag
       by_residence : (p : ℕ) (page : Page) (r : Residence) → page.residence ≡ r → Stands pages p page.group page.residence → is_going_at n r ≡ true → (p : ℕ) × (g : ℕ) × (f : ℕ) × (b : ℕ) × Stands pages p g (Going f b n)
       by_residence p page (Held f) is stands hit = cc
       by_residence p page (Coming f b m) is stands hit = cc
-      by_residence p page (Going f b m) is stands hit = (p, page.group, f, b, stands ∙ ap (λ (r : Residence). Some (anon_page page.group r)) is ∙ ap (λ (m : ℕ). Some (anon_page page.group (Going f b m))) (same_true m n hit))
+      by_residence p page (Going f b m) is stands hit = (p, page.group, f, b, stands ∙ ap (λ (r : Residence). Some (anon_page page.group r)) is ∙ ap (λ (m : ℕ). Some (anon_page page.group (Going f b m))) (eqb-true m n hit))
       by_residence p page (Away b) is stands hit = cc
 
       by_slot : (p : ℕ) (slot : Option Page) → page_at pages p ≡ slot → there_and (λ (page : Page). is_going_at n page.residence) slot ≡ true → (p : ℕ) × (g : ℕ) × (f : ℕ) × (b : ℕ) × Stands pages p g (Going f b n)

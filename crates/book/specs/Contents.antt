@@ -1,6 +1,5 @@
 -- What the parts of a book hold: the machine's tables, the bytes of the pages, and the transfers in flight.
 use Rattle.std.specs.Prelude.{◌≡◌, ◌⊎◌, ℕ, ◌<◌, ◌≤◌, ◌==◌, Bool, true, false, List, [], ◌∷◌, ◌++◌, is_some, slice_index, option_map, IfSome, Option, Some, None, if◌then◌else◌}
-use Rattle.std.specs.List.{filter}
 use Rattle.machine.specs.declared.record.Key.{Key}
 use Rattle.machine.specs.declared.record.Key.TheVariants as key
 use Rattle.machine.specs.declared.record.Mapping.{Mapping}
@@ -15,7 +14,7 @@ use Rattle.machine.specs.Counts.{Counted}
 use Rattle.machine.specs.Tasks.{Tasks, task_at, lives, group_of_task, mapped_at, mappers}
 use Rattle.machine.specs.State.{State}
 use Rattle.machine.specs.Reclaim.{target_of}
-use Rattle.machine.specs.Lists.{Order, is_held_at}
+use Rattle.machine.specs.Lists.{Order}
 use Rattle.machine.specs.Step.{Step, count_of}
 use Rattle.machine.specs.Access.{page_size}
 use Rattle.machine.specs.Step.{virtual_page}
@@ -36,10 +35,6 @@ pub record Contents : Type 0 where
 -- what was counted, whatever memory there is for groups to come
 abbrev pub without_room : Tallies → Tallies
 without_room t = record t { room = 0 }
-
--- each page in the order is in a frame
-abbrev pub InOrder : Contents → Type 0
-InOrder c = filter (is_held_at c.tables.pages) c.order.held ≡ c.order.held
 
 -- ---- events counted
 

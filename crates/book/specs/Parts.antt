@@ -5,11 +5,10 @@ use Rattle.machine.specs.declared.record.Mapping.{Mapping}
 use Rattle.machine.specs.declared.event.Event.{Event}
 use Rattle.machine.specs.declared.event.Event.TheVariants as event
 use Rattle.machine.specs.Tree.{is_live}
-use Rattle.machine.specs.Pages.{Residence, Coming, Going, Away, Page, Pages}
+use Rattle.machine.specs.Pages.{Residence, Coming, Going, Away, Page, Pages, is_held_in}
 use Rattle.machine.specs.Tasks.{lives, group_of_task}
 use Rattle.machine.specs.State.{State, opening_of, is_config}
 use Rattle.machine.specs.Reclaim.{stands, target_of}
-use Rattle.machine.specs.Lists.{is_held_at}
 use Rattle.machine.specs.Call.{is_granted}
 use Rattle.pages.specs.PageTable.{is_moving_in}
 use Rattle.pages.specs.declared.standing.Standing.{Standing}
@@ -50,7 +49,7 @@ pub record IsJoined (s : Inside) : Type 0 where
   -- the group of a live task is there
   pub homes : (t : ℕ) → lives s.spaces.tasks t ≡ true → is_live s.tree (group_of_task s.spaces.tasks t) ≡ true
   -- each page in the order is in a frame
-  pub listed : filter (is_held_at s.holdings.stored.pages) s.holdings.held ≡ s.holdings.held
+  pub listed : filter (is_held_in s.holdings.stored.pages) s.holdings.held ≡ s.holdings.held
   -- each group has its cursor
   pub cursors : length s.cursors.cursors ≡ length s.tree
 

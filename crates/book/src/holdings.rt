@@ -5,13 +5,13 @@ ghost use Rattle.machine.specs.Slots.{any_there};
 ghost use Rattle.machine.specs.Tree.{is_live, under};
 ghost use Rattle.machine.specs.Lists.{ListsHeld};
 ghost use Rattle.machine.specs.Pages as residence;
-ghost use Rattle.machine.specs.Pages.{Page, page_at, is_in_transfer, in_transfer, charged, used_frames, used_swap};
+ghost use Rattle.machine.specs.Pages.{Page, page_at, is_in_transfer, is_held_in, in_transfer, charged, used_frames, used_swap};
 ghost use Rattle.machine.specs.Counts.{no_limits, limits_at};
 ghost use Rattle.machine.specs.Protection.{effective, min_of};
 ghost use Rattle.machine.specs.Access.{page_size};
 ghost use Rattle.group_tree.specs.Kin.{AreKin};
 ghost use Rattle.group_tree.specs.Lineages.{bare, IsLineage};
-ghost use Rattle.pages.specs.PageTable.{byte_in, Stands, is_held_in, is_moving_in, AreInFlight};
+ghost use Rattle.pages.specs.PageTable.{byte_in, Stands, is_moving_in, AreInFlight};
 ghost use Rattle.book.specs.Holdings.{with_stored, would_grant, HasRoom, Grants, IsGranted, Fetches, BeginsOut, Settles, DropsPage, takes, IsNext};
 
 use crate::lookup::{group_of, is_any_under, page_of_ticket};

@@ -11,7 +11,7 @@ ghost use Rattle.group_tree.specs.Lineages.{IsLineage};
 ghost use Rattle.events.specs.Tallies.{Tells};
 ghost use Rattle.pages.specs.PageTable.{AreInFlight};
 ghost use Rattle.book.specs.Events.{reply_of};
-ghost use Rattle.book.specs.Contents.{byte_at, AreFew, InOrder};
+ghost use Rattle.book.specs.Contents.{byte_at, AreFew};
 ghost use Rattle.book.specs.Serves.{Serves, IsAsked, RepliesTo, GivesTicket};
 
 use crate::event::Reply;
@@ -130,7 +130,6 @@ impl State {
         ensures lineage { IsLineage self.now.tallies.tree }
         ensures root { is_live self.now.tables.tree 0 ≡ true }
         ensures flights { AreInFlight self.now.tables.pages self.now.flights }
-        ensures order { InOrder self.now }
         ensures listed { ListsHeld self.now.tables.pages self.now.order.held }
         ensures cursors { length self.now.order.cursors ≡ length self.now.tables.tree }
     {

@@ -1,6 +1,7 @@
 -- What one step of the machine does to each page, to each place of a task, and to the numbers of tickets.
-use Rattle.std.proofs.Common.{◌≡◌, ◌≢◌, inl, inr, ℕ, ◌==◌, ◌&&◌, not, Bool, true, false, cond, List, [], ◌∷◌, ◌++◌, Option, Some, None, refl, sym, ap, ◌∙◌, subst}
+use Rattle.std.proofs.Common.{◌≡◌, ◌≢◌, inl, inr, ℕ, ◌==◌, ◌&&◌, not, Bool, true, false, cond, List, [], ◌∷◌, ◌++◌, Option, Some, None, eqb-true, eq-eqb, ne_eqb, refl, sym, ap, ◌∙◌, subst}
 use Rattle.std.specs.Prelude.{◌⊎◌, MatchBool, find, filter, option_map, is_some, nat_le}
+use Rattle.std.proofs.lemmas.Bool.{and_parts}
 use Rattle.machine.specs.declared.id.TaskId.{TaskId}
 use Rattle.machine.specs.declared.id.GroupId.{GroupId}
 use Rattle.machine.specs.declared.id.TicketId.{TicketId}
@@ -30,8 +31,9 @@ use Rattle.machine.specs.Reclaim.{has_takeable, has_transfer, stands, target_of}
 use Rattle.machine.specs.Refusals.{refusal, first_cause, bars_tasks, number_refusal}
 use Rattle.machine.specs.Step.{Only, ChargeStep, Charges, MakesPage, StartsFetch, HitStep, UnmappedStep, MeetStep, LifeStep, TaskStep, Takes, StartsLeave, Drops, LeavesBy, LeavesFrom, ReclaimStep, ReclaimOneStep, KillStep, RelieveStep, still, Unmaps, EndsTask, Exits, EndsTransfer, Step, new_page, touched}
 use Rattle.machine.specs.History.{InTask, is_spot, Byte, Nothing, says_if, says, ticket_given}
+use Rattle.machine.proofs.Values.{some_inj, never_some, unlike}
 use Rattle.machine.proofs.TreeLemmas.{eq_cases}
-use Rattle.driver.proofs.MoveLemmas.{some_inj, never_some, unlike, both_true, same_true, own_number, false_other, Met, met, in_frame-cases, on_block-cases}
+use Rattle.driver.proofs.MoveLemmas.{Met, met, in_frame-cases, on_block-cases}
 use Rattle.machine.proofs.MappingLemmas.{find-filter, mapped_at-push, mapped_at-push_other, mapped_at-without_task}
 
 -- ---- words
@@ -132,7 +134,7 @@ pub record Effect (old : State) (what : Event) (answer : Reply) (new : State) : 
 -- ---- small facts
 
 same_place : (t v t' v' : ℕ) → ((t == t') && (v == v')) ≡ true → (t ≡ t') × (v ≡ v')
-same_place t v t' v' e = let both = both_true (t == t') (v == v') e in (same_true t t' both.0, same_true v v' both.1)
+same_place t v t' v' e = let both = and_parts (t == t') (v == v') e in (eqb-true t t' both.0, eqb-true v v' both.1)
 
 by_place : {P : Type 0} (t v t' v' : ℕ) → ((t ≡ t') × (v ≡ v') → P) → (((t == t') && (v == v')) ≡ false → P) → P
 by_place {P} t v t' v' here elsewhere = by_test ((t == t') && (v == v')) refl
@@ -213,7 +215,7 @@ find-gone test keep h (y ∷ ys) =
 gone_task : (ms : List Mapping) (t v : ℕ) → mapped_at (without_task ms t) t v ≡ None
 gone_task ms t v =
     ap (option_map (λ (m : Mapping). m.page.0))
-    (find-gone (is_at t v) (λ m. not (is_of t m)) (λ m hit. ap not (both_true (m.task.0 == t) (m.at == v) hit).0) ms)
+    (find-gone (is_at t v) (λ m. not (is_of t m)) (λ m hit. ap not (and_parts (m.task.0 == t) (m.at == v) hit).0) ms)
 
 gone_place : (ms : List Mapping) (t v : ℕ) → mapped_at (without_place ms t v) t v ≡ None
 gone_place ms t v = ap (option_map (λ (m : Mapping). m.page.0)) (find-gone (is_at t v) (λ m. not (is_at t v m)) (λ m hit. ap not hit) ms)
@@ -226,7 +228,7 @@ other_place ms t v t' v' differ =
     same a b c d e not_both = by_tests (b == t) (d == v) refl refl
       where
         by_tests : (x y : Bool) → (b == t) ≡ x → (d == v) ≡ y → (x && y) ≡ false
-        by_tests true true f g = absurd (not_both (sym (same_true b t f) ∙ sym e.0) (sym (same_true d v g) ∙ sym e.1))
+        by_tests true true f g = absurd (not_both (sym (eqb-true b t f) ∙ sym e.0) (sym (eqb-true d v g) ∙ sym e.1))
         by_tests true false f g = refl
         by_tests false y f g = refl
 
@@ -234,7 +236,7 @@ other_place ms t v t' v' differ =
     missed m e = rw (e.0, e.1) (same t' t' v' v' (refl, refl) (λ same_t same_v. unlike ((t == t') && (v == v')) (rw (same_t, same_v) (own t' v')) differ))
       where
         own : (a b : ℕ) → ((a == a) && (b == b)) ≡ true
-        own a b = rw (own_number a, own_number b) refl
+        own a b = rw (eq-eqb a a refl, eq-eqb b b refl) refl
 
 -- ---- one step
 
@@ -593,7 +595,7 @@ module _ (old new : State) (alive : AllLive old.mappings old.tasks) where
   spawns t g unused sets state =
       record {
         pages = pages_same (event.Spawn t g) reply.Ok (ap (λ (s : State). s.pages) state);
-        places = record { place = λ t' v p page at there away. (was t' v p at, λ o. ap (λ b. says_if b (Byte 0)) (false_other t.0 t' (λ e. other t' v p at (sym e)))); live = λ t' v p at. ap (there_and is_live_task) (sets.others t' (other t' v p at)) ∙ alive t' v p (was t' v p at) };
+        places = record { place = λ t' v p page at there away. (was t' v p at, λ o. ap (λ b. says_if b (Byte 0)) (ne_eqb t.0 t' (λ e. other t' v p at (sym e)))); live = λ t' v p at. ap (there_and is_live_task) (sets.others t' (other t' v p at)) ∙ alive t' v p (was t' v p at) };
         fresh = not_given reply.Ok refl;
       }
     where

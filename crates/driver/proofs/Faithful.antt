@@ -1,5 +1,5 @@
 -- What the device holds of each page that has no frame, and what each actor brings in or takes out: so that a run is honest.
-use Rattle.std.proofs.Common.{◌≡◌, inl, inr, ℕ, ◌<◌, ◌≤◌, ◌==◌, Bool, true, false, cond, List, [], length, Option, Some, None, refl, sym, ap, ◌∙◌, subst, arith, get_or-set_other}
+use Rattle.std.proofs.Common.{◌≡◌, inl, inr, ℕ, ◌<◌, ◌≤◌, ◌==◌, Bool, true, false, cond, List, [], length, Option, Some, None, eqb-true, eq-eqb, refl, sym, ap, ◌∙◌, subst, arith, get_or-set_other}
 use Rattle.std.specs.Prelude.{◌&&◌, Result, Ok, Err, slice_index, nat_le}
 use Rattle.std.proofs.Math.ListN.{length-set}
 use Rattle.std.proofs.lemmas.List.{get_or-set_same}
@@ -22,6 +22,7 @@ use Rattle.machine.specs.Access.{page_size}
 use Rattle.machine.specs.History.{InTask, spot_of, Nothing, says, follow, last, Fetched, fetched_by, fetch_of, HoldsLast, IsHonest, Honest, ticket_given}
 use Rattle.machine.specs.Call.{Past}
 use Rattle.machine.specs.Legal.{Legal}
+use Rattle.machine.proofs.Values.{some_inj, never_some, unlike}
 use Rattle.block_store.specs.declared.device.Fault.{Fault}
 use Rattle.block_store.specs.Device.{Disk, held, KeepsOthers, ReadsBlock, WritesBlock}
 use Rattle.pages.specs.Tickets.{TicketOf}
@@ -46,7 +47,6 @@ use Rattle.driver.specs.Turns.{ReadsIn, WritesOut, after_read, after_write}
 use Rattle.driver.specs.Schedule.{World, first_world, activity_of, with_activity, left_of, Asks, WantTurn, wants_at, DoingTurn, fits}
 use Rattle.driver.specs.Laws.{RunsAreHonest}
 use Rattle.driver.proofs.Effects.{AllLive, Fetches, Goes, Stood, InFrame, ItStays, ItFetches, ItLeaves, ItFails, ItGoes, Effect, step_effect}
-use Rattle.driver.proofs.MoveLemmas.{some_inj, never_some, unlike, same_true, own_number}
 use Rattle.driver.proofs.SoundLemmas.{pages_share_no_block, blocks_are_there, pages_share_no_ticket, pages_are_memory}
 use Rattle.driver.proofs.Keeps.{number_asked, number_wanted, in_hand, Alike, Same, Ticketless, wants_alike, number_at, is_idle, idle_none, FineOutcome, IsAt, runs_keep}
 use Rattle.driver.proofs.CallCases.{IsRefused, IsServed, Comes, ByRefusal, ByEntry, called_comes, Next, Handless, Reads, Writes, told_next}
@@ -176,7 +176,7 @@ left_event what ticket e = cc
 fetch_other : (n : ℕ) (what : Plain_event) (answer : Plain_reply) (earlier : List Entry) (others : Option Fetched) → (ticket_given answer ≡ Some n → ⊥) → fetched_by n what answer earlier others ≡ others
 fetch_other n (plain.Access t place op) (reply.Fetch m) earlier others other =
     elim (m.0 == n) as (λ b. (m.0 == n) ≡ b → cond b (Some (record { spot = spot_of t.0 place; earlier = earlier })) others ≡ others) [
-      | true ↦ λ is. absurd (other (ap (λ (x : ℕ). Some x) (same_true m.0 n is)))
+      | true ↦ λ is. absurd (other (ap (λ (x : ℕ). Some x) (eqb-true m.0 n is)))
       | false ↦ λ is. refl
     ] refl
 fetch_other n what answer earlier others other = refl
@@ -250,7 +250,7 @@ module _ (opening : Opening) (old new : Past) (contents : List (List ℕ)) (what
           ap (fetch_of n) went.answers.history
           ∙ ap (λ (e : Plain_event). fetched_by n e (reply_of answered) old.history (fetch_of n old.history)) k.is
           ∙ ap (λ (r : Plain_reply). fetched_by n (plain.Access k.task (Virtual k.v k.offset) k.op) r old.history (fetch_of n old.history)) k.answers
-          ∙ ap (λ (x : Bool). cond x (Some (record { spot = InTask k.task.0 k.v k.offset; earlier = old.history })) (fetch_of n old.history)) (ap (λ (m : ℕ). m == n) number ∙ own_number n) in
+          ∙ ap (λ (x : Bool). cond x (Some (record { spot = InTask k.task.0 k.v k.offset; earlier = old.history })) (fetch_of n old.history)) (ap (λ (m : ℕ). m == n) number ∙ eq-eqb n n refl) in
           subst (λ (x : Option Fetched). HoldsLast (held contents b) x) (sym began)
           (λ o within. h.stored k.task.0 k.v p b o k.before k.mapped k.there (ap stored_at k.away ∙ ap (λ (x : ℕ). Some x) block) within)
 

@@ -1,5 +1,5 @@
 -- What each actor is at once one of them is at something else; and what every turn keeps, every run keeps.
-use Rattle.std.proofs.Common.{◌≡◌, inl, inr, ℕ, zero, suc, ◌==◌, Bool, true, false, List, [], ◌∷◌, ◌++◌, Option, Some, None, refl, sym, ap, ◌∙◌, subst}
+use Rattle.std.proofs.Common.{◌≡◌, inl, inr, ℕ, zero, suc, ◌==◌, Bool, true, false, List, [], ◌∷◌, ◌++◌, Option, Some, None, eqb-true, eq-eqb, ne_eqb, refl, sym, ap, ◌∙◌, subst}
 use Rattle.std.specs.Prelude.{◌⊎◌, if◌then◌else◌, nat_le, Ok, Err, slice_get}
 use Rattle.machine.specs.declared.amount.Amount.{Amount}
 use Rattle.machine.specs.declared.amount.Amount.TheVariants as amount
@@ -36,13 +36,12 @@ use Rattle.driver.specs.declared.turn.Activity.TheVariants.{Rests, Begun, Does}
 use Rattle.driver.specs.declared.turn.Seat.{Seat}
 use Rattle.driver.specs.Turns.{wants, wants_pages, wants_balance, wants_watch, done, Judged, judged, task_judged, shell_judged, daemon_judged, with_group, with_file, with_amount, reads_file, writes_file, reclaims}
 use Rattle.driver.specs.Schedule.{number_of, is_of, activity_of, with_activity, World, wants_at, DoingTurn, JudgedTurn, ActivityTurn, said_at, all_said, answer_by, Goings, EndsIn, RunsOut, Begins, Stepped, Runs}
-use Rattle.driver.proofs.MoveLemmas.{same_true, true_same, false_other}
 use Rattle.driver.proofs.Effects.{ends}
 
 -- ---- seats
 
 pub activity_of-own : (a who : Actor) (what : Activity) (seats : List Seat) → number_of a ≡ number_of who → activity_of a (with_activity who what seats) ≡ what
-activity_of-own a who what [] e = rw (true_same (number_of who) (number_of a) (sym e)) refl
+activity_of-own a who what [] e = rw (eq-eqb (number_of who) (number_of a) (sym e)) refl
 activity_of-own a who what (seat ∷ seats) e = at (is_of who seat) refl (activity_of-own a who what seats e)
   where
     is_same : is_of a seat ≡ is_of who seat
@@ -54,13 +53,13 @@ activity_of-own a who what (seat ∷ seats) e = at (is_of who seat) refl (activi
     at false is ih = rw (is_same ∙ is) ih
 
 pub activity_of-other : (a who : Actor) (what : Activity) (seats : List Seat) → (number_of a ≡ number_of who → ⊥) → activity_of a (with_activity who what seats) ≡ activity_of a seats
-activity_of-other a who what [] e = rw (false_other (number_of who) (number_of a) (λ same. e (sym same))) refl
+activity_of-other a who what [] e = rw (ne_eqb (number_of who) (number_of a) (λ same. e (sym same))) refl
 activity_of-other a who what (seat ∷ seats) e = at (is_of who seat) refl (activity_of-other a who what seats e)
   where
     at : (b : Bool) → is_of who seat ≡ b → activity_of a (with_activity who what seats) ≡ activity_of a seats
         → activity_of a (if b then record { actor = seat.actor; activity = what } ∷ seats else seat ∷ with_activity who what seats) ≡ (if is_of a seat then seat.activity else activity_of a seats)
     at true is ih =
-        let miss : is_of a seat ≡ false = false_other (number_of seat.actor) (number_of a) (λ same. e (sym same ∙ same_true (number_of seat.actor) (number_of who) is)) in
+        let miss : is_of a seat ≡ false = ne_eqb (number_of seat.actor) (number_of a) (λ same. e (sym same ∙ eqb-true (number_of seat.actor) (number_of who) is)) in
         rw miss refl
     at false is ih = ap (λ rest. if is_of a seat then seat.activity else rest) ih
 

@@ -1,7 +1,6 @@
 -- What an access meets, and where a page stands after the end of its transfer.
-use Rattle.std.proofs.Common.{◌≡◌, inl, inr, ℕ, ◌==◌, ◌&&◌, Bool, true, false, cond, List, Option, Some, None, refl, sym, ap, ◌∙◌, subst, arith}
+use Rattle.std.proofs.Common.{◌≡◌, inl, inr, ℕ, ◌==◌, ◌&&◌, Bool, true, false, cond, List, Option, Some, None, refl, sym, ap, ◌∙◌, subst}
 use Rattle.std.specs.Prelude.{◌⊎◌}
-use Rattle.std.proofs.lemmas.Bool.Decides.{nat_tests}
 use Rattle.machine.specs.declared.record.Mapping.{Mapping}
 use Rattle.machine.specs.declared.event.Op.{Op}
 use Rattle.machine.specs.declared.event.Op.TheVariants.{Read, Write}
@@ -12,33 +11,7 @@ use Rattle.machine.specs.Tasks.{mappers, mapped_at}
 use Rattle.machine.specs.State.{State}
 use Rattle.machine.specs.Access.{Meeting, Unmapped, Hits, NeedsPage, NeedsCopy, NeedsSwapIn, meets, meets_mapped, meets_slot, meets_residence, is_shared_write}
 use Rattle.machine.specs.Step.{or_gone, in_frame, on_block_of, on_block}
-
--- ---- small facts
-
-pub some_inj : {T : Type 0} {x y : T} → Some x ≡ Some y → x ≡ y
-some_inj e = cc
-
-pub never_some : {P : Type 0} {T : Type 0} {x : T} (o : Option T) → o ≡ None → o ≡ Some x → P
-never_some o e f = cc
-
-pub unlike : {P : Type 0} (b : Bool) → b ≡ true → b ≡ false → P
-unlike b e f = cc
-
-pub both_true : (a b : Bool) → (a && b) ≡ true → (a ≡ true) × (b ≡ true)
-both_true true b e = (refl, e)
-both_true false b e = cc
-
-pub same_true : (a b : ℕ) → (a == b) ≡ true → a ≡ b
-same_true a b e = grind (arith, nat_tests, e)
-
-pub true_same : (a b : ℕ) → a ≡ b → (a == b) ≡ true
-true_same a b e = grind (arith, nat_tests, e)
-
-pub own_number : (n : ℕ) → (n == n) ≡ true
-own_number n = true_same n n refl
-
-pub false_other : (a b : ℕ) → (a ≡ b → ⊥) → (a == b) ≡ false
-false_other a b e = grind (arith, nat_tests, e)
+use Rattle.machine.proofs.Values.{some_inj, never_some}
 
 -- ---- what an access meets
 

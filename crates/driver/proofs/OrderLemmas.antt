@@ -1,5 +1,5 @@
 -- In which order pages leave: the list of held pages is right after every run, and the page that is taken is the first of its group there.
-use Rattle.std.proofs.Common.{◌≡◌, inl, inr, ℕ, ◌+◌, ◌≤◌, ◌==◌, ◌&&◌, not, Bool, true, false, cond, List, [], ◌∷◌, ◌++◌, length, Option, Some, None, refl, sym, ap, ◌∙◌, subst, arith}
+use Rattle.std.proofs.Common.{◌≡◌, inl, inr, ℕ, ◌+◌, ◌≤◌, ◌==◌, ◌&&◌, not, Bool, true, false, cond, List, [], ◌∷◌, ◌++◌, length, Option, Some, None, eqb-true, refl, sym, ap, ◌∙◌, subst, arith}
 use Rattle.std.specs.Prelude.{find, filter, count_by, slice_set}
 use Rattle.std.specs.List.{list_any}
 use Rattle.std.proofs.lemmas.List.Sums.{sum_by-cons, sum_by-append}
@@ -14,13 +14,14 @@ use Rattle.machine.specs.declared.refusal.Refusal.TheVariants.{Stranger, TraceFu
 use Rattle.machine.specs.declared.reply.Reply.{Reply}
 use Rattle.machine.specs.declared.reply.Reply.TheVariants as reply
 use Rattle.machine.specs.Slots.{there_and}
-use Rattle.machine.specs.Pages.{Page, Pages, page_at, is_held}
+use Rattle.machine.specs.Pages.{Page, Pages, page_at, is_held, is_held_in}
 use Rattle.machine.specs.State.{State}
 use Rattle.machine.specs.Reclaim.{target_of}
-use Rattle.machine.specs.Lists.{Order, TakesNext, is_page_of, is_held_at, ListsHeld, is_fresh, GoesOn, CursorsGoOn}
+use Rattle.machine.specs.Lists.{Order, TakesNext, is_page_of, ListsHeld, is_fresh, GoesOn, CursorsGoOn}
 use Rattle.machine.specs.Refusals.{refusal}
 use Rattle.machine.specs.Call.{Past, Answers, Served, JudgedBy, Called, knows_ticket, is_trace_full}
 use Rattle.machine.specs.Step.{new_node}
+use Rattle.machine.proofs.Values.{some_inj, never_some, unlike}
 use Rattle.machine.proofs.TreeLemmas.{eq_cases}
 use Rattle.machine.proofs.SlotLemmas.{one_if}
 use Rattle.machine.proofs.MappingLemmas.{find-passes}
@@ -36,7 +37,6 @@ use Rattle.driver.specs.declared.turn.Want.TheVariants as want
 use Rattle.driver.specs.Schedule.{World, first_world, with_activity, WantTurn, wants_at, DoingTurn, Runs}
 use Rattle.driver.specs.Laws.{took_for, TakesUnprotected, LeavesInOrder, HeldPagesAreListed, GroupsHaveCursors, HeldPagesGoOn, PagesLeaveInOrder}
 use Rattle.driver.proofs.OpeningLemmas.{tree_after, step_tree}
-use Rattle.driver.proofs.MoveLemmas.{some_inj, never_some, unlike, same_true}
 use Rattle.driver.proofs.Keeps.{is_idle, FineOutcome, IsAt, runs_keep}
 use Rattle.driver.proofs.Tickets.{Tickets, tickets_rest, tickets_turn, tickets_first}
 use Rattle.driver.proofs.LawLemmas.{by_test}
@@ -61,7 +61,7 @@ module _ (p : ℕ) where
   other_number keep x b is differs = by_same (x == p) refl
     where
       by_same : (c : Bool) → (x == p) ≡ c → one_if c ≡ 0
-      by_same true same = absurd (differs (ap keep (sym (same_true x p same)) ∙ is))
+      by_same true same = absurd (differs (ap keep (sym (eqb-true x p same)) ∙ is))
       by_same false same = refl
 
   count-kept : (keep : ℕ → Bool) (xs : List ℕ) → keep p ≡ true → count_of p (filter keep xs) ≡ count_of p xs
@@ -100,21 +100,21 @@ module _ (p : ℕ) where
 listed-on : (before after : Pages) (held held' : List ℕ) → GoesOn before held after held' → ListsHeld before held → ListsHeld after held'
 unfolding count_of
 listed-on before after held held' goes listed p =
-    let sum : count_of p held' ≡ count_of p (filter (is_held_at after) held) + count_of p goes.fresh = ap (count_of p) goes.list ∙ count-append p (filter (is_held_at after) held) goes.fresh in
+    let sum : count_of p held' ≡ count_of p (filter (is_held_in after) held) + count_of p goes.fresh = ap (count_of p) goes.list ∙ count-append p (filter (is_held_in after) held) goes.fresh in
     let new : count_of p goes.fresh ≡ one_if (is_fresh before after p) = count-few p goes.fresh goes.few ∙ ap one_if (goes.which p) in
-    by_held (is_held_at after p) refl sum new
+    by_held (is_held_in after p) refl sum new
   where
-    by_held : (b : Bool) → is_held_at after p ≡ b → count_of p held' ≡ count_of p (filter (is_held_at after) held) + count_of p goes.fresh → count_of p goes.fresh ≡ one_if (b && not (is_held_at before p)) → count_of p held' ≡ one_if b
+    by_held : (b : Bool) → is_held_in after p ≡ b → count_of p held' ≡ count_of p (filter (is_held_in after) held) + count_of p goes.fresh → count_of p goes.fresh ≡ one_if (b && not (is_held_in before p)) → count_of p held' ≡ one_if b
     by_held true is sum new =
-        let kept = count-kept p (is_held_at after) held is in
+        let kept = count-kept p (is_held_in after) held is in
         let was = listed p in
-        let one = either (is_held_at before p) in
+        let one = either (is_held_in before p) in
         omega (arith, sum, new, kept, was, one)
       where
         either : (b : Bool) → one_if b + one_if (not b) ≡ 1
         either true = refl
         either false = refl
-    by_held false is sum new = let gone = count-gone p (is_held_at after) held is in omega (arith, sum, new, gone)
+    by_held false is sum new = let gone = count-gone p (is_held_in after) held is in omega (arith, sum, new, gone)
 
 -- ---- one call
 
@@ -228,14 +228,14 @@ leaves_in_order old new target taken next =
         elim (eq_cases next.p taken.p) [
           | inl e ↦ e
           | inr differs ↦
-              unlike (is_held_at old.state.pages next.p) next.was (ap (there_and is_held) (sym (taken.others next.p differs)) ∙ next.taken)
+              unlike (is_held_in old.state.pages next.p) next.was (ap (there_and is_held) (sym (taken.others next.p differs)) ∙ next.taken)
         ]
 
     group : next.g ≡ taken.page.group
     group =
         let found : is_page_of old.state.pages next.g next.p ≡ true = find-passes (is_page_of old.state.pages next.g) old.order.held next.p next.first in
         let here : (taken.page.group == next.g) ≡ true = ap (there_and (λ (page : Page). page.group == next.g)) (sym taken.there ∙ ap (page_at old.state.pages) (sym same)) ∙ found in
-        sym (same_true taken.page.group next.g here)
+        sym (eqb-true taken.page.group next.g here)
 
 pub pages_leave_in_order : PagesLeaveInOrder
 pages_leave_in_order old new worker what answer target took called =

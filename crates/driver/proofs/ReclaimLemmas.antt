@@ -1,6 +1,7 @@
 -- Whose pages a reclaim takes, and what it does where it takes none.
-use Rattle.std.proofs.Common.{◌≡◌, inl, inr, ℕ, ◌==◌, ◌||◌, Bool, true, false, Option, Some, None, refl, ap, ◌∙◌, subst}
+use Rattle.std.proofs.Common.{◌≡◌, inl, inr, ℕ, ◌==◌, ◌||◌, Bool, true, false, Option, Some, None, eqb-true, refl, ap, ◌∙◌, subst}
 use Rattle.std.specs.Prelude.{◌⊎◌}
+use Rattle.std.proofs.lemmas.Bool.{and_parts}
 use Rattle.machine.specs.declared.id.TicketId.{TicketId}
 use Rattle.machine.specs.declared.record.Life.{Life}
 use Rattle.machine.specs.declared.record.Life.TheVariants.{Live, Exited, Killed}
@@ -22,8 +23,8 @@ use Rattle.machine.specs.State.{State, usage, over_in, is_frame_free, effective_
 use Rattle.machine.specs.Access.{Meeting, Unmapped, Hits, Transferring, NeedsPage, NeedsCopy, NeedsSwapIn, meets}
 use Rattle.machine.specs.Reclaim.{is_open, has_takeable, has_transfer, stands, target_of}
 use Rattle.machine.specs.Step.{Only, ChargeStep, MeetStep, LifeStep, TaskStep, Takes, LeavesBy, LeavesFrom, ReclaimStep, ReclaimOneStep, KillStep, RelieveStep, Step}
+use Rattle.machine.proofs.Values.{some_inj, unlike}
 use Rattle.driver.specs.Laws.{took_for, TakesUnprotected, ReclaimsSpareTheProtected, ReclaimsGiveUpLast, ReclaimsKillNobody}
-use Rattle.driver.proofs.MoveLemmas.{some_inj, unlike, both_true, same_true}
 use Rattle.driver.proofs.LawLemmas.{by_test, is_taking, never_taken, idle_of}
 
 -- ---- where the answer is that a page was taken, one was
@@ -60,12 +61,12 @@ module _ (before after : State) (target : ℕ) where
   open_cases g is = by_same (g == target) refl is
     where
       by_same : (b : Bool) → (g == target) ≡ b → (b || exceeds (usage before g) (effective_min before target g)) ≡ true → (g ≡ target) ⊎ (exceeds (usage before g) (effective_min before target g) ≡ true)
-      by_same true same e = inl (same_true g target same)
+      by_same true same e = inl (eqb-true g target same)
       by_same false same e = inr e
 
   module _ (answer : Reply) (h : Takes before target answer after) where
     takeable : (is_held h.page ≡ true) × (under before.tree target h.page.group ≡ true) × (is_open before target h.page.group ≡ true)
-    takeable = let all = both_true _ _ h.takeable in let three = both_true _ _ all.0 in let two = both_true _ _ three.0 in (two.0, two.1, three.1)
+    takeable = let all = and_parts _ _ h.takeable in let three = and_parts _ _ all.0 in let two = and_parts _ _ three.0 in (two.0, two.1, three.1)
 
     leaves_for : (to : Option Page) → Changes before.pages after.pages h.p to → there_and is_held to ≡ false → TakesUnprotected before target after
     leaves_for to changes gone =

@@ -1,8 +1,8 @@
 -- In every legal history no two pages share a frame, a swap block or a ticket, each page is memory on blocks that there are, and the groups of pages and
 -- of live tasks are there.
-use Rattle.std.proofs.Common.{◌+◌, ◌<◌, ◌≡◌, ◌≢◌, inl, inr, ℕ, zero, suc, ◌≤◌, ◌==◌, ◌&&◌, ◌||◌, not, Bool, true, false, cond, List, [], ◌∷◌, ◌++◌, length, Option, Some, None, refl, sym, ap, ◌∙◌, subst, arith, get_or-set_other}
+use Rattle.std.proofs.Common.{◌+◌, ◌<◌, ◌≡◌, ◌≢◌, inl, inr, ℕ, zero, suc, ◌≤◌, ◌==◌, ◌&&◌, ◌||◌, not, Bool, true, false, cond, List, [], ◌∷◌, ◌++◌, length, Option, Some, None, eqb-true, refl, sym, ap, ◌∙◌, subst, arith, get_or-set_other}
 use Rattle.std.specs.Prelude.{◌⊎◌, MatchBool, IfSome, slice_set}
-use Rattle.std.proofs.lemmas.Bool.{cases_lt}
+use Rattle.std.proofs.lemmas.Bool.{cases_lt, and_parts}
 use Rattle.std.proofs.lemmas.Bool.Decides.{nat_tests}
 use Rattle.std.proofs.lemmas.List.{get_or_append_left}
 use Rattle.std.proofs.lemmas.List.Quantifiers.{position-Some}
@@ -34,10 +34,11 @@ use Rattle.machine.specs.Reclaim.{has_takeable, has_transfer, stands, target_of}
 use Rattle.machine.specs.Refusals.{refusal, first_cause, bars_tasks, number_refusal}
 use Rattle.machine.specs.Step.{ChargeStep, MakesPage, StartsFetch, HitStep, UnmappedStep, MeetStep, LifeStep, TaskStep, Takes, StartsSwap, LeavesBy, LeavesFrom, ReclaimStep, KillStep, RelieveStep, still, EndsTask, Exits, EndsTransfer, in_frame, on_block, Step, new_page}
 use Rattle.machine.specs.Legal.{Legal}
+use Rattle.machine.proofs.Values.{unlike}
 use Rattle.machine.proofs.TreeLemmas.{eq_cases, IsTree-push}
 use Rattle.machine.proofs.SlotLemmas.{one_if, count_there-none, count_there-some, count_there-changes}
 use Rattle.driver.specs.Laws.{PagesShareNoFrame, PagesShareNoBlock, BlocksAreThere, PagesShareNoTicket, PagesAreMemory, GroupsAreThere}
-use Rattle.driver.proofs.MoveLemmas.{hits_held, swaps_away, in_frame-cases, on_block-cases, both_true, same_true}
+use Rattle.driver.proofs.MoveLemmas.{hits_held, swaps_away, in_frame-cases, on_block-cases}
 
 -- ---- what is sound
 
@@ -157,7 +158,7 @@ keeps-number test pages p page now was only same (inl none) k is = absurd (let e
 keeps-number test pages p page now was only same (inr (inl stood)) k is = inl (same k stood is)
 keeps-number test pages p page now was only same (inr (inr free)) k is =
     let e : (free.0 == k) ≡ true = ap (λ o. is_number o k) (sym free.1) ∙ only k is in
-    inr (ap (λ (n : ℕ). any_there (test n) pages) (sym (same_true free.0 k e)) ∙ free.2)
+    inr (ap (λ (n : ℕ). any_there (test n) pages) (sym (eqb-true free.0 k e)) ∙ free.2)
 
 slot_is : (P : Page → Type 0) (slot slot' : Option Page) → slot ≡ slot' → IfSome slot' P → IfSome slot P
 slot_is P slot slot' same h = subst (λ x. IfSome x P) (sym same) h
@@ -204,7 +205,7 @@ module _ (swap : ℕ) (pages pages' : Pages) (tasks : Tasks) (tree : List Node) 
       let page' : Page = record { content = page.content; group = page.group; dirty = dirty; residence = r } in
       sound-changed (Some page') changes (record { memory = fit.memory; live = fit.live; within = within })
       (keeps-number has_this_frame pages p page' (frame_at r) (frame_at page.residence) (λ k is. is) (λ k e is. ap (there_and (has_this_frame k)) there ∙ (ap (λ o. is_number o k) (sym e) ∙ is)) frames)
-      (keeps-number has_this_block pages p page' (block_at r) (block_at page.residence) (λ k is. (both_true (is_anon page.content) (is_number (block_at r) k) is).1)
+      (keeps-number has_this_block pages p page' (block_at r) (block_at page.residence) (λ k is. (and_parts (is_anon page.content) (is_number (block_at r) k) is).1)
       (λ k e is. ap (there_and (has_this_block k)) there ∙ (ap (λ o. is_anon page.content && is_number o k) (sym e) ∙ is)) blocks)
       (keeps-number has_this_ticket pages p page' (ticket_at r) (ticket_at page.residence) (λ k is. is) (λ k e is. ap (there_and (has_this_ticket k)) there ∙ (ap (λ o. is_number o k) (sym e) ∙ is)) tickets)
 
@@ -243,9 +244,6 @@ sound-ended swap old new t ended counted dead ends sound =
       falls = sound.falls;
     }
   where
-    unlike : (b : Bool) → b ≡ true → b ≡ false → ⊥
-    unlike b e f = cc
-
     passed : (test : Page → Bool) (n : ℕ) → there_and test (at new.pages n) ≡ true → there_and test (at old.pages n) ≡ true
     passed test n e = still_passes (without_task old.mappings t) n test (page_at old.pages n) (sym (ap (there_and test) (ends.unmaps n)) ∙ e)
 

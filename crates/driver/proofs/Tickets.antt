@@ -1,5 +1,5 @@
 -- Each ticket in an actor's hand is that of a page in transfer, was given to the run's worker, and is in no other's hand.
-use Rattle.std.proofs.Common.{◌≡◌, inl, inr, ℕ, zero, suc, ◌==◌, ◌&&◌, ◌||◌, Bool, true, false, cond, List, [], ◌∷◌, Option, Some, None, refl, sym, ap, ◌∙◌, subst}
+use Rattle.std.proofs.Common.{◌≡◌, inl, inr, ℕ, zero, suc, ◌==◌, ◌&&◌, ◌||◌, Bool, true, false, cond, List, [], ◌∷◌, Option, Some, None, eq-eqb, refl, sym, ap, ◌∙◌, subst}
 use Rattle.std.specs.Prelude.{◌⊎◌, Result, Ok, Err}
 use Rattle.machine.specs.declared.config.Config.{Config}
 use Rattle.machine.specs.declared.entry.Entry.{Entry}
@@ -13,6 +13,7 @@ use Rattle.machine.specs.Slots.{at, there_and, any_there}
 use Rattle.machine.specs.Pages.{Coming, Going, Page, Pages, page_at, is_number, ticket_at, is_ticket_taken, is_coming_at, is_going_at, is_coming_in, is_going_out}
 use Rattle.machine.specs.History.{ticket_given, taker_or, taker}
 use Rattle.machine.specs.Call.{Past, is_worker, knows_ticket}
+use Rattle.machine.proofs.Values.{never_some, unlike}
 use Rattle.machine.proofs.TreeLemmas.{eq_cases}
 use Rattle.block_store.specs.declared.device.Fault.{Fault}
 use Rattle.block_store.specs.Device.{Disk}
@@ -38,7 +39,6 @@ use Rattle.driver.specs.declared.turn.Seat.{Seat}
 use Rattle.driver.specs.Turns.{ReadsIn, WritesOut, after_read, after_write}
 use Rattle.driver.specs.Schedule.{number_of, activity_of, with_activity, World, first_world, Asks, WantTurn, wants_at, DoingTurn, outcome_of, left_of}
 use Rattle.driver.specs.Laws.{NoStrangers}
-use Rattle.driver.proofs.MoveLemmas.{never_some, unlike, own_number}
 use Rattle.driver.proofs.Effects.{ends, AllLive, Effect, step_effect}
 use Rattle.driver.proofs.Keeps.{activity_of-own, activity_of-other, number_asked, number_wanted, in_hand, Alike, Same, Ticketless, wants_alike, wanted_in_hand, number_at, is_idle, idle_none, Fine, FineOutcome, FineWant, wants_fine, fine_at, IsAt, runs_keep}
 use Rattle.driver.proofs.CallCases.{IsRefused, IsServed, Comes, ByRefusal, ByEntry, called_comes, Next, Handless, Reads, Writes, told_next}
@@ -155,7 +155,7 @@ at_flies past (Begun what) n h e = cc
 at_flies past (Does doing) n h e = wanted_flies past (in_hand doing) n h e
 
 pub flies_taken : (past : Past) (n : ℕ) → InFlight past n → is_ticket_taken past.state.pages n ≡ true
-flies_taken past n h = page_passes _ past.state.pages h.p h.page h.there (ap (λ (m : Option ℕ). is_number m n) h.ticket ∙ own_number n)
+flies_taken past n h = page_passes _ past.state.pages h.p h.page h.there (ap (λ (m : Option ℕ). is_number m n) h.ticket ∙ eq-eqb n n refl)
 
 -- ---- what goes on
 
@@ -200,7 +200,7 @@ taker_entry (Some m) n others e = by_test (m == n)
     by_test false = e
 
 taker_given : (given : Option ℕ) (n : ℕ) (others : Option ℕ) → given ≡ Some n → taker_or n given 0 others ≡ Some 0
-taker_given given n others e = rw e (ap (λ b. cond b (Some 0) others) (own_number n))
+taker_given given n others e = rw e (ap (λ b. cond b (Some 0) others) (eq-eqb n n refl))
 
 -- ---- a turn
 
@@ -214,13 +214,13 @@ pub record TurnsWell (old : Past) (want : Want) (turned : Turned) (new : Past) :
 
 known_coming : (past : Past) (ticket : TicketOf) → IsComing past ticket → (is_coming_in past.state.pages ticket.number && is_worker 0 (taker ticket.number past.history)) ≡ true
 known_coming past ticket h =
-    let flies : is_coming_in past.state.pages ticket.number ≡ true = page_passes _ past.state.pages h.p h.page h.there (ap (is_coming_at ticket.number) h.coming ∙ own_number ticket.number) in
+    let flies : is_coming_in past.state.pages ticket.number ≡ true = page_passes _ past.state.pages h.p h.page h.there (ap (is_coming_at ticket.number) h.coming ∙ eq-eqb ticket.number ticket.number refl) in
     let own : is_worker 0 (taker ticket.number past.history) ≡ true = ap (is_worker 0) h.taken in
     rw (flies, own) refl
 
 known_going : (past : Past) (ticket : TicketOf) → IsGoing past ticket → (is_going_out past.state.pages ticket.number && is_worker 0 (taker ticket.number past.history)) ≡ true
 known_going past ticket h =
-    let flies : is_going_out past.state.pages ticket.number ≡ true = page_passes _ past.state.pages h.p h.page h.there (ap (is_going_at ticket.number) h.going ∙ own_number ticket.number) in
+    let flies : is_going_out past.state.pages ticket.number ≡ true = page_passes _ past.state.pages h.p h.page h.there (ap (is_going_at ticket.number) h.going ∙ eq-eqb ticket.number ticket.number refl) in
     let own : is_worker 0 (taker ticket.number past.history) ≡ true = ap (is_worker 0) h.taken in
     rw (flies, own) refl
 

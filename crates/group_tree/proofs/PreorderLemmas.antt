@@ -3,7 +3,7 @@ use Rattle.std.proofs.Common.{◌⊎◌, inl, inr, ◌≡◌, ℕ, zero, suc, �
 use Rattle.std.specs.Prelude.{flat_map, nat_le}
 use Rattle.std.specs.List.{enumerate_from, list_any}
 use Rattle.std.specs.Option.{option_map_or}
-use Rattle.std.proofs.lemmas.Bool.{cases_lt, cases_Bool}
+use Rattle.std.proofs.lemmas.Bool.{cases_lt, cases_Bool, and_from}
 use Rattle.std.proofs.lemmas.Bool.Decides.{nat_tests}
 use Rattle.std.proofs.lemmas.List.Folds.{list_any-append}
 use Rattle.machine.specs.Tree.{Node, no_node, node_at, is_live, is_child, is_parent, under, under_at, IsTree, numbers, children, preorder_to, preorder}
@@ -195,10 +195,6 @@ first : (a b : Bool) → (a && b) ≡ true → a ≡ true
 first true b e = refl
 first false b e = absurd cc
 
-both : (a b : Bool) → a ≡ true → b ≡ true → (a && b) ≡ true
-both true b e f = f
-both false b e f = e
-
 one_of : (a b : Bool) → (a || b) ≡ true → (a ≡ true) ⊎ (b ≡ true)
 one_of true b e = inl refl
 one_of false b e = inr e
@@ -311,7 +307,7 @@ module _ (tree : List Node) (is : IsTree tree) (target : ℕ) (there : target < 
         | inr above ↦
             (let falls = is.falls g p parent in
             let own : (p == p) ≡ true = grind arith in
-            let child : is_child p (node_at tree g) ≡ true = both _ _ live (ap (λ at. is_parent at p) parent ∙ own) in
+            let child : is_child p (node_at tree g) ≡ true = and_from _ _ live (ap (λ at. is_parent at p) parent ∙ own) in
             let more = reaches parents n p (omega (arith, falls)) (parents g p live parent) (ap (under_at tree target) (sym parent) ∙ above) (node_at tree p).parent refl in
             goes_on (length tree) target p g there (omega arith) child (live-within tree g live) more)
       ]
@@ -328,5 +324,5 @@ preorder-has tree groups target g live =
     let is = groups.earlier_parents in
     let there = live-within tree target live in
     same_tests _ _
-    (λ h. let comes = comes_to tree is target there (length tree) target g live (under_here tree target target (let own : (target == target) ≡ true = grind arith in own)) h in both _ _ comes.0 comes.1)
+    (λ h. let comes = comes_to tree is target there (length tree) target g live (under_here tree target target (let own : (target == target) ≡ true = grind arith in own)) h in and_from _ _ comes.0 comes.1)
     (λ h. reaches tree is target there groups.parents_live (suc g) g (omega arith) (first _ _ h) (second _ _ h) (node_at tree g).parent refl)

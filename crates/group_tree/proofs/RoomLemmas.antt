@@ -1,6 +1,7 @@
 -- What keeps a group from being made, and what follows where nothing does.
-use Rattle.std.proofs.Common.{◌≡◌, ℕ, ◌<◌, ◌≤◌, Bool, true, false, not, ◌||◌, ◌&&◌, List, length, Option, Some, None, is_some, refl, sym, ap, ◌∙◌, arith, nat_lt, map}
+use Rattle.std.proofs.Common.{◌≡◌, ℕ, ◌<◌, ◌≤◌, Bool, true, false, not, ◌||◌, List, length, Option, Some, None, is_some, refl, sym, ap, ◌∙◌, arith, nat_lt, map}
 use Rattle.std.specs.Prelude.{nat_le, IfSome, IsTrue}
+use Rattle.std.proofs.lemmas.Bool.{and_parts, or_parts}
 use Rattle.std.proofs.lemmas.Bool.Decides.{nat_tests}
 use Rattle.std.proofs.lemmas.List.{length-map}
 use Rattle.std.proofs.lemmas.List.Quantifiers.{position-Some}
@@ -16,10 +17,6 @@ first_none : (t : Bool) (cause : Refusal) (others : Option Refusal) → first_ca
 first_none true cause others e = absurd cc
 first_none false cause others e = (refl, e)
 
-neither : (a b : Bool) → (a || b) ≡ false → (a ≡ false) × (b ≡ false)
-neither true b e = absurd cc
-neither false b e = (refl, e)
-
 nothing_there : (o : Option ℕ) → is_some o ≡ false → o ≡ None
 nothing_there None e = refl
 nothing_there (Some x) e = absurd cc
@@ -31,7 +28,7 @@ pub record HasRoom (tree : List Node) (p : ℕ) : Type 0 where
 
 has_room : (tree : List Node) (p : ℕ) → space_refusal tree p ≡ None → HasRoom tree p
 has_room tree p e =
-    let tests = neither (nat_le 256 (live_groups tree)) (nat_lt 16 (length (chain tree (Some p)))) (first_none _ NoSpace None e).0 in
+    let tests = or_parts (nat_le 256 (live_groups tree)) (nat_lt 16 (length (chain tree (Some p)))) (first_none _ NoSpace None e).0 in
     let many = tests.0 in
     let deep = tests.1 in
     record { few = grind (arith, nat_tests, many); levels = grind (arith, nat_tests, deep) }
@@ -53,13 +50,9 @@ space tree p few levels =
     let u : nat_lt 16 (length (chain tree (Some p))) ≡ false = grind (arith, nat_tests, levels) in
     sym (ap (λ b. first_cause (b || nat_lt 16 (length (chain tree (Some p)))) NoSpace None) t ∙ ap (λ b. first_cause b NoSpace None) u)
 
-both_true : (a b : Bool) → (a && b) ≡ true → a ≡ true
-both_true true b e = refl
-both_true false b e = absurd cc
-
 -- a path stands for a live group
 pub found_live : (tree : List Node) (path : List ℕ) (p : ℕ) → find_group tree path ≡ Some p → is_live tree p ≡ true
-found_live tree path p e = both_true (node_at tree p).live _ (position-Some (is_at_path path) tree p no_node e).1
+found_live tree path p e = (and_parts (node_at tree p).live _ (position-Some (is_at_path path) tree p no_node e).1).0
 
 -- nothing refuses a group of this path
 pub record IsFree (tree : List Node) (path : List ℕ) : Type 0 where

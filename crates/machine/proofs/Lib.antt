@@ -1,3 +1,4 @@
+pub mod Values
 pub mod TreeLemmas
 pub mod SlotLemmas
 pub mod MappingLemmas

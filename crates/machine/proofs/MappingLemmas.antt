@@ -1,17 +1,16 @@
 -- Look-ups and counts in the list of mappings.
-use Rattle.std.proofs.Common.{◌≡◌, ◌≢◌, inl, inr, ℕ, ◌+◌, ◌≤◌, ◌==◌, ◌&&◌, not, Bool, true, false, cond, List, [], ◌∷◌, ◌++◌, Option, Some, None, refl, sym, ap, ◌∙◌, arith}
+use Rattle.std.proofs.Common.{◌≡◌, ◌≢◌, inl, inr, ℕ, ◌+◌, ◌≤◌, ◌==◌, ◌&&◌, not, Bool, true, false, cond, List, [], ◌∷◌, ◌++◌, Option, Some, None, eqb-true, refl, sym, ap, ◌∙◌, arith}
 use Rattle.std.specs.Prelude.{find, filter, count_by, option_map}
 use Rattle.std.specs.Option.{option_or}
+use Rattle.std.proofs.lemmas.Bool.{and_parts}
 use Rattle.std.proofs.lemmas.List.Sums.{sum_by-append, sum_by-cons}
 use Rattle.std.proofs.lemmas.List.Folds.{find-append}
 use Rattle.std.proofs.lemmas.Bool.Decides.{nat_tests}
 use Rattle.machine.specs.declared.record.Mapping.{Mapping}
 use Rattle.machine.specs.Tasks.{is_of, is_at, is_to, mapped_at, size_of, mappers, mapping, without_task}
+use Rattle.machine.proofs.Values.{some_inj}
 use Rattle.machine.proofs.TreeLemmas.{eq_cases}
 use Rattle.machine.proofs.SlotLemmas.{one_if}
-
-some_inj : {T : Type 0} {x y : T} → Some x ≡ Some y → x ≡ y
-some_inj e = cc
 
 module _ {T : Type 0} where
   -- what is found passes
@@ -95,13 +94,6 @@ found test ms p e = at (find test ms) refl e
     at None is e = cc
     at (Some m) is e = (m, is, some_inj e)
 
-same_true : (a b : ℕ) → (a == b) ≡ true → a ≡ b
-same_true a b e = grind (arith, nat_tests, e)
-
-both_true : (a b : Bool) → (a && b) ≡ true → (a ≡ true) × (b ≡ true)
-both_true true b e = (refl, e)
-both_true false b e = cc
-
 -- a page that is mapped is counted
 pub mapped_at-mappers : (ms : List Mapping) (t v p : ℕ) → mapped_at ms t v ≡ Some p → 1 ≤ mappers ms p
 mapped_at-mappers ms t v p e =
@@ -112,19 +104,19 @@ mapped_at-mappers ms t v p e =
 pub mapped_at-size : (ms : List Mapping) (t v p : ℕ) → mapped_at ms t v ≡ Some p → 1 ≤ size_of ms t
 mapped_at-size ms t v p e =
     let m = found (is_at t v) ms p e in
-    find-counts (is_at t v) (is_of t) ms m.0 m.1 (both_true (m.0.task.0 == t) (m.0.at == v) (find-passes (is_at t v) ms m.0 m.1)).0
+    find-counts (is_at t v) (is_of t) ms m.0 m.1 (and_parts (m.0.task.0 == t) (m.0.at == v) (find-passes (is_at t v) ms m.0 m.1)).0
 
 -- two places that show a page that is mapped once are one place
 pub mapped_at-one : (ms : List Mapping) (t v t' v' p : ℕ) → mappers ms p ≤ 1 → mapped_at ms t v ≡ Some p → mapped_at ms t' v' ≡ Some p → ((t == t') && (v == v')) ≡ true
 mapped_at-one ms t v t' v' p once e f =
     let m = found (is_at t v) ms p e in
     let n = found (is_at t' v') ms p f in
-    let mt = both_true (m.0.task.0 == t) (m.0.at == v) (find-passes (is_at t v) ms m.0 m.1) in
-    let nt = both_true (n.0.task.0 == t') (n.0.at == v') (find-passes (is_at t' v') ms n.0 n.1) in
-    let m_task = same_true m.0.task.0 t mt.0 in
-    let m_at = same_true m.0.at v mt.1 in
-    let n_task = same_true n.0.task.0 t' nt.0 in
-    let n_at = same_true n.0.at v' nt.1 in
+    let mt = and_parts (m.0.task.0 == t) (m.0.at == v) (find-passes (is_at t v) ms m.0 m.1) in
+    let nt = and_parts (n.0.task.0 == t') (n.0.at == v') (find-passes (is_at t' v') ms n.0 n.1) in
+    let m_task = eqb-true m.0.task.0 t mt.0 in
+    let m_at = eqb-true m.0.at v mt.1 in
+    let n_task = eqb-true n.0.task.0 t' nt.0 in
+    let n_at = eqb-true n.0.at v' nt.1 in
     elim ((t == t') && (v == v')) as (λ b. ((t == t') && (v == v')) ≡ b → b ≡ true) [
       | true ↦ λ is. refl
       | false ↦ λ is.
@@ -186,4 +178,4 @@ mappers-push ms t v p q =
 pub mapped_at-without_task : (ms : List Mapping) (t t' v : ℕ) → t ≢ t' → mapped_at (without_task ms t) t' v ≡ mapped_at ms t' v
 mapped_at-without_task ms t t' v other =
     ap (option_map (λ (m : Mapping). m.page.0))
-    (find-filter (is_at t' v) (λ m. not (is_of t m)) (λ m hit. let own = same_true m.task.0 t' (both_true (m.task.0 == t') (m.at == v) hit).0 in let miss : (m.task.0 == t) ≡ false = grind (arith, nat_tests, own, other) in ap not miss) ms)
+    (find-filter (is_at t' v) (λ m. not (is_of t m)) (λ m hit. let own = eqb-true m.task.0 t' (and_parts (m.task.0 == t') (m.at == v) hit).0 in let miss : (m.task.0 == t) ≡ false = grind (arith, nat_tests, own, other) in ap not miss) ms)

@@ -6,7 +6,7 @@ use Rattle.machine.specs.declared.event.Event.TheVariants as event
 use Rattle.machine.specs.declared.reply.Reply.{Reply}
 use Rattle.machine.specs.declared.reply.Reply.TheVariants as reply
 use Rattle.machine.specs.Slots.{there_and, any_there}
-use Rattle.machine.specs.Pages.{Page, Pages, page_at, is_held}
+use Rattle.machine.specs.Pages.{Page, Pages, page_at, is_held_in}
 use Rattle.machine.specs.Order.{served_by, cursor_at}
 use Rattle.machine.specs.State.{State}
 use Rattle.machine.specs.Reclaim.{is_takeable, target_of}
@@ -36,36 +36,33 @@ served s order target = served_by s.tree (gives s target) target (cursor_at orde
 abbrev pub is_page_of : Pages → ℕ → ℕ → Bool
 is_page_of pages g p = there_and (λ page. page.group == g) (page_at pages p)
 
-abbrev pub is_held_at : Pages → ℕ → Bool
-is_held_at pages p = there_and is_held (page_at pages p)
-
 -- each page that is in a frame and in no transfer is in the list once, and no other page is
 abbrev pub ListsHeld : Pages → List ℕ → Type 0
-ListsHeld pages held = (p : ℕ) → count_by (λ q. q == p) held ≡ (if is_held_at pages p then 1 else 0)
+ListsHeld pages held = (p : ℕ) → count_by (λ q. q == p) held ≡ (if is_held_in pages p then 1 else 0)
 
--- a page was taken for the target: of the group that is served the one that has been in its frame for longest. The target's cursor then names the group.
+-- a page that was held is held no more: of the group that is served the one that has been in its frame for longest. The target's cursor then names the group.
 -- (Excludes one cursor for all targets, and a newer page that leaves before an older one.)
 pub record TakesNext (old : State) (order : Order) (target : ℕ) (new : State) (order' : Order) : Type 0 where
   pub g : ℕ
   pub p : ℕ
   pub next : served old order target ≡ Some g
   pub first : find (is_page_of old.pages g) order.held ≡ Some p
-  pub was : is_held_at old.pages p ≡ true
-  pub taken : is_held_at new.pages p ≡ false
+  pub was : is_held_in old.pages p ≡ true
+  pub taken : is_held_in new.pages p ≡ false
   pub moves : order'.cursors ≡ slice_set order.cursors target (Some g)
 
 -- ---- how the order goes on
 
 -- held from now on
 abbrev pub is_fresh : Pages → Pages → ℕ → Bool
-is_fresh before after p = is_held_at after p && not (is_held_at before p)
+is_fresh before after p = is_held_in after p && not (is_held_in before p)
 
 -- what is held no more leaves the list, all others stay in their order, and what is held from now on, at most one page an event, comes behind them
 pub record GoesOn (before : Pages) (held : List ℕ) (after : Pages) (held' : List ℕ) : Type 0 where
   pub fresh : List ℕ
   pub few : length fresh ≤ 1
   pub which : (p : ℕ) → list_any (λ q. q == p) fresh ≡ is_fresh before after p
-  pub list : held' ≡ filter (is_held_at after) held ++ fresh
+  pub list : held' ≡ filter (is_held_in after) held ++ fresh
 
 -- a cursor moves where a page is taken, and a new group has one. (Excludes a cursor that moves though no page was taken.)
 abbrev pub CursorsGoOn : State → Order → Event → Reply → State → Order → Type 0

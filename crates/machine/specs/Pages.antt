@@ -1,6 +1,6 @@
 -- Pages and where they stand (kernel: mm/memcontrol.c, mm/swap_state.c, mm/vmscan.c).
 use Rattle.std.specs.Prelude.{ℕ, ◌+◌, ◌==◌, ◌&&◌, Bool, true, false, List, sum, take, Option, Some, None}
-use Rattle.machine.specs.Slots.{at, count_there, any_there}
+use Rattle.machine.specs.Slots.{at, there_and, count_there, any_there}
 use Rattle.machine.specs.Tree.{Node, under}
 
 -- what a page holds: memory of tasks, or a page of a file
@@ -78,6 +78,10 @@ is_held page = is_held_at page.residence
 
 abbrev pub is_in_transfer : Page → Bool
 is_in_transfer page = in_transfer_at page.residence
+
+-- the page of a number is there, in a frame and in no transfer
+abbrev pub is_held_in : Pages → ℕ → Bool
+is_held_in pages p = there_and is_held (page_at pages p)
 
 -- the page is charged to a or below it
 abbrev pub is_charged : List Node → ℕ → Page → Bool

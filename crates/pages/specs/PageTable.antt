@@ -1,7 +1,7 @@
 -- What a contract sees of `Pages`.
 use Rattle.std.specs.Prelude.{◌≡◌, ℕ, Bool, true, false, List, Option, Some, None, IfSome, option_map, slice_index}
 use Rattle.machine.specs.Slots.{at, there_and}
-use Rattle.machine.specs.Pages.{Memory, Residence, Held, Coming, Going, Away, Page, Pages, page_at, is_held, is_in_transfer, is_number, ticket_at}
+use Rattle.machine.specs.Pages.{Memory, Residence, Held, Coming, Going, Away, Page, Pages, page_at, is_in_transfer, is_number, ticket_at}
 use Rattle.pages.specs.declared.standing.Standing.{Standing}
 use Rattle.pages.specs.declared.standing.Standing.TheVariants as standing
 use Rattle.pages.specs.declared.flight.Flight.{Flight}
@@ -37,11 +37,7 @@ standing_of (Coming frame block ticket) = standing.Coming
 standing_of (Going frame block ticket) = standing.Going
 standing_of (Away block) = standing.Away block
 
--- the page of a number is there and is held
-abbrev pub is_held_in : Pages → ℕ → Bool
-is_held_in pages p = there_and is_held (page_at pages p)
-
--- it is there and in transfer
+-- the page of a number is there and in transfer
 abbrev pub is_moving_in : Pages → ℕ → Bool
 is_moving_in pages p = there_and is_in_transfer (page_at pages p)
 

@@ -8,10 +8,10 @@
 ghost use Rattle.std.specs.Prelude.{◌≡◌, ℕ, ◌+◌, ◌<◌, ◌≤◌, ◌==◌, ◌&&◌, [], Some, None, OnOk, IsOk, IfOk, true, false, map, option_map, if◌then◌else◌};
 ghost use Rattle.machine.specs.Slots.{at, Changes};
 ghost use Rattle.machine.specs.Pages as residence;
-ghost use Rattle.machine.specs.Pages.{page_at};
+ghost use Rattle.machine.specs.Pages.{page_at, is_held_in};
 ghost use Rattle.machine.specs.Access.{page_size};
 ghost use Rattle.machine.specs.Step.{new_page};
-ghost use Rattle.pages.specs.PageTable.{byte_in, Stands, standing_of, is_held_in, is_moving_in, AreInFlight};
+ghost use Rattle.pages.specs.PageTable.{byte_in, Stands, standing_of, is_moving_in, AreInFlight};
 ghost use Rattle.pages.specs.Transfers.{StartsIn, StartsOut, EndsIn, FailsOut, EndsAway};
 ghost use Rattle.pages.specs.Records.{page_of};
 

@@ -3,6 +3,7 @@ use Rattle.std.proofs.Common.{◌≡◌, ℕ, Bool, true, false, ◌||◌, List,
 use Rattle.std.specs.Prelude.{nat_le}
 use Rattle.std.specs.List.{list_any}
 use Rattle.std.specs.Str.{is_utf8}
+use Rattle.std.proofs.lemmas.Bool.{and_parts}
 use Rattle.std.proofs.lemmas.Bool.Decides.{nat_tests}
 use Rattle.std.proofs.lemmas.List.Folds.{list_any-append}
 use Rattle.machine.specs.State.{are_marks, is_config}
@@ -17,7 +18,7 @@ use Rattle.scripts.specs.Faults.{fault, is_within}
 use Rattle.scripts.specs.Header.{word_of, goes_on, is_frames, at_frames, default_config, frames_line, frames_asked, header_frames}
 use Rattle.scripts.specs.Reading.{Known, at_start, after}
 use Rattle.scripts.proofs.HeaderLemmas.{frames_line-other, frames_line-frames, frames_line-behind}
-use Rattle.scripts.proofs.TellLemmas.{both, Tells, tells}
+use Rattle.scripts.proofs.TellLemmas.{Tells, tells}
 
 abbrev pub given_frames : List Word → Bool
 given_frames given = list_any (same_word word.Frames) given
@@ -82,7 +83,7 @@ step ls left more k l (item.Swap n) e m (u, t) f =
     record {
       around = f.around;
       frames = f.frames;
-      swap = (both (nat_le 0 n) (nat_le n 65536) t.2).1;
+      swap = (and_parts (nat_le 0 n) (nat_le n 65536) t.2).1;
       marks = f.marks;
       trace = f.trace;
       asked = other ls left more k.config.frames k.around.commands false k.around.given (word.Swap ∷ []) (ap frames_line e ∙ frames_line-other l more (u, t.0, t.1)) f.asked;

@@ -5,6 +5,7 @@ use Rattle.std.specs.Bool.{if◌then◌else◌}
 use Rattle.std.specs.List.{list_any}
 use Rattle.std.specs.Str.{is_utf8, bytes_eq}
 use Rattle.std.proofs.lemmas.Slice.Eq.{bytes_eq-Decides}
+use Rattle.std.proofs.lemmas.Bool.{and_parts}
 use Rattle.machine.specs.Numbers.{is_numeral, number_below}
 use Rattle.machine.specs.State.{are_marks}
 use Rattle.machine.specs.declared.command.Actor.TheVariants as actor
@@ -40,13 +41,8 @@ found p (y ∷ ys) x h =
 named : (who : Speaker) (text : List ℕ) (w : Word) → word_named who text ≡ Some w → is_named who text (form_of w) ≡ true
 named who text w h = found (λ v. is_named who text (form_of v)) words w h
 
-pub both : (b c : Bool) → (b && c) ≡ true → (b ≡ true) × (c ≡ true)
-both true true h = (refl, refl)
-both true false h = absurd cc
-both false c h = absurd cc
-
 is_name : (who : Speaker) (text : List ℕ) (w : Word) → word_named who text ≡ Some w → text ≡ (form_of w).name
-is_name who text w h = (bytes_eq-Decides text (form_of w).name).0 ((both (same_speaker (form_of w).speaker who) (bytes_eq text (form_of w).name) (named who text w h)).1)
+is_name who text w h = (bytes_eq-Decides text (form_of w).name).0 ((and_parts (same_speaker (form_of w).speaker who) (bytes_eq text (form_of w).name) (named who text w h)).1)
 
 -- no word of the header begins with '#' or is a number
 pub not_skipped : (first : List ℕ) → word_named speaker.Shell first ≡ Some word.Frames → is_comment first ≡ false

@@ -1,13 +1,10 @@
-use Rattle.std.proofs.Common.{◌≡◌, ◌≢◌, ◌==◌, ℕ, true, false, Some, sym, ap, ◌∙◌, arith}
+use Rattle.std.proofs.Common.{◌≡◌, ◌≢◌, ◌==◌, ℕ, false, Some, eqb-true, sym, ap, ◌∙◌, arith}
 use Rattle.machine.specs.declared.amount.Amount.{Amount}
 use Rattle.machine.specs.Protection.{part_of, min_of}
 use Rattle.page_counter.specs.Counts.{usage_of}
 use Rattle.protection.proofs.KinLemmas.{asked_below-kin}
 use Rattle.protection.proofs.EffectiveLemmas.{effective-child, effective-step, has_parent, under-parent}
 use Rattle.protection.proofs.+effective.Goals as goal
-
-same_number : (a b : ℕ) → (a == b) ≡ true → a ≡ b
-same_number a b e = grind (arith, e)
 
 other_number : (a b : ℕ) → (a == b) ≡ false → b ≢ a
 other_number a b e same = grind (arith, e, same)
@@ -17,7 +14,7 @@ unreachable-requires t c = has_parent c.args.tree.now c.parent.ensures.tree.earl
 
 pub returns-then-eq : goal.returns-then-eq
 returns-then-eq t c =
-    let same = same_number c.in-Some.parent.0 c.args.target.0 (sym c.eq.ensures ∙ c.if-eq.true) in
+    let same = eqb-true c.in-Some.parent.0 c.args.target.0 (sym c.eq.ensures ∙ c.if-eq.true) in
     c.min.ensures
     ∙ sym (effective-child c.args.tree.now c.parent.ensures.tree.earlier_parents c.args.target.0 false (min_of c.args.counters.now.limits) (usage_of c.args.counters.now) c.args.group.0 c.requires.below
     (sym c.in-Some.ensures.parent ∙ ap Some same))

@@ -1,4 +1,4 @@
-use Rattle.std.proofs.Common.{◌≡◌, ◌∙◌, Some, true, refl, sym, ap, subst, arith}
+use Rattle.std.proofs.Common.{◌≡◌, ◌∙◌, Some, true, eq-eqb, refl, sym, ap, subst, arith}
 use Rattle.machine.specs.Tree.{is_live}
 use Rattle.machine.specs.Pages.{Coming, Away, is_held, is_in_transfer}
 use Rattle.page_counter.specs.Counts.{Charges, over_in}
@@ -8,7 +8,7 @@ use Rattle.book.specs.Holdings.{IsGranted}
 use Rattle.book.specs.Keeping.{holdings_of}
 use Rattle.book.proofs.CountLemmas.{charge-usage}
 use Rattle.book.proofs.HoldingLemmas.{kept-step, holding-step, relists-same, relists-in, same-view, ticket-free}
-use Rattle.book.proofs.EntryLemmas.{grouped-same, grouped-in, equal}
+use Rattle.book.proofs.EntryLemmas.{grouped-same, grouped-in}
 use Rattle.book.proofs.OrderLemmas.{listed-held, goes-on-at}
 use Rattle.book.proofs.GrantLemmas.{stands-live, room-free, few-charged, over-granted, none-free, granted, granted-out, granted-frame, granted-free, holding-back}
 use Rattle.book.proofs.holdings.Holdings.fetch.Goals as goal
@@ -96,7 +96,7 @@ invariant_of-self-2 c =
       held = relists-same is_held h.held.numbers p from to refl;
       moving = relists-in is_in_transfer h.moving.numbers c.push.new.self.numbers p p from to refl refl refl c.push.ensures.counts c.push.ensures.more;
       held_groups = grouped-same h.held h.pages.pages pages p from to stood starts.placed c.self.invariant.held_groups (λ x listed own. own);
-      moving_groups = grouped-in h.moving h.pages.pages pages p from to stood starts.placed c.self.invariant.moving_groups c.push.new.self (c.group_of-group.result, c.args.page) c.push.ensures.entries c.push.ensures.last refl (equal g c.group_of-group.result.0 room.group) (λ x listed own. own);
+      moving_groups = grouped-in h.moving h.pages.pages pages p from to stood starts.placed c.self.invariant.moving_groups c.push.new.self (c.group_of-group.result, c.args.page) c.push.ensures.entries c.push.ensures.last refl (eq-eqb g c.group_of-group.result.0 room.group) (λ x listed own. own);
       held_room = refl;
       moving_room = c.push.ensures.room;
       spares = omega (arith, spares);

@@ -1,4 +1,4 @@
-use Rattle.std.proofs.Common.{◌≡◌, ◌<◌, false, Some, refl, sym, ap, subst, arith, length}
+use Rattle.std.proofs.Common.{◌≡◌, ◌<◌, false, Some, eq-eqb, refl, sym, ap, subst, arith, length}
 use Rattle.machine.specs.Slots.{Changes}
 use Rattle.machine.specs.Pages.{Held, Going, is_held, is_in_transfer, has_swap, is_swap_taken}
 use Rattle.frames.specs.Pool.{PoolOf, free_count}
@@ -8,7 +8,7 @@ use Rattle.pages.specs.Tickets.{TicketOf}
 use Rattle.book.specs.Keeping.{has_this_block}
 use Rattle.book.proofs.BalanceLemmas.{taken-in}
 use Rattle.book.proofs.HoldingLemmas.{kept-step, holding-step, relists-in, relists-out, same-view, ticket-free, held-stands}
-use Rattle.book.proofs.EntryLemmas.{grouped-in, grouped-out, equal}
+use Rattle.book.proofs.EntryLemmas.{grouped-in, grouped-out}
 use Rattle.book.proofs.OrderLemmas.{listed-held, goes-on-out}
 use Rattle.book.proofs.GrantLemmas.{stands-live, room-held}
 use Rattle.book.proofs.holdings.Holdings.write_out.Goals as goal
@@ -68,7 +68,7 @@ invariant_of-self c =
       held = relists-out is_held h.held.numbers c.remove.new.self.numbers h.pages.pages p p from to refl w.2 refl c.self.invariant.held c.remove.ensures.counts c.remove.ensures.fewer;
       moving = relists-in is_in_transfer h.moving.numbers c.push.new.self.numbers p p from to refl refl refl c.push.ensures.counts c.push.ensures.more;
       held_groups = grouped-out h.held h.pages.pages c.start_out-ticket.new.self.pages p from to w.2 starts.placed c.self.invariant.held_groups c.remove.new.self p c.remove.ensures.entries c.remove.ensures.others refl;
-      moving_groups = grouped-in h.moving h.pages.pages c.start_out-ticket.new.self.pages p from to w.2 starts.placed c.self.invariant.moving_groups c.push.new.self (c.group_of-group.result, c.args.page) c.push.ensures.entries c.push.ensures.last refl (equal g c.group_of-group.result.0 (sym (c.group_of-group.ensures g (Held f) w.2))) (λ x listed own. own);
+      moving_groups = grouped-in h.moving h.pages.pages c.start_out-ticket.new.self.pages p from to w.2 starts.placed c.self.invariant.moving_groups c.push.new.self (c.group_of-group.result, c.args.page) c.push.ensures.entries c.push.ensures.last refl (eq-eqb g c.group_of-group.result.0 (sym (c.group_of-group.ensures g (Held f) w.2))) (λ x listed own. own);
       held_room = c.remove.ensures.room;
       moving_room = c.push.ensures.room;
       spares = omega (arith, spares);

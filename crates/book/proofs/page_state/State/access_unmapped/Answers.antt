@@ -1,3 +1,4 @@
+use Rattle.book.proofs.OrderLemmas.{in-order}
 use Rattle.book.proofs.ServeLemmas.{serves-unmapped}
 use Rattle.book.proofs.page_state.State.access_unmapped.Goals as goal
 
@@ -6,7 +7,7 @@ returns-in-Read-clause-answers c =
     let touch = c.args.touch in
     λ worker entry. rw c.in-Read.is
     (record {
-      serves = serves-unmapped c.args.self.now worker touch.task.0 touch.at touch.offset touch.known c.requires.known c.requires.live c.requires.unmapped c.requires.place c.is_joined.ensures.order;
+      serves = serves-unmapped c.args.self.now worker touch.task.0 touch.at touch.offset touch.known c.requires.known c.requires.live c.requires.unmapped c.requires.place (in-order c.args.self.now c.is_joined.ensures.listed);
       gives = tt;
       replies = tt;
     })

@@ -1,4 +1,4 @@
-use Rattle.std.proofs.Common.{◌≡◌, ◌≢◌, ◌∙◌, ◌==◌, inl, ℕ, true, false, cond, List, Option, refl, sym, ap, subst}
+use Rattle.std.proofs.Common.{◌≡◌, ◌≢◌, ◌∙◌, ◌==◌, inl, ℕ, true, false, cond, List, Option, eq-eqb, ne_eqb, refl, sym, ap, subst}
 use Rattle.std.specs.Prelude.{slice_index, IsSome}
 use Rattle.machine.specs.declared.event.Event.TheVariants as event
 use Rattle.machine.specs.Slots.{at as at_flight, there_and}
@@ -12,7 +12,7 @@ use Rattle.book.specs.Holdings.{HoldingsOf, with_order}
 use Rattle.book.specs.Contents.{Contents, counting}
 use Rattle.group_tree.specs.Kin.{AreKin}
 use Rattle.book.specs.Parts.{contents_of}
-use Rattle.book.proofs.TransferLemmas.{self_true, false_other, coming-stands, coming-under, coming-at}
+use Rattle.book.proofs.TransferLemmas.{coming-stands, coming-under, coming-at}
 use Rattle.book.proofs.MoveLemmas.{ends-in_frame, serves-end, mapped-ended, settled-then, bytes-others, bytes-own}
 use Rattle.book.proofs.OrderLemmas.{goes-on-listed, goes-on-let_go}
 use Rattle.book.proofs.page_state.State.arrived.Goals as goal
@@ -104,7 +104,7 @@ returns-clause-serves c =
     let goes = goes-on-let_go _ _ _ _ _ _ p (mappers s.spaces.mappings p == 0) settles.order c.drop_unmapped.ensures.pages c.drop_unmapped.ensures.order in
     let placed = settled-then s.holdings.stored.pages c.arrived-bytes.new.self.stored.pages now.pages s.spaces.mappings p at.0 (Held at.1) settles.placed c.drop_unmapped.ensures.pages in
     let tables = ap (λ (h : HoldingsOf). record (old.tables) { limits = h.limits; pages = now.pages }) same in
-    let mid = λ (q o : ℕ) (other : q ≢ p). c.arrived-bytes.ensures.holds p at.0 at.1 at.2 at.3 q o ∙ ap (λ b. cond b (slice_index c.args.ticket.bytes o) (byte_in s.holdings.stored.bytes q o)) (false_other q p other) in
+    let mid = λ (q o : ℕ) (other : q ≢ p). c.arrived-bytes.ensures.holds p at.0 at.1 at.2 at.3 q o ∙ ap (λ b. cond b (slice_index c.args.ticket.bytes o) (byte_in s.holdings.stored.bytes q o)) (ne_eqb q p other) in
     rw (← c.self.view_is)
     (λ worker. serves-end old _ worker p at.0 n (Coming at.1 at.2 n) (Held at.1) (event.Arrived (record { 0 = n }) c.args.ticket.bytes) at.3 (refl {a = true}) (refl {a = false}) tables placed
     (record { changed = ap (λ (fs : List (Option Flight)). at_flight fs n) c.drop_unmapped.ensures.flights ∙ settles.unlisted.changed; others = λ m other. ap (λ (fs : List (Option Flight)). at_flight fs m) c.drop_unmapped.ensures.flights ∙ settles.unlisted.others m other })
@@ -119,5 +119,5 @@ returns-clause-serves c =
       shown,
       at.3,
       bytes-own c.arrived-bytes.new.self.stored.bytes now.bytes s.spaces.mappings p t v c.drop_unmapped.ensures.bytes shown o
-          ∙ c.arrived-bytes.ensures.holds p at.0 at.1 at.2 at.3 p o ∙ ap (λ b. cond b (slice_index c.args.ticket.bytes o) (byte_in s.holdings.stored.bytes p o)) (self_true p),
+          ∙ c.arrived-bytes.ensures.holds p at.0 at.1 at.2 at.3 p o ∙ ap (λ b. cond b (slice_index c.args.ticket.bytes o) (byte_in s.holdings.stored.bytes p o)) (eq-eqb p p refl),
     )))

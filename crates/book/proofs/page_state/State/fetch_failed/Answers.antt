@@ -3,6 +3,7 @@ use Rattle.std.specs.Prelude.{IsSome}
 use Rattle.machine.specs.declared.event.Event.TheVariants as event
 use Rattle.machine.specs.Slots.{at as at_flight, there_and}
 use Rattle.machine.specs.State.{State}
+use Rattle.machine.proofs.Values.{unlike}
 use Rattle.pages.specs.declared.flight.Flight.{Flight}
 use Rattle.machine.specs.Tree.{Node}
 use Rattle.machine.specs.Pages.{Coming, Away, is_in_transfer, is_coming_in}
@@ -12,7 +13,7 @@ use Rattle.book.specs.Holdings.{HoldingsOf, with_order}
 use Rattle.book.specs.Contents.{Contents, counting}
 use Rattle.group_tree.specs.Kin.{AreKin}
 use Rattle.book.specs.Parts.{contents_of}
-use Rattle.book.proofs.TransferLemmas.{unlike, coming-stands, coming-under, coming-at}
+use Rattle.book.proofs.TransferLemmas.{coming-stands, coming-under, coming-at}
 use Rattle.book.proofs.MoveLemmas.{ends-on_block, serves-end, mapped-ended, settled-then, bytes-others}
 use Rattle.book.proofs.OrderLemmas.{goes-on-listed, goes-on-let_go}
 use Rattle.book.proofs.page_state.State.fetch_failed.Goals as goal

@@ -1,6 +1,6 @@
 use Rattle.std.proofs.Common.{◌≡◌, ℕ, List, refl, sym, ap, subst}
 use Rattle.std.specs.List.{filter}
-use Rattle.machine.specs.Lists.{is_held_at}
+use Rattle.machine.specs.Pages.{is_held_in}
 use Rattle.book.specs.Holdings.{Stored}
 use Rattle.book.proofs.KinLemmas.{kin-root}
 use Rattle.book.proofs.StateLemmas.{mapped-open, homes-open}
@@ -17,6 +17,6 @@ invariant_of-result c =
       counted_kin = rw (c.in_ok-events.ensures.tree, tree) kin-root;
       mapped = mapped-open c.in_ok-holdings.holdings.stored.pages c.new-3.result.tasks c.new-3.result.mappings (ap (λ (s : Stored). s.pages) c.in_ok-holdings.ensures.stored) c.new-3.ensures.mappings;
       homes = homes-open c.in_ok-tree.tree c.new-3.result.tasks c.new-3.ensures.tasks;
-      listed = subst (λ (held : List ℕ). filter (is_held_at c.in_ok-holdings.holdings.stored.pages) held ≡ held) (sym c.in_ok-holdings.ensures.held) refl;
+      listed = subst (λ (held : List ℕ). filter (is_held_in c.in_ok-holdings.holdings.stored.pages) held ≡ held) (sym c.in_ok-holdings.ensures.held) refl;
       cursors = rw (c.in_ok-cursors.ensures, tree) refl;
     }

@@ -2,7 +2,7 @@ use Rattle.std.proofs.Common.{◌≡◌, ◌<◌, ◌∙◌, true, ℕ, List, Op
 use Rattle.std.specs.Prelude.{IfSome}
 use Rattle.machine.specs.declared.record.Key.TheVariants as key
 use Rattle.machine.specs.Tree.{Node, is_live}
-use Rattle.machine.specs.Pages.{Page, Away, Coming, used_frames, charged}
+use Rattle.machine.specs.Pages.{Page, Away, Coming, used_frames, charged, is_held_in}
 use Rattle.machine.specs.Tasks.{task_at, mapped_at}
 use Rattle.pages.specs.PageTable.{Stands, anon_page}
 use Rattle.pages.specs.Tickets.{TicketOf}
@@ -19,7 +19,6 @@ use Rattle.book.proofs.ServeLemmas.{serves-over, serves-no_frame, away-over, awa
 use Rattle.book.proofs.MoveLemmas.{serves-fetch, away-grows, mapped-begun}
 use Rattle.book.proofs.StateLemmas.{free-true, free-false, on-err}
 use Rattle.std.specs.List.{filter}
-use Rattle.machine.specs.Lists.{is_held_at}
 use Rattle.book.proofs.OrderLemmas.{goes-on-listed}
 use Rattle.book.proofs.page_state.State.swap_in.Goals as goal
 
@@ -72,7 +71,7 @@ invariant_of-self-in-Over c =
       counted_kin = subst (λ (k : List Node). AreKin k s.tree) (sym c.count.ensures.tree) c.self.invariant.counted_kin;
       mapped = subst (λ (h : HoldingsOf). AreMapped h.stored.pages s.spaces.tasks s.spaces.mappings) (sym same) c.self.invariant.mapped;
       homes = c.self.invariant.homes;
-      listed = subst (λ (h : HoldingsOf). filter (is_held_at h.stored.pages) h.held ≡ h.held) (sym same) c.self.invariant.listed;
+      listed = subst (λ (h : HoldingsOf). filter (is_held_in h.stored.pages) h.held ≡ h.held) (sym same) c.self.invariant.listed;
       cursors = c.self.invariant.cursors;
     }
 
@@ -93,7 +92,7 @@ invariant_of-self-in-NoFrame c =
       counted_kin = c.self.invariant.counted_kin;
       mapped = subst (λ (h : HoldingsOf). AreMapped h.stored.pages s.spaces.tasks s.spaces.mappings) (sym same) c.self.invariant.mapped;
       homes = c.self.invariant.homes;
-      listed = subst (λ (h : HoldingsOf). filter (is_held_at h.stored.pages) h.held ≡ h.held) (sym same) c.self.invariant.listed;
+      listed = subst (λ (h : HoldingsOf). filter (is_held_in h.stored.pages) h.held ≡ h.held) (sym same) c.self.invariant.listed;
       cursors = c.self.invariant.cursors;
     }
 
