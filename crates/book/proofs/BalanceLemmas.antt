@@ -1,7 +1,6 @@
 -- Frames and swap blocks are free or a page's, once: also after one place in the table of pages changed.
-use Rattle.std.proofs.Common.{◌≡◌, inl, inr, ℕ, ◌+◌, ◌<◌, ◌≤◌, ◌==◌, Bool, true, false, List, [], Option, ap, arith, length}
+use Rattle.std.proofs.Common.{◌≡◌, inl, inr, ℕ, ◌+◌, ◌<◌, ◌≤◌, ◌==◌, Bool, true, false, List, [], Option, ap, arith, length, eq-eqb, refl}
 use Rattle.std.proofs.lemmas.Bool.{cases_lt}
-use Rattle.std.proofs.lemmas.Bool.Decides.{nat_tests}
 use Rattle.machine.specs.Slots.{at, Changes, there_and, any_there, count_there}
 use Rattle.machine.specs.Pages.{Page, Pages, page_at}
 use Rattle.machine.proofs.SlotLemmas.{one_if, any_there-none, count_there-some, count_there-changes}
@@ -41,10 +40,7 @@ module _ (this : ℕ → Page → Bool) (has : Page → Bool) where
       ]
     where
       own : one_if (f == f) ≡ 1
-      own = ap one_if (same f)
-        where
-          same : (n : ℕ) → (n == n) ≡ true
-          same n = grind (arith, nat_tests)
+      own = ap one_if (eq-eqb f f refl)
 
       taken : free_count free f ≡ free_count free' f + 1
       taken = let k = counts f in omega (arith, k, own)

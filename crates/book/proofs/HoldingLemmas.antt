@@ -1,5 +1,5 @@
 -- The parts of the holdings go on to agree after one place in the table of pages changed.
-use Rattle.std.proofs.Common.{◌≡◌, ◌≢◌, inl, inr, ℕ, zero, suc, ◌+◌, ◌<◌, ◌≤◌, ◌==◌, ◌&&◌, Bool, true, false, cond, List, [], ◌∷◌, ◌++◌, length, Option, Some, None, refl, sym, ap, ◌∙◌, subst, arith}
+use Rattle.std.proofs.Common.{◌≡◌, ◌≢◌, inl, inr, ℕ, zero, suc, ◌+◌, ◌<◌, ◌≤◌, ◌==◌, ◌&&◌, Bool, true, false, cond, List, [], ◌∷◌, ◌++◌, length, Option, Some, None, eq-eqb, refl, sym, ap, ◌∙◌, subst, arith}
 use Rattle.std.specs.Prelude.{IfSome, option_map, option_to_list, is_none, nat_lt}
 use Rattle.std.proofs.lemmas.Bool.{cases_Bool, cases_lt}
 use Rattle.std.proofs.lemmas.Bool.Decides.{eqb_tells, nat_tests}
@@ -128,17 +128,14 @@ kept-step c d pool pool' slots slots' pages pages' p from to stood changes frame
       counted = counted-step c d pages pages' p from to stood changes charges kept.counted;
     }
 
-pub own : (n : ℕ) → (n == n) ≡ true
-own n = grind (arith, nat_tests)
-
 -- the frame and the block of a page are not free
 pub frame-out : (c : Counts) (pool : PoolOf) (slots : SlotsOf) (pages : Pages) (p g : ℕ) (r : Residence) (f : ℕ) → Stands pages p g r → frame_at r ≡ Some f → AreKept c pool slots pages → (free_count pool.free f ≡ 0) × (f < pool.frames)
 frame-out c pool slots pages p g r f stood is kept =
-    given-out has_this_frame has_frame pool.frames pool.free pages p f (ap (there_and (has_this_frame f)) stood ∙ ap (λ (o : Option ℕ). is_number o f) is ∙ own f) kept.frames
+    given-out has_this_frame has_frame pool.frames pool.free pages p f (ap (there_and (has_this_frame f)) stood ∙ ap (λ (o : Option ℕ). is_number o f) is ∙ eq-eqb f f refl) kept.frames
 
 pub block-out : (c : Counts) (pool : PoolOf) (slots : SlotsOf) (pages : Pages) (p g : ℕ) (r : Residence) (b : ℕ) → Stands pages p g r → block_at r ≡ Some b → AreKept c pool slots pages → (slot_count slots.free b ≡ 0) × (b < slots.blocks)
 block-out c pool slots pages p g r b stood is kept =
-    given-out has_this_block has_swap slots.blocks slots.free pages p b (ap (there_and (has_this_block b)) stood ∙ ap (λ (o : Option ℕ). is_number o b) is ∙ own b) kept.blocks
+    given-out has_this_block has_swap slots.blocks slots.free pages p b (ap (there_and (has_this_block b)) stood ∙ ap (λ (o : Option ℕ). is_number o b) is ∙ eq-eqb b b refl) kept.blocks
 
 -- ---- the holdings
 
@@ -237,7 +234,7 @@ pub held-stands : (pages : Pages) (flights : List (Option Flight)) (p : ℕ) →
 held-stands pages flights p is held = some_stands (page_at pages p) (is.memory p) held
 
 pub under-ticket : (pages : Pages) (p g n m : ℕ) (r : Residence) → Stands pages p g r → ticket_at r ≡ Some n → m ≡ n → is_under_ticket pages p m ≡ true
-under-ticket pages p g n m r stood is same = ap (there_and (λ page. is_number (ticket_at page.residence) m)) stood ∙ ap (λ (o : Option ℕ). is_number o m) is ∙ ap (λ x. n == x) same ∙ own n
+under-ticket pages p g n m r stood is same = ap (there_and (λ page. is_number (ticket_at page.residence) m)) stood ∙ ap (λ (o : Option ℕ). is_number o m) is ∙ ap (λ x. n == x) same ∙ eq-eqb n n refl
 
 -- a ticket that is not in flight is none that a page has
 pub ticket-free : (pages : Pages) (flights : List (Option Flight)) (n : ℕ) → AreInFlight pages flights → at flights n ≡ None → is_ticket_taken pages n ≡ false

@@ -29,7 +29,8 @@ use Rattle.reclaim.proofs.PassLemmas.{asked-all}
 use Rattle.book.specs.declared.holdings.Holdings.TheInside.{Inside}
 use Rattle.book.specs.Queue.{QueueOf, numbers_of, page_count}
 use Rattle.book.specs.Holdings.{takes, gives_of, IsNext}
-use Rattle.book.specs.Keeping.{holdings_of, as_number, AreGrouped, AreListed, IsHolding}
+use Rattle.book.specs.Keeping.{holdings_of, AreGrouped, AreListed, IsHolding}
+use Rattle.book.proofs.OrderLemmas.{some_is}
 use Rattle.book.proofs.KinLemmas.{kin-charged}
 use Rattle.book.proofs.QueueLemmas.{count-at, at-counted}
 use Rattle.book.proofs.HoldingLemmas.{any-listed, listed-any}
@@ -86,10 +87,6 @@ any_both f h b (slot ∷ pages) same = both (there_and f slot) (any_there f page
 of_group : (more : ℕ → Bool) (slot : Option Page) (g : ℕ) → there_and (λ (page : Page). page.group == g) slot ≡ true → there_and (λ (page : Page). more page.group) slot ≡ more g
 of_group more None g own = absurd cc
 of_group more (Some page) g own = let same : page.group ≡ g = grind (arith, nat_tests, own) in ap more same
-
-some_held : (b : Bool) → 1 ≤ as_number b → b ≡ true
-some_held true e = refl
-some_held false e = absurd (omega (arith, e))
 
 -- a test of the groups of a queue is that test of its pages
 module _ (test : Page → Bool) (more : ℕ → Bool) (queue : QueueOf) (pages : Pages) (listed : AreListed test queue.numbers pages) (grouped : AreGrouped queue pages) where
@@ -277,7 +274,7 @@ module _ (h : Inside) (is : IsHolding h) (tree : List Node) (are : AreKin h.coun
             entries_held : All (λ (e : GroupId × PageId). is_held_in h.pages.pages e.1.0 ≡ true) h.held.entries
             entries_held =
                 λ k d lt.
-                some_held (is_held_in h.pages.pages (get_or h.held.entries k d).1.0)
+                some_is (is_held_in h.pages.pages (get_or h.held.entries k d).1.0)
                 (let once = is.held.once (get_or h.held.entries k d).1.0 in let some = subst (λ (ns : List ℕ). 1 ≤ page_count ns (get_or h.held.entries k d).1.0) (sym is.held_groups.numbers) (count-at h.held.entries k d lt) in omega (arith, once, some))
 
             slot_taken : (slot : Option Page) → there_and (λ (page : Page). page.group == entry.0.0) slot ≡ true → there_and is_held slot ≡ true → under tree target entry.0.0 ≡ true → is_open tree h.counters target entry.0.0 ≡ true

@@ -1,4 +1,4 @@
--- The pages in frames go on in their order, over one change and over several.
+-- The held pages go on in their order, over one change and over several.
 use Rattle.std.proofs.Common.{◌≡◌, ◌≢◌, inl, inr, ℕ, ◌≤◌, ◌==◌, ◌&&◌, ◌||◌, not, Bool, true, false, cond, List, [], ◌∷◌, ◌++◌, length, get_or, append-nil, Option, None, eq-eqb, ne_eqb, refl, sym, ap, ◌∙◌, subst, arith}
 use Rattle.std.specs.List.{All, filter, list_any}
 use Rattle.std.proofs.lemmas.Bool.{and_parts, and_right}
@@ -75,7 +75,7 @@ no-number (x ∷ xs) none = let hit : (x == x) ≡ true = grind (arith, nat_test
 abbrev pub AllHeld : Pages → List ℕ → Type 0
 AllHeld pages xs = All (λ q. is_held_in pages q ≡ true) xs
 
-some_is : (b : Bool) → 1 ≤ as_number b → b ≡ true
+pub some_is : (b : Bool) → 1 ≤ as_number b → b ≡ true
 some_is true e = refl
 some_is false e = absurd (omega (arith, e))
 
@@ -164,6 +164,13 @@ module _ (pages pages' : Pages) (xs : List ℕ) (held : AllHeld pages xs) (p : �
 
 -- ---- several changes
 
+-- what comes only where it stood before is not fresh
+old_already : (b c : Bool) → (c ≡ true → b ≡ true) → (c && not b) ≡ false
+old_already true true h = refl
+old_already true false h = refl
+old_already false true h = absurd (let wrong = h refl in cc)
+old_already false false h = refl
+
 module _ (before between after : Pages) (xs ys zs : List ℕ) (first : GoesOn before xs between ys) (second : GoesOn between ys after zs) where
   -- where the second brings none
   pub goes-on-then : ((p : ℕ) → is_held_in after p ≡ true → is_held_in between p ≡ true) → GoesOn before xs after zs
@@ -186,12 +193,6 @@ module _ (before between after : Pages) (xs ys zs : List ℕ) (first : GoesOn be
       fresh_still false true false h = refl
       fresh_still false false true h = absurd (let wrong = h refl in cc)
       fresh_still false false false h = refl
-
-      old_already : (b c : Bool) → (c ≡ true → b ≡ true) → (c && not b) ≡ false
-      old_already true true h = refl
-      old_already true false h = refl
-      old_already false true h = absurd (let wrong = h refl in cc)
-      old_already false false h = refl
 
       none : (p : ℕ) → list_any (λ q. q == p) second.fresh ≡ false
       none p = second.which p ∙ old_already (is_held_in between p) (is_held_in after p) (less p)
@@ -216,12 +217,6 @@ module _ (before between after : Pages) (xs ys zs : List ℕ) (first : GoesOn be
       fresh_then false true c h k = absurd (let wrong = h refl in cc)
       fresh_then false false c h k = refl
 
-      old_already : (a b : Bool) → (b ≡ true → a ≡ true) → (b && not a) ≡ false
-      old_already true true h = refl
-      old_already true false h = refl
-      old_already false true h = absurd (let wrong = h refl in cc)
-      old_already false false h = refl
-
       none : (p : ℕ) → list_any (λ q. q == p) first.fresh ≡ false
       none p = first.which p ∙ old_already (is_held_in before p) (is_held_in between p) (less p)
 
@@ -242,10 +237,7 @@ goes-on-held before after xs ys on =
     (All-append (λ q. is_held_in after q ≡ true) (filter (is_held_in after) xs) on.fresh (filter_passes (is_held_in after) xs)
     (λ k d lt.
     let q : ℕ = get_or on.fresh k d in
-    (and_parts (is_held_in after q) (not (is_held_in before q)) (sym (on.which q) ∙ list_any_at (λ n. n == q) on.fresh k d lt (own q))).0))
-  where
-    own : (n : ℕ) → (n == n) ≡ true
-    own n = grind (arith, nat_tests)
+    (and_parts (is_held_in after q) (not (is_held_in before q)) (sym (on.which q) ∙ list_any_at (λ n. n == q) on.fresh k d lt (eq-eqb q q refl))).0))
 
 -- where pages went, no page came to be held
 pub dropped-less : (old new : Stored) (gone : ℕ → Bool) → DropsPages old new gone → (p : ℕ) → is_held_in new.pages p ≡ true → is_held_in old.pages p ≡ true
@@ -255,10 +247,11 @@ dropped-less old new gone drops p held = by_gone (gone p) (page_at old.pages p) 
     by_gone true slot e = absurd cc
     by_gone false slot e = e
 
--- each page in the order is in a frame
+-- each page in the order is held
 abbrev pub InOrder : Contents → Type 0
 InOrder c = filter (is_held_in c.tables.pages) c.order.held ≡ c.order.held
 
+-- it is, where the order has the held pages
 pub in-order : (c : Contents) → ListsHeld c.tables.pages c.order.held → InOrder c
 in-order c lists = filter-all (is_held_in c.tables.pages) c.order.held (listed-held c.order.held c.tables.pages lists)
 

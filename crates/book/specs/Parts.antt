@@ -48,7 +48,7 @@ pub record IsJoined (s : Inside) : Type 0 where
   pub mapped : AreMapped s.holdings.stored.pages s.spaces.tasks s.spaces.mappings
   -- the group of a live task is there
   pub homes : (t : ℕ) → lives s.spaces.tasks t ≡ true → is_live s.tree (group_of_task s.spaces.tasks t) ≡ true
-  -- each page in the order is in a frame
+  -- each page in the order is held
   pub listed : filter (is_held_in s.holdings.stored.pages) s.holdings.held ≡ s.holdings.held
   -- each group has its cursor
   pub cursors : length s.cursors.cursors ≡ length s.tree

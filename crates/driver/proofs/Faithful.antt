@@ -1,7 +1,8 @@
 -- What the device holds of each page that has no frame, and what each actor brings in or takes out: so that a run is honest.
 use Rattle.std.proofs.Common.{◌≡◌, inl, inr, ℕ, ◌<◌, ◌≤◌, ◌==◌, Bool, true, false, cond, List, [], length, Option, Some, None, eqb-true, eq-eqb, refl, sym, ap, ◌∙◌, subst, arith, get_or-set_other}
-use Rattle.std.specs.Prelude.{◌&&◌, Result, Ok, Err, slice_index, nat_le}
+use Rattle.std.specs.Prelude.{Result, Ok, Err, slice_index, nat_le}
 use Rattle.std.proofs.Math.ListN.{length-set}
+use Rattle.std.proofs.lemmas.Bool.{and_parts}
 use Rattle.std.proofs.lemmas.List.{get_or-set_same}
 use Rattle.std.proofs.lemmas.Bool.Decides.{nat_tests}
 use Rattle.machine.specs.declared.config.Config.{Config}
@@ -510,14 +511,10 @@ faithful_first : (config : Config) (disk : Disk) → fits config disk ≡ true �
 faithful_first config disk fit =
     record {
       tickets = tickets_first config disk;
-      holds = record { live = λ t v p e. cc; legal = refl; honest = tt; room = within (both_fit (is_config config) (nat_le config.swap (length disk.contents)) fit); stored = λ t v p b o page mapped there stands within. cc; fetched = λ p f b n page there coming. cc };
+      holds = record { live = λ t v p e. cc; legal = refl; honest = tt; room = within (and_parts (is_config config) (nat_le config.swap (length disk.contents)) fit).1; stored = λ t v p b o page mapped there stands within. cc; fetched = λ p f b n page there coming. cc };
       brings = λ a. tt;
     }
   where
-    both_fit : (a b : Bool) → (a && b) ≡ true → b ≡ true
-    both_fit true b e = e
-    both_fit false b e = cc
-
     within : nat_le config.swap (length disk.contents) ≡ true → config.swap ≤ length disk.contents
     within e = grind (arith, nat_tests, e)
 

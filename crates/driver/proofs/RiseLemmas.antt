@@ -1,7 +1,7 @@
 -- Nothing but an access leaves more pages charged under a group.
 use Rattle.std.proofs.Common.{◌≡◌, inl, inr, ℕ, suc, ◌<◌, ◌≤◌, ◌&&◌, Bool, true, false, List, [], ◌∷◌, ◌++◌, length, Option, Some, None, refl, sym, ap, ◌∙◌, arith}
 use Rattle.std.specs.Prelude.{◌⊎◌, MatchBool, IfSome}
-use Rattle.std.proofs.lemmas.Bool.{cases_lt}
+use Rattle.std.proofs.lemmas.Bool.{cases_lt, and_parts}
 use Rattle.std.proofs.lemmas.List.Sums.{sum_by-cons}
 use Rattle.std.proofs.Math.ListN.{get_or-eq_default}
 use Rattle.machine.specs.declared.record.Life.{Life}
@@ -143,13 +143,9 @@ module _ (before after : State) (a : ℕ) where
       let most : one_if (there_and (is_charged before.tree a) (to before.mappings h.p h.page h.frame h.block)) ≤ one_if (under before.tree a h.page.group) = bool_le _ _ (now _ (cases before.mappings h.p h.page h.frame h.block)) in
       omega (arith, both, stood, had, most))
     where
-      both_hold : (b c : Bool) → (b && c) ≡ true → c ≡ true
-      both_hold true c e = e
-      both_hold false c e = cc
-
       now : (slot : Option Page) → (slot ≡ None) ⊎ (slot ≡ Some (record h.page { residence = settled h.frame h.block })) → there_and (is_charged before.tree a) slot ≡ true → under before.tree a h.page.group ≡ true
       now slot (inl none) e = absurd (let x : false ≡ true = ap (there_and (is_charged before.tree a)) (sym none) ∙ e in cc)
-      now slot (inr some) e = both_hold (is_some_number (frame_at (settled h.frame h.block))) (under before.tree a h.page.group) (ap (there_and (is_charged before.tree a)) (sym some) ∙ e)
+      now slot (inr some) e = (and_parts (is_some_number (frame_at (settled h.frame h.block))) (under before.tree a h.page.group) (ap (there_and (is_charged before.tree a)) (sym some) ∙ e)).1
 
   never : Less → usage before a < usage after a → ⊥
   unfolding Less

@@ -1,8 +1,8 @@
 -- In every legal history no two pages share a frame, a swap block or a ticket, each page is memory on blocks that there are, and the groups of pages and
 -- of live tasks are there.
-use Rattle.std.proofs.Common.{◌+◌, ◌<◌, ◌≡◌, ◌≢◌, inl, inr, ℕ, zero, suc, ◌≤◌, ◌==◌, ◌&&◌, ◌||◌, not, Bool, true, false, cond, List, [], ◌∷◌, ◌++◌, length, Option, Some, None, eqb-true, refl, sym, ap, ◌∙◌, subst, arith, get_or-set_other}
+use Rattle.std.proofs.Common.{◌+◌, ◌<◌, ◌≡◌, ◌≢◌, inl, inr, ℕ, zero, suc, ◌≤◌, ◌==◌, ◌&&◌, not, Bool, true, false, cond, List, [], ◌∷◌, ◌++◌, length, Option, Some, None, eqb-true, refl, sym, ap, ◌∙◌, subst, arith, get_or-set_other}
 use Rattle.std.specs.Prelude.{◌⊎◌, MatchBool, IfSome, slice_set}
-use Rattle.std.proofs.lemmas.Bool.{cases_lt, and_parts}
+use Rattle.std.proofs.lemmas.Bool.{cases_lt, and_parts, or_parts}
 use Rattle.std.proofs.lemmas.Bool.Decides.{nat_tests}
 use Rattle.std.proofs.lemmas.List.{get_or_append_left}
 use Rattle.std.proofs.lemmas.List.Quantifiers.{position-Some}
@@ -81,10 +81,6 @@ not_true : (b : Bool) → (b ≡ true → false ≡ true) → b ≡ false
 not_true true f = let e = f refl in cc
 not_true false f = refl
 
-neither : (a b : Bool) → (a || b) ≡ false → (a ≡ false) × (b ≡ false)
-neither true b e = cc
-neither false b e = (refl, e)
-
 -- what passes there passed before
 pub count-less : {T : Type 0} (test : T → Bool) (xs ys : List (Option T)) → ((n : ℕ) → there_and test (at ys n) ≡ true → there_and test (at xs n) ≡ true) → count_there test ys ≤ count_there test xs
 count-less test xs [] less = omega arith
@@ -113,8 +109,8 @@ count-two {T} test xs p q differs first second =
 
 none_has : {T : Type 0} (test : T → Bool) (slots : List (Option T)) → any_there test slots ≡ false → (n : ℕ) → there_and test (at slots n) ≡ false
 none_has test [] e n = refl
-none_has test (slot ∷ slots) e zero = (neither (there_and test slot) _ e).0
-none_has test (slot ∷ slots) e (suc n) = none_has test slots (neither (there_and test slot) _ e).1 n
+none_has test (slot ∷ slots) e zero = (or_parts (there_and test slot) _ e).0
+none_has test (slot ∷ slots) e (suc n) = none_has test slots (or_parts (there_and test slot) _ e).1 n
 
 -- ---- tests of which each number has one page at most
 

@@ -1,6 +1,7 @@
 -- Each ticket in an actor's hand is that of a page in transfer, was given to the run's worker, and is in no other's hand.
-use Rattle.std.proofs.Common.{◌≡◌, inl, inr, ℕ, zero, suc, ◌==◌, ◌&&◌, ◌||◌, Bool, true, false, cond, List, [], ◌∷◌, Option, Some, None, eq-eqb, refl, sym, ap, ◌∙◌, subst}
+use Rattle.std.proofs.Common.{◌≡◌, inl, inr, ℕ, zero, suc, ◌==◌, ◌&&◌, Bool, true, false, cond, List, [], ◌∷◌, Option, Some, None, eq-eqb, refl, sym, ap, ◌∙◌, subst}
 use Rattle.std.specs.Prelude.{◌⊎◌, Result, Ok, Err}
+use Rattle.std.proofs.lemmas.Bool.{or_right}
 use Rattle.machine.specs.declared.config.Config.{Config}
 use Rattle.machine.specs.declared.entry.Entry.{Entry}
 use Rattle.machine.specs.declared.event.Event.{Event as Plain_event}
@@ -91,11 +92,7 @@ pub record Tickets (w : World) : Type 0 where
 pub any_there-at : {T : Type 0} (test : T → Bool) (xs : List (Option T)) (n : ℕ) → there_and test (at xs n) ≡ true → any_there test xs ≡ true
 any_there-at test [] n e = e
 any_there-at test (x ∷ xs) zero e = rw e refl
-any_there-at test (x ∷ xs) (suc n) e = either (there_and test x) (any_there test xs) (any_there-at test xs n e)
-  where
-    either : (a b : Bool) → b ≡ true → (a || b) ≡ true
-    either true b e = refl
-    either false b e = e
+any_there-at test (x ∷ xs) (suc n) e = or_right (there_and test x) (any_there test xs) (any_there-at test xs n e)
 
 page_passes : (test : Page → Bool) (pages : Pages) (p : ℕ) (page : Page) → page_at pages p ≡ Some page → test page ≡ true → any_there test pages ≡ true
 page_passes test pages p page there passes = any_there-at test pages p (ap (there_and test) there ∙ passes)

@@ -1,7 +1,7 @@
 -- A lineage stays one, whatever group comes or goes.
-use Rattle.std.proofs.Common.{inl, inr, ◌≡◌, ◌≢◌, ℕ, zero, suc, ◌<◌, ◌==◌, Bool, true, false, ◌||◌, ◌&&◌, List, [], ◌∷◌, ◌++◌, length, get_or, Some, None, refl, sym, ap, ◌∙◌, subst, arith, length-append, length-set, get_or-set_other, get_or-set_same}
+use Rattle.std.proofs.Common.{inl, inr, ◌≡◌, ◌≢◌, ℕ, zero, suc, ◌<◌, ◌==◌, true, false, ◌||◌, ◌&&◌, List, [], ◌∷◌, ◌++◌, length, get_or, Some, None, refl, sym, ap, ◌∙◌, subst, arith, length-append, length-set, get_or-set_other, get_or-set_same}
 use Rattle.std.specs.Prelude.{slice_set}
-use Rattle.std.proofs.lemmas.Bool.{cases_lt}
+use Rattle.std.proofs.lemmas.Bool.{cases_lt, or_right}
 use Rattle.std.proofs.lemmas.Bool.Decides.{nat_tests}
 use Rattle.std.proofs.lemmas.List.{get_or_append_left, get_or-map, length-map, map-append, map-set}
 use Rattle.std.proofs.lemmas.List.Folds.{list_any_at}
@@ -21,13 +21,9 @@ live-within tree g live =
       | inr beyond ↦ absurd (let not_live = ap (λ x. x.live) (get_or-eq_default tree no_node beyond) in cc)
     ]
 
-either_true : (b : Bool) → (b || true) ≡ true
-either_true true = refl
-either_true false = refl
-
 -- whatever the parent is under, the group is
 pub under-child : (tree : List Node) → IsTree tree → (a g p : ℕ) → (node_at tree g).parent ≡ Some p → under tree a p ≡ true → under tree a g ≡ true
-under-child tree is a g p e h = under_at-step tree is a g ∙ ap (λ at. (a == g) || under_at tree a at) e ∙ ap (λ b. (a == g) || b) h ∙ either_true (a == g)
+under-child tree is a g p e h = under_at-step tree is a g ∙ ap (λ at. (a == g) || under_at tree a at) e ∙ ap (λ b. (a == g) || b) h ∙ or_right (a == g) true refl
 
 parentless : (g : ℕ) → (node_at (bare None ∷ []) g).parent ≡ None
 parentless zero = refl

@@ -1,9 +1,9 @@
 -- A walk over a group and those below it, step by step.
-use Rattle.std.proofs.Common.{◌⊎◌, inl, inr, ◌≡◌, ℕ, zero, suc, ◌+◌, ◌<◌, ◌≤◌, ◌==◌, Bool, true, false, if◌then◌else◌, ◌&&◌, ◌||◌, List, [], ◌∷◌, ◌++◌, length, drop, get_or, map, filter, Option, Some, None, refl, sym, ap, ◌∙◌, subst, arith, append_assoc, append-nil, add-one, drop-cons, length-drop}
+use Rattle.std.proofs.Common.{inl, inr, ◌≡◌, ℕ, zero, suc, ◌+◌, ◌<◌, ◌≤◌, ◌==◌, Bool, true, false, if◌then◌else◌, ◌&&◌, ◌||◌, List, [], ◌∷◌, ◌++◌, length, drop, get_or, map, filter, Option, Some, None, refl, sym, ap, ◌∙◌, subst, arith, append_assoc, append-nil, add-one, drop-cons, length-drop}
 use Rattle.std.specs.Prelude.{flat_map, nat_le}
 use Rattle.std.specs.List.{enumerate_from, list_any}
 use Rattle.std.specs.Option.{option_map_or}
-use Rattle.std.proofs.lemmas.Bool.{cases_lt, cases_Bool, and_from}
+use Rattle.std.proofs.lemmas.Bool.{cases_lt, cases_Bool, and_from, and_parts, or_left, or_right, or_cases}
 use Rattle.std.proofs.lemmas.Bool.Decides.{nat_tests}
 use Rattle.std.proofs.lemmas.List.Folds.{list_any-append}
 use Rattle.machine.specs.Tree.{Node, no_node, node_at, is_live, is_child, is_parent, under, under_at, IsTree, numbers, children, preorder_to, preorder}
@@ -55,12 +55,8 @@ is_parent-same : (at : Option ℕ) (p : ℕ) → is_parent at p ≡ true → at 
 is_parent-same None p e = absurd cc
 is_parent-same (Some q) p e = let same : q ≡ p = grind (arith, nat_tests, e) in ap Some same
 
-second : (a b : Bool) → (a && b) ≡ true → b ≡ true
-second true b e = e
-second false b e = absurd cc
-
 pub child_parent : (tree : List Node) (p g : ℕ) → is_child p (node_at tree g) ≡ true → (node_at tree g).parent ≡ Some p
-child_parent tree p g t = is_parent-same _ p (second (node_at tree g).live _ t)
+child_parent tree p g t = is_parent-same _ p (and_parts (node_at tree g).live _ t).1
 
 flat_map-child : (tree : List Node) (f h : ℕ → List ℕ) (p : ℕ) → ((c : ℕ) → (node_at tree c).parent ≡ Some p → f c ≡ h c) → (k : ℕ) → k < length tree
     → flat_map f (children_from tree p (k + 1)) ≡ flat_map h (children_from tree p (k + 1)) → (b : Bool) → is_child p (node_at tree k) ≡ b
@@ -191,22 +187,6 @@ left-start tree start = ap (λ xs. preorder tree start ++ xs) (after-start tree 
 is_among : ℕ → List ℕ → Bool
 is_among g gs = list_any (λ a. a == g) gs
 
-first : (a b : Bool) → (a && b) ≡ true → a ≡ true
-first true b e = refl
-first false b e = absurd cc
-
-one_of : (a b : Bool) → (a || b) ≡ true → (a ≡ true) ⊎ (b ≡ true)
-one_of true b e = inl refl
-one_of false b e = inr e
-
-left_or : (a b : Bool) → a ≡ true → (a || b) ≡ true
-left_or true b e = refl
-left_or false b e = absurd cc
-
-right_or : (a b : Bool) → b ≡ true → (a || b) ≡ true
-right_or true b e = refl
-right_or false b e = e
-
 chosen : (test : ℕ → Bool) (n : ℕ) (ns : List ℕ) (b : Bool) → test n ≡ b → filter test (n ∷ ns) ≡ (if b then n ∷ filter test ns else filter test ns)
 chosen test n ns b e = ap (λ t. if t then n ∷ filter test ns else filter test ns) e
 
@@ -216,7 +196,7 @@ unfolding is_among
 joined_one g test f [] h = absurd cc
 joined_one g test f (n ∷ ns) h =
     elim (cases_Bool (test n)) [
-      | inl passes ↦ elim (one_of _ _ (sym (list_any-append (λ a. a == g) (f n) (flat_map f (filter test ns))) ∙ ap (λ cs. is_among g (flat_map f cs)) (sym (chosen test n ns true passes)) ∙ h)) [
+      | inl passes ↦ elim (or_cases _ _ (sym (list_any-append (λ a. a == g) (f n) (flat_map f (filter test ns))) ∙ ap (λ cs. is_among g (flat_map f cs)) (sym (chosen test n ns true passes)) ∙ h)) [
         | inl here ↦ (n, passes, here)
         | inr later ↦ joined_one g test f ns later
       ]
@@ -231,14 +211,14 @@ joined_any g c test f (n ∷ ns) h passes own =
     elim (eq_cases n c) [
       | inl same ↦
           (let taken = ap (λ cs. is_among g (flat_map f cs)) (chosen test n ns true (ap test same ∙ passes)) in
-          taken ∙ list_any-append (λ a. a == g) (f n) (flat_map f (filter test ns)) ∙ left_or _ _ (ap (λ m. is_among g (f m)) same ∙ own))
+          taken ∙ list_any-append (λ a. a == g) (f n) (flat_map f (filter test ns)) ∙ or_left _ _ (ap (λ m. is_among g (f m)) same ∙ own))
       | inr other ↦
           (let differs : (n == c) ≡ false = grind (arith, other) in
           let later = joined_any g c test f ns (sym (ap (λ b. b || is_among c ns) differs) ∙ h) passes own in
           elim (cases_Bool (test n)) [
             | inl taken ↦
                 ap (λ cs. is_among g (flat_map f cs)) (chosen test n ns true taken) ∙ list_any-append (λ a. a == g) (f n) (flat_map f (filter test ns))
-                ∙ right_or _ _ later
+                ∙ or_right _ _ later
             | inr left_out ↦ ap (λ cs. is_among g (flat_map f cs)) (chosen test n ns false left_out) ∙ later
           ])
     ]
@@ -248,8 +228,8 @@ unfolding is_among
 numbered k g [] from to = absurd (omega arith)
 numbered k g (x ∷ xs) from to =
     elim (eq_cases k g) [
-      | inl same ↦ left_or _ _ (let here : (k == g) ≡ true = grind (arith, same) in here)
-      | inr other ↦ right_or _ _ (numbered (k + 1) g xs (omega (arith, other)) (omega arith))
+      | inl same ↦ or_left _ _ (let here : (k == g) ≡ true = grind (arith, same) in here)
+      | inr other ↦ or_right _ _ (numbered (k + 1) g xs (omega (arith, other)) (omega arith))
     ]
 
 module _ (tree : List Node) (is : IsTree tree) (target : ℕ) (there : target < length tree) where
@@ -262,11 +242,11 @@ module _ (tree : List Node) (is : IsTree tree) (target : ℕ) (there : target < 
   unfolding is_among preorder_to
   comes_to zero s g live below h = absurd cc
   comes_to (suc n) s g live below h =
-      elim (one_of (s == g) _ h) [
+      elim (or_cases (s == g) _ h) [
         | inl here ↦ (let same : s ≡ g = grind (arith, here) in (subst (λ a. is_live tree a ≡ true) same live, subst (λ a. under tree target a ≡ true) same below))
         | inr later ↦
             (let child = joined_one g (λ c. is_child s (node_at tree c)) (preorder_to n tree) (numbers tree) later in
-            comes_to n child.0 g (first _ _ child.1) (under-child tree is target child.0 s (child_parent tree s child.0 child.1) below) child.2)
+            comes_to n child.0 g (and_parts _ _ child.1).0 (under-child tree is target child.0 s (child_parent tree s child.0 child.1) below) child.2)
       ]
 
   -- and with a group to each of its children
@@ -274,20 +254,20 @@ module _ (tree : List Node) (is : IsTree tree) (target : ℕ) (there : target < 
   unfolding is_among
   goes_on zero s p g lt enough child inside h = absurd (omega arith)
   goes_on (suc n) s p g lt enough child inside h =
-      elim (one_of (s == p) _ (ap (is_among p) (sym (preorder-children s lt)) ∙ h)) [
+      elim (or_cases (s == p) _ (ap (is_among p) (sym (preorder-children s lt)) ∙ h)) [
         | inl here ↦
             (let same : s ≡ p = grind (arith, here) in
             let own : (g == g) ≡ true = grind arith in
             ap (is_among g) (preorder-children s lt)
-            ∙ right_or _ _ (joined_any g g (λ c. is_child s (node_at tree c)) (preorder tree) (numbers tree) (numbered 0 g tree (omega arith) (omega arith)) (ap (λ q. is_child q (node_at tree g)) same ∙ child)
-            (ap (is_among g) (preorder-children g inside) ∙ left_or _ _ own)))
+            ∙ or_right _ _ (joined_any g g (λ c. is_child s (node_at tree c)) (preorder tree) (numbers tree) (numbered 0 g tree (omega arith) (omega arith)) (ap (λ q. is_child q (node_at tree g)) same ∙ child)
+            (ap (is_among g) (preorder-children g inside) ∙ or_left _ _ own)))
         | inr later ↦
             (let below = joined_one p (λ c. is_child s (node_at tree c)) (preorder tree) (numbers tree) later in
             let parent = child_parent tree s below.0 below.1 in
             let falls = is.falls below.0 s parent in
             let lower = within tree below.0 s parent in
             ap (is_among g) (preorder-children s lt)
-            ∙ right_or _ _ (joined_any g below.0 (λ c. is_child s (node_at tree c)) (preorder tree) (numbers tree) (numbered 0 below.0 tree (omega arith) (omega arith)) below.1
+            ∙ or_right _ _ (joined_any g below.0 (λ c. is_child s (node_at tree c)) (preorder tree) (numbers tree) (numbered 0 below.0 tree (omega arith) (omega arith)) below.1
             (goes_on n below.0 p g lower (omega (arith, falls)) child inside below.2)))
       ]
 
@@ -297,13 +277,13 @@ module _ (tree : List Node) (is : IsTree tree) (target : ℕ) (there : target < 
   unfolding is_among
   reaches parents zero g lt live below at parent = absurd (omega arith)
   reaches parents (suc n) g lt live below None parent =
-      elim (one_of (target == g) _ (sym (under_at-step tree is target g) ∙ below)) [
-        | inl here ↦ ap (is_among g) (preorder-children target there) ∙ left_or (target == g) _ here
+      elim (or_cases (target == g) _ (sym (under_at-step tree is target g) ∙ below)) [
+        | inl here ↦ ap (is_among g) (preorder-children target there) ∙ or_left (target == g) _ here
         | inr above ↦ absurd (let none : true ≡ false = sym above ∙ ap (under_at tree target) parent ∙ under_at-None tree is target in cc)
       ]
   reaches parents (suc n) g lt live below (Some p) parent =
-      elim (one_of (target == g) _ (sym (under_at-step tree is target g) ∙ below)) [
-        | inl here ↦ ap (is_among g) (preorder-children target there) ∙ left_or (target == g) _ here
+      elim (or_cases (target == g) _ (sym (under_at-step tree is target g) ∙ below)) [
+        | inl here ↦ ap (is_among g) (preorder-children target there) ∙ or_left (target == g) _ here
         | inr above ↦
             (let falls = is.falls g p parent in
             let own : (p == p) ≡ true = grind arith in
@@ -325,4 +305,4 @@ preorder-has tree groups target g live =
     let there = live-within tree target live in
     same_tests _ _
     (λ h. let comes = comes_to tree is target there (length tree) target g live (under_here tree target target (let own : (target == target) ≡ true = grind arith in own)) h in and_from _ _ comes.0 comes.1)
-    (λ h. reaches tree is target there groups.parents_live (suc g) g (omega arith) (first _ _ h) (second _ _ h) (node_at tree g).parent refl)
+    (λ h. reaches tree is target there groups.parents_live (suc g) g (omega arith) (and_parts _ _ h).0 (and_parts _ _ h).1 (node_at tree g).parent refl)

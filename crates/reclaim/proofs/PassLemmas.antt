@@ -3,7 +3,7 @@ use Rattle.std.proofs.Common.{inl, inr, ◌≡◌, ℕ, ◌==◌, ◌&&◌, ◌|
 use Rattle.std.specs.Prelude.{find, is_some, is_none, All, option_map, IfSome}
 use Rattle.std.specs.Option.{option_or}
 use Rattle.std.specs.List.{list_any}
-use Rattle.std.proofs.lemmas.Bool.{cases_Bool}
+use Rattle.std.proofs.lemmas.Bool.{cases_Bool, and_parts}
 use Rattle.std.proofs.lemmas.List.Elements.{All-tail}
 use Rattle.std.proofs.lemmas.List.Folds.{find-append, list_any-append, list_any_at}
 use Rattle.machine.specs.declared.id.GroupId.{GroupId}
@@ -81,10 +81,6 @@ module _ (tree : List Node) (counts : Counts) (held : Held) (target g : ℕ) whe
       ∙ ap (λ b. if gives_one then Some g else find (gives tree counts held true target) (if b then [] else up_to rest last)) end
 
 -- Which groups are asked.
-split : (a b : Bool) → (a && b) ≡ true → (a ≡ true) × (b ≡ true)
-split true b e = (refl, e)
-split false b e = absurd cc
-
 module _ (tree : List Node) (target : ℕ) where
   pub asked-rest : (walk rest : List ℕ) (g : ℕ) → walk ≡ g ∷ rest → AreAsked tree target walk → AreAsked tree target rest
   asked-rest walk rest g e asked = All-tail (λ a. (is_live tree a ≡ true) × (under tree target a ≡ true)) g rest (subst (AreAsked tree target) e asked)
@@ -104,7 +100,7 @@ module _ (tree : List Node) (target : ℕ) where
       λ k d lt.
       let g = get_or (preorder tree target) k d in
       let among = list_any_at (λ a. a == g) (preorder tree target) k d lt (let same : (g == g) ≡ true = grind arith in same) in
-      split _ _ (sym (preorder-has tree groups target g live) ∙ among)
+      and_parts _ _ (sym (preorder-has tree groups target g live) ∙ among)
 
 some_first : (a b : Option ℕ) → is_some a ≡ true → option_or a b ≡ a
 some_first None b e = absurd cc

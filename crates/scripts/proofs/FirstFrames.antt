@@ -3,9 +3,11 @@ use Rattle.std.proofs.Common.{◌≡◌, ℕ, ◌<◌, Bool, true, false, ◌||�
 use Rattle.std.specs.List.{list_any, filter_map}
 use Rattle.std.specs.Str.{is_utf8}
 use Rattle.std.proofs.Math.Seq.{get_or-append_seam, take-append_seam}
+use Rattle.std.proofs.lemmas.Bool.{or_from}
 use Rattle.std.proofs.lemmas.List.{append_assoc, length-append, map_push}
 use Rattle.std.proofs.lemmas.List.Folds.{list_any-append}
 use Rattle.machine.specs.Numbers.{is_numeral}
+use Rattle.machine.proofs.Values.{some_inj}
 use Rattle.scripts.specs.declared.meaning.Item.{Item}
 use Rattle.scripts.specs.declared.forms.Word.{Word}
 use Rattle.scripts.specs.declared.forms.Word.TheVariants as word
@@ -79,9 +81,6 @@ same_fault a l c p = rw p.0 (same_words a (words_of l) c p.2)
 abbrev IsFound : List (List ℕ) → List ℕ → Type 0
 IsFound ls l = (k : ℕ) × (k < length ls) × (get_or ls k [] ≡ l) × (fault_at ls k ≡ fault at_frames l)
 
-some_is : {A : Type 0} {x y : A} → Some x ≡ Some y → x ≡ y
-some_is e = cc
-
 none_is : {A : Type 0} (o : Option A) (x : A) → o ≡ None → o ≡ Some x → ⊥
 none_is o x e f = absurd cc
 
@@ -98,19 +97,16 @@ here ls done rest x e c p =
           ∙ same_fault (around_of (header_frames ls) (items_of done)) x c p,
     )
 
-both_false : (b c : Bool) → b ≡ false → c ≡ false → (b || c) ≡ false
-both_false b c e f = rw (e, f) refl
-
 -- one quiet line more
 more_clear : (frames : ℕ) (done : List (List ℕ)) (x : List ℕ) → IsClear (around_of frames (items_of done)) → IsQuiet (meaning (words_of x)) → IsClear (around_of frames (items_of (done ++ x ∷ [])))
 more_clear frames done x c q =
     let i = meaning (words_of x) in
     let items : items_of (done ++ x ∷ []) ≡ items_of done ++ i ∷ [] = map_push (λ (l : List ℕ). meaning (words_of l)) done x in
     record {
-      commands = ap (list_any is_command) items ∙ commands_push (items_of done) i ∙ both_false (list_any is_command (items_of done)) (is_command i) c.commands q.0;
+      commands = ap (list_any is_command) items ∙ commands_push (items_of done) i ∙ or_from (list_any is_command (items_of done)) (is_command i) c.commands q.0;
       given = ap (λ (is : List Item). given_frames (filter_map header_word is)) items ∙ ap given_frames (found_push header_word (items_of done) i)
           ∙ list_any-append _ (filter_map header_word (items_of done)) (option_list (header_word i))
-          ∙ both_false (given_frames (filter_map header_word (items_of done))) (given_frames (option_list (header_word i))) c.given q.1;
+          ∙ or_from (given_frames (filter_map header_word (items_of done))) (given_frames (option_list (header_word i))) c.given q.1;
     }
 
 further : (ls done rest : List (List ℕ)) (l : List ℕ) → ls ≡ done ++ rest → IsClear (around_of (header_frames ls) (items_of done)) → frames_line rest ≡ Some l → IsFound ls l
@@ -121,7 +117,7 @@ further ls done (x ∷ rest) l e c h =
       | true ↦ λ u. elim (goes_on (words_of x)) as (λ b. goes_on (words_of x) ≡ b → IsFound ls l) [
         | false ↦ λ g. absurd (none_is (frames_line (x ∷ rest)) l (frames_line-behind x rest (rw (u, g) refl)) h)
         | true ↦ λ g. elim (is_frames (word_of (words_of x))) as (λ b. is_frames (word_of (words_of x)) ≡ b → IsFound ls l) [
-          | true ↦ λ f. (let same : x ≡ l = some_is (sym (frames_line-frames x rest (u, g, f)) ∙ h) in subst (λ (y : List ℕ). IsFound ls y) same (here ls done rest x e c (u, g, f)))
+          | true ↦ λ f. (let same : x ≡ l = some_inj (sym (frames_line-frames x rest (u, g, f)) ∙ h) in subst (λ (y : List ℕ). IsFound ls y) same (here ls done rest x e c (u, g, f)))
           | false ↦ λ f. further ls (done ++ x ∷ []) rest l (e ∙ sym (append_assoc done (x ∷ []) rest)) (more_clear (header_frames ls) done x c (quiet_words (words_of x) g f))
               (sym (frames_line-other x rest (u, g, f)) ∙ h)
         ] refl

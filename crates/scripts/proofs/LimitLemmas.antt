@@ -3,7 +3,7 @@ use Rattle.std.proofs.Common.{◌≡◌, ℕ, Bool, true, false, ◌||◌, List,
 use Rattle.std.specs.Prelude.{nat_le}
 use Rattle.std.specs.List.{list_any}
 use Rattle.std.specs.Str.{is_utf8}
-use Rattle.std.proofs.lemmas.Bool.{and_parts}
+use Rattle.std.proofs.lemmas.Bool.{and_parts, or_right}
 use Rattle.std.proofs.lemmas.Bool.Decides.{nat_tests}
 use Rattle.std.proofs.lemmas.List.Folds.{list_any-append}
 use Rattle.machine.specs.State.{are_marks, is_config}
@@ -39,10 +39,6 @@ pub record Fits (ls left : List (List ℕ)) (k : Known) : Type 0 where
   pub trace : is_within 1 1048576 (Some k.config.trace) ≡ true
   pub asked : Asked ls left k.config.frames k.around.commands k.around.given
 
-or_true : (b : Bool) → (b || true) ≡ true
-or_true true = refl
-or_true false = refl
-
 -- a line that asks for no frames, of the header
 other : (ls left more : List (List ℕ)) (n : ℕ) (b c : Bool) (given new : List Word) → frames_line left ≡ frames_line more → Asked ls left n b given → Asked ls more n (b || c) (given ++ new)
 other ls left more n b c given new e (inl p) = inl (p.0, list_any-append (same_word word.Frames) given new ∙ rw p.1 refl)
@@ -52,8 +48,8 @@ other ls left more n b c given new e (inr (inr p)) = inr (inr (p.0, p.1 ∙ e))
 -- one that ends it
 command : (ls left more : List (List ℕ)) (n : ℕ) (b : Bool) (given new : List Word) → frames_line left ≡ None → Asked ls left n b given → Asked ls more n (b || true) (given ++ new)
 command ls left more n b given new e (inl p) = inl (p.0, list_any-append (same_word word.Frames) given new ∙ rw p.1 refl)
-command ls left more n b given new e (inr (inl p)) = inr (inl (p.0, p.1, or_true b))
-command ls left more n b given new e (inr (inr p)) = inr (inl (p.0, ap frames_asked (p.1 ∙ e), or_true b))
+command ls left more n b given new e (inr (inl p)) = inr (inl (p.0, p.1, or_right b true refl))
+command ls left more n b given new e (inr (inr p)) = inr (inl (p.0, ap frames_asked (p.1 ∙ e), or_right b true refl))
 
 -- the first that asks for frames
 first : (ls left more : List (List ℕ)) (m n : ℕ) (b c : Bool) (given : List Word) (l : List ℕ) → b ≡ false → given_frames given ≡ false → frames_line left ≡ Some l → frames_asked (Some l) ≡ n
@@ -61,7 +57,7 @@ first : (ls left more : List (List ℕ)) (m n : ℕ) (b c : Bool) (given : List 
 first ls left more m n b c given l e f g h (inl p) = absurd cc
 first ls left more m n b c given l e f g h (inr (inl p)) = absurd cc
 first ls left more m n b c given l e f g h (inr (inr p)) =
-    inl (sym (ap frames_asked (p.1 ∙ g) ∙ h), list_any-append (same_word word.Frames) given (word.Frames ∷ []) ∙ or_true (given_frames given))
+    inl (sym (ap frames_asked (p.1 ∙ g) ∙ h), list_any-append (same_word word.Frames) given (word.Frames ∷ []) ∙ or_right (given_frames given) true refl)
 
 -- ---- one line more
 

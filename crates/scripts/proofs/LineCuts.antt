@@ -7,6 +7,7 @@ use Rattle.std.proofs.lemmas.Bool.{ltb-true, ltb-false}
 use Rattle.std.proofs.lemmas.Bool.Decides.{nat_tests}
 use Rattle.std.proofs.lemmas.List.Splits.{slice_split_first, slice_split_none}
 use Rattle.std.proofs.lemmas.List.Sums.{fails_before_first}
+use Rattle.machine.proofs.Values.{some_inj}
 use Rattle.scripts.proofs.Splits.{HasPart, split-part, Parts}
 
 abbrev newline : ℕ → Bool
@@ -22,14 +23,11 @@ alone bs h =
     let e : eqb (length bs) 0 ≡ false = grind (arith, nat_tests) in
     rw e refl
 
-some_is : {m n : ℕ} → Some m ≡ Some n → m ≡ n
-some_is e = cc
-
 -- by whether the text has a line feed
 at_cut : (bs : List ℕ) (at : ℕ) (t : Bool) → ltb (position_or_len newline bs) (length bs) ≡ t → cond t (Some (position_or_len newline bs)) None ≡ Some at → lines bs ≡ strip_carriage_return (take at bs) ∷ lines (drop (at + 1) bs)
 at_cut bs at false e h = absurd cc
 at_cut bs at true e h =
-    let k : position_or_len newline bs ≡ at = some_is h in
+    let k : position_or_len newline bs ≡ at = some_inj h in
     let lt : position_or_len newline bs < length bs = ltb-true _ _ e in
     let s : slice_split newline bs ≡ take at bs ∷ slice_split newline (drop (at + 1) bs) = rw (← k) (slice_split_first newline bs 0 lt) in
     ap lines_of_parts s ∙ before_more (take at bs) (slice_split newline (drop (at + 1) bs)) (split-part newline (drop (at + 1) bs))

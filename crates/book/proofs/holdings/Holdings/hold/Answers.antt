@@ -1,10 +1,10 @@
-use Rattle.std.proofs.Common.{◌≡◌, ◌∙◌, ◌==◌, cond, None, Some, refl, ap, subst, arith}
+use Rattle.std.proofs.Common.{◌≡◌, ◌∙◌, ◌==◌, cond, None, Some, eq-eqb, refl, ap, subst, arith}
 use Rattle.machine.specs.Slots.{Changes}
 use Rattle.machine.specs.Pages.{page_at, is_in_transfer}
 use Rattle.machine.specs.Step.{new_page}
 use Rattle.pages.specs.PageTable.{PageTable, byte_in}
 use Rattle.book.proofs.CountLemmas.{charge-usage}
-use Rattle.book.proofs.HoldingLemmas.{kept-step, holding-step, relists-same, same-view, own}
+use Rattle.book.proofs.HoldingLemmas.{kept-step, holding-step, relists-same, same-view}
 use Rattle.book.proofs.EntryLemmas.{grouped-same, grouped-in}
 use Rattle.book.proofs.OrderLemmas.{listed-held, goes-on-in}
 use Rattle.book.proofs.GrantLemmas.{room-free, few-charged, over-granted, none-free, granted, granted-out, granted-frame, granted-free, holding-back}
@@ -74,7 +74,7 @@ invariant_of-self-2 c =
       frames = room.frame.frames;
       held = record { once = λ n. (let k = c.push.ensures.counts n in omega (arith, k)); len = omega (arith, more) };
       moving = relists-same is_in_transfer h.moving.numbers p None (Some (new_page g f)) refl;
-      held_groups = grouped-in h.held h.pages.pages pages p None (Some (new_page g f)) free placed c.self.invariant.held_groups c.push.new.self (c.args.group, c.hold-page.result) c.push.ensures.entries c.push.ensures.last refl (own g) (λ x listed none. absurd cc);
+      held_groups = grouped-in h.held h.pages.pages pages p None (Some (new_page g f)) free placed c.self.invariant.held_groups c.push.new.self (c.args.group, c.hold-page.result) c.push.ensures.entries c.push.ensures.last refl (eq-eqb g g refl) (λ x listed none. absurd cc);
       moving_groups = grouped-same h.moving h.pages.pages pages p None (Some (new_page g f)) free placed c.self.invariant.moving_groups (λ x listed none. absurd cc);
       held_room = c.push.ensures.room;
       moving_room = refl;
