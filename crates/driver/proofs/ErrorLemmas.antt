@@ -4,6 +4,7 @@ use Rattle.std.specs.Prelude.{◌⊎◌, if◌then◌else◌, nat_le, Result, Ok
 use Rattle.std.proofs.lemmas.List.Sums.{sum_by-append}
 use Rattle.machine.specs.declared.amount.Amount.{Amount}
 use Rattle.machine.specs.declared.amount.Amount.TheVariants as amount
+use Rattle.machine.specs.declared.config.Config.{Config}
 use Rattle.machine.specs.declared.config.Watermarks.{Watermarks}
 use Rattle.machine.specs.declared.event.Op.{Op}
 use Rattle.machine.specs.declared.event.Op.TheVariants.{Read, Write}
@@ -45,8 +46,7 @@ use Rattle.driver.specs.declared.turn.Activity.{Activity}
 use Rattle.driver.specs.declared.turn.Activity.TheVariants.{Rests, Begun, Does}
 use Rattle.driver.specs.declared.turn.Seat.{Seat}
 use Rattle.driver.specs.Turns.{wants_pages, wants_balance, wants_watch, done, byte_answer, goes_on, Tried, MadeRoom, MaxSet, Lowered, Reclaimed, Balanced, Made, Ended, WasShown, Closed, Told, ReadsIn, WritesOut, after_read, after_write, Judged, with_group, with_file, with_amount, reads_file, writes_file, reclaims, task_judged, shell_judged, daemon_judged, judged}
-use Rattle.driver.specs.Schedule.{World, is_of, activity_of, with_activity, outcome_of, left_of, WantTurn, wants_at, DoingTurn, JudgedTurn, ActivityTurn, said_at, all_said, Goings, EndsIn, RunsOut, Begins, Stepped, Runs, is_error, errors}
-use Rattle.driver.specs.Laws.{ErrorsAreFailures}
+use Rattle.driver.specs.Schedule.{World, first_world, is_of, activity_of, with_activity, outcome_of, left_of, WantTurn, wants_at, DoingTurn, JudgedTurn, ActivityTurn, said_at, all_said, Goings, EndsIn, RunsOut, Begins, Stepped, Runs, is_error, errors}
 use Rattle.machine.proofs.SlotLemmas.{one_if}
 
 -- ---- what is owed
@@ -400,5 +400,6 @@ bound-runs : (old new : World) (lines : List Line) (answers : List Told_by) → 
 bound-runs old new [] answers h = bound-same old new answers h.1 (ap errors h.0)
 bound-runs old new (line ∷ lines) answers h = rw h.5 (bound-then old h.2 new h.0 h.1 (bound-step old h.2 line h.0 h.3) (bound-runs h.2 new lines h.1 h.4))
 
-pub errors_are_failures : ErrorsAreFailures
+pub errors_are_failures : (config : Config) (before : Disk) (steps : List Line) (answers : List Told_by) (end : World) → Runs (first_world config before) steps answers end
+    → errors answers + before.failures ≤ end.disk.failures
 errors_are_failures config before lines answers end runs = let bound = bound-runs _ end lines answers runs in let within = bound.within in omega (arith, within)

@@ -9,6 +9,8 @@ use Rattle.machine.specs.declared.config.Config.{Config}
 use Rattle.machine.specs.declared.refusal.Refusal.TheVariants.{Stranger}
 use Rattle.machine.specs.declared.command.Actor.{Actor}
 use Rattle.machine.specs.declared.command.Answer.{Answer}
+use Rattle.machine.specs.declared.command.Reply.{Reply as Told_by}
+use Rattle.machine.specs.declared.command.Step.{Step as Line}
 use Rattle.machine.specs.declared.entry.Entry.{Entry}
 use Rattle.machine.specs.declared.id.TicketId.{TicketId}
 use Rattle.machine.specs.declared.event.Place.TheVariants.{Virtual}
@@ -16,7 +18,7 @@ use Rattle.machine.specs.declared.event.Event.{Event as Plain_event}
 use Rattle.machine.specs.declared.event.Event.TheVariants as plain
 use Rattle.machine.specs.declared.reply.Reply.{Reply as Plain_reply}
 use Rattle.machine.specs.declared.reply.Reply.TheVariants as reply
-use Rattle.machine.specs.Pages.{Residence, Held, Coming, Going, Away, Page, page_at, is_held_at, block_at, ticket_at, is_ticket_taken}
+use Rattle.machine.specs.Pages.{Residence, Held, Coming, Going, Away, Page, page_at, is_held_at, block_at, ticket_at, is_ticket_taken, is_anon}
 use Rattle.machine.specs.Tasks.{mapped_at}
 use Rattle.machine.specs.State.{Opening, opening_of, is_config}
 use Rattle.machine.specs.Access.{page_size}
@@ -45,10 +47,9 @@ use Rattle.driver.specs.declared.turn.Seat.{Seat}
 use Rattle.driver.specs.declared.turn.Activity.{Activity}
 use Rattle.driver.specs.declared.turn.Activity.TheVariants.{Rests, Begun, Does}
 use Rattle.driver.specs.Turns.{ReadsIn, WritesOut, after_read, after_write}
-use Rattle.driver.specs.Schedule.{World, first_world, activity_of, with_activity, left_of, Asks, WantTurn, wants_at, DoingTurn, fits}
-use Rattle.driver.specs.Laws.{RunsAreHonest}
-use Rattle.driver.proofs.Effects.{AllLive, Fetches, Goes, Stood, InFrame, ItStays, ItFetches, ItLeaves, ItFails, ItGoes, Effect, step_effect}
-use Rattle.driver.proofs.SoundLemmas.{pages_share_no_block, blocks_are_there, pages_share_no_ticket, pages_are_memory}
+use Rattle.driver.specs.Schedule.{World, first_world, activity_of, with_activity, left_of, Asks, WantTurn, wants_at, DoingTurn, Runs, fits}
+use Rattle.machine.proofs.Effects.{AllLive, Fetches, Goes, Stood, InFrame, ItStays, ItFetches, ItLeaves, ItFails, ItGoes, Effect, step_effect}
+use Rattle.machine.proofs.SoundLemmas.{pages_share_no_block, pages_share_no_ticket, legal-fit}
 use Rattle.driver.proofs.Keeps.{number_asked, number_wanted, in_hand, Alike, Same, Ticketless, wants_alike, number_at, is_idle, idle_none, FineOutcome, IsAt, runs_keep}
 use Rattle.driver.proofs.CallCases.{IsRefused, IsServed, Comes, ByRefusal, ByEntry, called_comes, Next, Handless, Reads, Writes, told_next}
 use Rattle.driver.proofs.Tickets.{IsGoing, KeepsAsked, KeepsWanted, KeepsAt, at_flies, flies_taken, asked_known, not_out, still_known, Tickets, seats_all, tickets_rest, tickets_turn, tickets_first, own_keeps, others_differ}
@@ -338,7 +339,7 @@ module _ (opening : Opening) (past : Past) (contents contents' : List (List ℕ)
       kept.others b
       (λ same.
       let block' : block_at going.page.residence ≡ Some b = ap block_at going.going ∙ ap (λ (x : ℕ). Some x) (sym same) in
-      let memory = pages_are_memory opening past.history past.state h.legal in
+      let memory : (n : ℕ) (x : Page) → page_at past.state.pages n ≡ Some x → is_anon x.content ≡ true = λ n x at. (legal-fit opening past.history past.state h.legal n x at).memory in
       let one : p ≡ going.p = pages_share_no_block opening past.history past.state h.legal p going.p b page going.page there going.there (memory p page there) (memory going.p going.page going.there) block block' in
       differs (one_page past p going.p page going.page one there going.there))
 
@@ -402,8 +403,7 @@ module _ (opening : Opening) (past : Past) (disk disk' : Disk) (h : Holds openin
 
       there : ticket.block < length disk.contents
       there =
-          let memory = pages_are_memory opening past.history past.state h.legal going.p going.page going.there in
-          let within : ticket.block < opening.swap = blocks_are_there opening past.history past.state h.legal going.p ticket.block going.page going.there memory (ap block_at going.going) in
+          let within : ticket.block < opening.swap = (legal-fit opening past.history past.state h.legal going.p going.page going.there).within ticket.block (ap block_at going.going) in
           let room = h.room in
           omega (arith, within, room)
 
@@ -518,6 +518,7 @@ faithful_first config disk fit =
     within : nat_le config.swap (length disk.contents) ≡ true → config.swap ≤ length disk.contents
     within e = grind (arith, nat_tests, e)
 
-pub runs_are_honest : RunsAreHonest
+pub runs_are_honest : (config : Config) (before : Disk) (steps : List Line) (answers : List Told_by) (end : World) → fits config before ≡ true → Runs (first_world config before) steps answers end
+    → Honest end.past.history
 runs_are_honest config before lines answers end fit runs =
     (runs_keep (Faithful (opening_of config)) (faithful_rest (opening_of config)) (faithful_turn (opening_of config)) (first_world config before) end lines answers runs (faithful_first config before fit)).0.holds.honest

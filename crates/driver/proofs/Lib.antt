@@ -1,17 +1,8 @@
-pub mod Legals
-pub mod LawLemmas
-pub mod MoveLemmas
-pub mod SoundLemmas
-pub mod ReclaimLemmas
-pub mod RiseLemmas
 pub mod ErrorLemmas
-pub mod Effects
 pub mod Keeps
 pub mod CallCases
 pub mod Tickets
 pub mod Faithful
-pub mod OpeningLemmas
 pub mod TicketLemmas
-pub mod OrderLemmas
 pub mod SeatLists
 pub mod Runs

@@ -35,22 +35,22 @@ use Rattle.driver.specs.declared.turn.Turned.{Turned}
 use Rattle.driver.specs.declared.turn.Turned.TheVariants.{Goes}
 use Rattle.driver.specs.Turns.{done, wants_pages, wants_balance, wants, ends_with, goes_on, Tried, MadeRoom, MaxSet, Lowered, Reclaimed, Balanced, Made, Ended, WasShown, Closed, Told, Judged, judged, task_judged, shell_judged, daemon_judged, with_group, with_file, with_amount, reads_file, reclaims, writes_file}
 use Rattle.driver.specs.Schedule.{wants_at}
-use Rattle.driver.specs.Laws.{BlocksAreThere, PagesAreMemory}
+use Rattle.machine.proofs.SoundLemmas.{legal-fit}
 use Rattle.driver.specs.Tickets.{IsOwn, OwnEvent, OwnReply, OwnDoing, OwnTurned}
 
-pub gives_own : (past : Past) (worker : ℕ) → worker ≡ 0 → Legal past.state.opening past.history past.state → BlocksAreThere → PagesAreMemory
+pub gives_own : (past : Past) (worker : ℕ) → worker ≡ 0 → Legal past.state.opening past.history past.state
     → (said : Reply) → Gives past worker said → OwnReply past.state.opening.swap said
-gives_own past worker first legal there memory (reply.Fetch ticket) h =
+gives_own past worker first legal (reply.Fetch ticket) h =
     record {
       own = h.own ∙ first;
-      block = there past.state.opening past.history past.state legal h.p ticket.block h.page h.there (memory past.state.opening past.history past.state legal h.p h.page h.there) (ap (λ (r : Residence). block_at r) h.coming);
+      block = (legal-fit past.state.opening past.history past.state legal h.p h.page h.there).within ticket.block (ap (λ (r : Residence). block_at r) h.coming);
     }
-gives_own past worker first legal there memory (reply.Out ticket) h =
+gives_own past worker first legal (reply.Out ticket) h =
     record {
       own = h.own ∙ first;
-      block = there past.state.opening past.history past.state legal h.p ticket.block h.page h.there (memory past.state.opening past.history past.state legal h.p h.page h.there) (ap (λ (r : Residence). block_at r) h.going);
+      block = (legal-fit past.state.opening past.history past.state legal h.p h.page h.there).within ticket.block (ap (λ (r : Residence). block_at r) h.going);
     }
-gives_own past worker first legal there memory said h = tt
+gives_own past worker first legal said h = tt
 
 -- ---- a command asks with the ticket that it holds
 

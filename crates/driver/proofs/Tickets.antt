@@ -39,9 +39,8 @@ use Rattle.driver.specs.declared.turn.Activity.TheVariants.{Rests, Begun, Does}
 use Rattle.driver.specs.declared.turn.Seat.{Seat}
 use Rattle.driver.specs.Turns.{ReadsIn, WritesOut, after_read, after_write}
 use Rattle.driver.specs.Schedule.{number_of, activity_of, with_activity, World, first_world, Asks, WantTurn, wants_at, DoingTurn, outcome_of, left_of}
-use Rattle.driver.specs.Laws.{NoStrangers}
-use Rattle.driver.proofs.Effects.{ends, AllLive, Effect, step_effect}
-use Rattle.driver.proofs.Keeps.{activity_of-own, activity_of-other, number_asked, number_wanted, in_hand, Alike, Same, Ticketless, wants_alike, wanted_in_hand, number_at, is_idle, idle_none, Fine, FineOutcome, FineWant, wants_fine, fine_at, IsAt, runs_keep}
+use Rattle.machine.proofs.Effects.{ends, AllLive, Effect, step_effect}
+use Rattle.driver.proofs.Keeps.{activity_of-own, activity_of-other, number_asked, number_wanted, in_hand, Alike, Same, Ticketless, wants_alike, wanted_in_hand, number_at, is_idle, idle_none, Fine, FineOutcome, FineWant, wants_fine, IsAt}
 use Rattle.driver.proofs.CallCases.{IsRefused, IsServed, Comes, ByRefusal, ByEntry, called_comes, Next, Handless, Reads, Writes, told_next}
 
 -- ---- words
@@ -450,7 +449,3 @@ tickets_turn old new who now outcome at turn h =
 
 pub tickets_first : (config : Config) (disk : Disk) → Tickets (first_world config disk)
 tickets_first config disk = record { live = λ t v p e. cc; keeps = λ a. tt; apart = λ a b n e f. cc }
-
-pub no_strangers : NoStrangers
-no_strangers config before lines answers end runs k told is =
-    fine_at answers k told (runs_keep Tickets tickets_rest tickets_turn (first_world config before) end lines answers runs (tickets_first config before)).1 is

@@ -3,4 +3,3 @@ pub mod Schedule
 pub mod Tickets
 pub mod Seats
 pub mod Desks
-pub mod Laws

@@ -9,7 +9,6 @@ ghost use Rattle.driver.specs.Tickets.{IsOwn, OwnEvent, OwnReply, OwnTurned, Own
 ghost use Rattle.driver.specs.Desks.{IsSame};
 
 use crate::automaton::spend;
-use crate::laws;
 use crate::turn::{Access, Activity, Doing, Onward, Turned};
 use block_store::BlockDevice;
 use book::{Book, Event, InTicket, OutTicket, Pass, Reply};
@@ -32,8 +31,6 @@ pub fn call(book: &mut Book, pass: &mut Pass, event: Event) -> Reply
 {
     let reply = book.call(pass, event);
     book.history_is_right();
-    laws::blocks_are_there();
-    laws::pages_are_memory();
     reply
 }
 

@@ -13,7 +13,6 @@ pub mod automaton;
 mod calls;
 mod desk;
 mod judge;
-pub mod laws;
 mod schedule;
 mod seats;
 pub mod turn;

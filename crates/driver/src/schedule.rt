@@ -4,7 +4,6 @@ ghost use Rattle.std.specs.Prelude.{◌≡◌, ◌⊎◌, ◌+◌, ◌≤◌, tr
 ghost use Rattle.driver.specs.Schedule.{Schedules, fits, errors};
 
 use crate::desk::Desk;
-use crate::laws;
 use block_store::BlockDevice;
 use machine::command::{Reply, Step};
 use machine::config::Config;
@@ -37,8 +36,6 @@ pub fn run<D: BlockDevice>(
     let mut answers = Vec::new(alloc);
     let ran = desk.run_all(device, steps, &mut answers);
     desk.book.history_is_right();
-    laws::runs_are_honest();
-    laws::errors_are_failures();
     desk.close();
     match ran {
         Ok(()) => Ok(answers),

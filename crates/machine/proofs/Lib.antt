@@ -3,3 +3,7 @@ pub mod TreeLemmas
 pub mod SlotLemmas
 pub mod MappingLemmas
 pub mod CursorLemmas
+pub mod MoveLemmas
+pub mod Effects
+pub mod SoundLemmas
+pub mod OpeningLemmas

@@ -2,7 +2,7 @@ use Rattle.std.proofs.Common.{◌≡◌, subst}
 use Rattle.machine.specs.State.{Opening}
 use Rattle.book.specs.Events.{event_of, reply_of}
 use Rattle.driver.specs.Tickets.{OwnReply}
-use Rattle.driver.proofs.OpeningLemmas.{called_opening}
+use Rattle.machine.proofs.OpeningLemmas.{called_opening}
 use Rattle.driver.proofs.TicketLemmas.{gives_own}
 use Rattle.driver.proofs.calls.call.Goals as goal
 
@@ -12,7 +12,7 @@ returns-clause-own c =
     let said = c.call-reply.result in
     let kept : past.state.opening ≡ c.args.book.now.state.opening = called_opening c.args.book.now past c.args.pass.now.worker (event_of c.args.event) (reply_of said) c.call-reply.ensures.called in
     let Own : Opening → Type 0 = λ o. OwnReply o.swap said in
-    subst Own kept (gives_own past c.args.pass.now.worker c.requires.first c.history_is_right.ensures.legal c.blocks_are_there.ensures c.pages_are_memory.ensures said c.call-reply.ensures.gives)
+    subst Own kept (gives_own past c.args.pass.now.worker c.requires.first c.history_is_right.ensures.legal said c.call-reply.ensures.gives)
 
 pub returns-clause-opening : goal.returns-clause-opening
 returns-clause-opening c = called_opening c.args.book.now c.call-reply.new.self c.args.pass.now.worker (event_of c.args.event) (reply_of c.call-reply.result) c.call-reply.ensures.called

@@ -1,7 +1,10 @@
 use Rattle.std.proofs.Common.{◌≡◌, inr, true, refl, subst, arith}
+use Rattle.machine.specs.History.{Honest}
 use Rattle.block_store.specs.Device.{Disk}
 use Rattle.driver.specs.Schedule.{World, first_world, Runs, fits}
 use Rattle.driver.specs.Desks.{world}
+use Rattle.driver.proofs.ErrorLemmas.{errors_are_failures}
+use Rattle.driver.proofs.Faithful.{runs_are_honest}
 use Rattle.driver.proofs.Runs.{opened_on, fitting}
 use Rattle.driver.proofs.schedule.run.Goals as goal
 
@@ -17,7 +20,7 @@ returns-in-Ok-clause-schedules g c =
     let From : World → Type 0 = λ w. Runs w c.args.steps.now c.run_all-ran.new.answers.items end in
     let ran : Runs (first_world c.args.config before) c.args.steps.now c.run_all-ran.new.answers.items end = subst From (c.in_ok-desk.ensures.opens before) c.in-Ok.ensures.runs in
     let fit : fits c.args.config before ≡ true = fitting c.args.config before c.in_ok-desk.ensures.sized (omega (arith, c.if-blocks-config.false, c.blocks-2.ensures)) in
-    let honest = c.runs_are_honest.ensures c.args.config before c.args.steps.now c.run_all-ran.new.answers.items end fit ran in
+    let honest : Honest end.past.history = runs_are_honest c.args.config before c.args.steps.now c.run_all-ran.new.answers.items end fit ran in
     record { end = end; runs = ran; device = refl; honest = honest; right = c.history_is_right.ensures.right honest }
 
 pub returns-in-Ok-clause-errors : goal.returns-in-Ok-clause-errors
@@ -26,7 +29,7 @@ returns-in-Ok-clause-errors g c =
     let end : World = world c.run_all-ran.new.self (g.D.BlockDevice.disk c.run_all-ran.new.device) in
     let From : World → Type 0 = λ w. Runs w c.args.steps.now c.run_all-ran.new.answers.items end in
     let ran : Runs (first_world c.args.config before) c.args.steps.now c.run_all-ran.new.answers.items end = subst From (c.in_ok-desk.ensures.opens before) c.in-Ok.ensures.runs in
-    c.errors_are_failures.ensures c.args.config before c.args.steps.now c.run_all-ran.new.answers.items end ran
+    errors_are_failures c.args.config before c.args.steps.now c.run_all-ran.new.answers.items end ran
 
 pub returns-in-Ok-clause-sized : goal.returns-in-Ok-clause-sized
 returns-in-Ok-clause-sized g c = fitting c.args.config (g.D.BlockDevice.disk c.args.device.now) c.in_ok-desk.ensures.sized (omega (arith, c.if-blocks-config.false, c.blocks-2.ensures))

@@ -1,5 +1,0 @@
-use Rattle.driver.proofs.ErrorLemmas.{errors_are_failures}
-use Rattle.driver.proofs.laws.errors_are_failures.Goals as goal
-
-pub returns : goal.returns
-returns c = errors_are_failures

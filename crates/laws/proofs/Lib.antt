@@ -1,0 +1,5 @@
+pub mod Legals
+pub mod LawLemmas
+pub mod ReclaimLemmas
+pub mod RiseLemmas
+pub mod OrderLemmas

@@ -1,0 +1,171 @@
+-- Whose pages a reclaim takes, and what it does where it takes none.
+use Rattle.std.proofs.Common.{◌≡◌, inl, inr, ℕ, ◌==◌, ◌||◌, Bool, true, false, Option, Some, None, eqb-true, refl, ap, ◌∙◌, subst}
+use Rattle.std.specs.Prelude.{◌⊎◌}
+use Rattle.std.proofs.lemmas.Bool.{and_parts}
+use Rattle.machine.specs.declared.id.TicketId.{TicketId}
+use Rattle.machine.specs.declared.record.Life.{Life}
+use Rattle.machine.specs.declared.record.Life.TheVariants.{Live, Exited, Killed}
+use Rattle.machine.specs.declared.record.Task.{Task}
+use Rattle.machine.specs.declared.event.Cause.{Cause}
+use Rattle.machine.specs.declared.event.Op.{Op}
+use Rattle.machine.specs.declared.event.Op.TheVariants.{Read, Write}
+use Rattle.machine.specs.declared.event.Place.{Place}
+use Rattle.machine.specs.declared.event.Event.{Event}
+use Rattle.machine.specs.declared.event.Event.TheVariants as event
+use Rattle.machine.specs.declared.reply.Reply.{Reply}
+use Rattle.machine.specs.declared.reply.Reply.TheVariants as reply
+use Rattle.machine.specs.Slots.{Changes, there_and}
+use Rattle.machine.specs.Tree.{under}
+use Rattle.machine.specs.Amounts.{exceeds}
+use Rattle.machine.specs.Pages.{Content, Memory, OfFile, Residence, Held, Coming, Going, Away, Page, is_held}
+use Rattle.machine.specs.Tasks.{task_at}
+use Rattle.machine.specs.State.{State, usage, over_in, is_frame_free, effective_min}
+use Rattle.machine.specs.Access.{Meeting, Unmapped, Hits, Transferring, NeedsPage, NeedsCopy, NeedsSwapIn, meets}
+use Rattle.machine.specs.Reclaim.{is_open, has_takeable, has_transfer, stands, target_of}
+use Rattle.machine.specs.Step.{Only, ChargeStep, MeetStep, LifeStep, TaskStep, Takes, LeavesBy, LeavesFrom, ReclaimStep, ReclaimOneStep, KillStep, RelieveStep, Step}
+use Rattle.machine.proofs.Values.{some_inj, unlike}
+use Rattle.laws.specs.Laws.{took_for, TakesUnprotected, ReclaimsSpareTheProtected, ReclaimsGiveUpLast, ReclaimsKillNobody}
+use Rattle.laws.proofs.LawLemmas.{by_test, is_taking, never_taken, idle_of}
+
+-- ---- where the answer is that a page was taken, one was
+
+module _ (before after : State) (answer : Reply) (taking : is_taking answer ≡ true) where
+  not_only : {P : Type 0} (expected : Reply) → is_taking expected ≡ false → Only before expected answer after → P
+  not_only expected other h = unlike (is_taking answer) taking (ap is_taking h.0 ∙ other)
+
+  no_kill : {P : Type 0} (limit : ℕ) (said : Reply) → is_taking said ≡ true → KillStep before limit said after → P
+  no_kill limit (reply.KilledTask t) takes h = cc
+  no_kill limit reply.NoVictim takes h = cc
+  no_kill limit said takes h = absurd h
+
+  reclaim_takes : (target : ℕ) (Idle : Type 0) → (Idle → Takes before target answer after) → ReclaimStep before target Idle answer after → Takes before target answer after
+  reclaim_takes target Idle idle step = by_test (has_takeable before target) (λ k. k) (λ k. by_test (has_transfer before target) (not_only reply.Wait refl) idle k) step
+
+  relief_takes : (why : Cause) → RelieveStep before why answer after → Takes before (target_of why) answer after
+  relief_takes why step = by_test (stands before why) (reclaim_takes (target_of why) _ (no_kill (target_of why) answer taking)) (not_only reply.Room refl) step
+
+  one_takes : (g : ℕ) → ReclaimOneStep before g answer after → Takes before g answer after
+  one_takes g step = reclaim_takes g _ (not_only reply.Nothing refl) step
+
+step_takes : (before after : State) (what : Event) (answer : Reply) (target : ℕ) → took_for what answer ≡ Some target → Step before what answer after → Takes before target answer after
+step_takes before after (event.Relieve why) (reply.Out ticket) target e step = subst (λ t. Takes before t (reply.Out ticket) after) (some_inj e) (relief_takes before after (reply.Out ticket) refl why step)
+step_takes before after (event.Relieve why) reply.Dropped target e step = subst (λ t. Takes before t reply.Dropped after) (some_inj e) (relief_takes before after reply.Dropped refl why step)
+step_takes before after (event.ReclaimOne g) (reply.Out ticket) target e step = subst (λ t. Takes before t (reply.Out ticket) after) (some_inj e) (one_takes before after (reply.Out ticket) refl g.0 step)
+step_takes before after (event.ReclaimOne g) reply.Dropped target e step = subst (λ t. Takes before t reply.Dropped after) (some_inj e) (one_takes before after reply.Dropped refl g.0 step)
+step_takes before after what answer target e step = cc
+
+-- ---- the page
+
+module _ (before after : State) (target : ℕ) where
+  open_cases : (g : ℕ) → is_open before target g ≡ true → (g ≡ target) ⊎ (exceeds (usage before g) (effective_min before target g) ≡ true)
+  open_cases g is = by_same (g == target) refl is
+    where
+      by_same : (b : Bool) → (g == target) ≡ b → (b || exceeds (usage before g) (effective_min before target g)) ≡ true → (g ≡ target) ⊎ (exceeds (usage before g) (effective_min before target g) ≡ true)
+      by_same true same e = inl (eqb-true g target same)
+      by_same false same e = inr e
+
+  module _ (answer : Reply) (h : Takes before target answer after) where
+    takeable : (is_held h.page ≡ true) × (under before.tree target h.page.group ≡ true) × (is_open before target h.page.group ≡ true)
+    takeable = let all = and_parts _ _ h.takeable in let three = and_parts _ _ all.0 in let two = and_parts _ _ three.0 in (two.0, two.1, three.1)
+
+    leaves_for : (to : Option Page) → Changes before.pages after.pages h.p to → there_and is_held to ≡ false → TakesUnprotected before target after
+    leaves_for to changes gone =
+        record {
+          p = h.p;
+          page = h.page;
+          there = h.there;
+          held = takeable.0;
+          leaves = ap (there_and is_held) changes.changed ∙ gone;
+          others = changes.others;
+          below = takeable.1;
+          unprotected = open_cases h.page.group takeable.2;
+        }
+
+    taken_unprotected : TakesUnprotected before target after
+    taken_unprotected = by_residence h.page.residence h.leaves
+      where
+        by_content : (frame : ℕ) (content : Content) → LeavesBy before h.p h.page content frame before.counted answer after → TakesUnprotected before target after
+        by_content frame Memory k = leaves_for _ k.leave.placed refl
+        by_content frame (OfFile file q) k = by_test h.page.dirty (λ l. leaves_for _ l.placed refl) (λ l. leaves_for None l.gone refl) k
+
+        by_residence : (r : Residence) → LeavesFrom before h.p h.page r before.counted answer after → TakesUnprotected before target after
+        by_residence (Held frame) k = by_content frame h.page.content k
+        by_residence (Coming frame block ticket) k = absurd k
+        by_residence (Going frame block ticket) k = absurd k
+        by_residence (Away block) k = absurd k
+
+pub reclaims_spare_the_protected : ReclaimsSpareTheProtected
+reclaims_spare_the_protected before after what answer target taken step = taken_unprotected before after target answer (step_takes before after what answer target taken step)
+
+-- ---- reclaims that take none
+
+pub reclaims_give_up_last : ReclaimsGiveUpLast
+reclaims_give_up_last before after g step =
+    let found = idle_of (has_takeable before g) (has_transfer before g) _ _ _ _ (never_taken before g reply.Nothing after refl) (λ w. let e = w.0 in cc) (λ n. n.1) step in (found.0, found.1)
+
+pub reclaims_kill_nobody : ReclaimsKillNobody
+reclaims_kill_nobody before after g answer step =
+    by_test (has_takeable before g.0) (λ k. (never_kills k, tasks k)) (λ k. by_test (has_transfer before g.0) (λ w. only reply.Wait w refl) (λ n. only reply.Nothing n refl) k) step
+  where
+    not_killed : (t : ℕ) → is_taking answer ≡ true → answer ≡ reply.KilledTask (record { 0 = t }) → ⊥
+    not_killed t taking e = unlike (is_taking answer) taking (ap is_taking e)
+
+    never_kills : Takes before g.0 answer after → (t : ℕ) → answer ≡ reply.KilledTask (record { 0 = t }) → ⊥
+    never_kills h t e = never_taken before g.0 answer after (ap is_taking e) h
+
+    is_killed : Reply → Bool
+    is_killed (reply.KilledTask t) = true
+    is_killed said = false
+
+    only : (expected : Reply) → Only before expected answer after → is_killed expected ≡ false → ((t : ℕ) → answer ≡ reply.KilledTask (record { 0 = t }) → ⊥) × (after.tasks ≡ before.tasks)
+    only expected h other = (λ t e. unlike (is_killed answer) (ap is_killed e) (ap is_killed h.0 ∙ other), ap (λ (s : State). s.tasks) h.1)
+
+    tasks : Takes before g.0 answer after → after.tasks ≡ before.tasks
+    tasks h = by_residence h.page.residence h.leaves
+      where
+        by_content : (frame : ℕ) (content : Content) → LeavesBy before h.p h.page content frame before.counted answer after → after.tasks ≡ before.tasks
+        by_content frame Memory k = ap (λ (s : State). s.tasks) k.leave.state
+        by_content frame (OfFile file q) k = by_test h.page.dirty (λ l. ap (λ (s : State). s.tasks) l.state) (λ l. ap (λ (s : State). s.tasks) l.state) k
+
+        by_residence : (r : Residence) → LeavesFrom before h.p h.page r before.counted answer after → after.tasks ≡ before.tasks
+        by_residence (Held frame) k = by_content frame h.page.content k
+        by_residence (Coming frame block ticket) k = absurd k
+        by_residence (Going frame block ticket) k = absurd k
+        by_residence (Away block) k = absurd k
+
+-- ---- nothing but a reclaim writes a page out
+
+module _ (before after : State) (ticket : TicketId) where
+  charge_never : (low : Option ℕ) (free : Bool) (Granted : Type 0) → (Granted → ⊥) → ChargeStep before low free Granted (reply.Out ticket) after → ⊥
+  charge_never (Some a) free Granted never h = let e = h.0 in cc
+  charge_never None true Granted never h = never h
+  charge_never None false Granted never h = let e = h.0 in cc
+
+  meet_never : (t g : ℕ) (place : Place) (op : Op) (meeting : Meeting) → MeetStep before t g place op meeting (reply.Out ticket) after → ⊥
+  meet_never t g place op Unmapped h = h
+  meet_never t g place Read (Hits p page frame) h = h
+  meet_never t g place (Write b) (Hits p page frame) h = h
+  meet_never t g place op Transferring h = let e = h.0 in cc
+  meet_never t g place op NeedsPage h = charge_never (over_in before g) (is_frame_free before) _ (λ made. let e = made.answers in cc) h
+  meet_never t g place op NeedsCopy h = charge_never (over_in before g) (is_frame_free before) _ (λ made. let e = made.answers in cc) h
+  meet_never t g place op (NeedsSwapIn p page block) h = charge_never (over_in before page.group) (is_frame_free before) _ (λ begun. let e = begun.answers in cc) h
+
+  life_never : (life : Life) (Live_step : Type 0) → (Live_step → ⊥) → LifeStep before life Live_step (reply.Out ticket) after → ⊥
+  life_never Live Live_step never h = never h
+  life_never Exited Live_step never h = h
+  life_never Killed Live_step never h = let e = h.0 in cc
+
+  task_never : (slot : Option Task) (Live_step : Task → Type 0) → ((task : Task) → Live_step task → ⊥) → TaskStep before slot Live_step (reply.Out ticket) after → ⊥
+  task_never None Live_step never h = h
+  task_never (Some task) Live_step never h = life_never task.life (Live_step task) (never task) h
+
+  pub out_takes : (what : Event) → Step before what (reply.Out ticket) after → (target : ℕ) × Takes before target (reply.Out ticket) after
+  out_takes (event.Access t place op) step = absurd (task_never (task_at before.tasks t.0) _ (λ task. meet_never t.0 task.group.0 place op (meets before t.0 place op)) step)
+  out_takes (event.Arrived n bytes) step = let e = step.answers in cc
+  out_takes (event.FetchFailed n) step = let e = step.answers in cc
+  out_takes (event.Left n) step = let e = step.answers in cc
+  out_takes (event.LeaveFailed n) step = let e = step.answers in cc
+  out_takes (event.Relieve why) step = (target_of why, relief_takes before after (reply.Out ticket) refl why step)
+  out_takes (event.ReclaimOne g) step = (g.0, one_takes before after (reply.Out ticket) refl g.0 step)
+  out_takes (event.Exit t) step = absurd (task_never (task_at before.tasks t.0) _ (λ task h. let e = h.0 in cc) step)
+  out_takes what step = absurd step

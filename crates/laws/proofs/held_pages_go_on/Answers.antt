@@ -1,0 +1,5 @@
+use Rattle.laws.proofs.OrderLemmas.{held_pages_go_on}
+use Rattle.laws.proofs.held_pages_go_on.Goals as goal
+
+pub returns : goal.returns
+returns c = held_pages_go_on

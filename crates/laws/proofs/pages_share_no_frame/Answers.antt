@@ -1,0 +1,5 @@
+use Rattle.machine.proofs.SoundLemmas.{pages_share_no_frame}
+use Rattle.laws.proofs.pages_share_no_frame.Goals as goal
+
+pub returns : goal.returns
+returns c = pages_share_no_frame

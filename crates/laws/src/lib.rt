@@ -1,0 +1,143 @@
+//! The headline in the words of its users: laws of every step and of every run, each the contract of
+//! a function that does nothing.
+#![tactic(auto)]
+
+ghost use Rattle.laws.specs.Laws.{RunsAreLegal, RunsAreHonest, NoStrangers, ErrorsAreFailures, CurrentCountsPages, EventsAreThoseCounted, ChargesStayWithinMax, OnlyAccessesCharge, KillsComeLast, ReadsGiveLastWrites, PagesShareNoFrame, PagesShareNoBlock, BlocksAreThere, PagesShareNoTicket, PagesAreMemory, TransfersStayCharged, WriteOutsStayCharged, ReclaimsSpareTheProtected, ReclaimsGiveUpLast, ReclaimsKillNobody, HeldPagesAreListed, GroupsHaveCursors, HeldPagesGoOn, PagesLeaveInOrder, GroupsAreThere};
+
+/// The history of every run leads from the opening to the run's state, one step of the plain machine
+/// an entry.
+pub fn runs_are_legal()
+    ensures { RunsAreLegal }
+{}
+
+/// Every page that was read in during a run brought what was last written, the device being one that
+/// has the swap blocks and keeps its promise.
+pub fn runs_are_honest()
+    ensures { RunsAreHonest }
+{}
+
+/// No command of a run is told that its ticket is none of its own.
+pub fn no_strangers()
+    ensures { NoStrangers }
+{}
+
+/// As many answers at most tell of an error of the device as calls of it have failed. So a device
+/// without faults gives none.
+pub fn errors_are_failures()
+    ensures { ErrorsAreFailures }
+{}
+
+/// A page counts as charged while it is in transfer, in either direction.
+pub fn transfers_stay_charged()
+    ensures { TransfersStayCharged }
+{}
+
+/// Beginning to write a page out leaves the count of every group as it was.
+pub fn write_outs_stay_charged()
+    ensures { WriteOutsStayCharged }
+{}
+
+/// `memory.current` counts the pages with frames at or under the group.
+pub fn current_counts_pages()
+    ensures { CurrentCountsPages }
+{}
+
+/// Of each key `memory.events` shows how often it was counted at or under the group, and
+/// `memory.events.local` how often at the group itself.
+pub fn event_files_show_what_was_counted()
+    ensures { EventsAreThoseCounted }
+{}
+
+/// No access that gives a page a frame passes the max of the group or of one above it. (A max that
+/// is lowered below the group's count admits no charge, but is passed by what was charged before.)
+pub fn charges_stay_within_max()
+    ensures { ChargesStayWithinMax }
+{}
+
+/// No event but an access leaves more pages charged under a group. So, by `charges_stay_within_max`, a
+/// count that rises stays within the group's max, whatever the event.
+pub fn only_accesses_charge()
+    ensures { OnlyAccessesCharge }
+{}
+
+/// A task is killed only where nothing can be reclaimed under the limit group, and only a live task
+/// of a group at or under it.
+pub fn kills_come_last()
+    ensures { KillsComeLast }
+{}
+
+/// A page that is taken was its reclaim's target's own, or of a group below the target that used more
+/// than its effective `memory.min`. No other page changes.
+pub fn reclaims_spare_the_protected()
+    ensures { ReclaimsSpareTheProtected }
+{}
+
+/// A reclaim by `memory.reclaim` or by the daemon answers that there is nothing only where no page can
+/// be taken for its target and none under it is in transfer, and it changes nothing then.
+pub fn reclaims_give_up_last()
+    ensures { ReclaimsGiveUpLast }
+{}
+
+/// A reclaim by `memory.reclaim` or by the daemon kills no task.
+pub fn reclaims_kill_nobody()
+    ensures { ReclaimsKillNobody }
+{}
+
+/// After any run the list of held pages has each page that is in a frame and in no transfer once, and
+/// no other.
+pub fn held_pages_are_listed()
+    ensures { HeldPagesAreListed }
+{}
+
+/// After any run each group has a cursor of its own, which names the group that was served last for a
+/// reclaim of it.
+pub fn groups_have_cursors()
+    ensures { GroupsHaveCursors }
+{}
+
+/// A call that changes anything lets the held pages go on in their order. What is held no more leaves
+/// their list, all others stay as they stood, and what comes to be held, one page at most, comes last.
+pub fn held_pages_go_on()
+    ensures { HeldPagesGoOn }
+{}
+
+/// The page that a call takes is its group's first in the list of held pages, and it was that group's
+/// turn to give a page to the reclaim's target. Then the target's cursor names the group.
+pub fn pages_leave_in_order()
+    ensures { PagesLeaveInOrder }
+{}
+
+/// Each read that is done gives the byte last written.
+pub fn reads_give_last_writes()
+    ensures { ReadsGiveLastWrites }
+{}
+
+/// Whatever state a run's history leads to, no two pages have one frame.
+pub fn pages_share_no_frame()
+    ensures { PagesShareNoFrame }
+{}
+
+/// Whatever state a run's history leads to, no two anonymous pages have one swap block.
+pub fn pages_share_no_block()
+    ensures { PagesShareNoBlock }
+{}
+
+/// Whatever state a run's history leads to, each swap block of a page is one of those that there are.
+pub fn blocks_are_there()
+    ensures { BlocksAreThere }
+{}
+
+/// Whatever state a run's history leads to, no two pages are in transfer under one ticket.
+pub fn pages_share_no_ticket()
+    ensures { PagesShareNoTicket }
+{}
+
+/// Whatever state a run's history leads to, each page is memory of tasks.
+pub fn pages_are_memory()
+    ensures { PagesAreMemory }
+{}
+
+/// Whatever state a run's history leads to, the group of each page and of each live task is there.
+pub fn groups_are_there()
+    ensures { GroupsAreThere }
+{}
