@@ -2,14 +2,7 @@
 use Rattle.std.proofs.Common.{◌≡◌, inl, inr, ℕ, ◌==◌, ◌||◌, Bool, true, false, Option, Some, None, eqb-true, refl, ap, ◌∙◌, subst}
 use Rattle.std.specs.Prelude.{◌⊎◌}
 use Rattle.std.proofs.lemmas.Bool.{and_parts}
-use Rattle.machine.specs.declared.id.TicketId.{TicketId}
-use Rattle.machine.specs.declared.record.Life.{Life}
-use Rattle.machine.specs.declared.record.Life.TheVariants.{Live, Exited, Killed}
-use Rattle.machine.specs.declared.record.Task.{Task}
 use Rattle.machine.specs.declared.event.Cause.{Cause}
-use Rattle.machine.specs.declared.event.Op.{Op}
-use Rattle.machine.specs.declared.event.Op.TheVariants.{Read, Write}
-use Rattle.machine.specs.declared.event.Place.{Place}
 use Rattle.machine.specs.declared.event.Event.{Event}
 use Rattle.machine.specs.declared.event.Event.TheVariants as event
 use Rattle.machine.specs.declared.reply.Reply.{Reply}
@@ -18,11 +11,9 @@ use Rattle.machine.specs.Slots.{Changes, there_and}
 use Rattle.machine.specs.Tree.{under}
 use Rattle.machine.specs.Amounts.{exceeds}
 use Rattle.machine.specs.Pages.{Content, Memory, OfFile, Residence, Held, Coming, Going, Away, Page, is_held}
-use Rattle.machine.specs.Tasks.{task_at}
-use Rattle.machine.specs.State.{State, usage, over_in, is_frame_free, effective_min}
-use Rattle.machine.specs.Access.{Meeting, Unmapped, Hits, Transferring, NeedsPage, NeedsCopy, NeedsSwapIn, meets}
+use Rattle.machine.specs.State.{State, usage, effective_min}
 use Rattle.machine.specs.Reclaim.{is_open, has_takeable, has_transfer, stands, target_of}
-use Rattle.machine.specs.Step.{Only, ChargeStep, MeetStep, LifeStep, TaskStep, Takes, LeavesBy, LeavesFrom, ReclaimStep, ReclaimOneStep, KillStep, RelieveStep, Step}
+use Rattle.machine.specs.Step.{Only, Takes, LeavesBy, LeavesFrom, ReclaimStep, ReclaimOneStep, KillStep, RelieveStep, Step}
 use Rattle.machine.proofs.Values.{some_inj, unlike}
 use Rattle.laws.specs.Laws.{took_for, TakesUnprotected, ReclaimsSpareTheProtected, ReclaimsGiveUpLast, ReclaimsKillNobody}
 use Rattle.laws.proofs.LawLemmas.{by_test, is_taking, never_taken, idle_of}
@@ -132,40 +123,3 @@ reclaims_kill_nobody before after g answer step =
         by_residence (Coming frame block ticket) k = absurd k
         by_residence (Going frame block ticket) k = absurd k
         by_residence (Away block) k = absurd k
-
--- ---- nothing but a reclaim writes a page out
-
-module _ (before after : State) (ticket : TicketId) where
-  charge_never : (low : Option ℕ) (free : Bool) (Granted : Type 0) → (Granted → ⊥) → ChargeStep before low free Granted (reply.Out ticket) after → ⊥
-  charge_never (Some a) free Granted never h = let e = h.0 in cc
-  charge_never None true Granted never h = never h
-  charge_never None false Granted never h = let e = h.0 in cc
-
-  meet_never : (t g : ℕ) (place : Place) (op : Op) (meeting : Meeting) → MeetStep before t g place op meeting (reply.Out ticket) after → ⊥
-  meet_never t g place op Unmapped h = h
-  meet_never t g place Read (Hits p page frame) h = h
-  meet_never t g place (Write b) (Hits p page frame) h = h
-  meet_never t g place op Transferring h = let e = h.0 in cc
-  meet_never t g place op NeedsPage h = charge_never (over_in before g) (is_frame_free before) _ (λ made. let e = made.answers in cc) h
-  meet_never t g place op NeedsCopy h = charge_never (over_in before g) (is_frame_free before) _ (λ made. let e = made.answers in cc) h
-  meet_never t g place op (NeedsSwapIn p page block) h = charge_never (over_in before page.group) (is_frame_free before) _ (λ begun. let e = begun.answers in cc) h
-
-  life_never : (life : Life) (Live_step : Type 0) → (Live_step → ⊥) → LifeStep before life Live_step (reply.Out ticket) after → ⊥
-  life_never Live Live_step never h = never h
-  life_never Exited Live_step never h = h
-  life_never Killed Live_step never h = let e = h.0 in cc
-
-  task_never : (slot : Option Task) (Live_step : Task → Type 0) → ((task : Task) → Live_step task → ⊥) → TaskStep before slot Live_step (reply.Out ticket) after → ⊥
-  task_never None Live_step never h = h
-  task_never (Some task) Live_step never h = life_never task.life (Live_step task) (never task) h
-
-  pub out_takes : (what : Event) → Step before what (reply.Out ticket) after → (target : ℕ) × Takes before target (reply.Out ticket) after
-  out_takes (event.Access t place op) step = absurd (task_never (task_at before.tasks t.0) _ (λ task. meet_never t.0 task.group.0 place op (meets before t.0 place op)) step)
-  out_takes (event.Arrived n bytes) step = let e = step.answers in cc
-  out_takes (event.FetchFailed n) step = let e = step.answers in cc
-  out_takes (event.Left n) step = let e = step.answers in cc
-  out_takes (event.LeaveFailed n) step = let e = step.answers in cc
-  out_takes (event.Relieve why) step = (target_of why, relief_takes before after (reply.Out ticket) refl why step)
-  out_takes (event.ReclaimOne g) step = (g.0, one_takes before after (reply.Out ticket) refl g.0 step)
-  out_takes (event.Exit t) step = absurd (task_never (task_at before.tasks t.0) _ (λ task h. let e = h.0 in cc) step)
-  out_takes what step = absurd step

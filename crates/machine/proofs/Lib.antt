@@ -7,3 +7,4 @@ pub mod MoveLemmas
 pub mod Effects
 pub mod SoundLemmas
 pub mod OpeningLemmas
+pub mod Did

@@ -1,7 +1,7 @@
 -- In every legal history no two pages share a frame, a swap block or a ticket, each page is memory on blocks that there are, and the groups of pages and
 -- of live tasks are there.
 use Rattle.std.proofs.Common.{◌+◌, ◌<◌, ◌≡◌, ◌≢◌, inl, inr, ℕ, zero, suc, ◌≤◌, ◌==◌, ◌&&◌, not, Bool, true, false, cond, List, [], ◌∷◌, ◌++◌, length, Option, Some, None, eqb-true, refl, sym, ap, ◌∙◌, subst, arith, get_or-set_other}
-use Rattle.std.specs.Prelude.{◌⊎◌, MatchBool, IfSome, slice_set}
+use Rattle.std.specs.Prelude.{◌⊎◌, IfSome, slice_set}
 use Rattle.std.proofs.lemmas.Bool.{cases_lt, and_parts, or_parts}
 use Rattle.std.proofs.lemmas.Bool.Decides.{nat_tests}
 use Rattle.std.proofs.lemmas.List.{get_or_append_left}
@@ -10,34 +10,27 @@ use Rattle.std.proofs.lemmas.List.Sums.{sum_by-cons}
 use Rattle.std.proofs.Math.ListN.{get_or-eq_default}
 use Rattle.machine.specs.declared.entry.Entry.{Entry}
 use Rattle.machine.specs.declared.record.Life.{Life}
-use Rattle.machine.specs.declared.record.Life.TheVariants.{Live, Exited, Killed}
+use Rattle.machine.specs.declared.record.Life.TheVariants.{Live}
 use Rattle.machine.specs.declared.record.Task.{Task}
 use Rattle.machine.specs.declared.record.Mapping.{Mapping}
-use Rattle.machine.specs.declared.event.Op.{Op}
-use Rattle.machine.specs.declared.event.Op.TheVariants.{Read, Write}
-use Rattle.machine.specs.declared.event.Place.TheVariants.{Virtual}
 use Rattle.machine.specs.declared.event.Event.{Event}
 use Rattle.machine.specs.declared.event.Event.TheVariants as event
-use Rattle.machine.specs.declared.event.Cause.{Cause}
 use Rattle.machine.specs.declared.refusal.Refusal.TheVariants.{NoEntry, Busy}
 use Rattle.machine.specs.declared.reply.Reply.{Reply}
-use Rattle.machine.specs.declared.reply.Reply.TheVariants as reply
 use Rattle.machine.specs.Names.{parent_path}
 use Rattle.machine.specs.Slots.{at, Changes, there_and, count_there, any_there}
 use Rattle.machine.specs.Tree.{Node, no_node, root, node_at, is_live, is_at_path, find_group, IsBelow, IsTree}
-use Rattle.machine.specs.Pages.{is_anon, in_transfer_at, Content, Memory, OfFile, Residence, Held, Coming, Going, Away, Page, Pages, page_at, frame_at, block_at, ticket_at, is_number, has_this_frame, is_frame_taken, is_swap_taken, is_ticket_taken}
+use Rattle.machine.specs.Pages.{is_anon, in_transfer_at, Residence, Page, Pages, page_at, frame_at, block_at, ticket_at, is_number, has_this_frame, is_frame_taken, is_swap_taken, is_ticket_taken}
 use Rattle.machine.specs.Counts.{Counted}
 use Rattle.machine.specs.Tasks.{Tasks, task_at, is_live_life, is_live_task, lives, group_of, group_of_task, SetsTask, without_task, mappers}
-use Rattle.machine.specs.State.{Opening, State, first_state, over_in, is_frame_free}
-use Rattle.machine.specs.Access.{Meeting, Unmapped, Hits, Transferring, NeedsPage, NeedsCopy, NeedsSwapIn, meets}
-use Rattle.machine.specs.Reclaim.{has_takeable, has_transfer, stands, target_of}
+use Rattle.machine.specs.State.{Opening, State, first_state}
 use Rattle.machine.specs.Refusals.{refusal, first_cause, bars_tasks, number_refusal}
-use Rattle.machine.specs.Step.{ChargeStep, MakesPage, StartsFetch, HitStep, UnmappedStep, MeetStep, LifeStep, TaskStep, Takes, StartsSwap, LeavesBy, LeavesFrom, ReclaimStep, KillStep, RelieveStep, still, EndsTask, Exits, EndsTransfer, in_frame, on_block, Step, new_page}
+use Rattle.machine.specs.Step.{still, EndsTask, new_page}
 use Rattle.machine.specs.Legal.{Legal}
-use Rattle.machine.proofs.Values.{unlike}
+use Rattle.machine.proofs.Values.{some_inj, unlike}
 use Rattle.machine.proofs.TreeLemmas.{eq_cases, IsTree-push}
 use Rattle.machine.proofs.SlotLemmas.{one_if, count_there-none, count_there-some, count_there-changes}
-use Rattle.machine.proofs.MoveLemmas.{hits_held, swaps_away, in_frame-cases, on_block-cases}
+use Rattle.machine.proofs.Did.{Moves, Rests, Comes, Goes, Lands, Lies, Did, Kept, Made, Moved, Dropped, Ended, Spawned, Grown, step_did}
 
 -- ---- what is sound
 
@@ -292,12 +285,6 @@ sound-grown swap pages tasks tree x below sound =
 -- ---- steps
 
 module _ (opening : Opening) (old new : State) (sound : sound_in opening old) where
-  sound-only : new ≡ old → sound_in opening new
-  sound-only e = subst (sound_in opening) (sym e) sound
-
-  counted_sound : {counted : List Counted} → new ≡ record old { counted = counted } → sound_in opening new
-  counted_sound e = subst (sound_in opening) (sym e) (sound.0, sound.1)
-
   -- with new pages and counts, and the tasks and the groups as they were
   pages_sound : {counted : List Counted} {mappings : List Mapping} → new ≡ record old { pages = new.pages; counted = counted; mappings = mappings } → IsSound opening.swap new.pages old.tasks old.tree → sound_in opening new
   pages_sound e h = subst (sound_in opening) (sym e) (sound.0, h)
@@ -305,83 +292,39 @@ module _ (opening : Opening) (old new : State) (sound : sound_in opening old) wh
   swap_is : (b : ℕ) → b < old.opening.swap → b < opening.swap
   swap_is b lt = subst (λ (o : Opening). b < o.swap) sound.0 lt
 
-  by_sound : {P Q : Type 0} (b : Bool) → (P → sound_in opening new) → (Q → sound_in opening new) → MatchBool b P Q → sound_in opening new
-  by_sound true f g h = f h
-  by_sound false f g h = g h
-
   fit_at : (p : ℕ) (page : Page) → page_at old.pages p ≡ Some page → IsFit opening.swap old.tree page
   fit_at p page there = fit_there opening.swap old.pages new.pages old.tasks old.tree p sound.1 page there
 
-  -- ---- accesses
-
-  charge_sound : (g : ℕ) (Granted : Type 0) (answer : Reply) → (Granted → sound_in opening new) → ChargeStep old (over_in old g) (is_frame_free old) Granted answer new → sound_in opening new
-  charge_sound g Granted answer granted step = by_over (over_in old g) step
+  moved_sound : (what : Event) (answer : Reply) (p : ℕ) (page : Page) (dirty : Bool) (now : Residence) → page_at old.pages p ≡ Some page
+      → Changes old.pages new.pages p (Some (record { content = page.content; group = page.group; dirty = dirty; residence = now })) → Moves old what answer page now
+      → IsSound opening.swap new.pages old.tasks old.tree
+  moved_sound what answer p page dirty now there placed moves = by_move moves
     where
-      by_over : (low : Option ℕ) → ChargeStep old low (is_frame_free old) Granted answer new → sound_in opening new
-      by_over (Some low) h = counted_sound h.1
-      by_over None h = by_sound (is_frame_free old) granted (λ k. sound-only k.1) h
+      fit : IsFit opening.swap old.tree page
+      fit = fit_at p page there
 
-  unmapped_sound : (answer : Reply) → UnmappedStep old answer new → sound_in opening new
-  unmapped_sound (reply.Done byte hit) h = sound-only h.1
-  unmapped_sound answer h = absurd h
+      stands : ((b : ℕ) → block_at now ≡ Some b → b < opening.swap) → Renumbers (frame_at now) (frame_at page.residence) (is_frame_taken old.pages)
+          → Renumbers (block_at now) (block_at page.residence) (is_swap_taken old.pages) → Renumbers (ticket_at now) (ticket_at page.residence) (is_ticket_taken old.pages)
+          → IsSound opening.swap new.pages old.tasks old.tree
+      stands = sound-moved opening.swap old.pages new.pages old.tasks old.tree p sound.1 page dirty now there placed
 
-  hit_sound : (p frame : ℕ) (page : Page) (op : Op) (answer : Reply) → page_at old.pages p ≡ Some page → HitStep old p page frame op answer new → sound_in opening new
-  hit_sound p frame page Read (reply.Done byte hit) there h = sound-only h.1
-  hit_sound p frame page (Write b) (reply.Done byte hit) there h =
-      pages_sound h.3
-      (sound-moved opening.swap old.pages new.pages old.tasks old.tree p sound.1 page _ page.residence there h.2 (fit_at p page there).within (inr (inl refl)) (inr (inl refl)) (inr (inl refl)))
-  hit_sound p frame page op answer there h = absurd h
+      -- on the block that it had
+      on_its_block : block_at now ≡ block_at page.residence → (b : ℕ) → block_at now ≡ Some b → b < opening.swap
+      on_its_block same b e = fit.within b (sym same ∙ e)
 
-  makes_sound : (t v g : ℕ) (op : Op) (others : List Mapping) (answer : Reply) → is_live old.tree g ≡ true → MakesPage old t v g op others answer new → sound_in opening new
-  makes_sound t v g op others answer live h = pages_sound h.state (sound-placed opening.swap old.pages new.pages old.tasks old.tree h.page sound.1 g h.frame live h.frame_free.unused h.placed)
-
-  fetch_sound : (p : ℕ) (page : Page) (block : ℕ) (answer : Reply) → page_at old.pages p ≡ Some page → page.residence ≡ Away block → StartsFetch old p page.group page.content block answer new → sound_in opening new
-  fetch_sound p page block answer there away h =
-      pages_sound h.state
-      (sound-moved opening.swap old.pages new.pages old.tasks old.tree p sound.1 page false (Coming h.frame block h.ticket) there h.placed
-      (λ b e. (fit_at p page there).within b (ap block_at away ∙ e)) (inr (inr (h.frame, refl, h.frame_free.unused))) (inr (inl (sym (ap block_at away)))) (inr (inr (h.ticket, refl, h.ticket_free))))
-
-  meet_sound : (t v offset g : ℕ) (op : Op) (answer : Reply) (meeting : Meeting) → is_live old.tree g ≡ true → meets old t (Virtual v offset) op ≡ meeting → MeetStep old t g (Virtual v offset) op meeting answer new
-      → sound_in opening new
-  meet_sound t v offset g op answer Unmapped live is h = unmapped_sound answer h
-  meet_sound t v offset g op answer (Hits p page frame) live is h = hit_sound p frame page op answer (hits_held old t (Virtual v offset) op p page frame is).0 h
-  meet_sound t v offset g op answer Transferring live is h = sound-only h.1
-  meet_sound t v offset g op answer NeedsPage live is h = charge_sound g _ answer (λ made. makes_sound t v g op _ answer live made) h
-  meet_sound t v offset g op answer NeedsCopy live is h = charge_sound g _ answer (λ made. makes_sound t v g op _ answer live made) h
-  meet_sound t v offset g op answer (NeedsSwapIn p page block) live is h =
-      let found = swaps_away old t v offset op p page block is in
-      charge_sound page.group _ answer (λ begun. fetch_sound p page block answer found.0 found.1 begun) h
-
-  access_sound : (t v offset : ℕ) (op : Op) (answer : Reply)
-      → TaskStep old (task_at old.tasks t) (λ task. MeetStep old t task.group.0 (Virtual v offset) op (meets old t (Virtual v offset) op) answer new) answer new → sound_in opening new
-  access_sound t v offset op answer step = by_slot (task_at old.tasks t) refl step
-    where
-      by_life : (task : Task) (ending : Life) → task_at old.tasks t ≡ Some task → task.life ≡ ending
-          → LifeStep old ending (MeetStep old t task.group.0 (Virtual v offset) op (meets old t (Virtual v offset) op) answer new) answer new → sound_in opening new
-      by_life task Live known alive h =
-          meet_sound t v offset task.group.0 op answer (meets old t (Virtual v offset) op)
-          (ap (λ (slot : Option Task). is_live old.tree (group_of slot)) (sym known) ∙ sound.1.homes t (ap (there_and is_live_task) known ∙ ap is_live_life alive)) refl h
-      by_life task Exited known alive h = absurd h
-      by_life task Killed known alive h = sound-only h.1
-
-      by_slot : (slot : Option Task) → task_at old.tasks t ≡ slot → TaskStep old slot (λ task. MeetStep old t task.group.0 (Virtual v offset) op (meets old t (Virtual v offset) op) answer new) answer new
-          → sound_in opening new
-      by_slot None known h = absurd h
-      by_slot (Some task) known h = by_life task task.life known refl h
-
-  -- ---- tasks
-
-  ended_sound : (t : ℕ) (ended : Life) (counted : List Counted) → is_live_life ended ≡ false → EndsTask old t ended counted new → sound_in opening new
-  ended_sound t ended counted dead ends = subst (sound_in opening) (sym ends.state) (sound.0, sound-ended opening.swap old new t ended counted dead ends sound.1)
-
-  exit_sound : (t : ℕ) (answer : Reply) (slot : Option Task) → TaskStep old slot (λ task. Exits old t answer new) answer new → sound_in opening new
-  exit_sound t answer None h = absurd h
-  exit_sound t answer (Some task) h = by_life task.life h
-    where
-      by_life : (ending : Life) → LifeStep old ending (Exits old t answer new) answer new → sound_in opening new
-      by_life Live h = ended_sound t Exited old.counted refl h.1
-      by_life Exited h = absurd h
-      by_life Killed h = sound-only h.1
+      by_move : Moves old what answer page now → IsSound opening.swap new.pages old.tasks old.tree
+      by_move (Rests is) = stands (on_its_block (ap block_at is)) (inr (inl (ap frame_at is))) (inr (inl (ap block_at is))) (inr (inl (ap ticket_at is)))
+      by_move (Comes frame block ticket access out away is unused free) =
+          let same : block_at now ≡ block_at page.residence = ap block_at is ∙ sym (ap block_at away) in
+          stands (on_its_block same) (inr (inr (frame, ap frame_at is, unused))) (inr (inl same)) (inr (inr (ticket, ap ticket_at is, free)))
+      by_move (Goes frame block ticket held is free fresh) =
+          let own = free fit.memory in
+          stands (λ b e. (let same : block ≡ b = some_inj (sym (ap block_at is) ∙ e) in subst (λ (n : ℕ). n < opening.swap) same (swap_is block own.in_range)))
+          (inr (inl (ap frame_at is ∙ sym (ap frame_at held)))) (inr (inr (block, ap block_at is, own.unused))) (inr (inr (ticket, ap ticket_at is, fresh)))
+      by_move (Lands frame out framed is) =
+          stands (λ b e. (let none : None ≡ Some b = sym (ap block_at is) ∙ e in cc)) (inr (inl (ap frame_at is ∙ sym framed))) (inl (ap block_at is)) (inl (ap ticket_at is))
+      by_move (Lies frame block out framed on is) =
+          stands (on_its_block (ap block_at is ∙ sym on)) (inl (ap frame_at is)) (inr (inl (ap block_at is ∙ sym on))) (inl (ap ticket_at is))
 
   spawn_live : (t g : ℕ) → refusal old (event.Spawn (record { 0 = t }) (record { 0 = g })) ≡ None → is_live old.tree g ≡ true
   spawn_live t g none = by_live (is_live old.tree g) refl none
@@ -390,84 +333,17 @@ module _ (opening : Opening) (old new : State) (sound : sound_in opening old) wh
       by_live true is e = is
       by_live false is e = cc
 
-  -- ---- relief
-
-  leaves_sound : (p frame : ℕ) (page : Page) (counted : List Counted) (answer : Reply) → page_at old.pages p ≡ Some page → page.residence ≡ Held frame → StartsSwap old p page frame counted answer new → sound_in opening new
-  leaves_sound p frame page counted answer there held h =
-      pages_sound h.leave.state
-      (sound-moved opening.swap old.pages new.pages old.tasks old.tree p sound.1 page page.dirty (Going frame h.block h.leave.ticket) there h.leave.placed
-      (λ b e. (let same : h.block ≡ b = cc in subst (λ (n : ℕ). n < opening.swap) same (swap_is h.block h.block_free.in_range)))
-      (inr (inl (sym (ap frame_at held)))) (inr (inr (h.block, refl, h.block_free.unused))) (inr (inr (h.leave.ticket, refl, h.leave.ticket_free))))
-
-  -- a page is memory, and so goes to a swap block
-  leaves_by_sound : (p frame : ℕ) (page : Page) (content : Content) (counted : List Counted) (answer : Reply) → page_at old.pages p ≡ Some page → page.residence ≡ Held frame → page.content ≡ content
-      → LeavesBy old p page content frame counted answer new → sound_in opening new
-  leaves_by_sound p frame page Memory counted answer there held is h = leaves_sound p frame page counted answer there held h
-  leaves_by_sound p frame page (OfFile file q) counted answer there held is h = absurd (let e : false ≡ true = sym (ap is_anon is) ∙ (fit_at p page there).memory in cc)
-
-  taken_sound : (target : ℕ) (answer : Reply) → Takes old target answer new → sound_in opening new
-  taken_sound target answer h = by_residence h.page.residence refl h.leaves
-    where
-      by_residence : (r : Residence) → h.page.residence ≡ r → LeavesFrom old h.p h.page r old.counted answer new → sound_in opening new
-      by_residence (Held frame) held k = leaves_by_sound h.p frame h.page h.page.content old.counted answer h.there held refl k
-      by_residence (Coming frame block ticket) held k = absurd k
-      by_residence (Going frame block ticket) held k = absurd k
-      by_residence (Away block) held k = absurd k
-
-  kill_sound : (limit : ℕ) (answer : Reply) → KillStep old limit answer new → sound_in opening new
-  kill_sound limit (reply.KilledTask t) h = ended_sound t.0 Killed _ refl h.1
-  kill_sound limit reply.NoVictim h = counted_sound h.1
-  kill_sound limit answer h = absurd h
-
-  reclaim_sound : (target : ℕ) (Idle : Type 0) (answer : Reply) → (Idle → sound_in opening new) → ReclaimStep old target Idle answer new → sound_in opening new
-  reclaim_sound target Idle answer idle step = by_sound (has_takeable old target) (λ k. taken_sound target answer k) (λ k. by_sound (has_transfer old target) (λ w. sound-only w.1) idle k) step
-
-  relief_sound : (why : Cause) (answer : Reply) → RelieveStep old why answer new → sound_in opening new
-  relief_sound why answer step = by_sound (stands old why) (reclaim_sound (target_of why) _ answer (λ w. kill_sound (target_of why) answer w)) (λ r. sound-only r.1) step
-
-  -- ---- ends of transfers
-
-  -- the page goes, or gives up its ticket, and its frame or its block
-  settled_sound : (from : ℕ → ℕ → Residence) (to : List Mapping → ℕ → Page → ℕ → ℕ → Option Page) (settled : ℕ → ℕ → Residence) (answer : Reply)
-      → ((mappings : List Mapping) (q : ℕ) (page : Page) (frame block : ℕ) → (to mappings q page frame block ≡ None) ⊎ (to mappings q page frame block ≡ Some (record page { residence = settled frame block })))
-      → ((frame block b : ℕ) → block_at (settled frame block) ≡ Some b → block_at (from frame block) ≡ Some b)
-      → ((frame block : ℕ) → (frame_at (settled frame block) ≡ None) ⊎ (frame_at (settled frame block) ≡ frame_at (from frame block)))
-      → ((frame block : ℕ) → (block_at (settled frame block) ≡ None) ⊎ (block_at (settled frame block) ≡ block_at (from frame block))) → ((frame block : ℕ) → ticket_at (settled frame block) ≡ None)
-      → EndsTransfer old from to answer new → sound_in opening new
-  settled_sound from to settled answer cases within frames blocks tickets h =
-      pages_sound h.state
-      (elim (cases old.mappings h.p h.page h.frame h.block) [
-        | inl none ↦ sound-gone opening.swap old.pages new.pages old.tasks old.tree h.p sound.1 (subst (Changes old.pages new.pages h.p) none h.placed)
-        | inr some ↦
-            sound-moved opening.swap old.pages new.pages old.tasks old.tree h.p sound.1 h.page h.page.dirty (settled h.frame h.block) h.there (subst (Changes old.pages new.pages h.p) some h.placed)
-            (λ b e. (fit_at h.p h.page h.there).within b (ap block_at h.moves ∙ within h.frame h.block b e)) (renumbers frame_at (is_frame_taken old.pages) (frames h.frame h.block))
-            (renumbers block_at (is_swap_taken old.pages) (blocks h.frame h.block)) (inl (tickets h.frame h.block))
-      ])
-    where
-      renumbers : (key : Residence → Option ℕ) (is_taken : ℕ → Bool) → (key (settled h.frame h.block) ≡ None) ⊎ (key (settled h.frame h.block) ≡ key (from h.frame h.block))
-          → Renumbers (key (settled h.frame h.block)) (key h.page.residence) is_taken
-      renumbers key is_taken (inl none) = inl none
-      renumbers key is_taken (inr same) = inr (inl (same ∙ sym (ap key h.moves)))
-
-  step_sound : (what : Event) (answer : Reply) → refusal old what ≡ None → Step old what answer new → sound_in opening new
-  step_sound (event.Access t (Virtual v offset) op) answer none h = access_sound t.0 v offset op answer h
-  step_sound (event.Arrived ticket bytes) answer none h =
-      settled_sound _ in_frame (λ frame block. Held frame) answer in_frame-cases (λ frame block b e. cc) (λ frame block. inr refl) (λ frame block. inl refl) (λ frame block. refl) h
-  step_sound (event.FetchFailed ticket) answer none h =
-      settled_sound _ on_block (λ frame block. Away block) answer on_block-cases (λ frame block b e. e) (λ frame block. inl refl) (λ frame block. inr refl) (λ frame block. refl) h
-  step_sound (event.Left ticket) answer none h =
-      settled_sound _ on_block (λ frame block. Away block) answer on_block-cases (λ frame block b e. e) (λ frame block. inl refl) (λ frame block. inr refl) (λ frame block. refl) h
-  step_sound (event.LeaveFailed ticket) answer none h =
-      settled_sound _ in_frame (λ frame block. Held frame) answer in_frame-cases (λ frame block b e. cc) (λ frame block. inr refl) (λ frame block. inl refl) (λ frame block. refl) h
-  step_sound (event.Relieve why) answer none h = relief_sound why answer h
-  step_sound (event.ReclaimOne g) answer none h = reclaim_sound g.0 _ answer (λ n. sound-only n.1) h
-  step_sound (event.Spawn t g) reply.Ok none h =
-      subst (sound_in opening) (sym h.1) (sound.0, sound-spawned opening.swap old.pages old.tasks new.tasks old.tree t.0 g.0 (spawn_live t.0 g.0 none) h.0 sound.1)
-  step_sound (event.Exit t) answer none h = exit_sound t.0 answer (task_at old.tasks t.0) h
-  step_sound (event.Mkdir path) reply.Ok none h = subst (sound_in opening) (sym h) (sound.0, sound-grown opening.swap old.pages old.tasks old.tree _ (found_below old.tree (parent_path path)) sound.1)
-  step_sound (event.Set g setting) reply.Ok none h = subst (sound_in opening) (sym h) (sound.0, sound.1)
-  step_sound (event.Show what) (reply.Shown numbers) none h = sound-only h.1
-  step_sound what answer none h = absurd h
+  did_sound : (what : Event) (answer : Reply) → refusal old what ≡ None → Did old what answer new → sound_in opening new
+  did_sound what answer none (Kept limits counted e) = subst (sound_in opening) (sym e) (sound.0, sound.1)
+  did_sound what answer none (Made t p frame mappings access out alive free unused placed e) =
+      pages_sound e (sound-placed opening.swap old.pages new.pages old.tasks old.tree p sound.1 (group_of_task old.tasks t) frame (sound.1.homes t alive) unused placed)
+  did_sound what answer none (Moved p page dirty now counted there placed moves e) = pages_sound e (moved_sound what answer p page dirty now there placed moves)
+  did_sound what answer none (Dropped p counted out gone e) = pages_sound e (sound-gone opening.swap old.pages new.pages old.tasks old.tree p sound.1 gone)
+  did_sound what answer none (Ended t ending counted out dead ends) = subst (sound_in opening) (sym ends.state) (sound.0, sound-ended opening.swap old new t ending counted dead ends sound.1)
+  did_sound what answer none (Spawned t g is sets e) =
+      subst (sound_in opening) (sym e) (sound.0, sound-spawned opening.swap old.pages old.tasks new.tasks old.tree t.0 g.0 (spawn_live t.0 g.0 (sym (ap (refusal old) is) ∙ none)) sets sound.1)
+  did_sound what answer none (Grown path is out e) =
+      subst (sound_in opening) (sym e) (sound.0, sound-grown opening.swap old.pages old.tasks old.tree _ (found_below old.tree (parent_path path)) sound.1)
 
 -- ---- legal histories
 
@@ -483,7 +359,7 @@ first_sound opening = (
 
 pub legal-sound : (opening : Opening) (history : List Entry) (s : State) → Legal opening history s → sound_in opening s
 legal-sound opening [] s legal = subst (sound_in opening) (sym legal) (first_sound opening)
-legal-sound opening (entry ∷ earlier) s legal = step_sound opening legal.0 s (legal-sound opening earlier legal.0 legal.1) entry.event entry.reply legal.2.unrefused legal.2.steps
+legal-sound opening (entry ∷ earlier) s legal = did_sound opening legal.0 s (legal-sound opening earlier legal.0 legal.1) entry.event entry.reply legal.2.unrefused (step_did legal.0 s entry.event entry.reply legal.2.steps)
 
 -- ---- pages of such a state
 

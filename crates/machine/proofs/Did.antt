@@ -1,0 +1,207 @@
+-- What a step did to the state, as one of few cases. Whoever asks what steps leave as it was goes by these.
+use Rattle.std.proofs.Common.{◌≡◌, inl, inr, ℕ, Bool, true, false, List, [], ◌∷◌, ◌++◌, Option, Some, None, refl, sym, ap, ◌∙◌, subst}
+use Rattle.std.specs.Prelude.{◌⊎◌, MatchBool}
+use Rattle.machine.specs.declared.id.TaskId.{TaskId}
+use Rattle.machine.specs.declared.id.GroupId.{GroupId}
+use Rattle.machine.specs.declared.record.Life.{Life}
+use Rattle.machine.specs.declared.record.Life.TheVariants.{Live, Exited, Killed}
+use Rattle.machine.specs.declared.record.Limits.{Limits}
+use Rattle.machine.specs.declared.record.Task.{Task}
+use Rattle.machine.specs.declared.record.Mapping.{Mapping}
+use Rattle.machine.specs.declared.event.Cause.{Cause}
+use Rattle.machine.specs.declared.event.Op.{Op}
+use Rattle.machine.specs.declared.event.Op.TheVariants.{Read, Write}
+use Rattle.machine.specs.declared.event.Place.TheVariants.{Virtual}
+use Rattle.machine.specs.declared.event.Event.{Event}
+use Rattle.machine.specs.declared.event.Event.TheVariants as event
+use Rattle.machine.specs.declared.reply.Reply.{Reply}
+use Rattle.machine.specs.declared.reply.Reply.TheVariants as reply
+use Rattle.machine.specs.Slots.{Changes, there_and}
+use Rattle.machine.specs.Pages.{Content, Memory, OfFile, Residence, Held, Coming, Going, Away, Page, page_at, is_anon, frame_at, block_at, is_frame_taken, is_ticket_taken}
+use Rattle.machine.specs.Counts.{Counted, no_limits}
+use Rattle.machine.specs.Tasks.{SetsTask, task_at, is_live_life, is_live_task, lives, group_of, group_of_task}
+use Rattle.machine.specs.State.{State, over_in, is_frame_free}
+use Rattle.machine.specs.Access.{Meeting, Unmapped, Hits, Transferring, NeedsPage, NeedsCopy, NeedsSwapIn, meets}
+use Rattle.machine.specs.Reclaim.{has_takeable, has_transfer, stands, target_of}
+use Rattle.machine.specs.Step.{ChargeStep, IsFreeBlock, MakesPage, StartsFetch, HitStep, UnmappedStep, MeetStep, LifeStep, TaskStep, Takes, StartsLeave, LeavesBy, LeavesFrom, ReclaimStep, KillStep, RelieveStep, EndsTask, EndsTransfer, in_frame, on_block, new_node, new_page, Step}
+use Rattle.machine.proofs.MoveLemmas.{hits_held, swaps_away, in_frame-cases, on_block-cases}
+
+-- ---- the cases
+
+abbrev pub is_access : Event → Bool
+is_access (event.Access t place op) = true
+is_access what = false
+
+abbrev pub is_mkdir : Event → Bool
+is_mkdir (event.Mkdir path) = true
+is_mkdir what = false
+
+abbrev pub is_out : Reply → Bool
+is_out (reply.Out ticket) = true
+is_out answer = false
+
+-- how a page came to stand where it stands now
+pub data Moves (old : State) (what : Event) (answer : Reply) (page : Page) (now : Residence) : Type 0 where
+  -- it was written to where it stood
+  Rests : now ≡ page.residence → Moves old what answer page now
+  -- an access reads it in
+  Comes : (frame block ticket : ℕ) → is_access what ≡ true → is_out answer ≡ false → page.residence ≡ Away block → now ≡ Coming frame block ticket → is_frame_taken old.pages frame ≡ false
+      → is_ticket_taken old.pages ticket ≡ false → Moves old what answer page now
+  -- it is written out, memory to a block that was free
+  Goes : (frame block ticket : ℕ) → page.residence ≡ Held frame → now ≡ Going frame block ticket → (is_anon page.content ≡ true → IsFreeBlock old block) → is_ticket_taken old.pages ticket ≡ false
+      → Moves old what answer page now
+  -- its transfer ended in its frame
+  Lands : (frame : ℕ) → is_out answer ≡ false → frame_at page.residence ≡ Some frame → now ≡ Held frame → Moves old what answer page now
+  -- or on its block
+  Lies : (frame block : ℕ) → is_out answer ≡ false → frame_at page.residence ≡ Some frame → block_at page.residence ≡ Some block → now ≡ Away block → Moves old what answer page now
+
+pub data Did (old : State) (what : Event) (answer : Reply) (new : State) : Type 0 where
+  -- nothing, but for a setting and for what stands counted
+  Kept : (limits : List Limits) (counted : List Counted) → new ≡ record old { limits = limits; counted = counted } → Did old what answer new
+  -- an access of a live task made a page, charged to its group
+  Made : (t p frame : ℕ) (mappings : List Mapping) → is_access what ≡ true → is_out answer ≡ false → lives old.tasks t ≡ true → page_at old.pages p ≡ None → is_frame_taken old.pages frame ≡ false
+      → Changes old.pages new.pages p (Some (new_page (group_of_task old.tasks t) frame)) → new ≡ record old { pages = new.pages; mappings = mappings } → Did old what answer new
+  -- one page was written to, or stands elsewhere
+  Moved : (p : ℕ) (page : Page) (dirty : Bool) (now : Residence) (counted : List Counted) → page_at old.pages p ≡ Some page
+      → Changes old.pages new.pages p (Some (record { content = page.content; group = page.group; dirty = dirty; residence = now })) → Moves old what answer page now
+      → new ≡ record old { pages = new.pages; counted = counted } → Did old what answer new
+  -- one page is gone
+  Dropped : (p : ℕ) (counted : List Counted) → is_out answer ≡ false → Changes old.pages new.pages p None → new ≡ record old { pages = new.pages; counted = counted } → Did old what answer new
+  -- a task is dead, and its mappings are gone
+  Ended : (t : ℕ) (life : Life) (counted : List Counted) → is_out answer ≡ false → is_live_life life ≡ false → EndsTask old t life counted new → Did old what answer new
+  -- a task more
+  Spawned : (t : TaskId) (g : GroupId) → what ≡ event.Spawn t g → SetsTask old.tasks t.0 g.0 Live new.tasks → new ≡ record old { tasks = new.tasks } → Did old what answer new
+  -- a group more
+  Grown : (path : List ℕ) → what ≡ event.Mkdir path → is_out answer ≡ false → new ≡ record old { tree = old.tree ++ new_node old.tree path ∷ []; limits = old.limits ++ no_limits ∷ [] } → Did old what answer new
+
+-- ---- each step is one
+
+module _ (old new : State) (what : Event) where
+  by_test : {P Q R : Type 0} (b : Bool) → (P → R) → (Q → R) → MatchBool b P Q → R
+  by_test true f g h = f h
+  by_test false f g h = g h
+
+  same : (answer : Reply) → new ≡ old → Did old what answer new
+  same answer e = Kept old.limits old.counted e
+
+  -- ---- accesses
+
+  module _ (access : is_access what ≡ true) where
+    charged : (g : ℕ) (Granted : Type 0) (answer : Reply) → (Granted → Did old what answer new) → ChargeStep old (over_in old g) (is_frame_free old) Granted answer new → Did old what answer new
+    charged g Granted answer granted step = by_over (over_in old g) step
+      where
+        by_over : (low : Option ℕ) → ChargeStep old low (is_frame_free old) Granted answer new → Did old what answer new
+        by_over (Some low) h = Kept old.limits _ h.1
+        by_over None h = by_test (is_frame_free old) granted (λ k. same answer k.1) h
+
+    unmapped : (answer : Reply) → UnmappedStep old answer new → Did old what answer new
+    unmapped (reply.Done byte hit) h = same _ h.1
+    unmapped answer h = absurd h
+
+    hit : (p frame : ℕ) (page : Page) (op : Op) (answer : Reply) → page_at old.pages p ≡ Some page → HitStep old p page frame op answer new → Did old what answer new
+    hit p frame page Read (reply.Done byte at) there h = same _ h.1
+    hit p frame page (Write b) (reply.Done byte at) there h = Moved p page _ page.residence old.counted there h.2 (Rests refl) h.3
+    hit p frame page op answer there h = absurd h
+
+    makes : (t v : ℕ) (op : Op) (others : List Mapping) (answer : Reply) → lives old.tasks t ≡ true → MakesPage old t v (group_of_task old.tasks t) op others answer new → Did old what answer new
+    makes t v op others answer alive h = Made t h.page h.frame _ access (ap is_out h.answers) alive h.slot_free h.frame_free.unused h.placed h.state
+
+    fetches : (p : ℕ) (page : Page) (block : ℕ) (answer : Reply) → page_at old.pages p ≡ Some page → page.residence ≡ Away block → StartsFetch old p page.group page.content block answer new → Did old what answer new
+    fetches p page block answer there away h =
+        Moved p page false _ old.counted there h.placed (Comes h.frame block h.ticket access (ap is_out h.answers) away refl h.frame_free.unused h.ticket_free) h.state
+
+    meeting : (t v o : ℕ) (op : Op) (answer : Reply) (met : Meeting) → lives old.tasks t ≡ true → meets old t (Virtual v o) op ≡ met → MeetStep old t (group_of_task old.tasks t) (Virtual v o) op met answer new
+        → Did old what answer new
+    meeting t v o op answer Unmapped alive is h = unmapped answer h
+    meeting t v o op answer (Hits p page frame) alive is h = hit p frame page op answer (hits_held old t (Virtual v o) op p page frame is).0 h
+    meeting t v o op answer Transferring alive is h = same answer h.1
+    meeting t v o op answer NeedsPage alive is h = charged _ _ answer (makes t v op _ answer alive) h
+    meeting t v o op answer NeedsCopy alive is h = charged _ _ answer (makes t v op _ answer alive) h
+    meeting t v o op answer (NeedsSwapIn p page block) alive is h = let found = swaps_away old t v o op p page block is in charged page.group _ answer (fetches p page block answer found.0 found.1) h
+
+  -- the event of a task that has not ended
+  of_task : (t : ℕ) (Live_step : Task → Type 0) (answer : Reply) → ((task : Task) → task_at old.tasks t ≡ Some task → lives old.tasks t ≡ true → Live_step task → Did old what answer new)
+      → TaskStep old (task_at old.tasks t) Live_step answer new → Did old what answer new
+  of_task t Live_step answer living step = by_slot (task_at old.tasks t) refl step
+    where
+      by_life : (task : Task) (life : Life) → task_at old.tasks t ≡ Some task → task.life ≡ life → LifeStep old life (Live_step task) answer new → Did old what answer new
+      by_life task Live known is h = living task known (ap (there_and is_live_task) known ∙ ap is_live_life is) h
+      by_life task Exited known is h = absurd h
+      by_life task Killed known is h = same answer h.1
+
+      by_slot : (slot : Option Task) → task_at old.tasks t ≡ slot → TaskStep old slot Live_step answer new → Did old what answer new
+      by_slot None known h = absurd h
+      by_slot (Some task) known h = by_life task task.life known refl h
+
+  -- ---- reclaims
+
+  sent : (p frame block : ℕ) (page : Page) (answer : Reply) → page_at old.pages p ≡ Some page → page.residence ≡ Held frame → (is_anon page.content ≡ true → IsFreeBlock old block)
+      → StartsLeave old p page frame block old.counted answer new → Did old what answer new
+  sent p frame block page answer there held free h = Moved p page page.dirty _ old.counted there h.placed (Goes frame block h.ticket held refl free h.ticket_free) h.state
+
+  leaves_by : (p frame : ℕ) (page : Page) (content : Content) (answer : Reply) → page_at old.pages p ≡ Some page → page.residence ≡ Held frame → page.content ≡ content
+      → LeavesBy old p page content frame old.counted answer new → Did old what answer new
+  leaves_by p frame page Memory answer there held is h = sent p frame h.block page answer there held (λ memory. h.block_free) h.leave
+  leaves_by p frame page (OfFile file q) answer there held is h =
+      by_test page.dirty
+      (λ k. sent p frame _ page answer there held (λ memory. absurd (let e : false ≡ true = sym (ap is_anon is) ∙ memory in cc)) k)
+      (λ k. Dropped p old.counted (ap is_out k.answers) k.gone k.state) h
+
+  takes : (target : ℕ) (answer : Reply) → Takes old target answer new → Did old what answer new
+  takes target answer h = by_residence h.page.residence refl h.leaves
+    where
+      by_residence : (r : Residence) → h.page.residence ≡ r → LeavesFrom old h.p h.page r old.counted answer new → Did old what answer new
+      by_residence (Held frame) held k = leaves_by h.p frame h.page h.page.content answer h.there held refl k
+      by_residence (Coming frame block ticket) held k = absurd k
+      by_residence (Going frame block ticket) held k = absurd k
+      by_residence (Away block) held k = absurd k
+
+  reclaims : (target : ℕ) (Idle : Type 0) (answer : Reply) → (Idle → Did old what answer new) → ReclaimStep old target Idle answer new → Did old what answer new
+  reclaims target Idle answer idle step = by_test (has_takeable old target) (takes target answer) (λ k. by_test (has_transfer old target) (λ w. same answer w.1) idle k) step
+
+  kills : (limit : ℕ) (answer : Reply) → KillStep old limit answer new → Did old what answer new
+  kills limit (reply.KilledTask t) h = Ended t.0 Killed _ refl refl h.1
+  kills limit reply.NoVictim h = Kept old.limits _ h.1
+  kills limit answer h = absurd h
+
+  relieves : (why : Cause) (answer : Reply) → RelieveStep old why answer new → Did old what answer new
+  relieves why answer step = by_test (stands old why) (reclaims (target_of why) _ answer (kills (target_of why) answer)) (λ r. same answer r.1) step
+
+  -- ---- ends of transfers
+
+  settles : (from : ℕ → ℕ → Residence) (to : List Mapping → ℕ → Page → ℕ → ℕ → Option Page) (settled : ℕ → ℕ → Residence) (answer : Reply)
+      → ((mappings : List Mapping) (q : ℕ) (page : Page) (frame block : ℕ) → (to mappings q page frame block ≡ None) ⊎ (to mappings q page frame block ≡ Some (record page { residence = settled frame block })))
+      → (is_out answer ≡ false → (page : Page) (frame block : ℕ) → page.residence ≡ from frame block → Moves old what answer page (settled frame block)) → EndsTransfer old from to answer new → Did old what answer new
+  settles from to settled answer cases moves h =
+      elim (cases old.mappings h.p h.page h.frame h.block) [
+        | inl none ↦ Dropped h.p old.counted (ap is_out h.answers) (subst (Changes old.pages new.pages h.p) none h.placed) h.state
+        | inr some ↦
+            Moved h.p h.page h.page.dirty (settled h.frame h.block) old.counted h.there (subst (Changes old.pages new.pages h.p) some h.placed) (moves (ap is_out h.answers) h.page h.frame h.block h.moves) h.state
+      ]
+
+  lands : (from : ℕ → ℕ → Residence) (answer : Reply) → ((frame block : ℕ) → frame_at (from frame block) ≡ Some frame) → EndsTransfer old from in_frame answer new → Did old what answer new
+  lands from answer framed = settles from in_frame (λ frame block. Held frame) answer in_frame-cases (λ no_out page frame block is. Lands frame no_out (ap frame_at is ∙ framed frame block) refl)
+
+  lies : (from : ℕ → ℕ → Residence) (answer : Reply) → ((frame block : ℕ) → frame_at (from frame block) ≡ Some frame) → ((frame block : ℕ) → block_at (from frame block) ≡ Some block)
+      → EndsTransfer old from on_block answer new → Did old what answer new
+  lies from answer framed on =
+      settles from on_block (λ frame block. Away block) answer on_block-cases (λ no_out page frame block is. Lies frame block no_out (ap frame_at is ∙ framed frame block) (ap block_at is ∙ on frame block) refl)
+
+pub step_did : (old new : State) (what : Event) (answer : Reply) → Step old what answer new → Did old what answer new
+step_did old new (event.Access t (Virtual v o) op) answer h =
+    of_task old new (event.Access t (Virtual v o) op) t.0 _ answer
+    (λ task known alive k.
+    meeting old new (event.Access t (Virtual v o) op) refl t.0 v o op answer (meets old t.0 (Virtual v o) op) alive refl
+    (subst (λ (g : ℕ). MeetStep old t.0 g (Virtual v o) op (meets old t.0 (Virtual v o) op) answer new) (sym (ap group_of known)) k)) h
+step_did old new (event.Arrived ticket bytes) answer h = lands old new _ _ answer (λ frame block. refl) h
+step_did old new (event.FetchFailed ticket) answer h = lies old new _ _ answer (λ frame block. refl) (λ frame block. refl) h
+step_did old new (event.Left ticket) answer h = lies old new _ _ answer (λ frame block. refl) (λ frame block. refl) h
+step_did old new (event.LeaveFailed ticket) answer h = lands old new _ _ answer (λ frame block. refl) h
+step_did old new (event.Relieve why) answer h = relieves old new _ why answer h
+step_did old new (event.ReclaimOne g) answer h = reclaims old new _ g.0 _ answer (λ n. same old new _ answer n.1) h
+step_did old new (event.Spawn t g) reply.Ok h = Spawned t g refl h.0 h.1
+step_did old new (event.Exit t) answer h = of_task old new (event.Exit t) t.0 _ answer (λ task known alive k. Ended t.0 Exited old.counted (ap is_out k.0) refl k.1) h
+step_did old new (event.Mkdir path) reply.Ok h = Grown path refl refl h
+step_did old new (event.Set g what) reply.Ok h = Kept _ old.counted h
+step_did old new (event.Show what) (reply.Shown numbers) h = same old new _ _ h.1
+step_did old new what answer h = absurd h
