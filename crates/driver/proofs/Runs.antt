@@ -78,9 +78,9 @@ same-more old mid new h k = record { blocks = k.blocks ∙ h.blocks; limit = k.l
 pub opened_on : (desk : Desk) (config : Config) (disk : Disk) → world desk disk ≡ first_world config disk → Asks desk → config.swap ≤ length disk.contents → IsOn desk disk
 opened_on desk config disk opens asks enough =
     let swap : swap_of desk ≡ config.swap = ap (λ (w : World). w.past.state.opening.swap) opens in
-    let seats : desk.seats.items ≡ [] = ap (λ (w : World). w.seats) opens in
+    let seats : desk.seats ≡ [] = ap (λ (w : World). w.seats) opens in
     let Own : List Seat → Type 0 = λ ss. OwnSeats (swap_of desk) ss in
-    let own : OwnSeats (swap_of desk) desk.seats.items = subst Own (sym seats) tt in
+    let own : OwnSeats (swap_of desk) desk.seats = subst Own (sym seats) tt in
     record { asks = asks; own = own; blocks = omega (arith, swap, enough) }
 
 pub fitting : (config : Config) (disk : Disk) → is_config config ≡ true → config.swap ≤ length disk.contents → fits config disk ≡ true

@@ -1,13 +1,101 @@
 -- Seats, one after another.
 use Rattle.std.proofs.Common.{◌≡◌, ℕ, suc, ◌<◌, Bool, true, false, List, [], ◌∷◌, ◌++◌, length, get_or, refl, sym, ap, ◌∙◌, arith}
-use Rattle.std.specs.Prelude.{if◌then◌else◌, slice_set}
+use Rattle.std.specs.Prelude.{if◌then◌else◌, slice_set, nat_eq, nat_lt, ◌||◌, ◌+◌, ◌≤◌, ◌==◌, cond, Option, Some, None, IfSome, IfNone, position}
+use Rattle.std.specs.List.{list_any, position_or_len}
+use Rattle.std.proofs.lemmas.Bool.Decides.{nat_tests}
+use Rattle.std.proofs.lemmas.List.Recursion.{is_position_or_len}
 use Rattle.machine.specs.declared.command.Actor.{Actor}
 use Rattle.driver.specs.declared.turn.Activity.{Activity}
 use Rattle.driver.specs.declared.turn.Activity.TheVariants.{Rests}
 use Rattle.driver.specs.declared.turn.Seat.{Seat}
-use Rattle.driver.specs.Schedule.{is_of, activity_of, with_activity}
+use Rattle.driver.specs.Schedule.{number_of, is_of, activity_of, with_activity}
 use Rattle.driver.specs.Tickets.{OwnActivity, OwnSeats}
-use Rattle.driver.specs.Seats.{place_of, IsTaken}
+use Rattle.driver.specs.Seats.{numbers_of, place_of, IsTaken}
+
+-- who sits where, by numbers
+
+-- the first place of a number
+abbrev first_at : ℕ → List ℕ → ℕ
+first_at n [] = 0
+first_at n (k ∷ ks) = cond (nat_eq n k) 0 (1 + first_at n ks)
+
+same_test : (a b : ℕ) → (a == b) ≡ nat_eq b a
+same_test a b = grind (arith, nat_tests)
+
+place_of-first : (actor : Actor) (seats : List Seat) → place_of actor seats ≡ first_at (number_of actor) (numbers_of seats)
+place_of-first actor [] = refl
+place_of-first actor (seat ∷ seats) =
+    let before = place_of-first actor seats in
+    let next : suc (place_of actor seats) ≡ 1 + first_at (number_of actor) (numbers_of seats) = omega (arith, before) in
+    ap (λ b. cond b 0 (suc (place_of actor seats))) (same_test (number_of seat.actor) (number_of actor)) ∙ ap (λ n. cond (nat_eq (number_of actor) (number_of seat.actor)) 0 n) next
+
+place_of-number : (actor : Actor) (seats : List Seat) → position_or_len (nat_eq (number_of actor)) (numbers_of seats) ≡ place_of actor seats
+place_of-number actor seats = sym (place_of-first actor seats ∙ is_position_or_len (first_at (number_of actor)) (nat_eq (number_of actor)) refl (λ k ks. refl) (numbers_of seats))
+
+length-numbers : (seats : List Seat) → length (numbers_of seats) ≡ length seats
+length-numbers [] = refl
+length-numbers (seat ∷ seats) = ap suc (length-numbers seats)
+
+place_of-most : (actor : Actor) (seats : List Seat) → place_of actor seats ≤ length seats
+place_of-most actor [] = omega arith
+place_of-most actor (seat ∷ seats) = at (is_of actor seat) (place_of-most actor seats)
+  where
+    at : (b : Bool) → place_of actor seats ≤ length seats → (if b then 0 else suc (place_of actor seats)) ≤ suc (length seats)
+    at true ih = omega arith
+    at false ih = omega arith
+
+module _ (actor : Actor) (seats : List Seat) where
+  looked_up : position (nat_eq (number_of actor)) (numbers_of seats) ≡ cond (nat_lt (place_of actor seats) (length seats)) (Some (place_of actor seats)) None
+  looked_up = rw (place_of-number actor seats, length-numbers seats) refl
+
+  seat_found : (place : ℕ) → Some place ≡ position (nat_eq (number_of actor)) (numbers_of seats) → (place ≡ place_of actor seats) × (place < length seats)
+  seat_found place found = by_test (nat_lt (place_of actor seats) (length seats)) refl (found ∙ looked_up)
+    where
+      by_test : (b : Bool) → nat_lt (place_of actor seats) (length seats) ≡ b → Some place ≡ cond b (Some (place_of actor seats)) None → (place ≡ place_of actor seats) × (place < length seats)
+      by_test true is e = let same : place ≡ place_of actor seats = cc in (same, grind (arith, nat_tests, is, same))
+      by_test false is e = cc
+
+  seat_missing : None ≡ position (nat_eq (number_of actor)) (numbers_of seats) → place_of actor seats ≡ length seats
+  seat_missing missing = by_test (nat_lt (place_of actor seats) (length seats)) refl (missing ∙ looked_up)
+    where
+      by_test : (b : Bool) → nat_lt (place_of actor seats) (length seats) ≡ b → None ≡ cond b (Some (place_of actor seats)) None → place_of actor seats ≡ length seats
+      by_test true is e = cc
+      by_test false is e = let most = place_of-most actor seats in grind (arith, nat_tests, is, most)
+
+module _ (actor : Actor) (seats : List Seat) where
+  pub find-seated : (found : Option ℕ) → found ≡ position (nat_eq (number_of actor)) (numbers_of seats) → IfSome found (λ place. (place ≡ place_of actor seats) × (place < length seats))
+  find-seated None e = tt
+  find-seated (Some place) e = seat_found actor seats place e
+
+  pub find-unseated : (found : Option ℕ) → found ≡ position (nat_eq (number_of actor)) (numbers_of seats) → IfNone found (place_of actor seats ≡ length seats)
+  find-unseated None e = seat_missing actor seats e
+  find-unseated (Some place) e = tt
+
+-- a seat keeps its number whatever its actor is at
+pub numbers-with_activity : (actor : Actor) (what : Activity) (seats : List Seat) → place_of actor seats < length seats → numbers_of (with_activity actor what seats) ≡ numbers_of seats
+numbers-with_activity actor what [] h = absurd (omega arith)
+numbers-with_activity actor what (seat ∷ seats) h = at (is_of actor seat) h (numbers-with_activity actor what seats)
+  where
+    at : (b : Bool) → (if b then 0 else suc (place_of actor seats)) < suc (length seats)
+        → (place_of actor seats < length seats → numbers_of (with_activity actor what seats) ≡ numbers_of seats)
+        → numbers_of (if b then record { actor = seat.actor; activity = what } ∷ seats else seat ∷ with_activity actor what seats) ≡ number_of seat.actor ∷ numbers_of seats
+    at true h ih = refl
+    at false h ih = ap (λ (ns : List ℕ). number_of seat.actor ∷ ns) (ih (omega arith))
+
+pub numbers-push : (seats : List Seat) (seat : Seat) → numbers_of (seats ++ seat ∷ []) ≡ numbers_of seats ++ number_of seat.actor ∷ []
+numbers-push [] seat = refl
+numbers-push (first ∷ seats) seat = ap (λ (ns : List ℕ). number_of first.actor ∷ ns) (numbers-push seats seat)
+
+-- the number of an actor with no seat is none of theirs
+pub number_missing : (actor : Actor) (seats : List Seat) → place_of actor seats ≡ length seats → list_any (nat_eq (number_of actor)) (numbers_of seats) ≡ false
+number_missing actor [] h = refl
+number_missing actor (seat ∷ seats) h = at (is_of actor seat) refl h (number_missing actor seats)
+  where
+    at : (b : Bool) → is_of actor seat ≡ b → (if b then 0 else suc (place_of actor seats)) ≡ suc (length seats)
+        → (place_of actor seats ≡ length seats → list_any (nat_eq (number_of actor)) (numbers_of seats) ≡ false)
+        → (nat_eq (number_of actor) (number_of seat.actor) || list_any (nat_eq (number_of actor)) (numbers_of seats)) ≡ false
+    at true is h ih = absurd (omega arith)
+    at false is h ih = rw (sym (same_test (number_of seat.actor) (number_of actor)) ∙ is) (ih (omega arith))
 
 -- at the actor's seat
 
@@ -173,13 +261,16 @@ own-activity_of swap actor (seat ∷ seats) own = at (is_of actor seat) (own-act
     at true ih = own.0
     at false ih = ih
 
-pub own-with_activity : (swap : ℕ) (actor : Actor) (what : Activity) (seats : List Seat) → OwnSeats swap seats → OwnActivity swap what → OwnSeats swap (with_activity actor what seats)
+own-with_activity : (swap : ℕ) (actor : Actor) (what : Activity) (seats : List Seat) → OwnSeats swap seats → OwnActivity swap what → OwnSeats swap (with_activity actor what seats)
 own-with_activity swap actor what [] own here = (here, tt)
 own-with_activity swap actor what (seat ∷ seats) own here = at (is_of actor seat) (own-with_activity swap actor what seats own.1 here)
   where
     at : (b : Bool) → OwnSeats swap (with_activity actor what seats) → OwnSeats swap (if b then record { actor = seat.actor; activity = what } ∷ seats else seat ∷ with_activity actor what seats)
     at true ih = (here, own.1)
     at false ih = (own.0, ih)
+
+pub own-changed : (swap : ℕ) (actor : Actor) (what : Activity) (old new : List Seat) → new ≡ with_activity actor what old → OwnSeats swap old → OwnActivity swap what → OwnSeats swap new
+own-changed swap actor what old new e own here = rw e (own-with_activity swap actor what old own here)
 
 pub own-popped : (swap : ℕ) (rest : List Seat) (last : Seat) → OwnSeats swap (rest ++ last ∷ []) → OwnActivity swap last.activity × OwnSeats swap rest
 own-popped swap [] last own = (own.0, tt)

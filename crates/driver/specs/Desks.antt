@@ -6,7 +6,7 @@ use Rattle.driver.specs.Tickets.{OwnSeats}
 use Rattle.driver.specs.declared.desk.Desk.{Desk}
 
 abbrev pub world : Desk → Disk → World
-world desk disk = record { past = desk.book; disk = disk; seats = desk.seats.items }
+world desk disk = record { past = desk.book; disk = disk; seats = desk.seats }
 
 -- how many swap blocks there are
 abbrev pub swap_of : Desk → ℕ
@@ -20,7 +20,7 @@ pub record Asks (desk : Desk) : Type 0 where
 -- the desk can go on with this device: that has the swap blocks, and the tickets in hand name some of them
 pub record IsOn (desk : Desk) (disk : Disk) : Type 0 where
   pub asks : Asks desk
-  pub own : OwnSeats (swap_of desk) desk.seats.items
+  pub own : OwnSeats (swap_of desk) desk.seats
   pub blocks : swap_of desk ≤ length disk.contents
 
 -- the device has as many blocks as before, and as many calls of it can fail

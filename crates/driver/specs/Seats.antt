@@ -1,10 +1,14 @@
 -- Places of seats.
-use Rattle.std.specs.Prelude.{◌≡◌, ℕ, Bool, true, false, suc, ◌<◌, List, [], ◌∷◌, length, if◌then◌else◌}
+use Rattle.std.specs.Prelude.{◌≡◌, ℕ, Bool, true, false, suc, ◌<◌, List, [], ◌∷◌, length, map, if◌then◌else◌}
 use Rattle.machine.specs.declared.command.Actor.{Actor}
 use Rattle.driver.specs.declared.turn.Activity.{Activity}
 use Rattle.driver.specs.declared.turn.Activity.TheVariants.{Rests, Begun, Does}
 use Rattle.driver.specs.declared.turn.Seat.{Seat}
-use Rattle.driver.specs.Schedule.{is_of, activity_of, with_activity}
+use Rattle.driver.specs.Schedule.{number_of, is_of, activity_of, with_activity}
+
+-- the numbers of those who sit there, one after another
+abbrev pub numbers_of : List Seat → List ℕ
+numbers_of seats = map (λ (seat : Seat). number_of seat.actor) seats
 
 -- the place of an actor's seat, or how many seats there are
 abbrev pub place_of : Actor → List Seat → ℕ

@@ -12,6 +12,7 @@ ghost use Rattle.driver.specs.Desks.{world, swap_of, IsOn, IsSame};
 
 use crate::automaton::{ask, told};
 use crate::judge::judge;
+use crate::seats::Seats;
 use crate::turn::{Activity, Asked, Doing, Outcome, Seat, Turned, Want};
 use crate::{calls, seats};
 use block_store::BlockDevice;
@@ -30,7 +31,7 @@ pub struct Desk {
     pub alloc: Global,
     pub book: Book,
     pub pass: Pass,
-    pub seats: Vec<Seat>,
+    pub seats: Seats,
 }
 
 impl Desk {
@@ -53,7 +54,7 @@ impl Desk {
                 alloc,
                 book,
                 pass,
-                seats: Vec::new(alloc),
+                seats: Seats::new(alloc),
             }),
         }
     }
@@ -110,15 +111,15 @@ impl Desk {
     ) -> Result<Outcome, AllocError>
         requires on { IsOn self.old (D.disk device.old) }
         requires own { OwnDoing (swap_of self.old) doing }
-        requires seated { place_of actor self.old.seats.items < length self.old.seats.items }
-        requires free { is_under_way (activity_of actor self.old.seats.items) ≡ false }
+        requires seated { place_of actor self.old.seats < length self.old.seats }
+        requires free { is_under_way (activity_of actor self.old.seats) ≡ false }
         ensures turn { IfOk result (λ outcome. DoingTurn (world self.old (D.disk device.old)) actor doing outcome (world self.new (D.disk device.new))) }
         ensures on { IsOn self.new (D.disk device.new) }
         ensures same { IsSame (D.disk device.old) (D.disk device.new) }
     {
         let turned = self.serve(device, doing)?;
         let (outcome, left) = seats::settle(turned);
-        seats::put(&mut self.seats, actor, left);
+        self.seats.put(actor, left);
         Ok(outcome)
     }
 
@@ -133,7 +134,7 @@ impl Desk {
         ensures on { IsOn self.new (D.disk device.new) }
         ensures same { IsSame (D.disk device.old) (D.disk device.new) }
     {
-        match seats::take(&mut self.seats, actor) {
+        match self.seats.take(actor) {
             Activity::Rests => Ok(seats::word(Word::Idle)),
             Activity::Begun(command) => {
                 match judge(&self.book, &mut self.pass, actor, command) {
@@ -152,15 +153,15 @@ impl Desk {
         command: &Command,
         answers: &mut Vec<Reply>,
     ) -> Result<(), AllocError>
-        ensures begins { OnOk result ((added : List Told_by) × (answers.new.items ≡ answers.old.items ++ added) × ((disk : Disk) → Begins (world self.old disk) actor command.now (activity_of actor self.old.seats.items) added (world self.new disk))) }
+        ensures begins { OnOk result ((added : List Told_by) × (answers.new.items ≡ answers.old.items ++ added) × ((disk : Disk) → Begins (world self.old disk) actor command.now (activity_of actor self.old.seats) added (world self.new disk))) }
         ensures on { (disk : Disk) → IsOn self.old disk → IsOn self.new disk }
     {
-        if seats::is_under_way(&self.seats, actor) {
+        if self.seats.is_under_way(actor) {
             seats::answer(answers, actor, Answer::Word(Word::Underway))?;
             return Ok(());
         }
         let command = command.copy(self.alloc)?;
-        seats::seat(&mut self.seats, actor, command)
+        self.seats.seat(actor, command)
     }
 
     /// One turn, whatever comes of it: `idle` where the actor has no command.
@@ -244,14 +245,15 @@ impl Desk {
     /// Spends what is left. Transfers whose tickets are in hand end as failed, with no answer.
     pub fn close(self)
         requires first { AsksFirst self }
-        requires own { OwnSeats (swap_of self) self.seats.items }
+        requires own { OwnSeats (swap_of self) self.seats }
     {
         let Desk {
             alloc: _,
             mut book,
             mut pass,
-            mut seats,
+            seats,
         } = self;
+        let mut seats = seats.into_list();
         while let Some(seat) = seats.pop() {
             let Seat { actor: _, activity } = seat;
             calls::give_up(&mut book, &mut pass, activity);

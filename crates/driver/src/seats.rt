@@ -1,14 +1,39 @@
 //! The seats: what each actor is at, by first appearance.
 
-ghost use Rattle.std.specs.Prelude.{◌≡◌, ℕ, ◌<◌, ◌≤◌, ◌++◌, ◌∷◌, [], length, vec_len, OnOk, OnErr, true, false};
+ghost use Rattle.std.specs.Prelude.{◌≡◌, ℕ, ◌<◌, ◌++◌, ◌∷◌, [], length, IfSome, IfNone, OnOk, OnErr, true, false};
 ghost use Rattle.driver.specs.Schedule.{number_of, with_activity, activity_of, said_at, answer_by, outcome_of, left_of, is_end};
 ghost use Rattle.driver.specs.Tickets.{OwnTurned, OwnActivity, OwnSeats, IsSpendableDoing};
 ghost use Rattle.driver.specs.Seats.{place_of, is_under_way, IsTaken};
 
 use crate::turn::{Activity, Doing, Outcome, Seat, Turned};
+use indexmap::IndexSet;
 use machine::command::{Actor, Answer, Command, Reply, Word};
-use std::alloc::AllocError;
+use std::alloc::{AllocError, Global};
+use std::marker::Model;
 use std::mem;
+
+/// The seats in order of first appearance, and the numbers of those who sit there, so that an actor's
+/// place is looked up and not looked for.
+///
+/// A contract sees them as the list of seats. They must be taken apart by [`Seats::into_list`], since
+/// a command under way may hold a ticket.
+#[must_use]
+pub struct Seats {
+    list: Vec<Seat>,
+    numbers: IndexSet<u64>,
+}
+
+impl Model for Seats {
+    ghost use Rattle.std.specs.Prelude.{◌≡◌, List};
+    ghost use Rattle.driver.specs.declared.turn.Seat.{Seat};
+    ghost use Rattle.driver.specs.Seats.{numbers_of};
+
+    ghost Value = { List Seat };
+
+    ghost view = { λ s. s.list.items };
+
+    ghost invariant = { λ s. s.numbers.keys ≡ numbers_of s.list.items };
+}
 
 /// Different actors have different numbers.
 fn number_of(actor: Actor) -> u64
@@ -22,41 +47,110 @@ fn number_of(actor: Actor) -> u64
     }
 }
 
-/// The place of the actor's seat, or how many seats there are.
-pub fn place_of(seats: &[Seat], actor: Actor) -> usize
-    ensures place { result ≡ place_of actor seats.now }
-    ensures within { result ≤ length seats.now }
-{
-    let number = number_of(actor);
-    let mut place = 0;
-    while place < seats.len() {
-        if number_of(seats[place].actor) == number {
-            return place;
+impl Seats {
+    /// No seats.
+    pub fn new(alloc: Global) -> Self
+        ensures { result ≡ [] }
+    {
+        Seats {
+            list: Vec::new(alloc),
+            numbers: IndexSet::new(alloc),
         }
-        place += 1;
     }
-    place
-}
 
-/// Puts the actor, who sits at that place, at this, and hands out what it was at.
-pub fn exchange(seats: &mut Vec<Seat>, place: usize, actor: Actor, activity: Activity) -> Activity
-    requires place { place ≡ place_of actor seats.old.items }
-    requires within { place < vec_len seats.old }
-    ensures was { result ≡ activity_of actor seats.old.items }
-    ensures now { seats.new.items ≡ with_activity actor activity seats.old.items }
-{
-    mem::replace(&mut seats[place].activity, activity)
-}
-
-/// Whether the actor has a command that is not answered yet.
-pub fn is_under_way(seats: &[Seat], actor: Actor) -> bool
-    ensures { result ≡ is_under_way (activity_of actor seats.now) }
-{
-    let place = place_of(seats, actor);
-    if place == seats.len() {
-        return false;
+    /// The list of seats, to be spent one by one.
+    pub fn into_list(self) -> Vec<Seat>
+        ensures { result.items ≡ self }
+    {
+        let Seats { list, numbers: _ } = self;
+        list
     }
-    is_at_work(&seats[place].activity)
+
+    /// The place of the actor's seat, if there is one.
+    fn find(&self, actor: Actor) -> Option<usize>
+        ensures seated { IfSome result (λ place. (place ≡ place_of actor self.now) × (place < length self.now)) }
+        ensures unseated { IfNone result (place_of actor self.now ≡ length self.now) }
+    {
+        self.numbers.get_index_of(&number_of(actor))
+    }
+
+    /// Puts the actor, who sits at that place, at this, and hands out what it was at.
+    fn exchange(&mut self, place: usize, actor: Actor, activity: Activity) -> Activity
+        requires place { place ≡ place_of actor self.old }
+        requires within { place < length self.old }
+        ensures was { result ≡ activity_of actor self.old }
+        ensures now { self.new ≡ with_activity actor activity self.old }
+    {
+        mem::replace(&mut self.list[place].activity, activity)
+    }
+
+    /// Whether the actor has a command that is not answered yet.
+    pub fn is_under_way(&self, actor: Actor) -> bool
+        ensures { result ≡ is_under_way (activity_of actor self.now) }
+    {
+        match self.find(actor) {
+            None => false,
+            Some(place) => is_at_work(&self.list[place].activity),
+        }
+    }
+
+    /// Takes what the actor is at: it rests then. An actor with no seat rests, too.
+    pub fn take(&mut self, actor: Actor) -> Activity
+        ensures was { result ≡ activity_of actor self.old }
+        ensures rested { result ≡ Activity.Rests → self.new ≡ self.old }
+        ensures taken { IsTaken actor self.old self.new }
+        ensures held { (swap : ℕ) → OwnSeats swap self.old → OwnActivity swap result }
+        ensures own { (swap : ℕ) → OwnSeats swap self.old → OwnSeats swap self.new }
+    {
+        match self.find(actor) {
+            None => Activity::Rests,
+            Some(place) => self.exchange(place, actor, Activity::Rests),
+        }
+    }
+
+    /// Puts the actor, who has a seat and nothing under way, at this.
+    pub fn put(&mut self, actor: Actor, activity: Activity)
+        requires seated { place_of actor self.old < length self.old }
+        requires free { is_under_way (activity_of actor self.old) ≡ false }
+        ensures put { self.new ≡ with_activity actor activity self.old }
+        ensures own { (swap : ℕ) → OwnSeats swap self.old → OwnActivity swap activity → OwnSeats swap self.new }
+    {
+        let place = self.find(actor).unwrap();
+        let_go(self.exchange(place, actor, activity));
+    }
+
+    /// Begins the command of an actor who has nothing under way, and gives it a seat of its own where
+    /// it has none. It fails only where memory is wanted and refused.
+    pub fn seat(&mut self, actor: Actor, command: Command) -> Result<(), AllocError>
+        requires { is_under_way (activity_of actor self.old) ≡ false }
+        ensures seated { OnOk result (self.new ≡ with_activity actor (Activity.Begun command) self.old) }
+        ensures own { (swap : ℕ) → OwnSeats swap self.old → OwnSeats swap self.new }
+        ensures err { OnErr result (self.new ≡ self.old) }
+    {
+        match self.find(actor) {
+            None => self.add(actor, command),
+            Some(place) => {
+                let_go(self.exchange(place, actor, Activity::Begun(command)));
+                Ok(())
+            }
+        }
+    }
+
+    /// One seat more, of an actor who has none.
+    fn add(&mut self, actor: Actor, command: Command) -> Result<(), AllocError>
+        requires { place_of actor self.old ≡ length self.old }
+        ensures seated { OnOk result (self.new ≡ with_activity actor (Activity.Begun command) self.old) }
+        ensures own { (swap : ℕ) → OwnSeats swap self.old → OwnSeats swap self.new }
+        ensures err { OnErr result (self.new ≡ self.old) }
+    {
+        self.list.reserve(1)?;
+        self.numbers.insert(number_of(actor))?;
+        self.list.push_reserved(Seat {
+            actor,
+            activity: Activity::Begun(command),
+        });
+        Ok(())
+    }
 }
 
 fn is_at_work(activity: &Activity) -> bool
@@ -66,21 +160,6 @@ fn is_at_work(activity: &Activity) -> bool
         Activity::Rests => false,
         Activity::Begun(_) | Activity::Does(_) => true,
     }
-}
-
-/// Takes what the actor is at: it rests then. An actor with no seat rests, too.
-pub fn take(seats: &mut Vec<Seat>, actor: Actor) -> Activity
-    ensures was { result ≡ activity_of actor seats.old.items }
-    ensures rested { result ≡ Activity.Rests → seats.new.items ≡ seats.old.items }
-    ensures taken { IsTaken actor seats.old.items seats.new.items }
-    ensures held { (swap : ℕ) → OwnSeats swap seats.old.items → OwnActivity swap result }
-    ensures own { (swap : ℕ) → OwnSeats swap seats.old.items → OwnSeats swap seats.new.items }
-{
-    let place = place_of(seats, actor);
-    if place == seats.len() {
-        return Activity::Rests;
-    }
-    exchange(seats, place, actor, Activity::Rests)
 }
 
 /// Spends what an actor with nothing under way was at.
@@ -110,38 +189,6 @@ fn never(doing: Doing)
         Doing::Spawn { task: _, group: _ } | Doing::Exit(_) => {}
         Doing::Mkdir(_) | Doing::Show(_) => {}
     }
-}
-
-/// Puts the actor, who has a seat and nothing under way, at this.
-pub fn put(seats: &mut Vec<Seat>, actor: Actor, activity: Activity)
-    requires seated { place_of actor seats.old.items < length seats.old.items }
-    requires free { is_under_way (activity_of actor seats.old.items) ≡ false }
-    ensures put { seats.new.items ≡ with_activity actor activity seats.old.items }
-    ensures own { (swap : ℕ) → OwnSeats swap seats.old.items → OwnActivity swap activity → OwnSeats swap seats.new.items }
-{
-    let place = place_of(seats, actor);
-    let_go(exchange(seats, place, actor, activity));
-}
-
-/// Begins the command of an actor who has nothing under way, and gives it a seat of its own where it
-/// has none. It fails only where memory is wanted and refused.
-pub fn seat(seats: &mut Vec<Seat>, actor: Actor, command: Command) -> Result<(), AllocError>
-    requires { is_under_way (activity_of actor seats.old.items) ≡ false }
-    ensures seated { OnOk result (seats.new.items ≡ with_activity actor (Activity.Begun command) seats.old.items) }
-    ensures own { (swap : ℕ) → OwnSeats swap seats.old.items → OwnSeats swap seats.new.items }
-    ensures err { OnErr result (seats.new.items ≡ seats.old.items) }
-{
-    seats.reserve(1)?;
-    let place = place_of(seats, actor);
-    if place == seats.len() {
-        seats.push_reserved(Seat {
-            actor,
-            activity: Activity::Begun(command),
-        });
-        return Ok(());
-    }
-    let_go(exchange(seats, place, actor, Activity::Begun(command)));
-    Ok(())
 }
 
 /// What a turn shows, and what the actor is at after it.

@@ -29,11 +29,11 @@ turn_doing-requires-clause-own g c =
 
 pub turn_doing-requires-clause-seated : goal.turn_doing-requires-clause-seated
 turn_doing-requires-clause-seated g c =
-    c.take.ensures.taken.seated (seated c.args.actor c.args.self.now.seats.items (λ rests. let wrong : Begun c.in-Begun.command ≡ Rests = c.in-Begun.ensures.was ∙ rests in cc))
+    c.take.ensures.taken.seated (seated c.args.actor c.args.self.now.seats (λ rests. let wrong : Begun c.in-Begun.command ≡ Rests = c.in-Begun.ensures.was ∙ rests in cc))
 
 pub turn_doing-requires-in-Does-clause-seated : goal.turn_doing-requires-in-Does-clause-seated
 turn_doing-requires-in-Does-clause-seated g c =
-    c.take.ensures.taken.seated (seated c.args.actor c.args.self.now.seats.items (λ rests. let wrong : Does c.in-Does.doing ≡ Rests = c.in-Does.ensures.was ∙ rests in cc))
+    c.take.ensures.taken.seated (seated c.args.actor c.args.self.now.seats (λ rests. let wrong : Does c.in-Does.doing ≡ Rests = c.in-Does.ensures.was ∙ rests in cc))
 
 pub returns-in-Err-clause-turn : goal.returns-in-Err-clause-turn
 returns-in-Err-clause-turn g c =
@@ -49,7 +49,7 @@ returns-in_ok-turn_doing-in-Ok-clause-turn g c =
     let new : World = world c.turn_doing.new.self (g.D.BlockDevice.disk c.turn_doing.new.device) in
     let within : place_of c.args.actor old.seats < length old.seats = seated c.args.actor old.seats (λ rests. let wrong : Begun c.in-Begun.command ≡ Rests = c.in-Begun.ensures.was ∙ rests in cc) in
     turn_begun old new c.args.actor c.in-Begun.command c.in-Ok.doing c.in_ok-turn_doing-in-Ok.field-0 (sym c.in-Begun.ensures.was) (sym c.in-Ok.ensures.judged)
-    (turn_taken old c.take.new.seats.items new c.args.actor c.in-Ok.doing c.in_ok-turn_doing-in-Ok.field-0 (c.take.ensures.taken.others within) c.in_ok-turn_doing-in-Ok.ensures.turn)
+    (turn_taken old c.take.new.self new c.args.actor c.in-Ok.doing c.in_ok-turn_doing-in-Ok.field-0 (c.take.ensures.taken.others within) c.in_ok-turn_doing-in-Ok.ensures.turn)
 
 pub returns-in_ok-turn_doing-in-Does-clause-turn : goal.returns-in_ok-turn_doing-in-Does-clause-turn
 returns-in_ok-turn_doing-in-Does-clause-turn g c =
@@ -57,4 +57,4 @@ returns-in_ok-turn_doing-in-Does-clause-turn g c =
     let new : World = world c.turn_doing-in-Does.new.self (g.D.BlockDevice.disk c.turn_doing-in-Does.new.device) in
     let within : place_of c.args.actor old.seats < length old.seats = seated c.args.actor old.seats (λ rests. let wrong : Does c.in-Does.doing ≡ Rests = c.in-Does.ensures.was ∙ rests in cc) in
     turn_does old new c.args.actor c.in-Does.doing c.in_ok-turn_doing-in-Does.field-0 (sym c.in-Does.ensures.was)
-    (turn_taken old c.take.new.seats.items new c.args.actor c.in-Does.doing c.in_ok-turn_doing-in-Does.field-0 (c.take.ensures.taken.others within) c.in_ok-turn_doing-in-Does.ensures.turn)
+    (turn_taken old c.take.new.self new c.args.actor c.in-Does.doing c.in_ok-turn_doing-in-Does.field-0 (c.take.ensures.taken.others within) c.in_ok-turn_doing-in-Does.ensures.turn)
