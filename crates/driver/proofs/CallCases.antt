@@ -28,13 +28,13 @@ use Rattle.book.specs.declared.event.Reply.{Reply as Book_reply}
 use Rattle.book.specs.declared.event.Reply.TheVariants as said
 use Rattle.book.specs.Events.{reply_of}
 use Rattle.driver.specs.declared.turn.Access.{Access}
-use Rattle.driver.specs.declared.turn.Onward.{Onward}
-use Rattle.driver.specs.declared.turn.Onward.TheVariants as onward
-use Rattle.driver.specs.declared.turn.Doing.TheVariants as doing
-use Rattle.driver.specs.declared.turn.Asked.{Asked}
-use Rattle.driver.specs.declared.turn.Asked.TheVariants as asked
-use Rattle.driver.specs.declared.turn.Turned.{Turned}
-use Rattle.driver.specs.declared.turn.Turned.TheVariants.{Goes}
+use Rattle.driver.specs.declared.turn.Resume.{Resume}
+use Rattle.driver.specs.declared.turn.Resume.TheVariants as resume
+use Rattle.driver.specs.declared.turn.Stage.TheVariants as stage
+use Rattle.driver.specs.declared.turn.Pending.{Pending}
+use Rattle.driver.specs.declared.turn.Pending.TheVariants as pending
+use Rattle.driver.specs.declared.turn.Transition.{Transition}
+use Rattle.driver.specs.declared.turn.Transition.TheVariants.{Goes}
 use Rattle.driver.specs.Turns.{Tried, MadeRoom, MaxSet, Lowered, Reclaimed, Balanced, Made, Ended, WasShown, Closed, Told, ends_with, ends_refused, byte_answer, goes_on}
 use Rattle.driver.specs.Schedule.{outcome_of, left_of}
 use Rattle.driver.proofs.Keeps.{number_at, pages_none, Fine, FineOutcome}
@@ -141,19 +141,19 @@ called_comes old new worker what answer known called = by_known (knows_ticket ol
 -- ---- what is made of a reply
 
 -- a ticket is taken up only from the reply that gave it
-pub data Next (answered : Book_reply) (turned : Turned) : Type 0 where
-  Handless : number_at (left_of turned) ≡ None → FineOutcome (outcome_of turned) → Next answered turned
-  Reads : (access : Access) (ticket : TicketOf) → answered ≡ said.Fetch ticket → turned ≡ Goes (doing.Read access ticket) → Next answered turned
-  Writes : (on : Onward) (ticket : TicketOf) → answered ≡ said.Out ticket → turned ≡ Goes (doing.Write on ticket) → Next answered turned
+pub data Next (answered : Book_reply) (transition : Transition) : Type 0 where
+  Handless : number_at (left_of transition) ≡ None → FineOutcome (outcome_of transition) → Next answered transition
+  Reads : (access : Access) (ticket : TicketOf) → answered ≡ said.Fetch ticket → transition ≡ Goes (stage.Read access ticket) → Next answered transition
+  Writes : (on : Resume) (ticket : TicketOf) → answered ≡ said.Out ticket → transition ≡ Goes (stage.Write on ticket) → Next answered transition
 
-module _ (answered : Book_reply) (turned : Turned) where
-  handless : (is : Turned) → turned ≡ is → number_at (left_of is) ≡ None → FineOutcome (outcome_of is) → Next answered turned
-  handless is e none fine = Handless (ap (λ (t : Turned). number_at (left_of t)) e ∙ none) (subst (λ (t : Turned). FineOutcome (outcome_of t)) (sym e) fine)
+module _ (answered : Book_reply) (transition : Transition) where
+  handless : (is : Transition) → transition ≡ is → number_at (left_of is) ≡ None → FineOutcome (outcome_of is) → Next answered transition
+  handless is e none fine = Handless (ap (λ (t : Transition). number_at (left_of t)) e ∙ none) (subst (λ (t : Transition). FineOutcome (outcome_of t)) (sym e) fine)
 
-  says_word : (what : Word) → turned ≡ ends_with what → (what ≡ word.Refused Stranger → ⊥) → Next answered turned
+  says_word : (what : Word) → transition ≡ ends_with what → (what ≡ word.Refused Stranger → ⊥) → Next answered transition
   says_word what e fine = handless (ends_with what) e refl (λ f. fine (cc))
 
-  says_refused : (why : Refusal) → reply_of answered ≡ reply.Refused why → (reply_of answered ≡ reply.Refused Stranger → ⊥) → turned ≡ ends_refused why → Next answered turned
+  says_refused : (why : Refusal) → reply_of answered ≡ reply.Refused why → (reply_of answered ≡ reply.Refused Stranger → ⊥) → transition ≡ ends_refused why → Next answered transition
   says_refused why is known e = says_word (word.Refused why) e (λ f. known (is ∙ refusal_is f))
     where
       refusal_is : word.Refused why ≡ word.Refused Stranger → reply.Refused why ≡ reply.Refused Stranger
@@ -163,95 +163,95 @@ fine_byte : (op : Op) (byte : ℕ) → Fine (byte_answer op byte)
 fine_byte Read byte = λ e. cc
 fine_byte (Write b) byte = λ e. cc
 
-goes_on_handless : (on : Onward) → number_at (left_of (Goes (goes_on on))) ≡ None
-goes_on_handless (onward.Try access) = refl
-goes_on_handless (onward.Lower g) = refl
-goes_on_handless (onward.Reclaim g left) = pages_none g.0 left
-goes_on_handless onward.Balance = refl
+goes_on_handless : (on : Resume) → number_at (left_of (Goes (goes_on on))) ≡ None
+goes_on_handless (resume.Try access) = refl
+goes_on_handless (resume.Lower g) = refl
+goes_on_handless (resume.Reclaim g left) = pages_none g.0 left
+goes_on_handless resume.Balance = refl
 
 abbrev KnownReply : Book_reply → Type 0
 KnownReply answered = reply_of answered ≡ reply.Refused Stranger → ⊥
 
-tried_next : (access : Access) (answered : Book_reply) (turned : Turned) → Tried access answered turned → KnownReply answered → Next answered turned
-tried_next access (said.Done byte hit) turned h known = handless _ turned _ h refl (fine_byte access.op byte)
-tried_next access (said.Fetch ticket) turned h known = Reads access ticket refl h
-tried_next access (said.Over g) turned h known = handless _ turned _ h refl tt
-tried_next access said.NoFrame turned h known = handless _ turned _ h refl tt
-tried_next access said.Busy turned h known = says_word _ turned word.Busy h (λ e. cc)
-tried_next access said.Killed turned h known = says_word _ turned word.Killed h (λ e. cc)
-tried_next access (said.Refused why) turned h known = says_refused _ turned why refl known h
-tried_next access answered turned h known = absurd h
+tried_next : (access : Access) (answered : Book_reply) (transition : Transition) → Tried access answered transition → KnownReply answered → Next answered transition
+tried_next access (said.Done byte hit) transition h known = handless _ transition _ h refl (fine_byte access.op byte)
+tried_next access (said.Fetch ticket) transition h known = Reads access ticket refl h
+tried_next access (said.Over g) transition h known = handless _ transition _ h refl tt
+tried_next access said.NoFrame transition h known = handless _ transition _ h refl tt
+tried_next access said.Busy transition h known = says_word _ transition word.Busy h (λ e. cc)
+tried_next access said.Killed transition h known = says_word _ transition word.Killed h (λ e. cc)
+tried_next access (said.Refused why) transition h known = says_refused _ transition why refl known h
+tried_next access answered transition h known = absurd h
 
-room_next : (access : Access) (answered : Book_reply) (turned : Turned) → MadeRoom access answered turned → KnownReply answered → Next answered turned
-room_next access said.Room turned h known = handless _ turned _ h refl tt
-room_next access (said.Out ticket) turned h known = Writes (onward.Try access) ticket refl h
-room_next access said.Wait turned h known = says_word _ turned word.Busy h (λ e. cc)
-room_next access (said.KilledTask t) turned h known = handless _ turned _ h refl tt
-room_next access said.NoVictim turned h known = says_word _ turned word.OutOfMemory h (λ e. cc)
-room_next access (said.Refused why) turned h known = says_refused _ turned why refl known h
-room_next access answered turned h known = absurd h
+room_next : (access : Access) (answered : Book_reply) (transition : Transition) → MadeRoom access answered transition → KnownReply answered → Next answered transition
+room_next access said.Room transition h known = handless _ transition _ h refl tt
+room_next access (said.Out ticket) transition h known = Writes (resume.Try access) ticket refl h
+room_next access said.Wait transition h known = says_word _ transition word.Busy h (λ e. cc)
+room_next access (said.KilledTask t) transition h known = handless _ transition _ h refl tt
+room_next access said.NoVictim transition h known = says_word _ transition word.OutOfMemory h (λ e. cc)
+room_next access (said.Refused why) transition h known = says_refused _ transition why refl known h
+room_next access answered transition h known = absurd h
 
-set_next : (g : ℕ) (answered : Book_reply) (turned : Turned) → MaxSet g answered turned → KnownReply answered → Next answered turned
-set_next g said.Ok turned h known = handless _ turned _ h refl tt
-set_next g (said.Refused why) turned h known = says_refused _ turned why refl known h
-set_next g answered turned h known = absurd h
+set_next : (g : ℕ) (answered : Book_reply) (transition : Transition) → MaxSet g answered transition → KnownReply answered → Next answered transition
+set_next g said.Ok transition h known = handless _ transition _ h refl tt
+set_next g (said.Refused why) transition h known = says_refused _ transition why refl known h
+set_next g answered transition h known = absurd h
 
-lower_next : (g : ℕ) (answered : Book_reply) (turned : Turned) → Lowered g answered turned → KnownReply answered → Next answered turned
-lower_next g said.Room turned h known = handless _ turned _ h refl (λ e. cc)
-lower_next g (said.Out ticket) turned h known = Writes _ ticket refl h
-lower_next g said.Wait turned h known = says_word _ turned word.Busy h (λ e. cc)
-lower_next g (said.KilledTask t) turned h known = handless _ turned _ h refl tt
-lower_next g said.NoVictim turned h known = handless _ turned _ h refl (λ e. cc)
-lower_next g (said.Refused why) turned h known = says_refused _ turned why refl known h
-lower_next g answered turned h known = absurd h
+lower_next : (g : ℕ) (answered : Book_reply) (transition : Transition) → Lowered g answered transition → KnownReply answered → Next answered transition
+lower_next g said.Room transition h known = handless _ transition _ h refl (λ e. cc)
+lower_next g (said.Out ticket) transition h known = Writes _ ticket refl h
+lower_next g said.Wait transition h known = says_word _ transition word.Busy h (λ e. cc)
+lower_next g (said.KilledTask t) transition h known = handless _ transition _ h refl tt
+lower_next g said.NoVictim transition h known = handless _ transition _ h refl (λ e. cc)
+lower_next g (said.Refused why) transition h known = says_refused _ transition why refl known h
+lower_next g answered transition h known = absurd h
 
-reclaimed_next : (g left : ℕ) (answered : Book_reply) (turned : Turned) → Reclaimed g left answered turned → KnownReply answered → Next answered turned
-reclaimed_next g left (said.Out ticket) turned h known = Writes _ ticket refl h
-reclaimed_next g left said.Wait turned h known = says_word _ turned word.Busy h (λ e. cc)
-reclaimed_next g left said.Nothing turned h known = says_word _ turned word.Again h (λ e. cc)
-reclaimed_next g left (said.Refused why) turned h known = says_refused _ turned why refl known h
-reclaimed_next g left answered turned h known = absurd h
+reclaimed_next : (g left : ℕ) (answered : Book_reply) (transition : Transition) → Reclaimed g left answered transition → KnownReply answered → Next answered transition
+reclaimed_next g left (said.Out ticket) transition h known = Writes _ ticket refl h
+reclaimed_next g left said.Wait transition h known = says_word _ transition word.Busy h (λ e. cc)
+reclaimed_next g left said.Nothing transition h known = says_word _ transition word.Again h (λ e. cc)
+reclaimed_next g left (said.Refused why) transition h known = says_refused _ transition why refl known h
+reclaimed_next g left answered transition h known = absurd h
 
-balanced_next : (answered : Book_reply) (turned : Turned) → Balanced answered turned → KnownReply answered → Next answered turned
-balanced_next (said.Out ticket) turned h known = Writes _ ticket refl h
-balanced_next said.Wait turned h known = says_word _ turned word.Busy h (λ e. cc)
-balanced_next said.Nothing turned h known = handless _ turned _ h refl (λ e. cc)
-balanced_next (said.Refused why) turned h known = says_refused _ turned why refl known h
-balanced_next answered turned h known = absurd h
+balanced_next : (answered : Book_reply) (transition : Transition) → Balanced answered transition → KnownReply answered → Next answered transition
+balanced_next (said.Out ticket) transition h known = Writes _ ticket refl h
+balanced_next said.Wait transition h known = says_word _ transition word.Busy h (λ e. cc)
+balanced_next said.Nothing transition h known = handless _ transition _ h refl (λ e. cc)
+balanced_next (said.Refused why) transition h known = says_refused _ transition why refl known h
+balanced_next answered transition h known = absurd h
 
-made_next : (answered : Book_reply) (turned : Turned) → Made answered turned → KnownReply answered → Next answered turned
-made_next said.Ok turned h known = handless _ turned _ h refl (λ e. cc)
-made_next (said.Refused why) turned h known = says_refused _ turned why refl known h
-made_next answered turned h known = absurd h
+made_next : (answered : Book_reply) (transition : Transition) → Made answered transition → KnownReply answered → Next answered transition
+made_next said.Ok transition h known = handless _ transition _ h refl (λ e. cc)
+made_next (said.Refused why) transition h known = says_refused _ transition why refl known h
+made_next answered transition h known = absurd h
 
-ended_next : (answered : Book_reply) (turned : Turned) → Ended answered turned → KnownReply answered → Next answered turned
-ended_next said.Ok turned h known = handless _ turned _ h refl (λ e. cc)
-ended_next said.Killed turned h known = says_word _ turned word.Killed h (λ e. cc)
-ended_next (said.Refused why) turned h known = says_refused _ turned why refl known h
-ended_next answered turned h known = absurd h
+ended_next : (answered : Book_reply) (transition : Transition) → Ended answered transition → KnownReply answered → Next answered transition
+ended_next said.Ok transition h known = handless _ transition _ h refl (λ e. cc)
+ended_next said.Killed transition h known = says_word _ transition word.Killed h (λ e. cc)
+ended_next (said.Refused why) transition h known = says_refused _ transition why refl known h
+ended_next answered transition h known = absurd h
 
-shown_next : (answered : Book_reply) (turned : Turned) → WasShown answered turned → KnownReply answered → Next answered turned
-shown_next (said.Shown numbers) turned h known = handless _ turned _ h refl (λ e. cc)
-shown_next (said.Refused why) turned h known = says_refused _ turned why refl known h
-shown_next answered turned h known = absurd h
+shown_next : (answered : Book_reply) (transition : Transition) → WasShown answered transition → KnownReply answered → Next answered transition
+shown_next (said.Shown numbers) transition h known = handless _ transition _ h refl (λ e. cc)
+shown_next (said.Refused why) transition h known = says_refused _ transition why refl known h
+shown_next answered transition h known = absurd h
 
-closed_next : (onwards : Turned) (answered : Book_reply) (turned : Turned) → number_at (left_of onwards) ≡ None → FineOutcome (outcome_of onwards) → Closed onwards answered turned → KnownReply answered → Next answered turned
-closed_next onwards said.Ok turned none fine h known = handless _ turned onwards h none fine
-closed_next onwards (said.StrangeIn ticket) turned none fine h known = absurd (known refl)
-closed_next onwards (said.StrangeOut ticket) turned none fine h known = absurd (known refl)
-closed_next onwards answered turned none fine h known = absurd h
+closed_next : (resumed : Transition) (answered : Book_reply) (transition : Transition) → number_at (left_of resumed) ≡ None → FineOutcome (outcome_of resumed) → Closed resumed answered transition → KnownReply answered → Next answered transition
+closed_next resumed said.Ok transition none fine h known = handless _ transition resumed h none fine
+closed_next resumed (said.StrangeIn ticket) transition none fine h known = absurd (known refl)
+closed_next resumed (said.StrangeOut ticket) transition none fine h known = absurd (known refl)
+closed_next resumed answered transition none fine h known = absurd h
 
-pub told_next : (remembers : Asked) (answered : Book_reply) (turned : Turned) → Told remembers answered turned → (reply_of answered ≡ reply.Refused Stranger → ⊥) → Next answered turned
-told_next (asked.Try access) answered turned h known = tried_next access answered turned h known
-told_next (asked.MakeRoom access) answered turned h known = room_next access answered turned h known
-told_next (asked.SetMax g) answered turned h known = set_next g.0 answered turned h known
-told_next (asked.Lower g) answered turned h known = lower_next g.0 answered turned h known
-told_next (asked.Reclaim g left) answered turned h known = reclaimed_next g.0 left answered turned h known
-told_next asked.Balance answered turned h known = balanced_next answered turned h known
-told_next asked.Make answered turned h known = made_next answered turned h known
-told_next asked.Exit answered turned h known = ended_next answered turned h known
-told_next asked.Show answered turned h known = shown_next answered turned h known
-told_next (asked.Arrive access) answered turned h known = closed_next _ answered turned refl tt h known
-told_next asked.FetchFail answered turned h known = closed_next _ answered turned refl (λ e. cc) h known
-told_next (asked.Leave on) answered turned h known = closed_next _ answered turned (goes_on_handless on) tt h known
-told_next asked.LeaveFail answered turned h known = closed_next _ answered turned refl (λ e. cc) h known
+pub told_next : (remembers : Pending) (answered : Book_reply) (transition : Transition) → Told remembers answered transition → (reply_of answered ≡ reply.Refused Stranger → ⊥) → Next answered transition
+told_next (pending.Try access) answered transition h known = tried_next access answered transition h known
+told_next (pending.MakeRoom access) answered transition h known = room_next access answered transition h known
+told_next (pending.SetMax g) answered transition h known = set_next g.0 answered transition h known
+told_next (pending.Lower g) answered transition h known = lower_next g.0 answered transition h known
+told_next (pending.Reclaim g left) answered transition h known = reclaimed_next g.0 left answered transition h known
+told_next pending.Balance answered transition h known = balanced_next answered transition h known
+told_next pending.Make answered transition h known = made_next answered transition h known
+told_next pending.Exit answered transition h known = ended_next answered transition h known
+told_next pending.Show answered transition h known = shown_next answered transition h known
+told_next (pending.Arrive access) answered transition h known = closed_next _ answered transition refl tt h known
+told_next pending.FetchFail answered transition h known = closed_next _ answered transition refl (λ e. cc) h known
+told_next (pending.Leave on) answered transition h known = closed_next _ answered transition (goes_on_handless on) tt h known
+told_next pending.LeaveFail answered transition h known = closed_next _ answered transition refl (λ e. cc) h known

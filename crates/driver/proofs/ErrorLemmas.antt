@@ -31,51 +31,51 @@ use Rattle.book.specs.declared.event.Event.TheVariants as event
 use Rattle.book.specs.declared.event.Reply.{Reply}
 use Rattle.book.specs.declared.event.Reply.TheVariants as reply
 use Rattle.driver.specs.declared.turn.Access.{Access}
-use Rattle.driver.specs.declared.turn.Onward.{Onward}
-use Rattle.driver.specs.declared.turn.Onward.TheVariants as onward
-use Rattle.driver.specs.declared.turn.Doing.{Doing}
-use Rattle.driver.specs.declared.turn.Doing.TheVariants as doing
-use Rattle.driver.specs.declared.turn.Asked.{Asked}
-use Rattle.driver.specs.declared.turn.Asked.TheVariants as asked
+use Rattle.driver.specs.declared.turn.Resume.{Resume}
+use Rattle.driver.specs.declared.turn.Resume.TheVariants as resume
+use Rattle.driver.specs.declared.turn.Stage.{Stage}
+use Rattle.driver.specs.declared.turn.Stage.TheVariants as stage
+use Rattle.driver.specs.declared.turn.Pending.{Pending}
+use Rattle.driver.specs.declared.turn.Pending.TheVariants as pending
 use Rattle.driver.specs.declared.turn.Want.{Want}
 use Rattle.driver.specs.declared.turn.Want.TheVariants as want
-use Rattle.driver.specs.declared.turn.Turned.{Turned}
-use Rattle.driver.specs.declared.turn.Turned.TheVariants.{Goes, Kills, Ends}
+use Rattle.driver.specs.declared.turn.Transition.{Transition}
+use Rattle.driver.specs.declared.turn.Transition.TheVariants.{Goes, Kills, Ends}
 use Rattle.driver.specs.declared.turn.Outcome.{Outcome}
 use Rattle.driver.specs.declared.turn.Activity.{Activity}
 use Rattle.driver.specs.declared.turn.Activity.TheVariants.{Rests, Begun, Does}
 use Rattle.driver.specs.declared.turn.Seat.{Seat}
 use Rattle.driver.specs.Turns.{wants_pages, wants_balance, wants_watch, done, byte_answer, goes_on, Tried, MadeRoom, MaxSet, Lowered, Reclaimed, Balanced, Made, Ended, WasShown, Closed, Told, ReadsIn, WritesOut, after_read, after_write, Judged, with_group, with_file, with_amount, reads_file, writes_file, reclaims, task_judged, shell_judged, daemon_judged, judged}
-use Rattle.driver.specs.Schedule.{World, first_world, is_of, activity_of, with_activity, outcome_of, left_of, WantTurn, wants_at, DoingTurn, JudgedTurn, ActivityTurn, said_at, all_said, Goings, EndsIn, RunsOut, Begins, Stepped, Runs, is_error, errors}
+use Rattle.driver.specs.Schedule.{World, first_world, is_of, activity_of, with_activity, outcome_of, left_of, WantTurn, wants_at, StageTurn, JudgedTurn, ActivityTurn, said_at, all_said, Goings, EndsIn, RunsOut, Begins, Stepped, Runs, is_error, errors}
 use Rattle.machine.proofs.SlotLemmas.{one_if}
 
 -- ---- what is owed
 
 -- a failed call of the device that is not answered yet
-abbrev owed_at : Doing → ℕ
-owed_at (doing.FetchFail ticket) = 1
-owed_at (doing.LeaveFail ticket) = 1
+abbrev owed_at : Stage → ℕ
+owed_at (stage.FetchFail ticket) = 1
+owed_at (stage.LeaveFail ticket) = 1
 owed_at others = 0
 
 abbrev owed : Activity → ℕ
 owed Rests = 0
 owed (Begun what) = 0
-owed (Does doing) = owed_at doing
+owed (Does stage) = owed_at stage
 
 abbrev all_owed : List Seat → ℕ
 all_owed [] = 0
 all_owed (seat ∷ seats) = owed seat.activity + all_owed seats
 
 -- what a turn leaves owed, or answers
-abbrev cost : Turned → ℕ
-cost (Goes doing) = owed_at doing
-cost (Kills t doing) = owed_at doing
+abbrev cost : Transition → ℕ
+cost (Goes stage) = owed_at stage
+cost (Kills t stage) = owed_at stage
 cost (Ends said) = one_if (is_error said)
 
-abbrev owed_asked : Asked → ℕ
-owed_asked asked.FetchFail = 1
-owed_asked asked.LeaveFail = 1
-owed_asked others = 0
+abbrev owed_pending : Pending → ℕ
+owed_pending pending.FetchFail = 1
+owed_pending pending.LeaveFail = 1
+owed_pending others = 0
 
 -- ---- what a command makes of a reply
 
@@ -83,112 +83,112 @@ byte-cost : (op : Op) (byte : ℕ) → cost (Ends (byte_answer op byte)) ≡ 0
 byte-cost Read byte = refl
 byte-cost (Write b) byte = refl
 
-on-cost : (on : Onward) → cost (Goes (goes_on on)) ≡ 0
-on-cost (onward.Try access) = refl
-on-cost (onward.Lower g) = refl
-on-cost (onward.Reclaim g left) = refl
-on-cost onward.Balance = refl
+on-cost : (on : Resume) → cost (Goes (goes_on on)) ≡ 0
+on-cost (resume.Try access) = refl
+on-cost (resume.Lower g) = refl
+on-cost (resume.Reclaim g left) = refl
+on-cost resume.Balance = refl
 
-tried-cost : (access : Access) (said : Reply) (turned : Turned) → Tried access said turned → cost turned ≡ 0
-tried-cost access (reply.Done byte hit) turned h = rw h (byte-cost access.op byte)
-tried-cost access (reply.Fetch ticket) turned h = rw h refl
-tried-cost access (reply.Over g) turned h = rw h refl
-tried-cost access reply.NoFrame turned h = rw h refl
-tried-cost access reply.Busy turned h = rw h refl
-tried-cost access reply.Killed turned h = rw h refl
-tried-cost access (reply.Refused why) turned h = rw h refl
-tried-cost access said turned h = absurd h
+tried-cost : (access : Access) (said : Reply) (transition : Transition) → Tried access said transition → cost transition ≡ 0
+tried-cost access (reply.Done byte hit) transition h = rw h (byte-cost access.op byte)
+tried-cost access (reply.Fetch ticket) transition h = rw h refl
+tried-cost access (reply.Over g) transition h = rw h refl
+tried-cost access reply.NoFrame transition h = rw h refl
+tried-cost access reply.Busy transition h = rw h refl
+tried-cost access reply.Killed transition h = rw h refl
+tried-cost access (reply.Refused why) transition h = rw h refl
+tried-cost access said transition h = absurd h
 
-room-cost : (access : Access) (said : Reply) (turned : Turned) → MadeRoom access said turned → cost turned ≡ 0
-room-cost access reply.Room turned h = rw h refl
-room-cost access (reply.Out ticket) turned h = rw h refl
-room-cost access reply.Wait turned h = rw h refl
-room-cost access (reply.KilledTask t) turned h = rw h refl
-room-cost access reply.NoVictim turned h = rw h refl
-room-cost access (reply.Refused why) turned h = rw h refl
-room-cost access said turned h = absurd h
+room-cost : (access : Access) (said : Reply) (transition : Transition) → MadeRoom access said transition → cost transition ≡ 0
+room-cost access reply.Room transition h = rw h refl
+room-cost access (reply.Out ticket) transition h = rw h refl
+room-cost access reply.Wait transition h = rw h refl
+room-cost access (reply.KilledTask t) transition h = rw h refl
+room-cost access reply.NoVictim transition h = rw h refl
+room-cost access (reply.Refused why) transition h = rw h refl
+room-cost access said transition h = absurd h
 
-max-cost : (g : ℕ) (said : Reply) (turned : Turned) → MaxSet g said turned → cost turned ≡ 0
-max-cost g reply.Ok turned h = rw h refl
-max-cost g (reply.Refused why) turned h = rw h refl
-max-cost g said turned h = absurd h
+max-cost : (g : ℕ) (said : Reply) (transition : Transition) → MaxSet g said transition → cost transition ≡ 0
+max-cost g reply.Ok transition h = rw h refl
+max-cost g (reply.Refused why) transition h = rw h refl
+max-cost g said transition h = absurd h
 
-lowered-cost : (g : ℕ) (said : Reply) (turned : Turned) → Lowered g said turned → cost turned ≡ 0
-lowered-cost g reply.Room turned h = rw h refl
-lowered-cost g (reply.Out ticket) turned h = rw h refl
-lowered-cost g reply.Wait turned h = rw h refl
-lowered-cost g (reply.KilledTask t) turned h = rw h refl
-lowered-cost g reply.NoVictim turned h = rw h refl
-lowered-cost g (reply.Refused why) turned h = rw h refl
-lowered-cost g said turned h = absurd h
+lowered-cost : (g : ℕ) (said : Reply) (transition : Transition) → Lowered g said transition → cost transition ≡ 0
+lowered-cost g reply.Room transition h = rw h refl
+lowered-cost g (reply.Out ticket) transition h = rw h refl
+lowered-cost g reply.Wait transition h = rw h refl
+lowered-cost g (reply.KilledTask t) transition h = rw h refl
+lowered-cost g reply.NoVictim transition h = rw h refl
+lowered-cost g (reply.Refused why) transition h = rw h refl
+lowered-cost g said transition h = absurd h
 
-reclaimed-cost : (g left : ℕ) (said : Reply) (turned : Turned) → Reclaimed g left said turned → cost turned ≡ 0
-reclaimed-cost g left (reply.Out ticket) turned h = rw h refl
-reclaimed-cost g left reply.Wait turned h = rw h refl
-reclaimed-cost g left reply.Nothing turned h = rw h refl
-reclaimed-cost g left (reply.Refused why) turned h = rw h refl
-reclaimed-cost g left said turned h = absurd h
+reclaimed-cost : (g left : ℕ) (said : Reply) (transition : Transition) → Reclaimed g left said transition → cost transition ≡ 0
+reclaimed-cost g left (reply.Out ticket) transition h = rw h refl
+reclaimed-cost g left reply.Wait transition h = rw h refl
+reclaimed-cost g left reply.Nothing transition h = rw h refl
+reclaimed-cost g left (reply.Refused why) transition h = rw h refl
+reclaimed-cost g left said transition h = absurd h
 
-balanced-cost : (said : Reply) (turned : Turned) → Balanced said turned → cost turned ≡ 0
-balanced-cost (reply.Out ticket) turned h = rw h refl
-balanced-cost reply.Wait turned h = rw h refl
-balanced-cost reply.Nothing turned h = rw h refl
-balanced-cost (reply.Refused why) turned h = rw h refl
-balanced-cost said turned h = absurd h
+balanced-cost : (said : Reply) (transition : Transition) → Balanced said transition → cost transition ≡ 0
+balanced-cost (reply.Out ticket) transition h = rw h refl
+balanced-cost reply.Wait transition h = rw h refl
+balanced-cost reply.Nothing transition h = rw h refl
+balanced-cost (reply.Refused why) transition h = rw h refl
+balanced-cost said transition h = absurd h
 
-made-cost : (said : Reply) (turned : Turned) → Made said turned → cost turned ≡ 0
-made-cost reply.Ok turned h = rw h refl
-made-cost (reply.Refused why) turned h = rw h refl
-made-cost said turned h = absurd h
+made-cost : (said : Reply) (transition : Transition) → Made said transition → cost transition ≡ 0
+made-cost reply.Ok transition h = rw h refl
+made-cost (reply.Refused why) transition h = rw h refl
+made-cost said transition h = absurd h
 
-ended-cost : (said : Reply) (turned : Turned) → Ended said turned → cost turned ≡ 0
-ended-cost reply.Ok turned h = rw h refl
-ended-cost reply.Killed turned h = rw h refl
-ended-cost (reply.Refused why) turned h = rw h refl
-ended-cost said turned h = absurd h
+ended-cost : (said : Reply) (transition : Transition) → Ended said transition → cost transition ≡ 0
+ended-cost reply.Ok transition h = rw h refl
+ended-cost reply.Killed transition h = rw h refl
+ended-cost (reply.Refused why) transition h = rw h refl
+ended-cost said transition h = absurd h
 
-shown-cost : (said : Reply) (turned : Turned) → WasShown said turned → cost turned ≡ 0
-shown-cost (reply.Shown numbers) turned h = rw h refl
-shown-cost (reply.Refused why) turned h = rw h refl
-shown-cost said turned h = absurd h
+shown-cost : (said : Reply) (transition : Transition) → WasShown said transition → cost transition ≡ 0
+shown-cost (reply.Shown numbers) transition h = rw h refl
+shown-cost (reply.Refused why) transition h = rw h refl
+shown-cost said transition h = absurd h
 
-closed-cost : (onwards : Turned) (said : Reply) (turned : Turned) → Closed onwards said turned → cost turned ≤ cost onwards
-closed-cost onwards reply.Ok turned h = rw h (omega arith)
-closed-cost onwards (reply.StrangeIn ticket) turned h = rw h (omega arith)
-closed-cost onwards (reply.StrangeOut ticket) turned h = rw h (omega arith)
-closed-cost onwards said turned h = absurd h
+closed-cost : (resumed : Transition) (said : Reply) (transition : Transition) → Closed resumed said transition → cost transition ≤ cost resumed
+closed-cost resumed reply.Ok transition h = rw h (omega arith)
+closed-cost resumed (reply.StrangeIn ticket) transition h = rw h (omega arith)
+closed-cost resumed (reply.StrangeOut ticket) transition h = rw h (omega arith)
+closed-cost resumed said transition h = absurd h
 
-none-cost : (turned : Turned) → cost turned ≡ 0 → cost turned ≤ 0
-none-cost turned e = omega (arith, e)
+none-cost : (transition : Transition) → cost transition ≡ 0 → cost transition ≤ 0
+none-cost transition e = omega (arith, e)
 
-told-cost : (remembers : Asked) (said : Reply) (turned : Turned) → Told remembers said turned → cost turned ≤ owed_asked remembers
-told-cost (asked.Try access) said turned h = none-cost turned (tried-cost access said turned h)
-told-cost (asked.MakeRoom access) said turned h = none-cost turned (room-cost access said turned h)
-told-cost (asked.SetMax g) said turned h = none-cost turned (max-cost g.0 said turned h)
-told-cost (asked.Lower g) said turned h = none-cost turned (lowered-cost g.0 said turned h)
-told-cost (asked.Reclaim g left) said turned h = none-cost turned (reclaimed-cost g.0 left said turned h)
-told-cost asked.Balance said turned h = none-cost turned (balanced-cost said turned h)
-told-cost asked.Make said turned h = none-cost turned (made-cost said turned h)
-told-cost asked.Exit said turned h = none-cost turned (ended-cost said turned h)
-told-cost asked.Show said turned h = none-cost turned (shown-cost said turned h)
-told-cost (asked.Arrive access) said turned h = closed-cost (Goes (doing.Try access)) said turned h
-told-cost asked.FetchFail said turned h = closed-cost (Ends (answer.Word word.Io)) said turned h
-told-cost (asked.Leave on) said turned h = let none = on-cost on in let most = closed-cost (Goes (goes_on on)) said turned h in omega (arith, none, most)
-told-cost asked.LeaveFail said turned h = closed-cost (Ends (answer.Word word.Io)) said turned h
+told-cost : (remembers : Pending) (said : Reply) (transition : Transition) → Told remembers said transition → cost transition ≤ owed_pending remembers
+told-cost (pending.Try access) said transition h = none-cost transition (tried-cost access said transition h)
+told-cost (pending.MakeRoom access) said transition h = none-cost transition (room-cost access said transition h)
+told-cost (pending.SetMax g) said transition h = none-cost transition (max-cost g.0 said transition h)
+told-cost (pending.Lower g) said transition h = none-cost transition (lowered-cost g.0 said transition h)
+told-cost (pending.Reclaim g left) said transition h = none-cost transition (reclaimed-cost g.0 left said transition h)
+told-cost pending.Balance said transition h = none-cost transition (balanced-cost said transition h)
+told-cost pending.Make said transition h = none-cost transition (made-cost said transition h)
+told-cost pending.Exit said transition h = none-cost transition (ended-cost said transition h)
+told-cost pending.Show said transition h = none-cost transition (shown-cost said transition h)
+told-cost (pending.Arrive access) said transition h = closed-cost (Goes (stage.Try access)) said transition h
+told-cost pending.FetchFail said transition h = closed-cost (Ends (answer.Word word.Io)) said transition h
+told-cost (pending.Leave on) said transition h = let none = on-cost on in let most = closed-cost (Goes (goes_on on)) said transition h in omega (arith, none, most)
+told-cost pending.LeaveFail said transition h = closed-cost (Ends (answer.Word word.Io)) said transition h
 
 -- ---- the device's answer
 
-read-cost : (old new : Disk) (access : Access) (ticket : TicketOf) (turned : Turned) → ReadsIn old access ticket turned new → cost turned + old.failures ≤ new.failures
-read-cost old new access ticket turned h = by_answer h.answered h.reads h.goes
+read-cost : (old new : Disk) (access : Access) (ticket : TicketOf) (transition : Transition) → ReadsIn old access ticket transition new → cost transition + old.failures ≤ new.failures
+read-cost old new access ticket transition h = by_answer h.answered h.reads h.goes
   where
-    by_answer : (answered : Result (Unit {0}) Fault) → ReadsBlock old ticket.block answered h.filled.bytes new → turned ≡ Goes (after_read access answered h.filled) → cost turned + old.failures ≤ new.failures
+    by_answer : (answered : Result (Unit {0}) Fault) → ReadsBlock old ticket.block answered h.filled.bytes new → transition ≡ Goes (after_read access answered h.filled) → cost transition + old.failures ≤ new.failures
     by_answer (Ok done) reads e = let same : new.failures ≡ old.failures = ap (λ (d : Disk). d.failures) reads.1 in rw e (omega (arith, same))
     by_answer (Err fault) reads e = let more : new.failures ≡ old.failures + 1 = ap (λ (d : Disk). d.failures) reads in rw e (omega (arith, more))
 
-write-cost : (old new : Disk) (on : Onward) (ticket : TicketOf) (turned : Turned) → WritesOut old on ticket turned new → cost turned + old.failures ≤ new.failures
-write-cost old new on ticket turned h = by_answer h.answered h.writes h.goes
+write-cost : (old new : Disk) (on : Resume) (ticket : TicketOf) (transition : Transition) → WritesOut old on ticket transition new → cost transition + old.failures ≤ new.failures
+write-cost old new on ticket transition h = by_answer h.answered h.writes h.goes
   where
-    by_answer : (answered : Result (Unit {0}) Fault) → WritesBlock old ticket.block ticket.bytes answered new → turned ≡ Goes (after_write on answered ticket) → cost turned + old.failures ≤ new.failures
+    by_answer : (answered : Result (Unit {0}) Fault) → WritesBlock old ticket.block ticket.bytes answered new → transition ≡ Goes (after_write on answered ticket) → cost transition + old.failures ≤ new.failures
     by_answer (Ok done) writes e = let same : new.failures ≡ old.failures = ap (λ (d : Disk). d.failures) writes in rw e (omega (arith, same))
     by_answer (Err fault) writes e = rw e (omega (arith, writes.1))
 
@@ -196,27 +196,27 @@ write-cost old new on ticket turned h = by_answer h.answered h.writes h.goes
 
 -- what is owed while the book is asked, or is answered at once
 abbrev owed_of : Want → ℕ
-owed_of (want.Call remembers what) = owed_asked remembers
+owed_of (want.Call remembers what) = owed_pending remembers
 owed_of (want.End said) = one_if (is_error said)
 owed_of wanted = 0
 
-want-cost : (past past' : Past) (old new : Disk) (wanted : Want) (turned : Turned) (most : ℕ) → owed_of wanted ≤ most
-    → WantTurn past old wanted turned past' new → cost turned + old.failures ≤ most + new.failures
-want-cost past past' old new (want.Call remembers what) turned most within turn =
-    let told : cost turned ≤ owed_asked remembers = told-cost remembers turn.0.said turned turn.0.told in
+want-cost : (past past' : Past) (old new : Disk) (wanted : Want) (transition : Transition) (most : ℕ) → owed_of wanted ≤ most
+    → WantTurn past old wanted transition past' new → cost transition + old.failures ≤ most + new.failures
+want-cost past past' old new (want.Call remembers what) transition most within turn =
+    let told : cost transition ≤ owed_pending remembers = told-cost remembers turn.0.said transition turn.0.told in
     let same : new.failures ≡ old.failures = ap (λ (d : Disk). d.failures) turn.1 in
     omega (arith, told, same, within)
-want-cost past past' old new (want.Read access ticket) turned most within turn = let read = read-cost old new access ticket turned turn.0 in omega (arith, read)
-want-cost past past' old new (want.Write on ticket) turned most within turn = let write = write-cost old new on ticket turned turn.0 in omega (arith, write)
-want-cost past past' old new (want.End said) turned most within turn =
-    let says : cost turned ≡ one_if (is_error said) = ap cost turn.0 in
+want-cost past past' old new (want.Read access ticket) transition most within turn = let read = read-cost old new access ticket transition turn.0 in omega (arith, read)
+want-cost past past' old new (want.Write on ticket) transition most within turn = let write = write-cost old new on ticket transition turn.0 in omega (arith, write)
+want-cost past past' old new (want.End said) transition most within turn =
+    let says : cost transition ≡ one_if (is_error said) = ap cost turn.0 in
     let same : new.failures ≡ old.failures = ap (λ (d : Disk). d.failures) turn.2 in
     omega (arith, says, same, within)
 
 balance-owed : (marks : Watermarks) (free : ℕ) → owed_of (wants_balance marks free) ≡ 0
 balance-owed marks free = by_test (nat_le marks.high free)
   where
-    by_test : (b : Bool) → owed_of (if b then done else want.Call asked.Balance (event.ReclaimOne (record { 0 = 0 }))) ≡ 0
+    by_test : (b : Bool) → owed_of (if b then done else want.Call pending.Balance (event.ReclaimOne (record { 0 = 0 }))) ≡ 0
     by_test true = refl
     by_test false = refl
 
@@ -235,16 +235,16 @@ none-owed : (wanted : Want) → owed_of wanted ≡ 0 → owed_of wanted ≤ 0
 none-owed wanted e = omega (arith, e)
 
 -- no more is owed while the book is asked than before
-wants-owed : (past : Past) (now : Doing) → owed_of (wants_at past now) ≤ owed_at now
-wants-owed past (doing.FetchFail ticket) = omega arith
-wants-owed past (doing.LeaveFail ticket) = omega arith
-wants-owed past doing.Watch = none-owed _ (watch-owed past.state.opening.marks (free_frames past.state))
-wants-owed past doing.Balance = none-owed _ (balance-owed past.state.opening.marks (free_frames past.state))
-wants-owed past (doing.Reclaim g left) = none-owed _ (pages-owed g.0 left)
+wants-owed : (past : Past) (now : Stage) → owed_of (wants_at past now) ≤ owed_at now
+wants-owed past (stage.FetchFail ticket) = omega arith
+wants-owed past (stage.LeaveFail ticket) = omega arith
+wants-owed past stage.Watch = none-owed _ (watch-owed past.state.opening.marks (free_frames past.state))
+wants-owed past stage.Balance = none-owed _ (balance-owed past.state.opening.marks (free_frames past.state))
+wants-owed past (stage.Reclaim g left) = none-owed _ (pages-owed g.0 left)
 wants-owed past others = omega arith
 
-doing-cost : (old new : World) (who : Actor) (now : Doing) (outcome : Outcome) (turn : DoingTurn old who now outcome new) → cost turn.turned + old.disk.failures ≤ owed_at now + new.disk.failures
-doing-cost old new who now outcome turn = want-cost old.past new.past old.disk new.disk (wants_at old.past now) turn.turned (owed_at now) (wants-owed old.past now) turn.turns
+stage-cost : (old new : World) (who : Actor) (now : Stage) (outcome : Outcome) (turn : StageTurn old who now outcome new) → cost turn.transition + old.disk.failures ≤ owed_at now + new.disk.failures
+stage-cost old new who now outcome turn = want-cost old.past new.past old.disk new.disk (wants_at old.past now) turn.transition (owed_at now) (wants-owed old.past now) turn.turns
 
 -- a command that has had no turn owes nothing
 abbrev owed_judged : Judged → ℕ
@@ -340,7 +340,7 @@ bound-same old new answers e none =
 bound-then : (old mid new : World) (xs ys : List Told_by) → Bound old xs mid → Bound mid ys new → Bound old (xs ++ ys) new
 bound-then old mid new xs ys a b = let sum = errors-append xs ys in record { within = omega (arith, sum, a.within, b.within) }
 
-said-cost : (who : Actor) (turned : Turned) → errors (said_at who (outcome_of turned)) + owed (left_of turned) ≡ cost turned
+said-cost : (who : Actor) (transition : Transition) → errors (said_at who (outcome_of transition)) + owed (left_of transition) ≡ cost transition
 said-cost who (Goes now) = omega arith
 said-cost who (Kills t now) = omega arith
 said-cost who (Ends said) = alone (one_if (is_error said))
@@ -348,11 +348,11 @@ said-cost who (Ends said) = alone (one_if (is_error said))
     alone : (n : ℕ) → 0 + n + 0 ≡ n
     alone n = omega arith
 
-bound-doing : (old new : World) (who : Actor) (now : Doing) (outcome : Outcome) → owed_at now ≡ owed (activity_of who old.seats) → DoingTurn old who now outcome new → Bound old (said_at who outcome) new
-bound-doing old new who now outcome is turn =
-    let paid = doing-cost old new who now outcome turn in
-    let seats : all_owed new.seats + owed (activity_of who old.seats) ≡ all_owed old.seats + owed (left_of turn.turned) = rw turn.leaves (owed-with_activity who (left_of turn.turned) old.seats) in
-    let shown : errors (said_at who outcome) + owed (left_of turn.turned) ≡ cost turn.turned = rw turn.shows (said-cost who turn.turned) in
+bound-stage : (old new : World) (who : Actor) (now : Stage) (outcome : Outcome) → owed_at now ≡ owed (activity_of who old.seats) → StageTurn old who now outcome new → Bound old (said_at who outcome) new
+bound-stage old new who now outcome is turn =
+    let paid = stage-cost old new who now outcome turn in
+    let seats : all_owed new.seats + owed (activity_of who old.seats) ≡ all_owed old.seats + owed (left_of turn.transition) = rw turn.leaves (owed-with_activity who (left_of turn.transition) old.seats) in
+    let shown : errors (said_at who outcome) + owed (left_of turn.transition) ≡ cost turn.transition = rw turn.shows (said-cost who turn.transition) in
     record { within = omega (arith, paid, seats, is, shown) }
 
 -- an activity that owed nothing is set down for another that owes nothing
@@ -366,12 +366,12 @@ bound-set old new who now answers free was none e =
 
 bound-judged : (old new : World) (who : Actor) (found : Judged) (outcome : Outcome) → owed_judged found ≡ 0 → owed (activity_of who old.seats) ≡ 0 → JudgedTurn old who found outcome new → Bound old (said_at who outcome) new
 bound-judged old new who (Err why) outcome free was turn = bound-set old new who Rests (said_at who outcome) refl was (ap (λ o. errors (said_at who o)) turn.0) turn.1
-bound-judged old new who (Ok now) outcome free was turn = bound-doing old new who now outcome (let f = free in let w = was in omega (arith, f, w)) turn
+bound-judged old new who (Ok now) outcome free was turn = bound-stage old new who now outcome (let f = free in let w = was in omega (arith, f, w)) turn
 
 bound-turn : (old new : World) (who : Actor) (what : Activity) (outcome : Outcome) → activity_of who old.seats ≡ what → ActivityTurn old who what outcome new → Bound old (said_at who outcome) new
 bound-turn old new who Rests outcome is turn = bound-same old new (said_at who outcome) turn.1 (ap (λ o. errors (said_at who o)) turn.0)
 bound-turn old new who (Begun what) outcome is turn = bound-judged old new who (judged old.past.state.tree who what) outcome (judged-owed old.past.state.tree who what) (ap owed is) turn
-bound-turn old new who (Does now) outcome is turn = bound-doing old new who now outcome (let e : owed (activity_of who old.seats) ≡ owed_at now = ap owed is in omega (arith, e)) turn
+bound-turn old new who (Does now) outcome is turn = bound-stage old new who now outcome (let e : owed (activity_of who old.seats) ≡ owed_at now = ap owed is in omega (arith, e)) turn
 
 -- ---- runs
 

@@ -35,24 +35,24 @@ use Rattle.book.specs.declared.event.Reply.{Reply}
 use Rattle.book.specs.Events.{event_of, reply_of}
 use Rattle.book.specs.Replies.{Gives, GivesOut}
 use Rattle.driver.specs.declared.turn.Access.{Access}
-use Rattle.driver.specs.declared.turn.Onward.{Onward}
-use Rattle.driver.specs.declared.turn.Asked.{Asked}
-use Rattle.driver.specs.declared.turn.Doing.{Doing}
+use Rattle.driver.specs.declared.turn.Resume.{Resume}
+use Rattle.driver.specs.declared.turn.Pending.{Pending}
+use Rattle.driver.specs.declared.turn.Stage.{Stage}
 use Rattle.driver.specs.declared.turn.Want.{Want}
 use Rattle.driver.specs.declared.turn.Want.TheVariants as want
-use Rattle.driver.specs.declared.turn.Turned.{Turned}
-use Rattle.driver.specs.declared.turn.Turned.TheVariants.{Ends}
+use Rattle.driver.specs.declared.turn.Transition.{Transition}
+use Rattle.driver.specs.declared.turn.Transition.TheVariants.{Ends}
 use Rattle.driver.specs.declared.turn.Outcome.{Outcome}
 use Rattle.driver.specs.declared.turn.Seat.{Seat}
 use Rattle.driver.specs.declared.turn.Activity.{Activity}
 use Rattle.driver.specs.declared.turn.Activity.TheVariants.{Rests, Begun, Does}
 use Rattle.driver.specs.Turns.{ReadsIn, WritesOut, after_read, after_write}
-use Rattle.driver.specs.Schedule.{World, first_world, activity_of, with_activity, left_of, Asks, WantTurn, wants_at, DoingTurn, Runs, fits}
+use Rattle.driver.specs.Schedule.{World, first_world, activity_of, with_activity, left_of, Asks, WantTurn, wants_at, StageTurn, Runs, fits}
 use Rattle.machine.proofs.Effects.{AllLive, Fetches, Goes, Stood, InFrame, ItStays, ItFetches, ItLeaves, ItFails, ItGoes, Effect, step_effect}
 use Rattle.machine.proofs.SoundLemmas.{pages_share_no_block, pages_share_no_ticket, legal-fit}
-use Rattle.driver.proofs.Keeps.{number_asked, number_wanted, in_hand, Alike, Same, Ticketless, wants_alike, number_at, is_idle, idle_none, FineOutcome, IsAt, runs_keep}
+use Rattle.driver.proofs.Keeps.{number_pending, number_wanted, in_hand, Alike, Same, Ticketless, wants_alike, number_at, is_idle, idle_none, FineOutcome, IsAt, runs_keep}
 use Rattle.driver.proofs.CallCases.{IsRefused, IsServed, Comes, ByRefusal, ByEntry, called_comes, Next, Handless, Reads, Writes, told_next}
-use Rattle.driver.proofs.Tickets.{IsGoing, KeepsAsked, KeepsWanted, KeepsAt, at_flies, flies_taken, asked_known, not_out, still_known, Tickets, seats_all, tickets_rest, tickets_turn, tickets_first, own_keeps, others_differ}
+use Rattle.driver.proofs.Tickets.{IsGoing, KeepsPending, KeepsWanted, KeepsAt, at_flies, flies_taken, pending_known, not_out, still_known, Tickets, seats_all, tickets_rest, tickets_turn, tickets_first, own_keeps, others_differ}
 
 -- ---- words
 
@@ -63,13 +63,13 @@ PlacesHold past number bytes =
     → slice_index bytes o ≡ last past.history (InTask t v o)
 
 -- what an ending brings: the bytes of its block; or that its block holds the page
-abbrev pub BringsAsked : Past → List (List ℕ) → Event → Type 0
-BringsAsked past contents (event.Arrived ticket) = ticket.bytes ≡ held contents ticket.block
-BringsAsked past contents (event.Left ticket) = PlacesHold past ticket.number (held contents ticket.block)
-BringsAsked past contents what = Unit {0}
+abbrev pub BringsPending : Past → List (List ℕ) → Event → Type 0
+BringsPending past contents (event.Arrived ticket) = ticket.bytes ≡ held contents ticket.block
+BringsPending past contents (event.Left ticket) = PlacesHold past ticket.number (held contents ticket.block)
+BringsPending past contents what = Unit {0}
 
 abbrev pub BringsWanted : Past → List (List ℕ) → Want → Type 0
-BringsWanted past contents (want.Call remembers what) = BringsAsked past contents what
+BringsWanted past contents (want.Call remembers what) = BringsPending past contents what
 BringsWanted past contents (want.Read access ticket) = Unit {0}
 BringsWanted past contents (want.Write on ticket) = PlacesHold past ticket.number ticket.bytes
 BringsWanted past contents (want.End said) = Unit {0}
@@ -77,7 +77,7 @@ BringsWanted past contents (want.End said) = Unit {0}
 abbrev pub BringsAt : Past → List (List ℕ) → Activity → Type 0
 BringsAt past contents Rests = Unit {0}
 BringsAt past contents (Begun what) = Unit {0}
-BringsAt past contents (Does doing) = BringsWanted past contents (in_hand doing)
+BringsAt past contents (Does stage) = BringsWanted past contents (in_hand stage)
 
 -- the block that holds a page's bytes
 abbrev pub stored_at : Residence → Option ℕ
@@ -106,9 +106,9 @@ pub record Holds (opening : Opening) (past : Past) (contents : List (List ℕ)) 
   pub fetched : IsFetched past contents
 
 -- what one turn leaves of that
-pub record TurnsFaithful (opening : Opening) (old : Past) (contents : List (List ℕ)) (want : Want) (turned : Turned) (new : Past) (contents' : List (List ℕ)) : Type 0 where
+pub record TurnsFaithful (opening : Opening) (old : Past) (contents : List (List ℕ)) (want : Want) (transition : Transition) (new : Past) (contents' : List (List ℕ)) : Type 0 where
   pub holds : Holds opening new contents'
-  pub own : BringsAt new contents' (left_of turned)
+  pub own : BringsAt new contents' (left_of transition)
   pub others : (at : Activity) → ((n : ℕ) → number_at at ≡ Some n → number_wanted want ≡ Some n → ⊥) → KeepsAt old at → BringsAt old contents at → BringsAt new contents' at
 
 -- ---- small facts
@@ -146,13 +146,13 @@ going_away : {P : Type 0} (r : Residence) (f b n b' : ℕ) → r ≡ Going f b n
 going_away r f b n b' e e' = cc
 
 -- an event without a ticket brings nothing
-asked_none : (past : Past) (contents : List (List ℕ)) (what : Event) → number_asked what ≡ None → BringsAsked past contents what
-asked_none past contents (event.Arrived ticket) e = cc
-asked_none past contents (event.Left ticket) e = cc
-asked_none past contents what e = tt
+pending_none : (past : Past) (contents : List (List ℕ)) (what : Event) → number_pending what ≡ None → BringsPending past contents what
+pending_none past contents (event.Arrived ticket) e = cc
+pending_none past contents (event.Left ticket) e = cc
+pending_none past contents what e = tt
 
 wanted_none : (past : Past) (contents : List (List ℕ)) (want : Want) → number_wanted want ≡ None → BringsWanted past contents want
-wanted_none past contents (want.Call remembers what) e = asked_none past contents what e
+wanted_none past contents (want.Call remembers what) e = pending_none past contents what e
 wanted_none past contents (want.Read access ticket) e = tt
 wanted_none past contents (want.Write on ticket) e = cc
 wanted_none past contents (want.End said) e = tt
@@ -164,7 +164,7 @@ wanted_alike past contents w other (Ticketless e f) h = wanted_none past content
 pub brings_none : (past : Past) (contents : List (List ℕ)) (at : Activity) → number_at at ≡ None → BringsAt past contents at
 brings_none past contents Rests e = tt
 brings_none past contents (Begun what) e = tt
-brings_none past contents (Does doing) e = wanted_none past contents (in_hand doing) e
+brings_none past contents (Does stage) e = wanted_none past contents (in_hand stage) e
 
 -- a book's event that is an end of a write-out
 left_event : (what : Event) (ticket : TicketId) → event_of what ≡ plain.Left ticket → (own : TicketOf) × (what ≡ event.Left own) × (own.number ≡ ticket.0)
@@ -186,12 +186,12 @@ fetch_other n what answer earlier others other = refl
 -- ---- an entry more
 
 module _ (opening : Opening) (old new : Past) (contents : List (List ℕ)) (what : Event) (answered : Reply)
-    (h : Holds opening old contents) (keeps : KeepsAsked old what) (brings : BringsAsked old contents what) (went : IsServed old 0 (event_of what) (reply_of answered) new) where
+    (h : Holds opening old contents) (keeps : KeepsPending old what) (brings : BringsPending old contents what) (went : IsServed old 0 (event_of what) (reply_of answered) new) where
   effect : Effect old.state (event_of what) (reply_of answered) new.state
   effect = step_effect old.state new.state h.live (event_of what) (reply_of answered) went.unrefused went.answers.steps
 
   legal_on : Legal opening new.history new.state
-  legal_on = rw went.answers.history (old.state, h.legal, record { known = asked_known old what keeps; unrefused = went.unrefused; room = went.room; steps = went.answers.steps })
+  legal_on = rw went.answers.history (old.state, h.legal, record { known = pending_known old what keeps; unrefused = went.unrefused; room = went.room; steps = went.answers.steps })
 
   last_on : (t v o : ℕ) → says (event_of what) (reply_of answered) (InTask t v o) ≡ Nothing → last new.history (InTask t v o) ≡ last old.history (InTask t v o)
   last_on t v o silent = ap (λ (es : List Entry). last es (InTask t v o)) went.answers.history ∙ ap (λ s. follow s (last old.history) (InTask t v o)) silent
@@ -226,8 +226,8 @@ module _ (opening : Opening) (old new : Past) (contents : List (List ℕ)) (what
 
       by_left : (k : Goes old.state (event_of what) p page.residence) → (own : TicketOf) → what ≡ event.Left own → own.number ≡ k.ticket.0 → k.block ≡ b → slice_index (held contents b) o ≡ last new.history (InTask t v o)
       by_left k own is number block =
-          let hold : PlacesHold old own.number (held contents own.block) = subst (λ (e : Event). BringsAsked old contents e) is brings in
-          let kept : IsGoing old own = subst (λ (e : Event). KeepsAsked old e) is keeps in
+          let hold : PlacesHold old own.number (held contents own.block) = subst (λ (e : Event). BringsPending old contents e) is brings in
+          let kept : IsGoing old own = subst (λ (e : Event). KeepsPending old e) is keeps in
           let going : k.before.residence ≡ Going k.frame k.block own.number = k.going ∙ ap (λ n. Going k.frame k.block n) (sym number) in
           let same : own.block ≡ b = sym (going_block own p k.frame k.block k.before kept k.there going) ∙ block in
           ap (λ x. slice_index (held contents x) o) (sym same) ∙ hold p k.frame k.block t v o k.before k.there going place.0 within ∙ sym (place.1 o)
@@ -266,7 +266,7 @@ module _ (opening : Opening) (old new : Past) (contents : List (List ℕ)) (what
       by_stood (ItFails k) = coming_away page.residence f b n k.block coming k.away
       by_stood (ItGoes k) = coming_away page.residence f b n k.block coming k.away
 
-  honest_event : (e : Event) → KeepsAsked old e → BringsAsked old contents e → IsHonest old.history (event_of e)
+  honest_event : (e : Event) → KeepsPending old e → BringsPending old contents e → IsHonest old.history (event_of e)
   honest_event (event.Arrived ticket) kept brought =
       subst (λ (bytes : List ℕ). HoldsLast bytes (fetch_of ticket.number old.history)) (sym brought) (h.fetched kept.p kept.frame ticket.block ticket.number kept.page kept.there kept.coming)
   honest_event e kept brought = tt
@@ -291,13 +291,13 @@ module _ (opening : Opening) (old new : Past) (contents : List (List ℕ)) (what
       by_stood (ItFails k) = going_away page.residence f b number k.block going k.away
       by_stood (ItGoes k) = going_away page.residence f b number k.block going k.away
 
-  asked_on : (e : Event) → ((n : ℕ) → number_asked e ≡ Some n → ticket_given (reply_of answered) ≡ Some n → ⊥) → BringsAsked old contents e → BringsAsked new contents e
-  asked_on (event.Arrived ticket) other brought = brought
-  asked_on (event.Left ticket) other brought = hold_on ticket.number (held contents ticket.block) (other ticket.number refl) brought
-  asked_on e other brought = tt
+  pending_on : (e : Event) → ((n : ℕ) → number_pending e ≡ Some n → ticket_given (reply_of answered) ≡ Some n → ⊥) → BringsPending old contents e → BringsPending new contents e
+  pending_on (event.Arrived ticket) other brought = brought
+  pending_on (event.Left ticket) other brought = hold_on ticket.number (held contents ticket.block) (other ticket.number refl) brought
+  pending_on e other brought = tt
 
   wanted_on : (w : Want) → ((n : ℕ) → number_wanted w ≡ Some n → ticket_given (reply_of answered) ≡ Some n → ⊥) → BringsWanted old contents w → BringsWanted new contents w
-  wanted_on (want.Call remembers e) other brought = asked_on e other brought
+  wanted_on (want.Call remembers e) other brought = pending_on e other brought
   wanted_on (want.Read access ticket) other brought = tt
   wanted_on (want.Write on ticket) other brought = hold_on ticket.number ticket.bytes (other ticket.number refl) brought
   wanted_on (want.End said) other brought = tt
@@ -305,7 +305,7 @@ module _ (opening : Opening) (old new : Past) (contents : List (List ℕ)) (what
   at_on : (at : Activity) → ((n : ℕ) → number_at at ≡ Some n → ticket_given (reply_of answered) ≡ Some n → ⊥) → BringsAt old contents at → BringsAt new contents at
   at_on Rests other brought = tt
   at_on (Begun e) other brought = tt
-  at_on (Does doing) other brought = wanted_on (in_hand doing) other brought
+  at_on (Does stage) other brought = wanted_on (in_hand stage) other brought
 
   flies_ungiven : (at : Activity) → KeepsAt old at → (n : ℕ) → number_at at ≡ Some n → ticket_given (reply_of answered) ≡ Some n → ⊥
   flies_ungiven at kept n number given = let flies = at_flies old at n kept number in not_given flies.p n flies.page flies.there flies.ticket given
@@ -319,15 +319,15 @@ module _ (opening : Opening) (old new : Past) (contents : List (List ℕ)) (what
       let same : p ≡ given.p = pages_share_no_ticket opening new.history new.state legal_on p given.p ticket.number page given.page there given.there (ap ticket_at going) (ap ticket_at given.going) in
       given.bytes honest_on t v o within (effect.places.live t v p mapped) (mapped ∙ ap (λ (x : ℕ). Some x) same)
 
-  own_on : (turned : Turned) → Gives new 0 answered → Next answered turned → BringsAt new contents (left_of turned)
-  own_on turned gives (Handless none fine) = brings_none new contents (left_of turned) none
-  own_on turned gives (Reads access ticket is goes) = subst (λ (t : Turned). BringsAt new contents (left_of t)) (sym goes) tt
-  own_on turned gives (Writes on ticket is goes) =
-      subst (λ (t : Turned). BringsAt new contents (left_of t)) (sym goes) (sends ticket (subst (λ (r : Reply). Gives new 0 r) is gives))
+  own_on : (transition : Transition) → Gives new 0 answered → Next answered transition → BringsAt new contents (left_of transition)
+  own_on transition gives (Handless none fine) = brings_none new contents (left_of transition) none
+  own_on transition gives (Reads access ticket is goes) = subst (λ (t : Transition). BringsAt new contents (left_of t)) (sym goes) tt
+  own_on transition gives (Writes on ticket is goes) =
+      subst (λ (t : Transition). BringsAt new contents (left_of t)) (sym goes) (sends ticket (subst (λ (r : Reply). Gives new 0 r) is gives))
 
-  pub faithful_on : (w : Want) (turned : Turned) → Gives new 0 answered → Next answered turned → TurnsFaithful opening old contents w turned new contents
-  faithful_on w turned gives next =
-      record { holds = holds_on; own = own_on turned gives next; others = λ at differ kept brought. at_on at (flies_ungiven at kept) brought }
+  pub faithful_on : (w : Want) (transition : Transition) → Gives new 0 answered → Next answered transition → TurnsFaithful opening old contents w transition new contents
+  faithful_on w transition gives next =
+      record { holds = holds_on; own = own_on transition gives next; others = λ at differ kept brought. at_on at (flies_ungiven at kept) brought }
 
 -- ---- a call of the device
 
@@ -359,20 +359,20 @@ module _ (opening : Opening) (past : Past) (contents contents' : List (List ℕ)
   holds_written : Holds opening past contents'
   holds_written = record { live = h.live; legal = h.legal; honest = h.honest; room = (let room = h.room in let blocks = kept.blocks in omega (arith, room, blocks)); stored = stored_written; fetched = fetched_written }
 
-  asked_written : (e : Event) → ((n : ℕ) → number_asked e ≡ Some n → Some ticket.number ≡ Some n → ⊥) → KeepsAsked past e → BringsAsked past contents e → BringsAsked past contents' e
-  asked_written (event.Arrived own) differ coming brought =
+  pending_written : (e : Event) → ((n : ℕ) → number_pending e ≡ Some n → Some ticket.number ≡ Some n → ⊥) → KeepsPending past e → BringsPending past contents e → BringsPending past contents' e
+  pending_written (event.Arrived own) differ coming brought =
       brought
       ∙ sym (held_other coming.p own.block coming.page coming.there (ap block_at coming.coming)
       (λ is. coming_going coming.page.residence coming.frame own.block own.number going.frame ticket.block ticket.number coming.coming (ap (λ (x : Page). x.residence) is ∙ going.going)))
-  asked_written (event.Left own) differ leaving brought =
+  pending_written (event.Left own) differ leaving brought =
       subst (PlacesHold past own.number)
       (sym (held_other leaving.p own.block leaving.page leaving.there (ap block_at leaving.going)
       (λ is. differ own.number refl (sym (ap ticket_at going.going) ∙ sym (ap (λ (x : Page). ticket_at x.residence) is) ∙ ap ticket_at leaving.going))))
       brought
-  asked_written e differ kept' brought = tt
+  pending_written e differ kept' brought = tt
 
   wanted_written : (w : Want) → ((n : ℕ) → number_wanted w ≡ Some n → Some ticket.number ≡ Some n → ⊥) → KeepsWanted past w → BringsWanted past contents w → BringsWanted past contents' w
-  wanted_written (want.Call remembers e) differ kept' brought = asked_written e differ kept' brought
+  wanted_written (want.Call remembers e) differ kept' brought = pending_written e differ kept' brought
   wanted_written (want.Read access own) differ kept' brought = tt
   wanted_written (want.Write on own) differ kept' brought = brought
   wanted_written (want.End said) differ kept' brought = tt
@@ -380,7 +380,7 @@ module _ (opening : Opening) (past : Past) (contents contents' : List (List ℕ)
   at_written : (at : Activity) → ((n : ℕ) → number_at at ≡ Some n → Some ticket.number ≡ Some n → ⊥) → KeepsAt past at → BringsAt past contents at → BringsAt past contents' at
   at_written Rests differ kept' brought = tt
   at_written (Begun e) differ kept' brought = tt
-  at_written (Does doing) differ kept' brought = wanted_written (in_hand doing) differ kept' brought
+  at_written (Does stage) differ kept' brought = wanted_written (in_hand stage) differ kept' brought
 
 keeps_others : (disk disk' : Disk) (block : ℕ) (bytes : List ℕ) (answered : Result (Unit {0}) Fault) → WritesBlock disk block bytes answered disk' → KeepsOthers disk.contents disk'.contents block
 keeps_others disk disk' block bytes (Ok done) writes =
@@ -389,12 +389,12 @@ keeps_others disk disk' block bytes (Ok done) writes =
 keeps_others disk disk' block bytes (Err fault) writes = writes.0
 
 module _ (opening : Opening) (past : Past) (disk disk' : Disk) (h : Holds opening past disk.contents) where
-  writes_faithful : (on : Onward) (ticket : TicketOf) (turned : Turned) → IsGoing past ticket → PlacesHold past ticket.number ticket.bytes → WritesOut disk on ticket turned disk'
-      → TurnsFaithful opening past disk.contents (want.Write on ticket) turned past disk'.contents
-  writes_faithful on ticket turned going hold writes =
+  writes_faithful : (on : Resume) (ticket : TicketOf) (transition : Transition) → IsGoing past ticket → PlacesHold past ticket.number ticket.bytes → WritesOut disk on ticket transition disk'
+      → TurnsFaithful opening past disk.contents (want.Write on ticket) transition past disk'.contents
+  writes_faithful on ticket transition going hold writes =
       record {
         holds = holds_written opening past disk.contents disk'.contents h ticket going kept;
-        own = subst (λ (t : Turned). BringsAt past disk'.contents (left_of t)) (sym writes.goes) (own writes.answered writes.writes);
+        own = subst (λ (t : Transition). BringsAt past disk'.contents (left_of t)) (sym writes.goes) (own writes.answered writes.writes);
         others = λ at differ keeps brought. at_written opening past disk.contents disk'.contents h ticket going kept at differ keeps brought;
       }
     where
@@ -414,12 +414,12 @@ module _ (opening : Opening) (past : Past) (disk disk' : Disk) (h : Holds openin
       own (Err fault) e = tt
 
   -- a read changes nothing, but that it may fail
-  reads_faithful : (access : Access) (ticket : TicketOf) (turned : Turned) → ReadsIn disk access ticket turned disk' → TurnsFaithful opening past disk.contents (want.Read access ticket) turned past disk'.contents
-  reads_faithful access ticket turned reads =
-      subst (λ (c : List (List ℕ)). TurnsFaithful opening past disk.contents (want.Read access ticket) turned past c) (sym (same reads.answered reads.reads))
+  reads_faithful : (access : Access) (ticket : TicketOf) (transition : Transition) → ReadsIn disk access ticket transition disk' → TurnsFaithful opening past disk.contents (want.Read access ticket) transition past disk'.contents
+  reads_faithful access ticket transition reads =
+      subst (λ (c : List (List ℕ)). TurnsFaithful opening past disk.contents (want.Read access ticket) transition past c) (sym (same reads.answered reads.reads))
       (record {
         holds = h;
-        own = subst (λ (t : Turned). BringsAt past disk.contents (left_of t)) (sym reads.goes) (own reads.answered reads.reads);
+        own = subst (λ (t : Transition). BringsAt past disk.contents (left_of t)) (sym reads.goes) (own reads.answered reads.reads);
         others = λ at differ keeps brought. brought;
       })
     where
@@ -434,41 +434,41 @@ module _ (opening : Opening) (past : Past) (disk disk' : Disk) (h : Holds openin
 -- ---- a turn
 
 module _ (opening : Opening) (old new : Past) (disk disk' : Disk) (h : Holds opening old disk.contents) where
-  asks_faithful : (remembers : Asked) (what : Event) (turned : Turned) → KeepsAsked old what → BringsAsked old disk.contents what → Asks old remembers what turned new
-      → TurnsFaithful opening old disk.contents (want.Call remembers what) turned new disk.contents
-  asks_faithful remembers what turned keeps brings asks = by_comes (called_comes old new 0 (event_of what) (reply_of asks.said) (asked_known old what keeps) asks.called)
+  asks_faithful : (remembers : Pending) (what : Event) (transition : Transition) → KeepsPending old what → BringsPending old disk.contents what → Asks old remembers what transition new
+      → TurnsFaithful opening old disk.contents (want.Call remembers what) transition new disk.contents
+  asks_faithful remembers what transition keeps brings asks = by_comes (called_comes old new 0 (event_of what) (reply_of asks.said) (pending_known old what keeps) asks.called)
     where
-      own : IsRefused old (reply_of asks.said) new → Next asks.said turned → BringsAt old disk.contents (left_of turned)
-      own still (Handless none fine) = brings_none old disk.contents (left_of turned) none
-      own still (Reads access ticket is goes) = subst (λ (t : Turned). BringsAt old disk.contents (left_of t)) (sym goes) tt
+      own : IsRefused old (reply_of asks.said) new → Next asks.said transition → BringsAt old disk.contents (left_of transition)
+      own still (Handless none fine) = brings_none old disk.contents (left_of transition) none
+      own still (Reads access ticket is goes) = subst (λ (t : Transition). BringsAt old disk.contents (left_of t)) (sym goes) tt
       own still (Writes on ticket is goes) = absurd (not_out old new h.live asks.said ticket still is)
 
-      by_comes : Comes old 0 (event_of what) (reply_of asks.said) new → TurnsFaithful opening old disk.contents (want.Call remembers what) turned new disk.contents
+      by_comes : Comes old 0 (event_of what) (reply_of asks.said) new → TurnsFaithful opening old disk.contents (want.Call remembers what) transition new disk.contents
       by_comes (ByRefusal still) =
-          subst (λ (p : Past). TurnsFaithful opening old disk.contents (want.Call remembers what) turned p disk.contents) (sym still.same)
+          subst (λ (p : Past). TurnsFaithful opening old disk.contents (want.Call remembers what) transition p disk.contents) (sym still.same)
           (record {
             holds = h;
-            own = own still (told_next remembers asks.said turned asks.told (still_known old new h.live asks.said still));
+            own = own still (told_next remembers asks.said transition asks.told (still_known old new h.live asks.said still));
             others = λ at differ kept brought. brought;
           })
       by_comes (ByEntry went) =
-          faithful_on opening old new disk.contents what asks.said h keeps brings went (want.Call remembers what) turned asks.gives (told_next remembers asks.said turned asks.told (went.done Stranger))
+          faithful_on opening old new disk.contents what asks.said h keeps brings went (want.Call remembers what) transition asks.gives (told_next remembers asks.said transition asks.told (went.done Stranger))
 
-  ends_faithful : (said : Answer) (turned : Turned) → turned ≡ Ends said → TurnsFaithful opening old disk.contents (want.End said) turned old disk.contents
-  ends_faithful said turned ends =
-      record { holds = h; own = subst (λ (t : Turned). BringsAt old disk.contents (left_of t)) (sym ends) tt; others = λ at differ kept brought. brought }
+  ends_faithful : (said : Answer) (transition : Transition) → transition ≡ Ends said → TurnsFaithful opening old disk.contents (want.End said) transition old disk.contents
+  ends_faithful said transition ends =
+      record { holds = h; own = subst (λ (t : Transition). BringsAt old disk.contents (left_of t)) (sym ends) tt; others = λ at differ kept brought. brought }
 
-  pub want_faithful : (w : Want) (turned : Turned) → KeepsWanted old w → BringsWanted old disk.contents w → WantTurn old disk w turned new disk' → TurnsFaithful opening old disk.contents w turned new disk'.contents
-  want_faithful (want.Call remembers what) turned keeps brings turn =
-      subst (λ (d : Disk). TurnsFaithful opening old disk.contents (want.Call remembers what) turned new d.contents) (sym turn.1) (asks_faithful remembers what turned keeps brings turn.0)
-  want_faithful (want.Read access ticket) turned keeps brings turn =
-      subst (λ (p : Past). TurnsFaithful opening old disk.contents (want.Read access ticket) turned p disk'.contents) (sym turn.1) (reads_faithful opening old disk disk' h access ticket turned turn.0)
-  want_faithful (want.Write on ticket) turned keeps brings turn =
-      subst (λ (p : Past). TurnsFaithful opening old disk.contents (want.Write on ticket) turned p disk'.contents) (sym turn.1)
-      (writes_faithful opening old disk disk' h on ticket turned keeps brings turn.0)
-  want_faithful (want.End said) turned keeps brings turn =
-      subst (λ (p : Past). TurnsFaithful opening old disk.contents (want.End said) turned p disk'.contents) (sym turn.1)
-      (subst (λ (d : Disk). TurnsFaithful opening old disk.contents (want.End said) turned old d.contents) (sym turn.2) (ends_faithful said turned turn.0))
+  pub want_faithful : (w : Want) (transition : Transition) → KeepsWanted old w → BringsWanted old disk.contents w → WantTurn old disk w transition new disk' → TurnsFaithful opening old disk.contents w transition new disk'.contents
+  want_faithful (want.Call remembers what) transition keeps brings turn =
+      subst (λ (d : Disk). TurnsFaithful opening old disk.contents (want.Call remembers what) transition new d.contents) (sym turn.1) (asks_faithful remembers what transition keeps brings turn.0)
+  want_faithful (want.Read access ticket) transition keeps brings turn =
+      subst (λ (p : Past). TurnsFaithful opening old disk.contents (want.Read access ticket) transition p disk'.contents) (sym turn.1) (reads_faithful opening old disk disk' h access ticket transition turn.0)
+  want_faithful (want.Write on ticket) transition keeps brings turn =
+      subst (λ (p : Past). TurnsFaithful opening old disk.contents (want.Write on ticket) transition p disk'.contents) (sym turn.1)
+      (writes_faithful opening old disk disk' h on ticket transition keeps brings turn.0)
+  want_faithful (want.End said) transition keeps brings turn =
+      subst (λ (p : Past). TurnsFaithful opening old disk.contents (want.End said) transition p disk'.contents) (sym turn.1)
+      (subst (λ (d : Disk). TurnsFaithful opening old disk.contents (want.End said) transition old d.contents) (sym turn.2) (ends_faithful said transition turn.0))
 
 -- ---- worlds
 
@@ -486,22 +486,22 @@ module _ (opening : Opening) where
         brings = seats_all (BringsAt w.past w.disk.contents) who what w.seats (brings_none w.past w.disk.contents what (idle_none what idle)) (λ a differs. h.brings a);
       }
 
-  own_brings : (w : World) (who : Actor) (now : Doing) → IsAt w who now → Faithful opening w → BringsWanted w.past w.disk.contents (wants_at w.past now)
+  own_brings : (w : World) (who : Actor) (now : Stage) → IsAt w who now → Faithful opening w → BringsWanted w.past w.disk.contents (wants_at w.past now)
   own_brings w who now at h = wanted_alike w.past w.disk.contents (wants_at w.past now) (in_hand now) (wants_alike w.past now) (held at)
     where
       held : IsAt w who now → BringsWanted w.past w.disk.contents (in_hand now)
       held (inl is) = subst (λ (at : Activity). BringsAt w.past w.disk.contents at) is (h.brings who)
       held (inr none) = wanted_none w.past w.disk.contents (in_hand now) none
 
-  faithful_turn : (old new : World) (who : Actor) (now : Doing) (outcome : Outcome) → IsAt old who now → DoingTurn old who now outcome new → Faithful opening old → Faithful opening new × FineOutcome outcome
+  faithful_turn : (old new : World) (who : Actor) (now : Stage) (outcome : Outcome) → IsAt old who now → StageTurn old who now outcome new → Faithful opening old → Faithful opening new × FineOutcome outcome
   faithful_turn old new who now outcome at turn h =
       let ticketed = tickets_turn old new who now outcome at turn h.tickets in
-      let turns = want_faithful opening old.past new.past old.disk new.disk h.holds (wants_at old.past now) turn.turned (own_keeps old who now at h.tickets) (own_brings old who now at h) turn.turns in (
+      let turns = want_faithful opening old.past new.past old.disk new.disk h.holds (wants_at old.past now) turn.transition (own_keeps old who now at h.tickets) (own_brings old who now at h) turn.turns in (
         record {
           tickets = ticketed.0;
           holds = turns.holds;
           brings = subst (λ (ss : List Seat). (a : Actor) → BringsAt new.past new.disk.contents (activity_of a ss)) (sym turn.leaves)
-              (seats_all (BringsAt new.past new.disk.contents) who (left_of turn.turned) old.seats turns.own
+              (seats_all (BringsAt new.past new.disk.contents) who (left_of turn.transition) old.seats turns.own
               (λ a differs. turns.others (activity_of a old.seats) (others_differ old who now at h.tickets a differs) (h.tickets.keeps a) (h.brings a)));
         },
         ticketed.1,

@@ -24,9 +24,9 @@ use Rattle.machine.specs.Control.{file_named, has_file, amount_of}
 use Rattle.book.specs.declared.event.Event.{Event}
 use Rattle.book.specs.declared.event.Event.TheVariants as event
 use Rattle.book.specs.Events.{event_of}
-use Rattle.driver.specs.declared.turn.Doing.{Doing}
-use Rattle.driver.specs.declared.turn.Doing.TheVariants as doing
-use Rattle.driver.specs.declared.turn.Asked.TheVariants as asked
+use Rattle.driver.specs.declared.turn.Stage.{Stage}
+use Rattle.driver.specs.declared.turn.Stage.TheVariants as stage
+use Rattle.driver.specs.declared.turn.Pending.TheVariants as pending
 use Rattle.driver.specs.declared.turn.Want.{Want}
 use Rattle.driver.specs.declared.turn.Want.TheVariants as want
 use Rattle.driver.specs.declared.turn.Outcome.{Outcome}
@@ -35,7 +35,7 @@ use Rattle.driver.specs.declared.turn.Activity.{Activity}
 use Rattle.driver.specs.declared.turn.Activity.TheVariants.{Rests, Begun, Does}
 use Rattle.driver.specs.declared.turn.Seat.{Seat}
 use Rattle.driver.specs.Turns.{wants, wants_pages, wants_balance, wants_watch, done, Judged, judged, task_judged, shell_judged, daemon_judged, with_group, with_file, with_amount, reads_file, writes_file, reclaims}
-use Rattle.driver.specs.Schedule.{number_of, is_of, activity_of, with_activity, World, wants_at, DoingTurn, JudgedTurn, ActivityTurn, said_at, all_said, answer_by, Goings, EndsIn, RunsOut, Begins, Stepped, Runs}
+use Rattle.driver.specs.Schedule.{number_of, is_of, activity_of, with_activity, World, wants_at, StageTurn, JudgedTurn, ActivityTurn, said_at, all_said, answer_by, Goings, EndsIn, RunsOut, Begins, Stepped, Runs}
 use Rattle.machine.proofs.Effects.{ends}
 
 -- ---- seats
@@ -66,18 +66,18 @@ activity_of-other a who what (seat ∷ seats) e = at (is_of who seat) refl (acti
 -- ---- tickets in hand
 
 -- the number of the ticket that goes with it
-abbrev pub number_asked : Event → Option ℕ
-number_asked what = ends (event_of what)
+abbrev pub number_pending : Event → Option ℕ
+number_pending what = ends (event_of what)
 
 abbrev pub number_wanted : Want → Option ℕ
-number_wanted (want.Call remembers what) = number_asked what
+number_wanted (want.Call remembers what) = number_pending what
 number_wanted (want.Read access ticket) = Some ticket.number
 number_wanted (want.Write on ticket) = Some ticket.number
 number_wanted (want.End said) = None
 
 -- what a command that stands there wants with both marks at 0, where a daemon asks nothing. With any other marks and free frames the ticket in hand is the same
-abbrev pub in_hand : Doing → Want
-in_hand doing = wants (record { low = 0; high = 0 }) 0 doing
+abbrev pub in_hand : Stage → Want
+in_hand stage = wants (record { low = 0; high = 0 }) 0 stage
 
 -- it is the same that is wanted, or there is a ticket neither here nor there
 pub data Alike (w other : Want) : Type 0 where
@@ -87,7 +87,7 @@ pub data Alike (w other : Want) : Type 0 where
 balance_none : (marks : Watermarks) (free : ℕ) → number_wanted (wants_balance marks free) ≡ None
 balance_none marks free = by_test (nat_le marks.high free)
   where
-    by_test : (b : Bool) → number_wanted (if b then done else want.Call asked.Balance (event.ReclaimOne (record { 0 = 0 }))) ≡ None
+    by_test : (b : Bool) → number_wanted (if b then done else want.Call pending.Balance (event.ReclaimOne (record { 0 = 0 }))) ≡ None
     by_test true = refl
     by_test false = refl
 
@@ -102,33 +102,33 @@ pub pages_none : (g left : ℕ) → number_wanted (wants_pages g left) ≡ None
 pages_none g zero = refl
 pages_none g (suc left) = refl
 
-pub wants_alike : (past : Past) (doing : Doing) → Alike (wants_at past doing) (in_hand doing)
-wants_alike past doing.Watch = Ticketless (watch_none past.state.opening.marks (free_frames past.state)) refl
-wants_alike past doing.Balance = Ticketless (balance_none past.state.opening.marks (free_frames past.state)) refl
+pub wants_alike : (past : Past) (stage : Stage) → Alike (wants_at past stage) (in_hand stage)
+wants_alike past stage.Watch = Ticketless (watch_none past.state.opening.marks (free_frames past.state)) refl
+wants_alike past stage.Balance = Ticketless (balance_none past.state.opening.marks (free_frames past.state)) refl
 wants_alike past others = Same refl
 
 number_alike : (w other : Want) → Alike w other → number_wanted w ≡ number_wanted other
 number_alike w other (Same e) = ap number_wanted e
 number_alike w other (Ticketless e f) = e ∙ sym f
 
-pub wanted_in_hand : (past : Past) (doing : Doing) → number_wanted (wants_at past doing) ≡ number_wanted (in_hand doing)
-wanted_in_hand past doing = number_alike (wants_at past doing) (in_hand doing) (wants_alike past doing)
+pub wanted_in_hand : (past : Past) (stage : Stage) → number_wanted (wants_at past stage) ≡ number_wanted (in_hand stage)
+wanted_in_hand past stage = number_alike (wants_at past stage) (in_hand stage) (wants_alike past stage)
 
 abbrev pub number_at : Activity → Option ℕ
 number_at Rests = None
 number_at (Begun what) = None
-number_at (Does doing) = number_wanted (in_hand doing)
+number_at (Does stage) = number_wanted (in_hand stage)
 
 -- no command is under way that has had a turn
 abbrev pub is_idle : Activity → Bool
 is_idle Rests = true
 is_idle (Begun what) = true
-is_idle (Does doing) = false
+is_idle (Does stage) = false
 
 pub idle_none : (what : Activity) → is_idle what ≡ true → number_at what ≡ None
 idle_none Rests e = refl
 idle_none (Begun what) e = refl
-idle_none (Does doing) e = cc
+idle_none (Does stage) e = cc
 
 -- ---- answers
 
@@ -153,7 +153,7 @@ FineWant wanted = Unit {0}
 balance_fine : (marks : Watermarks) (free : ℕ) → FineWant (wants_balance marks free)
 balance_fine marks free = by_test (nat_le marks.high free)
   where
-    by_test : (b : Bool) → FineWant (if b then done else want.Call asked.Balance (event.ReclaimOne (record { 0 = 0 })))
+    by_test : (b : Bool) → FineWant (if b then done else want.Call pending.Balance (event.ReclaimOne (record { 0 = 0 })))
     by_test true = λ e. cc
     by_test false = tt
 
@@ -168,10 +168,10 @@ pages_fine : (g left : ℕ) → FineWant (wants_pages g left)
 pages_fine g zero = λ e. cc
 pages_fine g (suc left) = tt
 
-pub wants_fine : (past : Past) (doing : Doing) → FineWant (wants_at past doing)
-wants_fine past doing.Watch = watch_fine past.state.opening.marks (free_frames past.state)
-wants_fine past doing.Balance = balance_fine past.state.opening.marks (free_frames past.state)
-wants_fine past (doing.Reclaim g left) = pages_fine g.0 left
+pub wants_fine : (past : Past) (stage : Stage) → FineWant (wants_at past stage)
+wants_fine past stage.Watch = watch_fine past.state.opening.marks (free_frames past.state)
+wants_fine past stage.Balance = balance_fine past.state.opening.marks (free_frames past.state)
+wants_fine past (stage.Reclaim g left) = pages_fine g.0 left
 wants_fine past others = tt
 
 fine-append : (xs ys : List Told_by) → AllFine xs → AllFine ys → AllFine (xs ++ ys)
@@ -195,7 +195,7 @@ fine_at (first ∷ later) (suc k) told h e = fine_at later k told h.1 e
 
 -- a command's first turn has no ticket, and its refusal is not that of a stranger
 abbrev pub Plain : Judged → Type 0
-Plain (Ok doing) = number_wanted (in_hand doing) ≡ None
+Plain (Ok stage) = number_wanted (in_hand stage) ≡ None
 Plain (Err why) = why ≡ Stranger → ⊥
 
 pub judged-plain : (tree : List Node) (who : Actor) (what : Command) → Plain (judged tree who what)
@@ -265,24 +265,24 @@ judged-plain tree who what = by_actor who
 -- ---- runs
 
 -- the actor is at this, or it has no ticket
-abbrev pub IsAt : World → Actor → Doing → Type 0
-IsAt w who doing = (activity_of who w.seats ≡ Does doing) ⊎ (number_wanted (in_hand doing) ≡ None)
+abbrev pub IsAt : World → Actor → Stage → Type 0
+IsAt w who stage = (activity_of who w.seats ≡ Does stage) ⊎ (number_wanted (in_hand stage) ≡ None)
 
 module _ (P : World → Type 0)
     (rests : (w : World) (who : Actor) (what : Activity) → is_idle what ≡ true → P w → P (record w { seats = with_activity who what w.seats }))
-    (turns : (old new : World) (who : Actor) (doing : Doing) (outcome : Outcome) → IsAt old who doing → DoingTurn old who doing outcome new → P old → P new × FineOutcome outcome) where
+    (turns : (old new : World) (who : Actor) (stage : Stage) (outcome : Outcome) → IsAt old who stage → StageTurn old who stage outcome new → P old → P new × FineOutcome outcome) where
   same_world : (old new : World) → new ≡ old → P old → P new
   same_world old new e h = subst P (sym e) h
 
   judged_keeps : (old new : World) (who : Actor) (found : Judged) (outcome : Outcome) → Plain found → JudgedTurn old who found outcome new → P old → P new × FineOutcome outcome
   judged_keeps old new who (Err why) outcome plain turn h =
       (same_world (record old { seats = with_activity who Rests old.seats }) new turn.1 (rests old who Rests refl h), subst FineOutcome (sym turn.0) (λ e. plain (cc)))
-  judged_keeps old new who (Ok doing) outcome plain turn h = turns old new who doing outcome (inr plain) turn h
+  judged_keeps old new who (Ok stage) outcome plain turn h = turns old new who stage outcome (inr plain) turn h
 
   turn_keeps : (old new : World) (who : Actor) (at : Activity) (outcome : Outcome) → activity_of who old.seats ≡ at → ActivityTurn old who at outcome new → P old → P new × FineOutcome outcome
   turn_keeps old new who Rests outcome is turn h = (same_world old new turn.1 h, subst FineOutcome (sym turn.0) (λ e. cc))
   turn_keeps old new who (Begun what) outcome is turn h = judged_keeps old new who (judged old.past.state.tree who what) outcome (judged-plain old.past.state.tree who what) turn h
-  turn_keeps old new who (Does doing) outcome is turn h = turns old new who doing outcome (inl is) turn h
+  turn_keeps old new who (Does stage) outcome is turn h = turns old new who stage outcome (inl is) turn h
 
   goings_keep : (old new : World) (who : Actor) (outcomes : List Outcome) → Goings old who outcomes new → P old → P new × AllFine (all_said who outcomes)
   goings_keep old new who [] goes h = (same_world old new goes h, tt)
@@ -303,7 +303,7 @@ module _ (P : World → Type 0)
   begin_keeps old new who what Rests answers begins h =
       (same_world (record old { seats = with_activity who (Begun what) old.seats }) new begins.1 (rests old who (Begun what) refl h), subst AllFine (sym begins.0) tt)
   begin_keeps old new who what (Begun other) answers begins h = (same_world old new begins.1 h, subst AllFine (sym begins.0) (λ e. cc, tt))
-  begin_keeps old new who what (Does doing) answers begins h = (same_world old new begins.1 h, subst AllFine (sym begins.0) (λ e. cc, tt))
+  begin_keeps old new who what (Does stage) answers begins h = (same_world old new begins.1 h, subst AllFine (sym begins.0) (λ e. cc, tt))
 
   step_keeps : (old new : World) (line : Line) (answers : List Told_by) → Stepped old line answers new → P old → P new × AllFine answers
   step_keeps old new (Begin who what) answers step h = begin_keeps old new who what (activity_of who old.seats) answers step h

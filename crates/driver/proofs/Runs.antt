@@ -7,7 +7,7 @@ use Rattle.driver.specs.declared.turn.Outcome.{Outcome}
 use Rattle.std.specs.Prelude.{Ok, Err}
 use Rattle.machine.specs.declared.refusal.Refusal.{Refusal}
 use Rattle.machine.specs.declared.command.Command.{Command}
-use Rattle.driver.specs.declared.turn.Doing.{Doing}
+use Rattle.driver.specs.declared.turn.Stage.{Stage}
 use Rattle.driver.specs.declared.turn.Seat.{Seat}
 use Rattle.driver.specs.declared.turn.Activity.{Activity}
 use Rattle.driver.specs.declared.turn.Activity.TheVariants.{Rests, Begun, Does}
@@ -18,7 +18,7 @@ use Rattle.driver.specs.declared.desk.Desk.{Desk}
 use Rattle.driver.specs.Tickets.{OwnSeats}
 use Rattle.driver.specs.Desks.{world, swap_of, Asks, IsOn, IsSame}
 use Rattle.driver.specs.Turns.{judged, ends_refused}
-use Rattle.driver.specs.Schedule.{World, first_world, fits, activity_of, with_activity, outcome_of, left_of, DoingTurn, Turn, Goings, is_end, said_at, all_said, Stepped, Runs}
+use Rattle.driver.specs.Schedule.{World, first_world, fits, activity_of, with_activity, outcome_of, left_of, StageTurn, Turn, Goings, is_end, said_at, all_said, Stepped, Runs}
 
 pub Goings-more : (old : World) (actor : Actor) (earlier : List Outcome) (mid new : World) (outcome : Outcome)
     → Goings old actor earlier mid → Turn mid actor outcome new → is_end outcome ≡ false → Goings old actor (earlier ++ outcome ∷ []) new
@@ -43,22 +43,22 @@ Runs-more old (first ∷ steps) answers mid new step here h one =
 -- ---- one turn
 
 -- a turn of a command that was taken from its seat
-pub turn_taken : (old : World) (taken : List Seat) (new : World) (who : Actor) (doing : Doing) (outcome : Outcome) → ((what : Activity) → with_activity who what taken ≡ with_activity who what old.seats)
-    → DoingTurn (record old { seats = taken }) who doing outcome new → DoingTurn old who doing outcome new
-turn_taken old taken new who doing outcome others turn =
+pub turn_taken : (old : World) (taken : List Seat) (new : World) (who : Actor) (stage : Stage) (outcome : Outcome) → ((what : Activity) → with_activity who what taken ≡ with_activity who what old.seats)
+    → StageTurn (record old { seats = taken }) who stage outcome new → StageTurn old who stage outcome new
+turn_taken old taken new who stage outcome others turn =
     record {
-      turned = turn.turned;
+      transition = turn.transition;
       turns = turn.turns;
       shows = turn.shows;
-      leaves = turn.leaves ∙ others (left_of turn.turned);
+      leaves = turn.leaves ∙ others (left_of turn.transition);
     }
 
-pub turn_does : (old new : World) (who : Actor) (doing : Doing) (outcome : Outcome) → activity_of who old.seats ≡ Does doing → DoingTurn old who doing outcome new → Turn old who outcome new
-turn_does old new who doing outcome is turn = rw is turn
+pub turn_does : (old new : World) (who : Actor) (stage : Stage) (outcome : Outcome) → activity_of who old.seats ≡ Does stage → StageTurn old who stage outcome new → Turn old who outcome new
+turn_does old new who stage outcome is turn = rw is turn
 
-pub turn_begun : (old new : World) (who : Actor) (command : Command) (doing : Doing) (outcome : Outcome) → activity_of who old.seats ≡ Begun command → judged old.past.state.tree who command ≡ Ok doing → DoingTurn old who doing outcome new
+pub turn_begun : (old new : World) (who : Actor) (command : Command) (stage : Stage) (outcome : Outcome) → activity_of who old.seats ≡ Begun command → judged old.past.state.tree who command ≡ Ok stage → StageTurn old who stage outcome new
     → Turn old who outcome new
-turn_begun old new who command doing outcome is starts turn = rw is (rw starts turn)
+turn_begun old new who command stage outcome is starts turn = rw is (rw starts turn)
 
 pub turn_refused : (old new : World) (who : Actor) (command : Command) (why : Refusal) → activity_of who old.seats ≡ Begun command → judged old.past.state.tree who command ≡ Err why
     → new ≡ record old { seats = with_activity who Rests old.seats } → Turn old who (outcome_of (ends_refused why)) new

@@ -23,20 +23,20 @@ use Rattle.machine.specs.declared.control.ControlFile.TheVariants as file
 use Rattle.machine.specs.Tree.{Node, find_group}
 use Rattle.machine.specs.Control.{file_named, has_file, amount_of}
 use Rattle.driver.specs.declared.turn.Access.{Access}
-use Rattle.driver.specs.declared.turn.Onward.{Onward}
-use Rattle.driver.specs.declared.turn.Onward.TheVariants as onward
-use Rattle.driver.specs.declared.turn.Doing.{Doing}
-use Rattle.driver.specs.declared.turn.Doing.TheVariants as doing
-use Rattle.driver.specs.declared.turn.Asked.{Asked}
-use Rattle.driver.specs.declared.turn.Asked.TheVariants as asked
+use Rattle.driver.specs.declared.turn.Resume.{Resume}
+use Rattle.driver.specs.declared.turn.Resume.TheVariants as resume
+use Rattle.driver.specs.declared.turn.Stage.{Stage}
+use Rattle.driver.specs.declared.turn.Stage.TheVariants as stage
+use Rattle.driver.specs.declared.turn.Pending.{Pending}
+use Rattle.driver.specs.declared.turn.Pending.TheVariants as pending
 use Rattle.driver.specs.declared.turn.Want.{Want}
 use Rattle.driver.specs.declared.turn.Want.TheVariants as want
-use Rattle.driver.specs.declared.turn.Turned.{Turned}
-use Rattle.driver.specs.declared.turn.Turned.TheVariants.{Goes}
+use Rattle.driver.specs.declared.turn.Transition.{Transition}
+use Rattle.driver.specs.declared.turn.Transition.TheVariants.{Goes}
 use Rattle.driver.specs.Turns.{done, wants_pages, wants_balance, wants, ends_with, goes_on, Tried, MadeRoom, MaxSet, Lowered, Reclaimed, Balanced, Made, Ended, WasShown, Closed, Told, Judged, judged, task_judged, shell_judged, daemon_judged, with_group, with_file, with_amount, reads_file, reclaims, writes_file}
 use Rattle.driver.specs.Schedule.{wants_at}
 use Rattle.machine.proofs.SoundLemmas.{legal-fit}
-use Rattle.driver.specs.Tickets.{IsOwn, OwnEvent, OwnReply, OwnDoing, OwnTurned}
+use Rattle.driver.specs.Tickets.{IsOwn, OwnEvent, OwnReply, OwnStage, OwnTransition}
 
 pub gives_own : (past : Past) (worker : ℕ) → worker ≡ 0 → Legal past.state.opening past.history past.state
     → (said : Reply) → Gives past worker said → OwnReply past.state.opening.swap said
@@ -72,131 +72,131 @@ module _ (swap : ℕ) (marks : Watermarks) (free : ℕ) where
   pages_own g zero = tt
   pages_own g (suc left) = tt
 
-  wants_own : (next : Doing) → OwnDoing swap next → OwnWant swap (wants marks free next)
-  wants_own (doing.Try access) own = tt
-  wants_own (doing.MakeRoom access why) own = tt
-  wants_own (doing.SetMax g max) own = tt
-  wants_own (doing.Lower g) own = tt
-  wants_own (doing.SetMin g min) own = tt
-  wants_own (doing.Reclaim g left) own = pages_own g.0 left
-  wants_own doing.Watch own = unless_own (nat_le marks.low free) (wants_balance marks free) balance_own
-  wants_own doing.Balance own = balance_own
-  wants_own (doing.Spawn t g) own = tt
-  wants_own (doing.Exit t) own = tt
-  wants_own (doing.Mkdir path) own = tt
-  wants_own (doing.Show what) own = tt
-  wants_own (doing.Read access ticket) own = own
-  wants_own (doing.Arrive access ticket) own = own
-  wants_own (doing.FetchFail ticket) own = own
-  wants_own (doing.Write on ticket) own = own
-  wants_own (doing.Leave on ticket) own = own
-  wants_own (doing.LeaveFail ticket) own = own
+  wants_own : (next : Stage) → OwnStage swap next → OwnWant swap (wants marks free next)
+  wants_own (stage.Try access) own = tt
+  wants_own (stage.MakeRoom access why) own = tt
+  wants_own (stage.SetMax g max) own = tt
+  wants_own (stage.Lower g) own = tt
+  wants_own (stage.SetMin g min) own = tt
+  wants_own (stage.Reclaim g left) own = pages_own g.0 left
+  wants_own stage.Watch own = unless_own (nat_le marks.low free) (wants_balance marks free) balance_own
+  wants_own stage.Balance own = balance_own
+  wants_own (stage.Spawn t g) own = tt
+  wants_own (stage.Exit t) own = tt
+  wants_own (stage.Mkdir path) own = tt
+  wants_own (stage.Show what) own = tt
+  wants_own (stage.Read access ticket) own = own
+  wants_own (stage.Arrive access ticket) own = own
+  wants_own (stage.FetchFail ticket) own = own
+  wants_own (stage.Write on ticket) own = own
+  wants_own (stage.Leave on ticket) own = own
+  wants_own (stage.LeaveFail ticket) own = own
 
-pub wanted_own : (swap : ℕ) (past : Past) (next : Doing) (wanted : Want) → OwnDoing swap next → wanted ≡ wants_at past next → OwnWant swap wanted
+pub wanted_own : (swap : ℕ) (past : Past) (next : Stage) (wanted : Want) → OwnStage swap next → wanted ≡ wants_at past next → OwnWant swap wanted
 wanted_own swap past next wanted own is = subst (λ (w : Want). OwnWant swap w) (sym is) (wants_own swap past.state.opening.marks (free_frames past.state) next own)
 
 -- ---- and goes on with the one that it is given
 
-tried_own : (swap : ℕ) (access : Access) (said : Reply) (turned : Turned) → OwnReply swap said → Tried access said turned → OwnTurned swap turned
-tried_own swap access (reply.Done byte hit) turned own h = rw h tt
-tried_own swap access (reply.Fetch ticket) turned own h = rw h own
-tried_own swap access (reply.Over group) turned own h = rw h tt
-tried_own swap access reply.NoFrame turned own h = rw h tt
-tried_own swap access reply.Busy turned own h = rw h tt
-tried_own swap access reply.Killed turned own h = rw h tt
-tried_own swap access (reply.Refused why) turned own h = rw h tt
-tried_own swap access said turned own h = absurd h
+tried_own : (swap : ℕ) (access : Access) (said : Reply) (transition : Transition) → OwnReply swap said → Tried access said transition → OwnTransition swap transition
+tried_own swap access (reply.Done byte hit) transition own h = rw h tt
+tried_own swap access (reply.Fetch ticket) transition own h = rw h own
+tried_own swap access (reply.Over group) transition own h = rw h tt
+tried_own swap access reply.NoFrame transition own h = rw h tt
+tried_own swap access reply.Busy transition own h = rw h tt
+tried_own swap access reply.Killed transition own h = rw h tt
+tried_own swap access (reply.Refused why) transition own h = rw h tt
+tried_own swap access said transition own h = absurd h
 
-made_room_own : (swap : ℕ) (access : Access) (said : Reply) (turned : Turned) → OwnReply swap said → MadeRoom access said turned → OwnTurned swap turned
-made_room_own swap access reply.Room turned own h = rw h tt
-made_room_own swap access (reply.Out ticket) turned own h = rw h own
-made_room_own swap access reply.Wait turned own h = rw h tt
-made_room_own swap access (reply.KilledTask t) turned own h = rw h tt
-made_room_own swap access reply.NoVictim turned own h = rw h tt
-made_room_own swap access (reply.Refused why) turned own h = rw h tt
-made_room_own swap access said turned own h = absurd h
+made_room_own : (swap : ℕ) (access : Access) (said : Reply) (transition : Transition) → OwnReply swap said → MadeRoom access said transition → OwnTransition swap transition
+made_room_own swap access reply.Room transition own h = rw h tt
+made_room_own swap access (reply.Out ticket) transition own h = rw h own
+made_room_own swap access reply.Wait transition own h = rw h tt
+made_room_own swap access (reply.KilledTask t) transition own h = rw h tt
+made_room_own swap access reply.NoVictim transition own h = rw h tt
+made_room_own swap access (reply.Refused why) transition own h = rw h tt
+made_room_own swap access said transition own h = absurd h
 
-max_set_own : (swap : ℕ) (g : ℕ) (said : Reply) (turned : Turned) → OwnReply swap said → MaxSet g said turned → OwnTurned swap turned
-max_set_own swap g reply.Ok turned own h = rw h tt
-max_set_own swap g (reply.Refused why) turned own h = rw h tt
-max_set_own swap g said turned own h = absurd h
+max_set_own : (swap : ℕ) (g : ℕ) (said : Reply) (transition : Transition) → OwnReply swap said → MaxSet g said transition → OwnTransition swap transition
+max_set_own swap g reply.Ok transition own h = rw h tt
+max_set_own swap g (reply.Refused why) transition own h = rw h tt
+max_set_own swap g said transition own h = absurd h
 
-lowered_own : (swap : ℕ) (g : ℕ) (said : Reply) (turned : Turned) → OwnReply swap said → Lowered g said turned → OwnTurned swap turned
-lowered_own swap g reply.Room turned own h = rw h tt
-lowered_own swap g (reply.Out ticket) turned own h = rw h own
-lowered_own swap g reply.Wait turned own h = rw h tt
-lowered_own swap g (reply.KilledTask t) turned own h = rw h tt
-lowered_own swap g reply.NoVictim turned own h = rw h tt
-lowered_own swap g (reply.Refused why) turned own h = rw h tt
-lowered_own swap g said turned own h = absurd h
+lowered_own : (swap : ℕ) (g : ℕ) (said : Reply) (transition : Transition) → OwnReply swap said → Lowered g said transition → OwnTransition swap transition
+lowered_own swap g reply.Room transition own h = rw h tt
+lowered_own swap g (reply.Out ticket) transition own h = rw h own
+lowered_own swap g reply.Wait transition own h = rw h tt
+lowered_own swap g (reply.KilledTask t) transition own h = rw h tt
+lowered_own swap g reply.NoVictim transition own h = rw h tt
+lowered_own swap g (reply.Refused why) transition own h = rw h tt
+lowered_own swap g said transition own h = absurd h
 
-reclaimed_own : (swap : ℕ) (g left : ℕ) (said : Reply) (turned : Turned) → OwnReply swap said → Reclaimed g left said turned → OwnTurned swap turned
-reclaimed_own swap g left (reply.Out ticket) turned own h = rw h own
-reclaimed_own swap g left reply.Wait turned own h = rw h tt
-reclaimed_own swap g left reply.Nothing turned own h = rw h tt
-reclaimed_own swap g left (reply.Refused why) turned own h = rw h tt
-reclaimed_own swap g left said turned own h = absurd h
+reclaimed_own : (swap : ℕ) (g left : ℕ) (said : Reply) (transition : Transition) → OwnReply swap said → Reclaimed g left said transition → OwnTransition swap transition
+reclaimed_own swap g left (reply.Out ticket) transition own h = rw h own
+reclaimed_own swap g left reply.Wait transition own h = rw h tt
+reclaimed_own swap g left reply.Nothing transition own h = rw h tt
+reclaimed_own swap g left (reply.Refused why) transition own h = rw h tt
+reclaimed_own swap g left said transition own h = absurd h
 
-balanced_own : (swap : ℕ) (said : Reply) (turned : Turned) → OwnReply swap said → Balanced said turned → OwnTurned swap turned
-balanced_own swap (reply.Out ticket) turned own h = rw h own
-balanced_own swap reply.Wait turned own h = rw h tt
-balanced_own swap reply.Nothing turned own h = rw h tt
-balanced_own swap (reply.Refused why) turned own h = rw h tt
-balanced_own swap said turned own h = absurd h
+balanced_own : (swap : ℕ) (said : Reply) (transition : Transition) → OwnReply swap said → Balanced said transition → OwnTransition swap transition
+balanced_own swap (reply.Out ticket) transition own h = rw h own
+balanced_own swap reply.Wait transition own h = rw h tt
+balanced_own swap reply.Nothing transition own h = rw h tt
+balanced_own swap (reply.Refused why) transition own h = rw h tt
+balanced_own swap said transition own h = absurd h
 
-made_own : (swap : ℕ) (said : Reply) (turned : Turned) → OwnReply swap said → Made said turned → OwnTurned swap turned
-made_own swap reply.Ok turned own h = rw h tt
-made_own swap (reply.Refused why) turned own h = rw h tt
-made_own swap said turned own h = absurd h
+made_own : (swap : ℕ) (said : Reply) (transition : Transition) → OwnReply swap said → Made said transition → OwnTransition swap transition
+made_own swap reply.Ok transition own h = rw h tt
+made_own swap (reply.Refused why) transition own h = rw h tt
+made_own swap said transition own h = absurd h
 
-ended_own : (swap : ℕ) (said : Reply) (turned : Turned) → OwnReply swap said → Ended said turned → OwnTurned swap turned
-ended_own swap reply.Ok turned own h = rw h tt
-ended_own swap reply.Killed turned own h = rw h tt
-ended_own swap (reply.Refused why) turned own h = rw h tt
-ended_own swap said turned own h = absurd h
+ended_own : (swap : ℕ) (said : Reply) (transition : Transition) → OwnReply swap said → Ended said transition → OwnTransition swap transition
+ended_own swap reply.Ok transition own h = rw h tt
+ended_own swap reply.Killed transition own h = rw h tt
+ended_own swap (reply.Refused why) transition own h = rw h tt
+ended_own swap said transition own h = absurd h
 
-shown_own : (swap : ℕ) (said : Reply) (turned : Turned) → OwnReply swap said → WasShown said turned → OwnTurned swap turned
-shown_own swap (reply.Shown numbers) turned own h = rw h tt
-shown_own swap (reply.Refused why) turned own h = rw h tt
-shown_own swap said turned own h = absurd h
+shown_own : (swap : ℕ) (said : Reply) (transition : Transition) → OwnReply swap said → WasShown said transition → OwnTransition swap transition
+shown_own swap (reply.Shown numbers) transition own h = rw h tt
+shown_own swap (reply.Refused why) transition own h = rw h tt
+shown_own swap said transition own h = absurd h
 
-closed_own : (swap : ℕ) (onwards : Turned) → OwnTurned swap onwards → (said : Reply) (turned : Turned) → OwnReply swap said → Closed onwards said turned → OwnTurned swap turned
-closed_own swap onwards here reply.Ok turned own h = rw h here
-closed_own swap onwards here (reply.StrangeIn ticket) turned own h = rw h tt
-closed_own swap onwards here (reply.StrangeOut ticket) turned own h = rw h tt
-closed_own swap onwards here said turned own h = absurd h
+closed_own : (swap : ℕ) (resumed : Transition) → OwnTransition swap resumed → (said : Reply) (transition : Transition) → OwnReply swap said → Closed resumed said transition → OwnTransition swap transition
+closed_own swap resumed here reply.Ok transition own h = rw h here
+closed_own swap resumed here (reply.StrangeIn ticket) transition own h = rw h tt
+closed_own swap resumed here (reply.StrangeOut ticket) transition own h = rw h tt
+closed_own swap resumed here said transition own h = absurd h
 
-goes_on_own : (swap : ℕ) (on : Onward) → OwnDoing swap (goes_on on)
-goes_on_own swap (onward.Try access) = tt
-goes_on_own swap (onward.Lower g) = tt
-goes_on_own swap (onward.Reclaim g left) = tt
-goes_on_own swap onward.Balance = tt
+goes_on_own : (swap : ℕ) (on : Resume) → OwnStage swap (goes_on on)
+goes_on_own swap (resume.Try access) = tt
+goes_on_own swap (resume.Lower g) = tt
+goes_on_own swap (resume.Reclaim g left) = tt
+goes_on_own swap resume.Balance = tt
 
-pub told_own : (swap : ℕ) (remembers : Asked) (said : Reply) (turned : Turned) → OwnReply swap said → Told remembers said turned → OwnTurned swap turned
-told_own swap (asked.Try access) said turned own h = tried_own swap access said turned own h
-told_own swap (asked.MakeRoom access) said turned own h = made_room_own swap access said turned own h
-told_own swap (asked.SetMax g) said turned own h = max_set_own swap g.0 said turned own h
-told_own swap (asked.Lower g) said turned own h = lowered_own swap g.0 said turned own h
-told_own swap (asked.Reclaim g left) said turned own h = reclaimed_own swap g.0 left said turned own h
-told_own swap asked.Balance said turned own h = balanced_own swap said turned own h
-told_own swap asked.Make said turned own h = made_own swap said turned own h
-told_own swap asked.Exit said turned own h = ended_own swap said turned own h
-told_own swap asked.Show said turned own h = shown_own swap said turned own h
-told_own swap (asked.Arrive access) said turned own h = closed_own swap (Goes (doing.Try access)) tt said turned own h
-told_own swap asked.FetchFail said turned own h = closed_own swap (ends_with word.Io) tt said turned own h
-told_own swap (asked.Leave on) said turned own h = closed_own swap (Goes (goes_on on)) (goes_on_own swap on) said turned own h
-told_own swap asked.LeaveFail said turned own h = closed_own swap (ends_with word.Io) tt said turned own h
+pub told_own : (swap : ℕ) (remembers : Pending) (said : Reply) (transition : Transition) → OwnReply swap said → Told remembers said transition → OwnTransition swap transition
+told_own swap (pending.Try access) said transition own h = tried_own swap access said transition own h
+told_own swap (pending.MakeRoom access) said transition own h = made_room_own swap access said transition own h
+told_own swap (pending.SetMax g) said transition own h = max_set_own swap g.0 said transition own h
+told_own swap (pending.Lower g) said transition own h = lowered_own swap g.0 said transition own h
+told_own swap (pending.Reclaim g left) said transition own h = reclaimed_own swap g.0 left said transition own h
+told_own swap pending.Balance said transition own h = balanced_own swap said transition own h
+told_own swap pending.Make said transition own h = made_own swap said transition own h
+told_own swap pending.Exit said transition own h = ended_own swap said transition own h
+told_own swap pending.Show said transition own h = shown_own swap said transition own h
+told_own swap (pending.Arrive access) said transition own h = closed_own swap (Goes (stage.Try access)) tt said transition own h
+told_own swap pending.FetchFail said transition own h = closed_own swap (ends_with word.Io) tt said transition own h
+told_own swap (pending.Leave on) said transition own h = closed_own swap (Goes (goes_on on)) (goes_on_own swap on) said transition own h
+told_own swap pending.LeaveFail said transition own h = closed_own swap (ends_with word.Io) tt said transition own h
 
-pub told_result_own : (swap : ℕ) (remembers : Asked) (said : Reply) (result : Result Turned AllocError) → OwnReply swap said → IfOk result (λ turned. Told remembers said turned)
-    → IfOk result (λ turned. OwnTurned swap turned)
-told_result_own swap remembers said (Ok turned) own h = told_own swap remembers said turned own h
+pub told_result_own : (swap : ℕ) (remembers : Pending) (said : Reply) (result : Result Transition AllocError) → OwnReply swap said → IfOk result (λ transition. Told remembers said transition)
+    → IfOk result (λ transition. OwnTransition swap transition)
+told_result_own swap remembers said (Ok transition) own h = told_own swap remembers said transition own h
 told_result_own swap remembers said (Err e) own h = tt
 
 -- ---- a command holds no ticket before its first turn
 
 module _ (swap : ℕ) where
   abbrev pub OwnJudged : Judged → Type 0
-  OwnJudged found = IfOk found (λ next. OwnDoing swap next)
+  OwnJudged found = IfOk found (λ next. OwnStage swap next)
 
   with_group_own : (found : Option ℕ) (next : ℕ → Judged) → ((g : ℕ) → OwnJudged (next g)) → OwnJudged (with_group found next)
   with_group_own None next own = tt
@@ -259,5 +259,5 @@ module _ (swap : ℕ) where
   judged_own tree actor.Control what = shell_own tree what
   judged_own tree actor.Daemon what = daemon_own what
 
-  pub first_own : (tree : List Node) (who : Actor) (what : Command) (next : Doing) → Ok next ≡ judged tree who what → OwnDoing swap next
+  pub first_own : (tree : List Node) (who : Actor) (what : Command) (next : Stage) → Ok next ≡ judged tree who what → OwnStage swap next
   first_own tree who what next found = subst OwnJudged (sym found) (judged_own tree who what)

@@ -26,21 +26,21 @@ use Rattle.book.specs.declared.event.Reply.TheVariants as said
 use Rattle.book.specs.Events.{event_of, reply_of}
 use Rattle.book.specs.Replies.{Gives, GivesIn, GivesOut}
 use Rattle.driver.specs.declared.turn.Access.{Access}
-use Rattle.driver.specs.declared.turn.Onward.{Onward}
-use Rattle.driver.specs.declared.turn.Asked.{Asked}
-use Rattle.driver.specs.declared.turn.Doing.{Doing}
+use Rattle.driver.specs.declared.turn.Resume.{Resume}
+use Rattle.driver.specs.declared.turn.Pending.{Pending}
+use Rattle.driver.specs.declared.turn.Stage.{Stage}
 use Rattle.driver.specs.declared.turn.Want.{Want}
 use Rattle.driver.specs.declared.turn.Want.TheVariants as want
-use Rattle.driver.specs.declared.turn.Turned.{Turned}
-use Rattle.driver.specs.declared.turn.Turned.TheVariants.{Ends}
+use Rattle.driver.specs.declared.turn.Transition.{Transition}
+use Rattle.driver.specs.declared.turn.Transition.TheVariants.{Ends}
 use Rattle.driver.specs.declared.turn.Outcome.{Outcome}
 use Rattle.driver.specs.declared.turn.Activity.{Activity}
 use Rattle.driver.specs.declared.turn.Activity.TheVariants.{Rests, Begun, Does}
 use Rattle.driver.specs.declared.turn.Seat.{Seat}
 use Rattle.driver.specs.Turns.{ReadsIn, WritesOut, after_read, after_write}
-use Rattle.driver.specs.Schedule.{number_of, activity_of, with_activity, World, first_world, Asks, WantTurn, wants_at, DoingTurn, outcome_of, left_of}
+use Rattle.driver.specs.Schedule.{number_of, activity_of, with_activity, World, first_world, Asks, WantTurn, wants_at, StageTurn, outcome_of, left_of}
 use Rattle.machine.proofs.Effects.{ends, AllLive, Effect, step_effect}
-use Rattle.driver.proofs.Keeps.{activity_of-own, activity_of-other, number_asked, number_wanted, in_hand, Alike, Same, Ticketless, wants_alike, wanted_in_hand, number_at, is_idle, idle_none, Fine, FineOutcome, FineWant, wants_fine, IsAt}
+use Rattle.driver.proofs.Keeps.{activity_of-own, activity_of-other, number_pending, number_wanted, in_hand, Alike, Same, Ticketless, wants_alike, wanted_in_hand, number_at, is_idle, idle_none, Fine, FineOutcome, FineWant, wants_fine, IsAt}
 use Rattle.driver.proofs.CallCases.{IsRefused, IsServed, Comes, ByRefusal, ByEntry, called_comes, Next, Handless, Reads, Writes, told_next}
 
 -- ---- words
@@ -63,15 +63,15 @@ pub record IsGoing (past : Past) (ticket : TicketOf) : Type 0 where
   pub going : page.residence ≡ Going frame ticket.block ticket.number
   pub taken : taker ticket.number past.history ≡ Some 0
 
-abbrev pub KeepsAsked : Past → Event → Type 0
-KeepsAsked past (event.Arrived ticket) = IsComing past ticket
-KeepsAsked past (event.FetchFailed ticket) = IsComing past ticket
-KeepsAsked past (event.Left ticket) = IsGoing past ticket
-KeepsAsked past (event.LeaveFailed ticket) = IsGoing past ticket
-KeepsAsked past what = Unit {0}
+abbrev pub KeepsPending : Past → Event → Type 0
+KeepsPending past (event.Arrived ticket) = IsComing past ticket
+KeepsPending past (event.FetchFailed ticket) = IsComing past ticket
+KeepsPending past (event.Left ticket) = IsGoing past ticket
+KeepsPending past (event.LeaveFailed ticket) = IsGoing past ticket
+KeepsPending past what = Unit {0}
 
 abbrev pub KeepsWanted : Past → Want → Type 0
-KeepsWanted past (want.Call remembers what) = KeepsAsked past what
+KeepsWanted past (want.Call remembers what) = KeepsPending past what
 KeepsWanted past (want.Read access ticket) = IsComing past ticket
 KeepsWanted past (want.Write on ticket) = IsGoing past ticket
 KeepsWanted past (want.End said) = Unit {0}
@@ -79,7 +79,7 @@ KeepsWanted past (want.End said) = Unit {0}
 abbrev pub KeepsAt : Past → Activity → Type 0
 KeepsAt past Rests = Unit {0}
 KeepsAt past (Begun what) = Unit {0}
-KeepsAt past (Does doing) = KeepsWanted past (in_hand doing)
+KeepsAt past (Does stage) = KeepsWanted past (in_hand stage)
 
 pub record Tickets (w : World) : Type 0 where
   pub live : AllLive w.past.state.mappings w.past.state.tasks
@@ -97,15 +97,15 @@ page_passes : (test : Page → Bool) (pages : Pages) (p : ℕ) (page : Page) →
 page_passes test pages p page there passes = any_there-at test pages p (ap (there_and test) there ∙ passes)
 
 -- a ticket is no event's, so that nothing has to be kept for it
-asked_none : (past : Past) (what : Event) → number_asked what ≡ None → KeepsAsked past what
-asked_none past (event.Arrived ticket) e = cc
-asked_none past (event.FetchFailed ticket) e = cc
-asked_none past (event.Left ticket) e = cc
-asked_none past (event.LeaveFailed ticket) e = cc
-asked_none past what e = tt
+pending_none : (past : Past) (what : Event) → number_pending what ≡ None → KeepsPending past what
+pending_none past (event.Arrived ticket) e = cc
+pending_none past (event.FetchFailed ticket) e = cc
+pending_none past (event.Left ticket) e = cc
+pending_none past (event.LeaveFailed ticket) e = cc
+pending_none past what e = tt
 
 wanted_none : (past : Past) (want : Want) → number_wanted want ≡ None → KeepsWanted past want
-wanted_none past (want.Call remembers what) e = asked_none past what e
+wanted_none past (want.Call remembers what) e = pending_none past what e
 wanted_none past (want.Read access ticket) e = cc
 wanted_none past (want.Write on ticket) e = cc
 wanted_none past (want.End said) e = tt
@@ -113,7 +113,7 @@ wanted_none past (want.End said) e = tt
 at_none : (past : Past) (at : Activity) → number_at at ≡ None → KeepsAt past at
 at_none past Rests e = tt
 at_none past (Begun what) e = tt
-at_none past (Does doing) e = wanted_none past (in_hand doing) e
+at_none past (Does stage) e = wanted_none past (in_hand stage) e
 
 wanted_alike : (past : Past) (w other : Want) → Alike w other → KeepsWanted past other → KeepsWanted past w
 wanted_alike past w other (Same e) h = subst (KeepsWanted past) (sym e) h
@@ -132,15 +132,15 @@ coming_flies past ticket n h e = record { p = h.p; page = h.page; there = h.ther
 going_flies : (past : Past) (ticket : TicketOf) (n : ℕ) → IsGoing past ticket → Some ticket.number ≡ Some n → InFlight past n
 going_flies past ticket n h e = record { p = h.p; page = h.page; there = h.there; ticket = ap ticket_at h.going ∙ e }
 
-asked_flies : (past : Past) (what : Event) (n : ℕ) → KeepsAsked past what → number_asked what ≡ Some n → InFlight past n
-asked_flies past (event.Arrived ticket) n h e = coming_flies past ticket n h e
-asked_flies past (event.FetchFailed ticket) n h e = coming_flies past ticket n h e
-asked_flies past (event.Left ticket) n h e = going_flies past ticket n h e
-asked_flies past (event.LeaveFailed ticket) n h e = going_flies past ticket n h e
-asked_flies past what n h e = cc
+pending_flies : (past : Past) (what : Event) (n : ℕ) → KeepsPending past what → number_pending what ≡ Some n → InFlight past n
+pending_flies past (event.Arrived ticket) n h e = coming_flies past ticket n h e
+pending_flies past (event.FetchFailed ticket) n h e = coming_flies past ticket n h e
+pending_flies past (event.Left ticket) n h e = going_flies past ticket n h e
+pending_flies past (event.LeaveFailed ticket) n h e = going_flies past ticket n h e
+pending_flies past what n h e = cc
 
 wanted_flies : (past : Past) (want : Want) (n : ℕ) → KeepsWanted past want → number_wanted want ≡ Some n → InFlight past n
-wanted_flies past (want.Call remembers what) n h e = asked_flies past what n h e
+wanted_flies past (want.Call remembers what) n h e = pending_flies past what n h e
 wanted_flies past (want.Read access ticket) n h e = coming_flies past ticket n h e
 wanted_flies past (want.Write on ticket) n h e = going_flies past ticket n h e
 wanted_flies past (want.End said) n h e = cc
@@ -148,7 +148,7 @@ wanted_flies past (want.End said) n h e = cc
 pub at_flies : (past : Past) (at : Activity) (n : ℕ) → KeepsAt past at → number_at at ≡ Some n → InFlight past n
 at_flies past Rests n h e = cc
 at_flies past (Begun what) n h e = cc
-at_flies past (Does doing) n h e = wanted_flies past (in_hand doing) n h e
+at_flies past (Does stage) n h e = wanted_flies past (in_hand stage) n h e
 
 pub flies_taken : (past : Past) (n : ℕ) → InFlight past n → is_ticket_taken past.state.pages n ≡ true
 flies_taken past n h = page_passes _ past.state.pages h.p h.page h.there (ap (λ (m : Option ℕ). is_number m n) h.ticket ∙ eq-eqb n n refl)
@@ -169,15 +169,15 @@ module _ (old new : Past) (left : Option ℕ) (goes : GoesOn old new left) where
   going_goes ticket other h =
       record { p = h.p; page = h.page; frame = h.frame; there = goes.stays h.p ticket.number h.page h.there (ap ticket_at h.going) other; going = h.going; taken = goes.taken ticket.number h.taken }
 
-  asked_goes : (what : Event) → ((n : ℕ) → number_asked what ≡ Some n → left ≡ Some n → ⊥) → KeepsAsked old what → KeepsAsked new what
-  asked_goes (event.Arrived ticket) other h = coming_goes ticket (other ticket.number refl) h
-  asked_goes (event.FetchFailed ticket) other h = coming_goes ticket (other ticket.number refl) h
-  asked_goes (event.Left ticket) other h = going_goes ticket (other ticket.number refl) h
-  asked_goes (event.LeaveFailed ticket) other h = going_goes ticket (other ticket.number refl) h
-  asked_goes what other h = tt
+  pending_goes : (what : Event) → ((n : ℕ) → number_pending what ≡ Some n → left ≡ Some n → ⊥) → KeepsPending old what → KeepsPending new what
+  pending_goes (event.Arrived ticket) other h = coming_goes ticket (other ticket.number refl) h
+  pending_goes (event.FetchFailed ticket) other h = coming_goes ticket (other ticket.number refl) h
+  pending_goes (event.Left ticket) other h = going_goes ticket (other ticket.number refl) h
+  pending_goes (event.LeaveFailed ticket) other h = going_goes ticket (other ticket.number refl) h
+  pending_goes what other h = tt
 
   wanted_goes : (want : Want) → ((n : ℕ) → number_wanted want ≡ Some n → left ≡ Some n → ⊥) → KeepsWanted old want → KeepsWanted new want
-  wanted_goes (want.Call remembers what) other h = asked_goes what other h
+  wanted_goes (want.Call remembers what) other h = pending_goes what other h
   wanted_goes (want.Read access ticket) other h = coming_goes ticket (other ticket.number refl) h
   wanted_goes (want.Write on ticket) other h = going_goes ticket (other ticket.number refl) h
   wanted_goes (want.End said) other h = tt
@@ -185,7 +185,7 @@ module _ (old new : Past) (left : Option ℕ) (goes : GoesOn old new left) where
   at_goes : (at : Activity) → ((n : ℕ) → number_at at ≡ Some n → left ≡ Some n → ⊥) → KeepsAt old at → KeepsAt new at
   at_goes Rests other h = tt
   at_goes (Begun what) other h = tt
-  at_goes (Does doing) other h = wanted_goes (in_hand doing) other h
+  at_goes (Does stage) other h = wanted_goes (in_hand stage) other h
 
 taker_entry : (given : Option ℕ) (n : ℕ) (others : Option ℕ) → others ≡ Some 0 → taker_or n given 0 others ≡ Some 0
 taker_entry None n others e = e
@@ -201,12 +201,12 @@ taker_given given n others e = rw e (ap (λ b. cond b (Some 0) others) (eq-eqb n
 -- ---- a turn
 
 -- what one turn leaves in the hand of its actor and in those of others
-pub record TurnsWell (old : Past) (want : Want) (turned : Turned) (new : Past) : Type 0 where
+pub record TurnsWell (old : Past) (want : Want) (transition : Transition) (new : Past) : Type 0 where
   pub live : AllLive new.state.mappings new.state.tasks
-  pub own : KeepsAt new (left_of turned)
+  pub own : KeepsAt new (left_of transition)
   pub others : (at : Activity) → ((n : ℕ) → number_at at ≡ Some n → number_wanted want ≡ Some n → ⊥) → KeepsAt old at → KeepsAt new at
-  pub number : (n : ℕ) → number_at (left_of turned) ≡ Some n → (number_wanted want ≡ Some n) ⊎ ((at : Activity) → KeepsAt old at → number_at at ≡ Some n → ⊥)
-  pub fine : FineOutcome (outcome_of turned)
+  pub number : (n : ℕ) → number_at (left_of transition) ≡ Some n → (number_wanted want ≡ Some n) ⊎ ((at : Activity) → KeepsAt old at → number_at at ≡ Some n → ⊥)
+  pub fine : FineOutcome (outcome_of transition)
 
 known_coming : (past : Past) (ticket : TicketOf) → IsComing past ticket → (is_coming_in past.state.pages ticket.number && is_worker 0 (taker ticket.number past.history)) ≡ true
 known_coming past ticket h =
@@ -221,21 +221,21 @@ known_going past ticket h =
     rw (flies, own) refl
 
 -- the ticket of an ending is known
-pub asked_known : (past : Past) (what : Event) → KeepsAsked past what → knows_ticket past.state past.history 0 (event_of what) ≡ true
-asked_known past (event.Arrived ticket) h = known_coming past ticket h
-asked_known past (event.FetchFailed ticket) h = known_coming past ticket h
-asked_known past (event.Left ticket) h = known_going past ticket h
-asked_known past (event.LeaveFailed ticket) h = known_going past ticket h
-asked_known past what h = refl
+pub pending_known : (past : Past) (what : Event) → KeepsPending past what → knows_ticket past.state past.history 0 (event_of what) ≡ true
+pending_known past (event.Arrived ticket) h = known_coming past ticket h
+pending_known past (event.FetchFailed ticket) h = known_coming past ticket h
+pending_known past (event.Left ticket) h = known_going past ticket h
+pending_known past (event.LeaveFailed ticket) h = known_going past ticket h
+pending_known past what h = refl
 
 module _ (old new : Past) (alive : AllLive old.state.mappings old.state.tasks) where
   -- the past is the same: a turn of the device, or a refusal
-  same_turn : (want : Want) (turned : Turned) → new ≡ old → KeepsAt old (left_of turned) → ((n : ℕ) → number_at (left_of turned) ≡ Some n → number_wanted want ≡ Some n) → FineOutcome (outcome_of turned)
-      → TurnsWell old want turned new
-  same_turn want turned same own number fine =
+  same_turn : (want : Want) (transition : Transition) → new ≡ old → KeepsAt old (left_of transition) → ((n : ℕ) → number_at (left_of transition) ≡ Some n → number_wanted want ≡ Some n) → FineOutcome (outcome_of transition)
+      → TurnsWell old want transition new
+  same_turn want transition same own number fine =
       record {
         live = subst (λ (p : Past). AllLive p.state.mappings p.state.tasks) (sym same) alive;
-        own = subst (λ (p : Past). KeepsAt p (left_of turned)) (sym same) own;
+        own = subst (λ (p : Past). KeepsAt p (left_of transition)) (sym same) own;
         others = λ at other h. subst (λ (p : Past). KeepsAt p at) (sym same) h;
         number = λ n e. inl (number n e);
         fine = fine;
@@ -270,8 +270,8 @@ module _ (old new : Past) (alive : AllLive old.state.mappings old.state.tasks) w
       refused_inj f = cc
 
   -- the ticket that a reply gave is the turn's new one
-  module _ (remembers : Asked) (what : Event) (answered : Reply) (turned : Turned) (went : IsServed old 0 (event_of what) (reply_of answered) new) where
-    on_others : (at : Activity) → ((n : ℕ) → number_at at ≡ Some n → number_asked what ≡ Some n → ⊥) → KeepsAt old at → KeepsAt new at
+  module _ (remembers : Pending) (what : Event) (answered : Reply) (transition : Transition) (went : IsServed old 0 (event_of what) (reply_of answered) new) where
+    on_others : (at : Activity) → ((n : ℕ) → number_at at ≡ Some n → number_pending what ≡ Some n → ⊥) → KeepsAt old at → KeepsAt new at
     on_others at other h = at_goes old new (ends (event_of what)) (goes_of (event_of what) (reply_of answered) went) at other h
 
     given_taken : (n : ℕ) → ticket_given (reply_of answered) ≡ Some n → taker n new.history ≡ Some 0
@@ -281,13 +281,13 @@ module _ (old new : Past) (alive : AllLive old.state.mappings old.state.tasks) w
     given_fresh n e at h number =
         unlike (is_ticket_taken old.state.pages n) (flies_taken old n (at_flies old at n h number)) ((effect_of (event_of what) (reply_of answered) went).fresh n e)
 
-    on_turn : Gives new 0 answered → Next answered turned → TurnsWell old (want.Call remembers what) turned new
+    on_turn : Gives new 0 answered → Next answered transition → TurnsWell old (want.Call remembers what) transition new
     on_turn gives (Handless none fine) =
         record {
           live = (effect_of (event_of what) (reply_of answered) went).places.live;
-          own = at_none new (left_of turned) none;
+          own = at_none new (left_of transition) none;
           others = on_others;
-          number = λ n e. never_some (number_at (left_of turned)) none e;
+          number = λ n e. never_some (number_at (left_of transition)) none e;
           fine = fine;
         }
     on_turn gives (Reads access ticket is goes) =
@@ -295,41 +295,41 @@ module _ (old new : Past) (alive : AllLive old.state.mappings old.state.tasks) w
         let ticketed : ticket_given (reply_of answered) ≡ Some ticket.number = ap (λ (r : Reply). ticket_given (reply_of r)) is in
         record {
           live = (effect_of (event_of what) (reply_of answered) went).places.live;
-          own = subst (λ (t : Turned). KeepsAt new (left_of t)) (sym goes) (record { p = given.p; page = given.page; frame = given.frame; there = given.there; coming = given.coming; taken = given_taken ticket.number ticketed });
+          own = subst (λ (t : Transition). KeepsAt new (left_of t)) (sym goes) (record { p = given.p; page = given.page; frame = given.frame; there = given.there; coming = given.coming; taken = given_taken ticket.number ticketed });
           others = on_others;
-          number = λ n e. inr (given_fresh n (ticketed ∙ sym (ap (λ (t : Turned). number_at (left_of t)) goes) ∙ e));
-          fine = subst (λ (t : Turned). FineOutcome (outcome_of t)) (sym goes) tt;
+          number = λ n e. inr (given_fresh n (ticketed ∙ sym (ap (λ (t : Transition). number_at (left_of t)) goes) ∙ e));
+          fine = subst (λ (t : Transition). FineOutcome (outcome_of t)) (sym goes) tt;
         }
     on_turn gives (Writes on ticket is goes) =
         let given : GivesOut new 0 ticket = subst (λ (r : Reply). Gives new 0 r) is gives in
         let ticketed : ticket_given (reply_of answered) ≡ Some ticket.number = ap (λ (r : Reply). ticket_given (reply_of r)) is in
         record {
           live = (effect_of (event_of what) (reply_of answered) went).places.live;
-          own = subst (λ (t : Turned). KeepsAt new (left_of t)) (sym goes) (record { p = given.p; page = given.page; frame = given.frame; there = given.there; going = given.going; taken = given_taken ticket.number ticketed });
+          own = subst (λ (t : Transition). KeepsAt new (left_of t)) (sym goes) (record { p = given.p; page = given.page; frame = given.frame; there = given.there; going = given.going; taken = given_taken ticket.number ticketed });
           others = on_others;
-          number = λ n e. inr (given_fresh n (ticketed ∙ sym (ap (λ (t : Turned). number_at (left_of t)) goes) ∙ e));
-          fine = subst (λ (t : Turned). FineOutcome (outcome_of t)) (sym goes) tt;
+          number = λ n e. inr (given_fresh n (ticketed ∙ sym (ap (λ (t : Transition). number_at (left_of t)) goes) ∙ e));
+          fine = subst (λ (t : Transition). FineOutcome (outcome_of t)) (sym goes) tt;
         }
 
-  still_turn : (remembers : Asked) (what : Event) (answered : Reply) (turned : Turned) → IsRefused old (reply_of answered) new → Next answered turned → TurnsWell old (want.Call remembers what) turned new
-  still_turn remembers what answered turned still (Handless none fine) =
-      same_turn (want.Call remembers what) turned still.same (at_none old (left_of turned) none) (λ n e. never_some (number_at (left_of turned)) none e) fine
-  still_turn remembers what answered turned still (Reads access ticket is goes) = absurd (not_fetch answered ticket still is)
-  still_turn remembers what answered turned still (Writes on ticket is goes) = absurd (not_out answered ticket still is)
+  still_turn : (remembers : Pending) (what : Event) (answered : Reply) (transition : Transition) → IsRefused old (reply_of answered) new → Next answered transition → TurnsWell old (want.Call remembers what) transition new
+  still_turn remembers what answered transition still (Handless none fine) =
+      same_turn (want.Call remembers what) transition still.same (at_none old (left_of transition) none) (λ n e. never_some (number_at (left_of transition)) none e) fine
+  still_turn remembers what answered transition still (Reads access ticket is goes) = absurd (not_fetch answered ticket still is)
+  still_turn remembers what answered transition still (Writes on ticket is goes) = absurd (not_out answered ticket still is)
 
-  asks_turn : (remembers : Asked) (what : Event) (turned : Turned) → KeepsAsked old what → Asks old remembers what turned new → TurnsWell old (want.Call remembers what) turned new
-  asks_turn remembers what turned keeps asks = by_comes (called_comes old new 0 (event_of what) (reply_of asks.said) (asked_known old what keeps) asks.called)
+  asks_turn : (remembers : Pending) (what : Event) (transition : Transition) → KeepsPending old what → Asks old remembers what transition new → TurnsWell old (want.Call remembers what) transition new
+  asks_turn remembers what transition keeps asks = by_comes (called_comes old new 0 (event_of what) (reply_of asks.said) (pending_known old what keeps) asks.called)
     where
-      by_comes : Comes old 0 (event_of what) (reply_of asks.said) new → TurnsWell old (want.Call remembers what) turned new
-      by_comes (ByRefusal still) = still_turn remembers what asks.said turned still (told_next remembers asks.said turned asks.told (still_known asks.said still))
-      by_comes (ByEntry went) = on_turn remembers what asks.said turned went asks.gives (told_next remembers asks.said turned asks.told (went.done Stranger))
+      by_comes : Comes old 0 (event_of what) (reply_of asks.said) new → TurnsWell old (want.Call remembers what) transition new
+      by_comes (ByRefusal still) = still_turn remembers what asks.said transition still (told_next remembers asks.said transition asks.told (still_known asks.said still))
+      by_comes (ByEntry went) = on_turn remembers what asks.said transition went asks.gives (told_next remembers asks.said transition asks.told (went.done Stranger))
 
-  reads_turn : (disk disk' : Disk) (access : Access) (ticket : TicketOf) (turned : Turned) → IsComing old ticket → new ≡ old → ReadsIn disk access ticket turned disk' → TurnsWell old (want.Read access ticket) turned new
-  reads_turn disk disk' access ticket turned coming same reads =
-      same_turn (want.Read access ticket) turned same
-      (subst (λ (t : Turned). KeepsAt old (left_of t)) (sym reads.goes) (own reads.answered))
-      (λ n e. sym (number reads.answered) ∙ sym (ap (λ (t : Turned). number_at (left_of t)) reads.goes) ∙ e)
-      (subst (λ (t : Turned). FineOutcome (outcome_of t)) (sym reads.goes) tt)
+  reads_turn : (disk disk' : Disk) (access : Access) (ticket : TicketOf) (transition : Transition) → IsComing old ticket → new ≡ old → ReadsIn disk access ticket transition disk' → TurnsWell old (want.Read access ticket) transition new
+  reads_turn disk disk' access ticket transition coming same reads =
+      same_turn (want.Read access ticket) transition same
+      (subst (λ (t : Transition). KeepsAt old (left_of t)) (sym reads.goes) (own reads.answered))
+      (λ n e. sym (number reads.answered) ∙ sym (ap (λ (t : Transition). number_at (left_of t)) reads.goes) ∙ e)
+      (subst (λ (t : Transition). FineOutcome (outcome_of t)) (sym reads.goes) tt)
     where
       filled : IsComing old reads.filled
       filled =
@@ -344,12 +344,12 @@ module _ (old new : Past) (alive : AllLive old.state.mappings old.state.tasks) w
       number (Ok done) = ap (λ (t : TicketOf). Some t.number) reads.same
       number (Err fault) = ap (λ (t : TicketOf). Some t.number) reads.same
 
-  writes_turn : (disk disk' : Disk) (on : Onward) (ticket : TicketOf) (turned : Turned) → IsGoing old ticket → new ≡ old → WritesOut disk on ticket turned disk' → TurnsWell old (want.Write on ticket) turned new
-  writes_turn disk disk' on ticket turned going same writes =
-      same_turn (want.Write on ticket) turned same
-      (subst (λ (t : Turned). KeepsAt old (left_of t)) (sym writes.goes) (own writes.answered))
-      (λ n e. sym (number writes.answered) ∙ sym (ap (λ (t : Turned). number_at (left_of t)) writes.goes) ∙ e)
-      (subst (λ (t : Turned). FineOutcome (outcome_of t)) (sym writes.goes) tt)
+  writes_turn : (disk disk' : Disk) (on : Resume) (ticket : TicketOf) (transition : Transition) → IsGoing old ticket → new ≡ old → WritesOut disk on ticket transition disk' → TurnsWell old (want.Write on ticket) transition new
+  writes_turn disk disk' on ticket transition going same writes =
+      same_turn (want.Write on ticket) transition same
+      (subst (λ (t : Transition). KeepsAt old (left_of t)) (sym writes.goes) (own writes.answered))
+      (λ n e. sym (number writes.answered) ∙ sym (ap (λ (t : Transition). number_at (left_of t)) writes.goes) ∙ e)
+      (subst (λ (t : Transition). FineOutcome (outcome_of t)) (sym writes.goes) tt)
     where
       own : (answered : Result (Unit {0}) Fault) → KeepsWanted old (in_hand (after_write on answered ticket))
       own (Ok done) = going
@@ -359,18 +359,18 @@ module _ (old new : Past) (alive : AllLive old.state.mappings old.state.tasks) w
       number (Ok done) = refl
       number (Err fault) = refl
 
-  ends_turn : (said : Answer) (turned : Turned) → Fine said → new ≡ old → turned ≡ Ends said → TurnsWell old (want.End said) turned new
-  ends_turn said turned fine same ends =
-      same_turn (want.End said) turned same
-      (subst (λ (t : Turned). KeepsAt old (left_of t)) (sym ends) tt)
-      (λ n e. never_some (number_at (left_of turned)) (ap (λ (t : Turned). number_at (left_of t)) ends) e)
-      (subst (λ (t : Turned). FineOutcome (outcome_of t)) (sym ends) fine)
+  ends_turn : (said : Answer) (transition : Transition) → Fine said → new ≡ old → transition ≡ Ends said → TurnsWell old (want.End said) transition new
+  ends_turn said transition fine same ends =
+      same_turn (want.End said) transition same
+      (subst (λ (t : Transition). KeepsAt old (left_of t)) (sym ends) tt)
+      (λ n e. never_some (number_at (left_of transition)) (ap (λ (t : Transition). number_at (left_of t)) ends) e)
+      (subst (λ (t : Transition). FineOutcome (outcome_of t)) (sym ends) fine)
 
-  pub want_turn : (disk disk' : Disk) (want : Want) (turned : Turned) → FineWant want → KeepsWanted old want → WantTurn old disk want turned new disk' → TurnsWell old want turned new
-  want_turn disk disk' (want.Call remembers what) turned fine keeps turn = asks_turn remembers what turned keeps turn.0
-  want_turn disk disk' (want.Read access ticket) turned fine keeps turn = reads_turn disk disk' access ticket turned keeps turn.1 turn.0
-  want_turn disk disk' (want.Write on ticket) turned fine keeps turn = writes_turn disk disk' on ticket turned keeps turn.1 turn.0
-  want_turn disk disk' (want.End said) turned fine keeps turn = ends_turn said turned fine turn.1 turn.0
+  pub want_turn : (disk disk' : Disk) (want : Want) (transition : Transition) → FineWant want → KeepsWanted old want → WantTurn old disk want transition new disk' → TurnsWell old want transition new
+  want_turn disk disk' (want.Call remembers what) transition fine keeps turn = asks_turn remembers what transition keeps turn.0
+  want_turn disk disk' (want.Read access ticket) transition fine keeps turn = reads_turn disk disk' access ticket transition keeps turn.1 turn.0
+  want_turn disk disk' (want.Write on ticket) transition fine keeps turn = writes_turn disk disk' on ticket transition keeps turn.1 turn.0
+  want_turn disk disk' (want.End said) transition fine keeps turn = ends_turn said transition fine turn.1 turn.0
 
 -- ---- worlds
 
@@ -410,14 +410,14 @@ tickets_rest w who what idle h =
     }
 
 -- the actor's own ticket, and that no other has it
-pub own_keeps : (w : World) (who : Actor) (now : Doing) → IsAt w who now → Tickets w → KeepsWanted w.past (wants_at w.past now)
+pub own_keeps : (w : World) (who : Actor) (now : Stage) → IsAt w who now → Tickets w → KeepsWanted w.past (wants_at w.past now)
 own_keeps w who now at h = wanted_alike w.past (wants_at w.past now) (in_hand now) (wants_alike w.past now) (held at)
   where
     held : IsAt w who now → KeepsWanted w.past (in_hand now)
     held (inl is) = subst (λ (at : Activity). KeepsAt w.past at) is (h.keeps who)
     held (inr none) = wanted_none w.past (in_hand now) none
 
-pub others_differ : (w : World) (who : Actor) (now : Doing) → IsAt w who now → Tickets w → (a : Actor) → (number_of a ≡ number_of who → ⊥) → (n : ℕ) → number_at (activity_of a w.seats) ≡ Some n
+pub others_differ : (w : World) (who : Actor) (now : Stage) → IsAt w who now → Tickets w → (a : Actor) → (number_of a ≡ number_of who → ⊥) → (n : ℕ) → number_at (activity_of a w.seats) ≡ Some n
     → number_wanted (wants_at w.past now) ≡ Some n → ⊥
 others_differ w who now at h a differs n e f = differ at (sym (wanted_in_hand w.past now) ∙ f)
   where
@@ -425,18 +425,18 @@ others_differ w who now at h a differs n e f = differ at (sym (wanted_in_hand w.
     differ (inl is) g = differs (h.apart a who n e (ap number_at is ∙ g))
     differ (inr none) g = never_some (number_wanted (in_hand now)) none g
 
-pub turns_well : (old new : World) (who : Actor) (now : Doing) (outcome : Outcome) → IsAt old who now → (turn : DoingTurn old who now outcome new) → Tickets old → TurnsWell old.past (wants_at old.past now) turn.turned new.past
-turns_well old new who now outcome at turn h = want_turn old.past new.past h.live old.disk new.disk (wants_at old.past now) turn.turned (wants_fine old.past now) (own_keeps old who now at h) turn.turns
+pub turns_well : (old new : World) (who : Actor) (now : Stage) (outcome : Outcome) → IsAt old who now → (turn : StageTurn old who now outcome new) → Tickets old → TurnsWell old.past (wants_at old.past now) turn.transition new.past
+turns_well old new who now outcome at turn h = want_turn old.past new.past h.live old.disk new.disk (wants_at old.past now) turn.transition (wants_fine old.past now) (own_keeps old who now at h) turn.turns
 
-pub tickets_turn : (old new : World) (who : Actor) (now : Doing) (outcome : Outcome) → IsAt old who now → DoingTurn old who now outcome new → Tickets old → Tickets new × FineOutcome outcome
+pub tickets_turn : (old new : World) (who : Actor) (now : Stage) (outcome : Outcome) → IsAt old who now → StageTurn old who now outcome new → Tickets old → Tickets new × FineOutcome outcome
 tickets_turn old new who now outcome at turn h =
     let well = turns_well old new who now outcome at turn h in (
       record {
         live = well.live;
         keeps = subst (λ (ss : List Seat). (a : Actor) → KeepsAt new.past (activity_of a ss)) (sym turn.leaves)
-            (seats_all (KeepsAt new.past) who (left_of turn.turned) old.seats well.own (λ a differs. well.others (activity_of a old.seats) (others_differ old who now at h a differs) (h.keeps a)));
+            (seats_all (KeepsAt new.past) who (left_of turn.transition) old.seats well.own (λ a differs. well.others (activity_of a old.seats) (others_differ old who now at h a differs) (h.keeps a)));
         apart = subst (λ (ss : List Seat). (a b : Actor) (n : ℕ) → number_at (activity_of a ss) ≡ Some n → number_at (activity_of b ss) ≡ Some n → number_of a ≡ number_of b) (sym turn.leaves)
-            (seats_apart who (left_of turn.turned) old.seats
+            (seats_apart who (left_of turn.transition) old.seats
             (λ a n differs e f.
             elim (well.number n e) [
               | inl wanted ↦ others_differ old who now at h a differs n f wanted

@@ -15,12 +15,12 @@ use Rattle.book.specs.declared.event.Event.{Event}
 use Rattle.book.specs.declared.event.Reply.{Reply}
 use Rattle.book.specs.Events.{event_of, reply_of}
 use Rattle.book.specs.Replies.{KeepsTicket, Gives}
-use Rattle.driver.specs.declared.turn.Asked.{Asked}
-use Rattle.driver.specs.declared.turn.Doing.{Doing}
+use Rattle.driver.specs.declared.turn.Pending.{Pending}
+use Rattle.driver.specs.declared.turn.Stage.{Stage}
 use Rattle.driver.specs.declared.turn.Want.{Want}
 use Rattle.driver.specs.declared.turn.Want.TheVariants as want
-use Rattle.driver.specs.declared.turn.Turned.{Turned}
-use Rattle.driver.specs.declared.turn.Turned.TheVariants as turned
+use Rattle.driver.specs.declared.turn.Transition.{Transition}
+use Rattle.driver.specs.declared.turn.Transition.TheVariants as transition
 use Rattle.driver.specs.declared.turn.Outcome.{Outcome}
 use Rattle.driver.specs.declared.turn.Outcome.TheVariants.{Goes, Kills, Ends}
 use Rattle.driver.specs.declared.turn.Activity.{Activity}
@@ -66,51 +66,51 @@ first_world config disk = record { past = record (first_past (opening_of config)
 
 -- ---- one turn
 
-abbrev pub outcome_of : Turned → Outcome
-outcome_of (turned.Goes doing) = Goes
-outcome_of (turned.Kills t doing) = Kills t
-outcome_of (turned.Ends said) = Ends said
+abbrev pub outcome_of : Transition → Outcome
+outcome_of (transition.Goes stage) = Goes
+outcome_of (transition.Kills t stage) = Kills t
+outcome_of (transition.Ends said) = Ends said
 
-abbrev pub left_of : Turned → Activity
-left_of (turned.Goes doing) = Does doing
-left_of (turned.Kills t doing) = Does doing
-left_of (turned.Ends said) = Rests
+abbrev pub left_of : Transition → Activity
+left_of (transition.Goes stage) = Does stage
+left_of (transition.Kills t stage) = Does stage
+left_of (transition.Ends said) = Rests
 
 -- one event of the book, and what the command makes of its reply
-pub record Asks (old : Past) (remembers : Asked) (what : Event) (turned : Turned) (new : Past) : Type 0 where
+pub record Asks (old : Past) (remembers : Pending) (what : Event) (transition : Transition) (new : Past) : Type 0 where
   pub said : Reply
   pub called : Called old 0 (event_of what) (reply_of said) new
   pub gives : Gives new 0 said
   pub keeps : KeepsTicket 0 what said
-  pub told : Told remembers said turned
+  pub told : Told remembers said transition
 
 -- a turn asks the book or the device, and leaves the other as it was; or it asks neither, and the command ends
-abbrev pub WantTurn : Past → Disk → Want → Turned → Past → Disk → Type 0
-WantTurn past disk (want.Call remembers what) turned past' disk' = Asks past remembers what turned past' × (disk' ≡ disk)
-WantTurn past disk (want.Read access ticket) turned past' disk' = ReadsIn disk access ticket turned disk' × (past' ≡ past)
-WantTurn past disk (want.Write on ticket) turned past' disk' = WritesOut disk on ticket turned disk' × (past' ≡ past)
-WantTurn past disk (want.End said) made past' disk' = (made ≡ turned.Ends said) × (past' ≡ past) × (disk' ≡ disk)
+abbrev pub WantTurn : Past → Disk → Want → Transition → Past → Disk → Type 0
+WantTurn past disk (want.Call remembers what) transition past' disk' = Asks past remembers what transition past' × (disk' ≡ disk)
+WantTurn past disk (want.Read access ticket) transition past' disk' = ReadsIn disk access ticket transition disk' × (past' ≡ past)
+WantTurn past disk (want.Write on ticket) transition past' disk' = WritesOut disk on ticket transition disk' × (past' ≡ past)
+WantTurn past disk (want.End said) made past' disk' = (made ≡ transition.Ends said) × (past' ≡ past) × (disk' ≡ disk)
 
 -- what it wants as the book stands
-abbrev pub wants_at : Past → Doing → Want
-wants_at past doing = wants past.state.opening.marks (free_frames past.state) doing
+abbrev pub wants_at : Past → Stage → Want
+wants_at past stage = wants past.state.opening.marks (free_frames past.state) stage
 
 -- a turn of a command that stands there
-pub record DoingTurn (old : World) (who : Actor) (doing : Doing) (outcome : Outcome) (new : World) : Type 0 where
-  pub turned : Turned
-  pub turns : WantTurn old.past old.disk (wants_at old.past doing) turned new.past new.disk
-  pub shows : outcome ≡ outcome_of turned
-  pub leaves : new.seats ≡ with_activity who (left_of turned) old.seats
+pub record StageTurn (old : World) (who : Actor) (stage : Stage) (outcome : Outcome) (new : World) : Type 0 where
+  pub transition : Transition
+  pub turns : WantTurn old.past old.disk (wants_at old.past stage) transition new.past new.disk
+  pub shows : outcome ≡ outcome_of transition
+  pub leaves : new.seats ≡ with_activity who (left_of transition) old.seats
 
 abbrev pub JudgedTurn : World → Actor → Judged → Outcome → World → Type 0
 JudgedTurn old who (Err why) outcome new =
     (outcome ≡ outcome_of (ends_refused why)) × (new ≡ record old { seats = with_activity who Rests old.seats })
-JudgedTurn old who (Ok doing) outcome new = DoingTurn old who doing outcome new
+JudgedTurn old who (Ok stage) outcome new = StageTurn old who stage outcome new
 
 abbrev pub ActivityTurn : World → Actor → Activity → Outcome → World → Type 0
 ActivityTurn old who Rests outcome new = (outcome ≡ Ends (answer.Word word.Idle)) × (new ≡ old)
 ActivityTurn old who (Begun what) outcome new = JudgedTurn old who (judged old.past.state.tree who what) outcome new
-ActivityTurn old who (Does doing) outcome new = DoingTurn old who doing outcome new
+ActivityTurn old who (Does stage) outcome new = StageTurn old who stage outcome new
 
 -- one turn of an actor
 abbrev pub Turn : World → Actor → Outcome → World → Type 0

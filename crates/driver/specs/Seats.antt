@@ -27,4 +27,4 @@ pub record IsTaken (who : Actor) (old new : List Seat) : Type 0 where
 abbrev pub is_under_way : Activity → Bool
 is_under_way Rests = false
 is_under_way (Begun command) = true
-is_under_way (Does doing) = true
+is_under_way (Does stage) = true

@@ -5,10 +5,10 @@ use Rattle.book.specs.declared.event.Event.{Event}
 use Rattle.book.specs.declared.event.Event.TheVariants as event
 use Rattle.book.specs.declared.event.Reply.{Reply}
 use Rattle.book.specs.declared.event.Reply.TheVariants as reply
-use Rattle.driver.specs.declared.turn.Doing.{Doing}
-use Rattle.driver.specs.declared.turn.Doing.TheVariants as doing
-use Rattle.driver.specs.declared.turn.Turned.{Turned}
-use Rattle.driver.specs.declared.turn.Turned.TheVariants.{Goes, Kills, Ends}
+use Rattle.driver.specs.declared.turn.Stage.{Stage}
+use Rattle.driver.specs.declared.turn.Stage.TheVariants as stage
+use Rattle.driver.specs.declared.turn.Transition.{Transition}
+use Rattle.driver.specs.declared.turn.Transition.TheVariants.{Goes, Kills, Ends}
 use Rattle.driver.specs.declared.turn.Activity.{Activity}
 use Rattle.driver.specs.declared.turn.Activity.TheVariants.{Rests, Begun, Does}
 use Rattle.driver.specs.declared.turn.Seat.{Seat}
@@ -34,24 +34,24 @@ OwnReply swap (reply.Fetch ticket) = IsOwn swap ticket
 OwnReply swap (reply.Out ticket) = IsOwn swap ticket
 OwnReply swap said = Unit {0}
 
-abbrev pub OwnDoing : ℕ → Doing → Type 0
-OwnDoing swap (doing.Read access ticket) = IsOwn swap ticket
-OwnDoing swap (doing.Arrive access ticket) = IsOwn swap ticket
-OwnDoing swap (doing.FetchFail ticket) = IsOwn swap ticket
-OwnDoing swap (doing.Write on ticket) = IsOwn swap ticket
-OwnDoing swap (doing.Leave on ticket) = IsOwn swap ticket
-OwnDoing swap (doing.LeaveFail ticket) = IsOwn swap ticket
-OwnDoing swap other = Unit {0}
+abbrev pub OwnStage : ℕ → Stage → Type 0
+OwnStage swap (stage.Read access ticket) = IsOwn swap ticket
+OwnStage swap (stage.Arrive access ticket) = IsOwn swap ticket
+OwnStage swap (stage.FetchFail ticket) = IsOwn swap ticket
+OwnStage swap (stage.Write on ticket) = IsOwn swap ticket
+OwnStage swap (stage.Leave on ticket) = IsOwn swap ticket
+OwnStage swap (stage.LeaveFail ticket) = IsOwn swap ticket
+OwnStage swap other = Unit {0}
 
-abbrev pub OwnTurned : ℕ → Turned → Type 0
-OwnTurned swap (Goes next) = OwnDoing swap next
-OwnTurned swap (Kills t next) = OwnDoing swap next
-OwnTurned swap (Ends said) = Unit {0}
+abbrev pub OwnTransition : ℕ → Transition → Type 0
+OwnTransition swap (Goes next) = OwnStage swap next
+OwnTransition swap (Kills t next) = OwnStage swap next
+OwnTransition swap (Ends said) = Unit {0}
 
 abbrev pub OwnActivity : ℕ → Activity → Type 0
 OwnActivity swap Rests = Unit {0}
 OwnActivity swap (Begun command) = Unit {0}
-OwnActivity swap (Does next) = OwnDoing swap next
+OwnActivity swap (Does next) = OwnStage swap next
 
 abbrev pub OwnSeats : ℕ → List Seat → Type 0
 OwnSeats swap [] = Unit {0}
@@ -74,11 +74,11 @@ IsSpendableReply (reply.StrangeOut ticket) = ticket.handed ≡ true
 IsSpendableReply said = Unit {0}
 
 -- whatever ticket the command holds can be discarded
-abbrev pub IsSpendableDoing : Doing → Type 0
-IsSpendableDoing (doing.Read access ticket) = ticket.handed ≡ true
-IsSpendableDoing (doing.Arrive access ticket) = ticket.handed ≡ true
-IsSpendableDoing (doing.FetchFail ticket) = ticket.handed ≡ true
-IsSpendableDoing (doing.Write on ticket) = ticket.handed ≡ true
-IsSpendableDoing (doing.Leave on ticket) = ticket.handed ≡ true
-IsSpendableDoing (doing.LeaveFail ticket) = ticket.handed ≡ true
-IsSpendableDoing other = Unit {0}
+abbrev pub IsSpendableStage : Stage → Type 0
+IsSpendableStage (stage.Read access ticket) = ticket.handed ≡ true
+IsSpendableStage (stage.Arrive access ticket) = ticket.handed ≡ true
+IsSpendableStage (stage.FetchFail ticket) = ticket.handed ≡ true
+IsSpendableStage (stage.Write on ticket) = ticket.handed ≡ true
+IsSpendableStage (stage.Leave on ticket) = ticket.handed ≡ true
+IsSpendableStage (stage.LeaveFail ticket) = ticket.handed ≡ true
+IsSpendableStage other = Unit {0}

@@ -7,7 +7,7 @@ ghost use Rattle.book.specs.Replies.{IsAccessReply, IsReliefReply, IsReclaimRepl
 ghost use Rattle.driver.specs.Turns.{access_event, wants_pages, wants_balance, wants_watch, wants, ends_with, ends_refused, byte_answer, goes_on, Tried, MadeRoom, MaxSet, Lowered, Reclaimed, Balanced, Made, Ended, WasShown, Closed, Told, Awaits, AwaitsAll};
 ghost use Rattle.driver.specs.Tickets.{IsHanded, IsSpendableReply};
 
-use crate::turn::{Access, Asked, Doing, Onward, Turned, Want};
+use crate::turn::{Access, Pending, Resume, Stage, Transition, Want};
 use book::{Event, InTicket, OutTicket, Reply};
 use control_files::show_text;
 use machine::command::{Answer, Word};
@@ -20,43 +20,49 @@ use std::alloc::{AllocError, Global};
 
 /// What a command wants in one turn, with the daemon's marks and so many frames free. The event of a
 /// [`Want::Call`] has only replies that [`told`] knows of.
-pub fn ask(doing: Doing, marks: Watermarks, free: u32) -> Want
-    ensures wants { result ≡ wants marks free doing }
+pub fn ask(stage: Stage, marks: Watermarks, free: u32) -> Want
+    ensures wants { result ≡ wants marks free stage }
     ensures awaits { AwaitsAll result }
 {
-    match doing {
-        Doing::Try(access) => Want::Call(Asked::Try(access), access_event(access)),
-        Doing::MakeRoom(access, cause) => {
-            Want::Call(Asked::MakeRoom(access), Event::Relieve(cause))
+    match stage {
+        Stage::Try(access) => Want::Call(Pending::Try(access), access_event(access)),
+        Stage::MakeRoom(access, cause) => {
+            Want::Call(Pending::MakeRoom(access), Event::Relieve(cause))
         }
-        Doing::SetMax { group, max } => Want::Call(
-            Asked::SetMax(group),
+        Stage::SetMax { group, max } => Want::Call(
+            Pending::SetMax(group),
             Event::Set {
                 group,
                 setting: Setting::Max(max),
             },
         ),
-        Doing::Lower(group) => Want::Call(Asked::Lower(group), Event::Relieve(Cause::Lower(group))),
-        Doing::SetMin { group, min } => Want::Call(
-            Asked::Make,
+        Stage::Lower(group) => Want::Call(
+            Pending::Lower(group),
+            Event::Relieve(Cause::Lower(group)),
+        ),
+        Stage::SetMin { group, min } => Want::Call(
+            Pending::Make,
             Event::Set {
                 group,
                 setting: Setting::Min(min),
             },
         ),
-        Doing::Reclaim { group, left } => ask_page(group, left),
-        Doing::Watch => watch(marks, free),
-        Doing::Balance => balance(marks, free),
-        Doing::Spawn { task, group } => Want::Call(Asked::Make, Event::Spawn { task, group }),
-        Doing::Exit(task) => Want::Call(Asked::Exit, Event::Exit(task)),
-        Doing::Mkdir(path) => Want::Call(Asked::Make, Event::Mkdir(path)),
-        Doing::Show(query) => Want::Call(Asked::Show, Event::Show(query)),
-        Doing::Read(access, ticket) => Want::Read(access, ticket),
-        Doing::Arrive(access, ticket) => Want::Call(Asked::Arrive(access), Event::Arrived(ticket)),
-        Doing::FetchFail(ticket) => Want::Call(Asked::FetchFail, Event::FetchFailed(ticket)),
-        Doing::Write(onward, ticket) => Want::Write(onward, ticket),
-        Doing::Leave(onward, ticket) => Want::Call(Asked::Leave(onward), Event::Left(ticket)),
-        Doing::LeaveFail(ticket) => Want::Call(Asked::LeaveFail, Event::LeaveFailed(ticket)),
+        Stage::Reclaim { group, left } => ask_page(group, left),
+        Stage::Watch => watch(marks, free),
+        Stage::Balance => balance(marks, free),
+        Stage::Spawn { task, group } => Want::Call(Pending::Make, Event::Spawn { task, group }),
+        Stage::Exit(task) => Want::Call(Pending::Exit, Event::Exit(task)),
+        Stage::Mkdir(path) => Want::Call(Pending::Make, Event::Mkdir(path)),
+        Stage::Show(query) => Want::Call(Pending::Show, Event::Show(query)),
+        Stage::Read(access, ticket) => Want::Read(access, ticket),
+        Stage::Arrive(access, ticket) => Want::Call(
+            Pending::Arrive(access),
+            Event::Arrived(ticket),
+        ),
+        Stage::FetchFail(ticket) => Want::Call(Pending::FetchFail, Event::FetchFailed(ticket)),
+        Stage::Write(resume, ticket) => Want::Write(resume, ticket),
+        Stage::Leave(resume, ticket) => Want::Call(Pending::Leave(resume), Event::Left(ticket)),
+        Stage::LeaveFail(ticket) => Want::Call(Pending::LeaveFail, Event::LeaveFailed(ticket)),
     }
 }
 
@@ -79,7 +85,7 @@ fn ask_page(group: GroupId, left: u64) -> Want
         return Want::End(Answer::Done);
     }
     let left = left - 1;
-    Want::Call(Asked::Reclaim { group, left }, Event::ReclaimOne(group))
+    Want::Call(Pending::Reclaim { group, left }, Event::ReclaimOne(group))
 }
 
 /// The daemon begins below its low mark.
@@ -101,53 +107,53 @@ fn balance(marks: Watermarks, free: u32) -> Want
     if free >= marks.high {
         return Want::End(Answer::Done);
     }
-    Want::Call(Asked::Balance, Event::ReclaimOne(GroupId(0)))
+    Want::Call(Pending::Balance, Event::ReclaimOne(GroupId(0)))
 }
 
 /// What a command makes of the book's reply, a ticket in which goes on with the command or is spent.
 /// It fails only where memory is wanted for a control file's text and refused.
-pub fn told(alloc: Global, asked: Asked, reply: Reply) -> Result<Turned, AllocError>
-    requires awaits { Awaits asked reply }
+pub fn told(alloc: Global, pending: Pending, reply: Reply) -> Result<Transition, AllocError>
+    requires awaits { Awaits pending reply }
     requires handed { IsHanded reply }
-    ensures told { IfOk result (λ turned. Told asked reply turned) }
-    ensures err { IfErr result (λ e. asked ≡ Asked.Show) }
+    ensures told { IfOk result (λ transition. Told pending reply transition) }
+    ensures err { IfErr result (λ e. pending ≡ Pending.Show) }
 {
-    match asked {
-        Asked::Try(access) => Ok(tried(access, reply)),
-        Asked::MakeRoom(access) => Ok(made_room(access, reply)),
-        Asked::SetMax(group) => Ok(max_set(group, reply)),
-        Asked::Lower(group) => Ok(lowered(group, reply)),
-        Asked::Reclaim { group, left } => Ok(reclaimed(group, left, reply)),
-        Asked::Balance => Ok(balanced(reply)),
-        Asked::Make => Ok(made(reply)),
-        Asked::Exit => Ok(ended(reply)),
-        Asked::Show => shown(alloc, reply),
-        Asked::Arrive(access) => Ok(arrived(access, reply)),
-        Asked::FetchFail => Ok(fetch_failed(reply)),
-        Asked::Leave(onward) => Ok(left(onward, reply)),
-        Asked::LeaveFail => Ok(leave_failed(reply)),
+    match pending {
+        Pending::Try(access) => Ok(tried(access, reply)),
+        Pending::MakeRoom(access) => Ok(made_room(access, reply)),
+        Pending::SetMax(group) => Ok(max_set(group, reply)),
+        Pending::Lower(group) => Ok(lowered(group, reply)),
+        Pending::Reclaim { group, left } => Ok(reclaimed(group, left, reply)),
+        Pending::Balance => Ok(balanced(reply)),
+        Pending::Make => Ok(made(reply)),
+        Pending::Exit => Ok(ended(reply)),
+        Pending::Show => shown(alloc, reply),
+        Pending::Arrive(access) => Ok(arrived(access, reply)),
+        Pending::FetchFail => Ok(fetch_failed(reply)),
+        Pending::Leave(resume) => Ok(left(resume, reply)),
+        Pending::LeaveFail => Ok(leave_failed(reply)),
     }
 }
 
-fn word(word: Word) -> Turned
+fn word(word: Word) -> Transition
     ensures { result ≡ ends_with word }
 {
-    Turned::Ends(Answer::Word(word))
+    Transition::Ends(Answer::Word(word))
 }
 
 /// A refusal ends a command with its name.
-fn refused(cause: Refusal) -> Turned
+fn refused(cause: Refusal) -> Transition
     ensures { result ≡ ends_refused cause }
 {
     word(Word::Refused(cause))
 }
 
 /// What a reply that can't come would be.
-fn never(reply: Reply) -> Turned
+fn never(reply: Reply) -> Transition
     requires { IsSpendableReply reply }
 {
     spend(reply);
-    Turned::Ends(Answer::Done)
+    Transition::Ends(Answer::Done)
 }
 
 /// Spends a reply, whose ticket was handed back.
@@ -176,15 +182,15 @@ fn byte_answer(op: Op, byte: u8) -> Answer
     }
 }
 
-fn tried(access: Access, reply: Reply) -> Turned
+fn tried(access: Access, reply: Reply) -> Transition
     requires { IsAccessReply reply }
     ensures { Tried access reply result }
 {
     match reply {
-        Reply::Done { byte, hit: _ } => Turned::Ends(byte_answer(access.op, byte)),
-        Reply::Fetch(ticket) => Turned::Goes(Doing::Read(access, ticket)),
-        Reply::Over(group) => Turned::Goes(Doing::MakeRoom(access, Cause::Charge(group))),
-        Reply::NoFrame => Turned::Goes(Doing::MakeRoom(access, Cause::Frame)),
+        Reply::Done { byte, hit: _ } => Transition::Ends(byte_answer(access.op, byte)),
+        Reply::Fetch(ticket) => Transition::Goes(Stage::Read(access, ticket)),
+        Reply::Over(group) => Transition::Goes(Stage::MakeRoom(access, Cause::Charge(group))),
+        Reply::NoFrame => Transition::Goes(Stage::MakeRoom(access, Cause::Frame)),
         Reply::Busy => word(Word::Busy),
         Reply::Killed => word(Word::Killed),
         Reply::Refused(cause) => refused(cause),
@@ -192,52 +198,55 @@ fn tried(access: Access, reply: Reply) -> Turned
     }
 }
 
-fn made_room(access: Access, reply: Reply) -> Turned
+fn made_room(access: Access, reply: Reply) -> Transition
     requires { IsReliefReply reply }
     ensures { MadeRoom access reply result }
 {
     match reply {
-        Reply::Room => Turned::Goes(Doing::Try(access)),
-        Reply::Out(ticket) => Turned::Goes(Doing::Write(Onward::Try(access), ticket)),
+        Reply::Room => Transition::Goes(Stage::Try(access)),
+        Reply::Out(ticket) => Transition::Goes(Stage::Write(Resume::Try(access), ticket)),
         Reply::Wait => word(Word::Busy),
-        Reply::KilledTask(task) => Turned::Kills(task, Doing::Try(access)),
+        Reply::KilledTask(task) => Transition::Kills(task, Stage::Try(access)),
         Reply::NoVictim => word(Word::OutOfMemory),
         Reply::Refused(cause) => refused(cause),
         other => never(other),
     }
 }
 
-fn max_set(group: GroupId, reply: Reply) -> Turned
+fn max_set(group: GroupId, reply: Reply) -> Transition
     requires { IsOkReply reply }
     ensures { MaxSet group.0 reply result }
 {
     match reply {
-        Reply::Ok => Turned::Goes(Doing::Lower(group)),
+        Reply::Ok => Transition::Goes(Stage::Lower(group)),
         Reply::Refused(cause) => refused(cause),
         other => never(other),
     }
 }
 
-fn lowered(group: GroupId, reply: Reply) -> Turned
+fn lowered(group: GroupId, reply: Reply) -> Transition
     requires { IsReliefReply reply }
     ensures { Lowered group.0 reply result }
 {
     match reply {
-        Reply::Room | Reply::NoVictim => Turned::Ends(Answer::Done),
-        Reply::Out(ticket) => Turned::Goes(Doing::Write(Onward::Lower(group), ticket)),
+        Reply::Room | Reply::NoVictim => Transition::Ends(Answer::Done),
+        Reply::Out(ticket) => Transition::Goes(Stage::Write(Resume::Lower(group), ticket)),
         Reply::Wait => word(Word::Busy),
-        Reply::KilledTask(task) => Turned::Kills(task, Doing::Lower(group)),
+        Reply::KilledTask(task) => Transition::Kills(task, Stage::Lower(group)),
         Reply::Refused(cause) => refused(cause),
         other => never(other),
     }
 }
 
-fn reclaimed(group: GroupId, left: u64, reply: Reply) -> Turned
+fn reclaimed(group: GroupId, left: u64, reply: Reply) -> Transition
     requires { IsReclaimReply reply }
     ensures { Reclaimed group.0 left reply result }
 {
     match reply {
-        Reply::Out(ticket) => Turned::Goes(Doing::Write(Onward::Reclaim { group, left }, ticket)),
+        Reply::Out(ticket) => Transition::Goes(Stage::Write(
+            Resume::Reclaim { group, left },
+            ticket,
+        )),
         Reply::Wait => word(Word::Busy),
         Reply::Nothing => word(Word::Again),
         Reply::Refused(cause) => refused(cause),
@@ -245,49 +254,49 @@ fn reclaimed(group: GroupId, left: u64, reply: Reply) -> Turned
     }
 }
 
-fn balanced(reply: Reply) -> Turned
+fn balanced(reply: Reply) -> Transition
     requires { IsReclaimReply reply }
     ensures { Balanced reply result }
 {
     match reply {
-        Reply::Out(ticket) => Turned::Goes(Doing::Write(Onward::Balance, ticket)),
+        Reply::Out(ticket) => Transition::Goes(Stage::Write(Resume::Balance, ticket)),
         Reply::Wait => word(Word::Busy),
-        Reply::Nothing => Turned::Ends(Answer::Done),
+        Reply::Nothing => Transition::Ends(Answer::Done),
         Reply::Refused(cause) => refused(cause),
         other => never(other),
     }
 }
 
-fn made(reply: Reply) -> Turned
+fn made(reply: Reply) -> Transition
     requires { IsOkReply reply }
     ensures { Made reply result }
 {
     match reply {
-        Reply::Ok => Turned::Ends(Answer::Done),
+        Reply::Ok => Transition::Ends(Answer::Done),
         Reply::Refused(cause) => refused(cause),
         other => never(other),
     }
 }
 
-fn ended(reply: Reply) -> Turned
+fn ended(reply: Reply) -> Transition
     requires { IsExitReply reply }
     ensures { Ended reply result }
 {
     match reply {
-        Reply::Ok => Turned::Ends(Answer::Done),
+        Reply::Ok => Transition::Ends(Answer::Done),
         Reply::Killed => word(Word::Killed),
         Reply::Refused(cause) => refused(cause),
         other => never(other),
     }
 }
 
-fn shown(alloc: Global, reply: Reply) -> Result<Turned, AllocError>
+fn shown(alloc: Global, reply: Reply) -> Result<Transition, AllocError>
     requires { IsShownReply reply }
-    ensures { IfOk result (λ turned. WasShown reply turned) }
+    ensures { IfOk result (λ transition. WasShown reply transition) }
 {
     match reply {
         Reply::Shown(numbers) => match show_text(alloc, numbers) {
-            Ok(text) => Ok(Turned::Ends(Answer::Text(Text::new(text)))),
+            Ok(text) => Ok(Transition::Ends(Answer::Text(Text::new(text)))),
             // Want of memory is its only cause.
             Err(_) => Err(AllocError),
         },
@@ -297,7 +306,7 @@ fn shown(alloc: Global, reply: Reply) -> Result<Turned, AllocError>
 }
 
 /// The book does not know the ticket.
-fn strange_in(ticket: InTicket) -> Turned
+fn strange_in(ticket: InTicket) -> Transition
     requires { ticket.handed ≡ true }
     ensures { result ≡ ends_refused Refusal.Stranger }
 {
@@ -305,7 +314,7 @@ fn strange_in(ticket: InTicket) -> Turned
     refused(Refusal::Stranger)
 }
 
-fn strange_out(ticket: OutTicket) -> Turned
+fn strange_out(ticket: OutTicket) -> Transition
     requires { ticket.handed ≡ true }
     ensures { result ≡ ends_refused Refusal.Stranger }
 {
@@ -313,19 +322,19 @@ fn strange_out(ticket: OutTicket) -> Turned
     refused(Refusal::Stranger)
 }
 
-fn arrived(access: Access, reply: Reply) -> Turned
+fn arrived(access: Access, reply: Reply) -> Transition
     requires comes { IsInReply reply }
     requires handed { IsHanded reply }
-    ensures { Closed (Turned.Goes (Doing.Try access)) reply result }
+    ensures { Closed (Transition.Goes (Stage.Try access)) reply result }
 {
     match reply {
-        Reply::Ok => Turned::Goes(Doing::Try(access)),
+        Reply::Ok => Transition::Goes(Stage::Try(access)),
         Reply::StrangeIn(ticket) => strange_in(ticket),
         other => never(other),
     }
 }
 
-fn fetch_failed(reply: Reply) -> Turned
+fn fetch_failed(reply: Reply) -> Transition
     requires comes { IsInReply reply }
     requires handed { IsHanded reply }
     ensures { Closed (ends_with Word.Io) reply result }
@@ -338,30 +347,30 @@ fn fetch_failed(reply: Reply) -> Turned
 }
 
 /// Where a command goes on once a page has left.
-fn goes_on(onward: Onward) -> Doing
-    ensures { result ≡ goes_on onward }
+fn goes_on(resume: Resume) -> Stage
+    ensures { result ≡ goes_on resume }
 {
-    match onward {
-        Onward::Try(access) => Doing::Try(access),
-        Onward::Lower(group) => Doing::Lower(group),
-        Onward::Reclaim { group, left } => Doing::Reclaim { group, left },
-        Onward::Balance => Doing::Balance,
+    match resume {
+        Resume::Try(access) => Stage::Try(access),
+        Resume::Lower(group) => Stage::Lower(group),
+        Resume::Reclaim { group, left } => Stage::Reclaim { group, left },
+        Resume::Balance => Stage::Balance,
     }
 }
 
-fn left(onward: Onward, reply: Reply) -> Turned
+fn left(resume: Resume, reply: Reply) -> Transition
     requires comes { IsOutReply reply }
     requires handed { IsHanded reply }
-    ensures { Closed (Turned.Goes (goes_on onward)) reply result }
+    ensures { Closed (Transition.Goes (goes_on resume)) reply result }
 {
     match reply {
-        Reply::Ok => Turned::Goes(goes_on(onward)),
+        Reply::Ok => Transition::Goes(goes_on(resume)),
         Reply::StrangeOut(ticket) => strange_out(ticket),
         other => never(other),
     }
 }
 
-fn leave_failed(reply: Reply) -> Turned
+fn leave_failed(reply: Reply) -> Transition
     requires comes { IsOutReply reply }
     requires handed { IsHanded reply }
     ensures { Closed (ends_with Word.Io) reply result }

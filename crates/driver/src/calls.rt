@@ -5,11 +5,11 @@ ghost use Rattle.machine.specs.Call.{Called};
 ghost use Rattle.book.specs.Events.{event_of, reply_of};
 ghost use Rattle.book.specs.Replies.{Replies, KeepsTicket, Gives};
 ghost use Rattle.driver.specs.Turns.{ReadsIn, WritesOut};
-ghost use Rattle.driver.specs.Tickets.{IsOwn, OwnEvent, OwnReply, OwnTurned, OwnActivity, IsHanded};
+ghost use Rattle.driver.specs.Tickets.{IsOwn, OwnEvent, OwnReply, OwnTransition, OwnActivity, IsHanded};
 ghost use Rattle.driver.specs.Desks.{IsSame};
 
 use crate::automaton::spend;
-use crate::turn::{Access, Activity, Doing, Onward, Turned};
+use crate::turn::{Access, Activity, Resume, Stage, Transition};
 use block_store::BlockDevice;
 use book::{Book, Event, InTicket, OutTicket, Pass, Reply};
 
@@ -35,29 +35,29 @@ pub fn call(book: &mut Book, pass: &mut Pass, event: Event) -> Reply
 }
 
 /// Reads the ticket's block.
-pub fn read_in<D: BlockDevice>(device: &mut D, access: Access, ticket: InTicket) -> Turned
+pub fn read_in<D: BlockDevice>(device: &mut D, access: Access, ticket: InTicket) -> Transition
     requires { ticket.block < length (D.disk device.old).contents }
     ensures read { ReadsIn (D.disk device.old) access ticket result (D.disk device.new) }
-    ensures own { (swap : ℕ) → IsOwn swap ticket → OwnTurned swap result }
+    ensures own { (swap : ℕ) → IsOwn swap ticket → OwnTransition swap result }
     ensures same { IsSame (D.disk device.old) (D.disk device.new) }
 {
     let mut ticket = ticket;
     match ticket.read_from(device) {
-        Ok(()) => Turned::Goes(Doing::Arrive(access, ticket)),
-        Err(_) => Turned::Goes(Doing::FetchFail(ticket)),
+        Ok(()) => Transition::Goes(Stage::Arrive(access, ticket)),
+        Err(_) => Transition::Goes(Stage::FetchFail(ticket)),
     }
 }
 
 /// Writes the ticket's block.
-pub fn write_out<D: BlockDevice>(device: &mut D, onward: Onward, ticket: OutTicket) -> Turned
+pub fn write_out<D: BlockDevice>(device: &mut D, resume: Resume, ticket: OutTicket) -> Transition
     requires { ticket.block < length (D.disk device.old).contents }
-    ensures write { WritesOut (D.disk device.old) onward ticket result (D.disk device.new) }
-    ensures own { (swap : ℕ) → IsOwn swap ticket → OwnTurned swap result }
+    ensures write { WritesOut (D.disk device.old) resume ticket result (D.disk device.new) }
+    ensures own { (swap : ℕ) → IsOwn swap ticket → OwnTransition swap result }
     ensures same { IsSame (D.disk device.old) (D.disk device.new) }
 {
     match ticket.write_to(device) {
-        Ok(()) => Turned::Goes(Doing::Leave(onward, ticket)),
-        Err(_) => Turned::Goes(Doing::LeaveFail(ticket)),
+        Ok(()) => Transition::Goes(Stage::Leave(resume, ticket)),
+        Err(_) => Transition::Goes(Stage::LeaveFail(ticket)),
     }
 }
 
@@ -72,30 +72,30 @@ pub fn give_up(book: &mut Book, pass: &mut Pass, activity: Activity)
 {
     match activity {
         Activity::Rests | Activity::Begun(_) => {}
-        Activity::Does(doing) => give_up_doing(book, pass, doing),
+        Activity::Does(stage) => give_up_stage(book, pass, stage),
     }
 }
 
-fn give_up_doing(book: &mut Book, pass: &mut Pass, doing: Doing)
+fn give_up_stage(book: &mut Book, pass: &mut Pass, stage: Stage)
     requires first { pass.old.worker ≡ 0 }
     requires given { book.old.passes ≡ 1 }
-    requires own { OwnActivity book.old.state.opening.swap (Activity.Does doing) }
+    requires own { OwnActivity book.old.state.opening.swap (Activity.Does stage) }
     ensures first { pass.new.worker ≡ 0 }
     ensures given { book.new.passes ≡ 1 }
     ensures opening { book.new.state.opening ≡ book.old.state.opening }
 {
-    match doing {
-        Doing::Read(_, ticket) | Doing::Arrive(_, ticket) | Doing::FetchFail(ticket) => {
+    match stage {
+        Stage::Read(_, ticket) | Stage::Arrive(_, ticket) | Stage::FetchFail(ticket) => {
             give_in(book, pass, ticket)
         }
-        Doing::Write(_, ticket) | Doing::Leave(_, ticket) | Doing::LeaveFail(ticket) => {
+        Stage::Write(_, ticket) | Stage::Leave(_, ticket) | Stage::LeaveFail(ticket) => {
             give_out(book, pass, ticket)
         }
-        Doing::Try(_) | Doing::MakeRoom(_, _) | Doing::SetMax { group: _, max: _ } => {}
-        Doing::Lower(_) | Doing::SetMin { group: _, min: _ } => {}
-        Doing::Reclaim { group: _, left: _ } | Doing::Watch | Doing::Balance => {}
-        Doing::Spawn { task: _, group: _ } | Doing::Exit(_) => {}
-        Doing::Mkdir(_) | Doing::Show(_) => {}
+        Stage::Try(_) | Stage::MakeRoom(_, _) | Stage::SetMax { group: _, max: _ } => {}
+        Stage::Lower(_) | Stage::SetMin { group: _, min: _ } => {}
+        Stage::Reclaim { group: _, left: _ } | Stage::Watch | Stage::Balance => {}
+        Stage::Spawn { task: _, group: _ } | Stage::Exit(_) => {}
+        Stage::Mkdir(_) | Stage::Show(_) => {}
     }
 }
 

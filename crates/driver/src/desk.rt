@@ -5,15 +5,15 @@ ghost use Rattle.machine.specs.declared.command.Reply.{Reply as Told_by};
 ghost use Rattle.machine.specs.State.{is_config};
 ghost use Rattle.block_store.specs.Device.{Disk};
 ghost use Rattle.driver.specs.Turns.{AwaitsAll};
-ghost use Rattle.driver.specs.Schedule.{Asks, WantTurn, DoingTurn, wants_at, Turn, Advances, Finishes, Begins, Stepped, Runs, activity_of, first_world};
-ghost use Rattle.driver.specs.Tickets.{OwnEvent, OwnDoing, OwnTurned, OwnSeats};
+ghost use Rattle.driver.specs.Schedule.{Asks, WantTurn, StageTurn, wants_at, Turn, Advances, Finishes, Begins, Stepped, Runs, activity_of, first_world};
+ghost use Rattle.driver.specs.Tickets.{OwnEvent, OwnStage, OwnTransition, OwnSeats};
 ghost use Rattle.driver.specs.Seats.{place_of, is_under_way};
 ghost use Rattle.driver.specs.Desks.{world, swap_of, IsOn, IsSame};
 
 use crate::automaton::{ask, told};
 use crate::judge::judge;
 use crate::seats::Seats;
-use crate::turn::{Activity, Asked, Doing, Outcome, Seat, Turned, Want};
+use crate::turn::{Activity, Outcome, Pending, Seat, Stage, Transition, Want};
 use crate::{calls, seats};
 use block_store::BlockDevice;
 use book::{Book, Event, Pass};
@@ -60,65 +60,69 @@ impl Desk {
     }
 
     /// One event of the book, and what the command makes of its reply.
-    fn ask_book(&mut self, asked: Asked, event: Event) -> Result<Turned, AllocError>
+    fn ask_book(&mut self, pending: Pending, event: Event) -> Result<Transition, AllocError>
         requires first { AsksFirst self.old }
-        requires awaits { AwaitsAll (Want.Call asked event) }
+        requires awaits { AwaitsAll (Want.Call pending event) }
         requires own { OwnEvent (swap_of self.old) event }
-        ensures asks { IfOk result (λ turned. Asks self.old.book asked event turned self.new.book) }
-        ensures own { IfOk result (λ turned. OwnTurned (swap_of self.old) turned) }
+        ensures asks { IfOk result (λ transition. Asks self.old.book pending event transition self.new.book) }
+        ensures own { IfOk result (λ transition. OwnTransition (swap_of self.old) transition) }
         ensures first { AsksFirst self.new }
         ensures opening { self.new.book.state.opening ≡ self.old.book.state.opening }
         ensures seats { self.new.seats ≡ self.old.seats }
     {
         let reply = calls::call(&mut self.book, &mut self.pass, event);
-        told(self.alloc, asked, reply)
+        told(self.alloc, pending, reply)
     }
 
     /// What a command that stands there wants, as the book stands.
-    fn want(&self, doing: Doing) -> Want
-        ensures wants { result ≡ wants_at self.now.book doing }
+    fn want(&self, stage: Stage) -> Want
+        ensures wants { result ≡ wants_at self.now.book stage }
         ensures awaits { AwaitsAll result }
     {
-        ask(doing, self.book.watermarks(), self.book.free_frames())
+        ask(stage, self.book.watermarks(), self.book.free_frames())
     }
 
     /// What the book or the device is asked by a command that stands there, and what it makes of the
     /// answer.
-    fn serve<D: BlockDevice>(&mut self, device: &mut D, doing: Doing) -> Result<Turned, AllocError>
+    fn serve<D: BlockDevice>(
+        &mut self,
+        device: &mut D,
+        stage: Stage,
+    ) -> Result<Transition, AllocError>
         requires on { IsOn self.old (D.disk device.old) }
-        requires own { OwnDoing (swap_of self.old) doing }
-        ensures turns { IfOk result (λ turned. WantTurn self.old.book (D.disk device.old) (wants_at self.old.book doing) turned self.new.book (D.disk device.new)) }
-        ensures own { IfOk result (λ turned. OwnTurned (swap_of self.old) turned) }
+        requires own { OwnStage (swap_of self.old) stage }
+        ensures turns { IfOk result (λ transition. WantTurn self.old.book (D.disk device.old) (wants_at self.old.book stage) transition self.new.book (D.disk device.new)) }
+        ensures own { IfOk result (λ transition. OwnTransition (swap_of self.old) transition) }
         ensures first { AsksFirst self.new }
         ensures opening { self.new.book.state.opening ≡ self.old.book.state.opening }
         ensures seats { self.new.seats ≡ self.old.seats }
         ensures same { IsSame (D.disk device.old) (D.disk device.new) }
     {
-        match self.want(doing) {
-            Want::Call(asked, event) => self.ask_book(asked, event),
+        match self.want(stage) {
+            Want::Call(pending, event) => self.ask_book(pending, event),
             Want::Read(access, ticket) => Ok(calls::read_in(device, access, ticket)),
-            Want::Write(onward, ticket) => Ok(calls::write_out(device, onward, ticket)),
-            Want::End(answer) => Ok(Turned::Ends(answer)),
+            Want::Write(resume, ticket) => Ok(calls::write_out(device, resume, ticket)),
+            Want::End(answer) => Ok(Transition::Ends(answer)),
         }
     }
 
     /// A turn of a command that stands there, the actor having been taken from its seat.
-    fn turn_doing<D: BlockDevice>(
+    fn turn_stage<D: BlockDevice>(
         &mut self,
         device: &mut D,
         actor: Actor,
-        doing: Doing,
+        stage: Stage,
     ) -> Result<Outcome, AllocError>
         requires on { IsOn self.old (D.disk device.old) }
-        requires own { OwnDoing (swap_of self.old) doing }
+        requires own { OwnStage (swap_of self.old) stage }
         requires seated { place_of actor self.old.seats < length self.old.seats }
         requires free { is_under_way (activity_of actor self.old.seats) ≡ false }
-        ensures turn { IfOk result (λ outcome. DoingTurn (world self.old (D.disk device.old)) actor doing outcome (world self.new (D.disk device.new))) }
+        ensures turn { IfOk result (λ outcome. StageTurn (world self.old (D.disk device.old)) actor stage outcome (world self.new (D.disk device.new))) }
         ensures on { IsOn self.new (D.disk device.new) }
         ensures same { IsSame (D.disk device.old) (D.disk device.new) }
     {
-        let turned = self.serve(device, doing)?;
-        let (outcome, left) = seats::settle(turned);
+        let transition = self.serve(device, stage)?;
+        let (outcome, left) = seats::settle(transition);
         self.seats.put(actor, left);
         Ok(outcome)
     }
@@ -139,10 +143,10 @@ impl Desk {
             Activity::Begun(command) => {
                 match judge(&self.book, &mut self.pass, actor, command) {
                     Err(cause) => Ok(seats::word(Word::Refused(cause))),
-                    Ok(doing) => Ok(self.turn_doing(device, actor, doing)?),
+                    Ok(stage) => Ok(self.turn_stage(device, actor, stage)?),
                 }
             }
-            Activity::Does(doing) => Ok(self.turn_doing(device, actor, doing)?),
+            Activity::Does(stage) => Ok(self.turn_stage(device, actor, stage)?),
         }
     }
 

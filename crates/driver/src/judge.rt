@@ -6,7 +6,7 @@ ghost use Rattle.driver.specs.Turns.{judged, task_judged, shell_judged, daemon_j
 ghost use Rattle.machine.specs.Tree.{find_group};
 ghost use Rattle.machine.specs.Control.{file_named};
 
-use crate::turn::{Access, Doing};
+use crate::turn::{Access, Stage};
 use book::{Book, Pass};
 use control_files::{file_named, has_file, parse_amount};
 use machine::amount::Amount;
@@ -17,7 +17,7 @@ use machine::id::{GroupId, TaskId};
 use machine::refusal::Refusal;
 
 /// What becomes of a command in its first turn.
-pub fn judge(book: &Book, pass: &mut Pass, actor: Actor, command: Command) -> Result<Doing, Refusal>
+pub fn judge(book: &Book, pass: &mut Pass, actor: Actor, command: Command) -> Result<Stage, Refusal>
     ensures judged { result ≡ judged book.now.state.tree actor command }
     ensures pass { pass.new.worker ≡ pass.old.worker }
 {
@@ -28,36 +28,36 @@ pub fn judge(book: &Book, pass: &mut Pass, actor: Actor, command: Command) -> Re
     }
 }
 
-fn judge_task(task: u32, command: Command) -> Result<Doing, Refusal>
+fn judge_task(task: u32, command: Command) -> Result<Stage, Refusal>
     ensures { result ≡ task_judged task command }
 {
     match command {
-        Command::Access { place, op } => Ok(Doing::Try(Access {
+        Command::Access { place, op } => Ok(Stage::Try(Access {
             task: TaskId(task),
             place,
             op,
         })),
-        Command::Exit => Ok(Doing::Exit(TaskId(task))),
+        Command::Exit => Ok(Stage::Exit(TaskId(task))),
         _ => Err(Refusal::Invalid),
     }
 }
 
-fn judge_daemon(command: Command) -> Result<Doing, Refusal>
+fn judge_daemon(command: Command) -> Result<Stage, Refusal>
     ensures { result ≡ daemon_judged command }
 {
     match command {
-        Command::Daemon => Ok(Doing::Watch),
+        Command::Daemon => Ok(Stage::Watch),
         _ => Err(Refusal::Invalid),
     }
 }
 
-fn judge_shell(book: &Book, pass: &mut Pass, command: Command) -> Result<Doing, Refusal>
+fn judge_shell(book: &Book, pass: &mut Pass, command: Command) -> Result<Stage, Refusal>
     ensures judged { result ≡ shell_judged book.now.state.tree command }
     ensures pass { pass.new.worker ≡ pass.old.worker }
 {
     match command {
         Command::Access { .. } | Command::Exit | Command::Daemon => Err(Refusal::Invalid),
-        Command::Group(path) => Ok(Doing::Mkdir(path)),
+        Command::Group(path) => Ok(Stage::Mkdir(path)),
         Command::Task { task, path } => judge_spawn(book.find(pass, path.as_str()), task),
         Command::Set { path, file, text } => judge_set(
             book.find(pass, path.as_str()),
@@ -72,31 +72,31 @@ fn judge_shell(book: &Book, pass: &mut Pass, command: Command) -> Result<Doing, 
     }
 }
 
-fn judge_spawn(group: Option<GroupId>, task: u32) -> Result<Doing, Refusal>
-    ensures { result ≡ with_group (option_map (λ g. g.0) group) (λ g. Ok (Doing.Spawn (record { 0 = task }) (record { 0 = g }))) }
+fn judge_spawn(group: Option<GroupId>, task: u32) -> Result<Stage, Refusal>
+    ensures { result ≡ with_group (option_map (λ g. g.0) group) (λ g. Ok (Stage.Spawn (record { 0 = task }) (record { 0 = g }))) }
 {
     match group {
         None => Err(Refusal::NoEntry),
-        Some(group) => Ok(Doing::Spawn {
+        Some(group) => Ok(Stage::Spawn {
             task: TaskId(task),
             group,
         }),
     }
 }
 
-fn judge_protection(target: Option<GroupId>, group: Option<GroupId>) -> Result<Doing, Refusal>
-    ensures { result ≡ with_group (option_map (λ g. g.0) target) (λ t. with_group (option_map (λ g. g.0) group) (λ g. Ok (Doing.Show (Query.Protection (record { 0 = t }) (record { 0 = g }))))) }
+fn judge_protection(target: Option<GroupId>, group: Option<GroupId>) -> Result<Stage, Refusal>
+    ensures { result ≡ with_group (option_map (λ g. g.0) target) (λ t. with_group (option_map (λ g. g.0) group) (λ g. Ok (Stage.Show (Query.Protection (record { 0 = t }) (record { 0 = g }))))) }
 {
     let Some(target) = target else {
         return Err(Refusal::NoEntry);
     };
     match group {
         None => Err(Refusal::NoEntry),
-        Some(group) => Ok(Doing::Show(Query::Protection { target, group })),
+        Some(group) => Ok(Stage::Show(Query::Protection { target, group })),
     }
 }
 
-fn judge_set(group: Option<GroupId>, name: &str, text: &str) -> Result<Doing, Refusal>
+fn judge_set(group: Option<GroupId>, name: &str, text: &str) -> Result<Stage, Refusal>
     ensures { result ≡ with_group (option_map (λ g. g.0) group) (λ g. with_file g (file_named name.now) (writes_file g text.now)) }
 {
     match group {
@@ -105,7 +105,7 @@ fn judge_set(group: Option<GroupId>, name: &str, text: &str) -> Result<Doing, Re
     }
 }
 
-fn write_file(group: GroupId, file: Option<ControlFile>, text: &str) -> Result<Doing, Refusal>
+fn write_file(group: GroupId, file: Option<ControlFile>, text: &str) -> Result<Stage, Refusal>
     ensures { result ≡ with_file group.0 file (writes_file group.0 text.now) }
 {
     match file {
@@ -120,18 +120,18 @@ fn write_file(group: GroupId, file: Option<ControlFile>, text: &str) -> Result<D
     }
 }
 
-fn write_named(group: GroupId, file: ControlFile, text: &str) -> Result<Doing, Refusal>
+fn write_named(group: GroupId, file: ControlFile, text: &str) -> Result<Stage, Refusal>
     ensures { result ≡ writes_file group.0 text.now file }
 {
     match file {
         ControlFile::Current | ControlFile::Events | ControlFile::EventsLocal => {
             Err(Refusal::Invalid)
         }
-        ControlFile::Max => Ok(Doing::SetMax {
+        ControlFile::Max => Ok(Stage::SetMax {
             group,
             max: parse_amount(text)?,
         }),
-        ControlFile::Min => Ok(Doing::SetMin {
+        ControlFile::Min => Ok(Stage::SetMin {
             group,
             min: parse_amount(text)?,
         }),
@@ -140,16 +140,16 @@ fn write_named(group: GroupId, file: ControlFile, text: &str) -> Result<Doing, R
 }
 
 /// There is no telling how many pages `max` would be.
-fn reclaim(group: GroupId, amount: Amount) -> Result<Doing, Refusal>
+fn reclaim(group: GroupId, amount: Amount) -> Result<Stage, Refusal>
     ensures { result ≡ reclaims group.0 amount }
 {
     match amount {
         Amount::Max => Err(Refusal::Invalid),
-        Amount::Pages(left) => Ok(Doing::Reclaim { group, left }),
+        Amount::Pages(left) => Ok(Stage::Reclaim { group, left }),
     }
 }
 
-fn judge_cat(group: Option<GroupId>, name: &str) -> Result<Doing, Refusal>
+fn judge_cat(group: Option<GroupId>, name: &str) -> Result<Stage, Refusal>
     ensures { result ≡ with_group (option_map (λ g. g.0) group) (λ g. with_file g (file_named name.now) (reads_file g)) }
 {
     match group {
@@ -158,7 +158,7 @@ fn judge_cat(group: Option<GroupId>, name: &str) -> Result<Doing, Refusal>
     }
 }
 
-fn read_file(group: GroupId, file: Option<ControlFile>) -> Result<Doing, Refusal>
+fn read_file(group: GroupId, file: Option<ControlFile>) -> Result<Stage, Refusal>
     ensures { result ≡ with_file group.0 file (reads_file group.0) }
 {
     match file {
@@ -173,15 +173,15 @@ fn read_file(group: GroupId, file: Option<ControlFile>) -> Result<Doing, Refusal
     }
 }
 
-fn read_named(group: GroupId, file: ControlFile) -> Result<Doing, Refusal>
+fn read_named(group: GroupId, file: ControlFile) -> Result<Stage, Refusal>
     ensures { result ≡ reads_file group.0 file }
 {
     match file {
-        ControlFile::Current => Ok(Doing::Show(Query::Current(group))),
-        ControlFile::Max => Ok(Doing::Show(Query::Max(group))),
-        ControlFile::Min => Ok(Doing::Show(Query::Min(group))),
-        ControlFile::Events => Ok(Doing::Show(Query::Events(group))),
-        ControlFile::EventsLocal => Ok(Doing::Show(Query::EventsLocal(group))),
+        ControlFile::Current => Ok(Stage::Show(Query::Current(group))),
+        ControlFile::Max => Ok(Stage::Show(Query::Max(group))),
+        ControlFile::Min => Ok(Stage::Show(Query::Min(group))),
+        ControlFile::Events => Ok(Stage::Show(Query::Events(group))),
+        ControlFile::EventsLocal => Ok(Stage::Show(Query::EventsLocal(group))),
         ControlFile::Reclaim => Err(Refusal::Invalid),
     }
 }

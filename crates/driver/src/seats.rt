@@ -2,10 +2,10 @@
 
 ghost use Rattle.std.specs.Prelude.{◌≡◌, ℕ, ◌<◌, ◌++◌, ◌∷◌, [], length, IfSome, IfNone, OnOk, OnErr, true, false};
 ghost use Rattle.driver.specs.Schedule.{number_of, with_activity, activity_of, said_at, answer_by, outcome_of, left_of, is_end};
-ghost use Rattle.driver.specs.Tickets.{OwnTurned, OwnActivity, OwnSeats, IsSpendableDoing};
+ghost use Rattle.driver.specs.Tickets.{OwnTransition, OwnActivity, OwnSeats, IsSpendableStage};
 ghost use Rattle.driver.specs.Seats.{place_of, is_under_way, IsTaken};
 
-use crate::turn::{Activity, Doing, Outcome, Seat, Turned};
+use crate::turn::{Activity, Outcome, Seat, Stage, Transition};
 use indexmap::IndexSet;
 use machine::command::{Actor, Answer, Command, Reply, Word};
 use std::alloc::{AllocError, Global};
@@ -168,39 +168,39 @@ fn let_go(activity: Activity)
 {
     match activity {
         Activity::Rests | Activity::Begun(_) => {}
-        Activity::Does(doing) => never(doing),
+        Activity::Does(stage) => never(stage),
     }
 }
 
 /// Spends a command that can't be there.
-fn never(doing: Doing)
-    requires { IsSpendableDoing doing }
+fn never(stage: Stage)
+    requires { IsSpendableStage stage }
 {
-    match doing {
-        Doing::Read(_, ticket) | Doing::Arrive(_, ticket) | Doing::FetchFail(ticket) => {
+    match stage {
+        Stage::Read(_, ticket) | Stage::Arrive(_, ticket) | Stage::FetchFail(ticket) => {
             ticket.discard();
         }
-        Doing::Write(_, ticket) | Doing::Leave(_, ticket) | Doing::LeaveFail(ticket) => {
+        Stage::Write(_, ticket) | Stage::Leave(_, ticket) | Stage::LeaveFail(ticket) => {
             ticket.discard();
         }
-        Doing::Try(_) | Doing::MakeRoom(_, _) | Doing::SetMax { group: _, max: _ } => {}
-        Doing::Lower(_) | Doing::SetMin { group: _, min: _ } => {}
-        Doing::Reclaim { group: _, left: _ } | Doing::Watch | Doing::Balance => {}
-        Doing::Spawn { task: _, group: _ } | Doing::Exit(_) => {}
-        Doing::Mkdir(_) | Doing::Show(_) => {}
+        Stage::Try(_) | Stage::MakeRoom(_, _) | Stage::SetMax { group: _, max: _ } => {}
+        Stage::Lower(_) | Stage::SetMin { group: _, min: _ } => {}
+        Stage::Reclaim { group: _, left: _ } | Stage::Watch | Stage::Balance => {}
+        Stage::Spawn { task: _, group: _ } | Stage::Exit(_) => {}
+        Stage::Mkdir(_) | Stage::Show(_) => {}
     }
 }
 
 /// What a turn shows, and what the actor is at after it.
-pub fn settle(turned: Turned) -> (Outcome, Activity)
-    ensures shows { result.0 ≡ outcome_of turned }
-    ensures leaves { result.1 ≡ left_of turned }
-    ensures own { (swap : ℕ) → OwnTurned swap turned → OwnActivity swap result.1 }
+pub fn settle(transition: Transition) -> (Outcome, Activity)
+    ensures shows { result.0 ≡ outcome_of transition }
+    ensures leaves { result.1 ≡ left_of transition }
+    ensures own { (swap : ℕ) → OwnTransition swap transition → OwnActivity swap result.1 }
 {
-    match turned {
-        Turned::Goes(doing) => (Outcome::Goes, Activity::Does(doing)),
-        Turned::Kills(task, doing) => (Outcome::Kills(task), Activity::Does(doing)),
-        Turned::Ends(answer) => (Outcome::Ends(answer), Activity::Rests),
+    match transition {
+        Transition::Goes(stage) => (Outcome::Goes, Activity::Does(stage)),
+        Transition::Kills(task, stage) => (Outcome::Kills(task), Activity::Does(stage)),
+        Transition::Ends(answer) => (Outcome::Ends(answer), Activity::Rests),
     }
 }
 

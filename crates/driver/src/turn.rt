@@ -17,7 +17,7 @@ pub struct Access {
 
 /// What a command goes on with once a page has left.
 #[derive(Clone, Copy, Debug, PartialEq, Eq)]
-pub enum Onward {
+pub enum Resume {
     /// The access is tried again.
     Try(Access),
     /// Room is made under the group, whose max was set.
@@ -31,7 +31,7 @@ pub enum Onward {
 /// Where a command stands, its paths found and its texts read: what it asks of the book or of the
 /// device next. A ticket in it has to be spent.
 #[must_use]
-pub enum Doing {
+pub enum Stage {
     /// The access is tried.
     Try(Access),
     /// Room is made for the access.
@@ -59,16 +59,16 @@ pub enum Doing {
     /// It could not be read, and the book is told.
     FetchFail(InTicket),
     /// The ticket's block is written.
-    Write(Onward, OutTicket),
+    Write(Resume, OutTicket),
     /// It was written, and the book is told.
-    Leave(Onward, OutTicket),
+    Leave(Resume, OutTicket),
     /// It could not be written, and the book is told.
     LeaveFail(OutTicket),
 }
 
 /// What a command remembers while its event is with the book.
 #[derive(Clone, Copy, Debug, PartialEq, Eq)]
-pub enum Asked {
+pub enum Pending {
     Try(Access),
     MakeRoom(Access),
     SetMax(GroupId),
@@ -85,7 +85,7 @@ pub enum Asked {
     Show,
     Arrive(Access),
     FetchFail,
-    Leave(Onward),
+    Leave(Resume),
     LeaveFail,
 }
 
@@ -93,21 +93,21 @@ pub enum Asked {
 #[must_use]
 pub enum Want {
     /// This event of the book; and what it remembers of it.
-    Call(Asked, Event),
+    Call(Pending, Event),
     /// The ticket's block, read from the device.
     Read(Access, InTicket),
     /// The ticket's block, written to the device.
-    Write(Onward, OutTicket),
+    Write(Resume, OutTicket),
     /// Nothing more: the command ends with this answer.
     End(Answer),
 }
 
 /// What a turn makes of a command.
 #[must_use]
-pub enum Turned {
-    Goes(Doing),
+pub enum Transition {
+    Goes(Stage),
     /// A task was killed, and the command goes on.
-    Kills(TaskId, Doing),
+    Kills(TaskId, Stage),
     Ends(Answer),
 }
 
@@ -125,7 +125,7 @@ pub enum Activity {
     Rests,
     /// A command that has had no turn yet.
     Begun(Command),
-    Does(Doing),
+    Does(Stage),
 }
 
 /// An actor, and what it is at.

@@ -11,11 +11,11 @@ use Rattle.machine.specs.declared.command.Command.{Command}
 use Rattle.machine.specs.declared.command.Step.{Step as Line}
 use Rattle.machine.specs.declared.command.Step.TheVariants.{Begin, Advance, Finish}
 use Rattle.machine.specs.declared.command.Reply.{Reply as Told_by}
-use Rattle.driver.specs.declared.turn.Doing.{Doing}
+use Rattle.driver.specs.declared.turn.Stage.{Stage}
 use Rattle.driver.specs.declared.turn.Outcome.{Outcome}
 use Rattle.driver.specs.declared.turn.Want.{Want}
 use Rattle.driver.specs.declared.turn.Want.TheVariants as want
-use Rattle.driver.specs.declared.turn.Turned.{Turned}
+use Rattle.driver.specs.declared.turn.Transition.{Transition}
 use Rattle.block_store.specs.Device.{Disk}
 use Rattle.book.specs.Events.{event_of, reply_of}
 use Rattle.driver.specs.declared.turn.Activity.{Activity}
@@ -25,7 +25,7 @@ use Rattle.machine.specs.Refusals.{refusal}
 use Rattle.machine.specs.Call.{Past, knows_ticket, Refuses, Served, JudgedBy, Called, is_trace_full}
 use Rattle.machine.specs.Legal.{Legal}
 use Rattle.driver.specs.Turns.{Judged, judged}
-use Rattle.driver.specs.Schedule.{World, WantTurn, wants_at, first_world, activity_of, DoingTurn, JudgedTurn, ActivityTurn, Goings, EndsIn, RunsOut, Begins, Stepped, Runs}
+use Rattle.driver.specs.Schedule.{World, WantTurn, wants_at, first_world, activity_of, StageTurn, JudgedTurn, ActivityTurn, Goings, EndsIn, RunsOut, Begins, Stepped, Runs}
 use Rattle.laws.specs.Laws.{RunsAreLegal}
 
 module _ (opening : Opening) where
@@ -61,23 +61,23 @@ module _ (opening : Opening) where
       by_ticket false known h = legal-same old new h.1 legal
 
   -- a device call leaves the past as it was
-  legal-want : (past past' : Past) (disk disk' : Disk) (wanted : Want) (turned : Turned) → WantTurn past disk wanted turned past' disk' → IsLegal past → IsLegal past'
-  legal-want past past' disk disk' (want.Call remembers what) turned turn legal = legal-called past past' 0 (event_of what) (reply_of turn.0.said) turn.0.called legal
-  legal-want past past' disk disk' (want.Read access ticket) turned turn legal = legal-same past past' turn.1 legal
-  legal-want past past' disk disk' (want.Write on ticket) turned turn legal = legal-same past past' turn.1 legal
-  legal-want past past' disk disk' (want.End said) turned turn legal = legal-same past past' turn.1 legal
+  legal-want : (past past' : Past) (disk disk' : Disk) (wanted : Want) (transition : Transition) → WantTurn past disk wanted transition past' disk' → IsLegal past → IsLegal past'
+  legal-want past past' disk disk' (want.Call remembers what) transition turn legal = legal-called past past' 0 (event_of what) (reply_of turn.0.said) turn.0.called legal
+  legal-want past past' disk disk' (want.Read access ticket) transition turn legal = legal-same past past' turn.1 legal
+  legal-want past past' disk disk' (want.Write on ticket) transition turn legal = legal-same past past' turn.1 legal
+  legal-want past past' disk disk' (want.End said) transition turn legal = legal-same past past' turn.1 legal
 
-  legal-doing : (old new : World) (who : Actor) (doing : Doing) (outcome : Outcome) → DoingTurn old who doing outcome new → IsLegal old.past → IsLegal new.past
-  legal-doing old new who doing outcome turn legal = legal-want old.past new.past old.disk new.disk (wants_at old.past doing) turn.turned turn.turns legal
+  legal-stage : (old new : World) (who : Actor) (stage : Stage) (outcome : Outcome) → StageTurn old who stage outcome new → IsLegal old.past → IsLegal new.past
+  legal-stage old new who stage outcome turn legal = legal-want old.past new.past old.disk new.disk (wants_at old.past stage) turn.transition turn.turns legal
 
   legal-judged : (old new : World) (who : Actor) (found : Judged) (outcome : Outcome) → JudgedTurn old who found outcome new → IsLegal old.past → IsLegal new.past
   legal-judged old new who (Err why) outcome turn legal = subst (λ (w : World). Legal opening w.past.history w.past.state) (sym turn.1) legal
-  legal-judged old new who (Ok doing) outcome turn legal = legal-doing old new who doing outcome turn legal
+  legal-judged old new who (Ok stage) outcome turn legal = legal-stage old new who stage outcome turn legal
 
   legal-turn : (old new : World) (who : Actor) (what : Activity) (outcome : Outcome) → ActivityTurn old who what outcome new → IsLegal old.past → IsLegal new.past
   legal-turn old new who Rests outcome turn legal = legal-world old new turn.1 legal
   legal-turn old new who (Begun what) outcome turn legal = legal-judged old new who (judged old.past.state.tree who what) outcome turn legal
-  legal-turn old new who (Does doing) outcome turn legal = legal-doing old new who doing outcome turn legal
+  legal-turn old new who (Does stage) outcome turn legal = legal-stage old new who stage outcome turn legal
 
   legal-goings : (old new : World) (who : Actor) (outcomes : List Outcome) → Goings old who outcomes new → IsLegal old.past → IsLegal new.past
   legal-goings old new who [] goes legal = legal-world old new goes legal
@@ -90,7 +90,7 @@ module _ (opening : Opening) where
   legal-begin : (old new : World) (who : Actor) (what : Command) (at : Activity) (answers : List Told_by) → Begins old who what at answers new → IsLegal old.past → IsLegal new.past
   legal-begin old new who what Rests answers h legal = subst (λ (w : World). Legal opening w.past.history w.past.state) (sym h.1) legal
   legal-begin old new who what (Begun other) answers h legal = legal-world old new h.1 legal
-  legal-begin old new who what (Does doing) answers h legal = legal-world old new h.1 legal
+  legal-begin old new who what (Does stage) answers h legal = legal-world old new h.1 legal
 
   legal-step : (old new : World) (line : Line) (answers : List Told_by) → Stepped old line answers new → IsLegal old.past → IsLegal new.past
   legal-step old new (Begin who what) answers h legal = legal-begin old new who what (activity_of who old.seats) answers h legal

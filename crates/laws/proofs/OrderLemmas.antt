@@ -29,12 +29,12 @@ use Rattle.machine.proofs.CursorLemmas.{cursors-push, cursors-set}
 use Rattle.block_store.specs.Device.{Disk}
 use Rattle.book.specs.Events.{event_of, reply_of}
 use Rattle.driver.specs.declared.turn.Activity.{Activity}
-use Rattle.driver.specs.declared.turn.Doing.{Doing}
+use Rattle.driver.specs.declared.turn.Stage.{Stage}
 use Rattle.driver.specs.declared.turn.Outcome.{Outcome}
-use Rattle.driver.specs.declared.turn.Turned.{Turned}
+use Rattle.driver.specs.declared.turn.Transition.{Transition}
 use Rattle.driver.specs.declared.turn.Want.{Want}
 use Rattle.driver.specs.declared.turn.Want.TheVariants as want
-use Rattle.driver.specs.Schedule.{World, first_world, with_activity, WantTurn, wants_at, DoingTurn, Runs}
+use Rattle.driver.specs.Schedule.{World, first_world, with_activity, WantTurn, wants_at, StageTurn, Runs}
 use Rattle.laws.specs.Laws.{took_for, TakesUnprotected, LeavesInOrder, HeldPagesAreListed, GroupsHaveCursors, HeldPagesGoOn, PagesLeaveInOrder}
 use Rattle.machine.proofs.OpeningLemmas.{tree_after, step_tree}
 use Rattle.driver.proofs.Keeps.{is_idle, FineOutcome, IsAt, runs_keep}
@@ -165,16 +165,16 @@ pub record Ordered (w : World) : Type 0 where
 ordered_rest : (w : World) (who : Actor) (what : Activity) → is_idle what ≡ true → Ordered w → Ordered (record w { seats = with_activity who what w.seats })
 ordered_rest w who what idle h = record { tickets = tickets_rest w who what idle h.tickets; order = h.order }
 
-want_ordered : (past past' : Past) (disk disk' : Disk) (wanted : Want) (turned : Turned) → WantTurn past disk wanted turned past' disk' → IsOrdered past → IsOrdered past'
-want_ordered past past' disk disk' (want.Call remembers what) turned turn h = ordered-called past past' 0 (event_of what) (reply_of turn.0.said) turn.0.called h
-want_ordered past past' disk disk' (want.Read access ticket) turned turn h = subst IsOrdered (sym turn.1) h
-want_ordered past past' disk disk' (want.Write on ticket) turned turn h = subst IsOrdered (sym turn.1) h
-want_ordered past past' disk disk' (want.End said) turned turn h = subst IsOrdered (sym turn.1) h
+want_ordered : (past past' : Past) (disk disk' : Disk) (wanted : Want) (transition : Transition) → WantTurn past disk wanted transition past' disk' → IsOrdered past → IsOrdered past'
+want_ordered past past' disk disk' (want.Call remembers what) transition turn h = ordered-called past past' 0 (event_of what) (reply_of turn.0.said) turn.0.called h
+want_ordered past past' disk disk' (want.Read access ticket) transition turn h = subst IsOrdered (sym turn.1) h
+want_ordered past past' disk disk' (want.Write on ticket) transition turn h = subst IsOrdered (sym turn.1) h
+want_ordered past past' disk disk' (want.End said) transition turn h = subst IsOrdered (sym turn.1) h
 
-ordered_turn : (old new : World) (who : Actor) (now : Doing) (outcome : Outcome) → IsAt old who now → DoingTurn old who now outcome new → Ordered old → Ordered new × FineOutcome outcome
+ordered_turn : (old new : World) (who : Actor) (now : Stage) (outcome : Outcome) → IsAt old who now → StageTurn old who now outcome new → Ordered old → Ordered new × FineOutcome outcome
 ordered_turn old new who now outcome at turn h =
     let ticketed = tickets_turn old new who now outcome at turn h.tickets in
-    (record { tickets = ticketed.0; order = want_ordered old.past new.past old.disk new.disk (wants_at old.past now) turn.turned turn.turns h.order }, ticketed.1)
+    (record { tickets = ticketed.0; order = want_ordered old.past new.past old.disk new.disk (wants_at old.past now) turn.transition turn.turns h.order }, ticketed.1)
 
 ordered_first : (config : Config) (disk : Disk) → Ordered (first_world config disk)
 ordered_first config disk = record { tickets = tickets_first config disk; order = record { listed = λ p. refl; cursors = refl } }

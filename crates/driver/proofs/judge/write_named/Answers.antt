@@ -5,7 +5,7 @@ use Rattle.machine.specs.declared.amount.Amount.{Amount}
 use Rattle.machine.specs.declared.refusal.Refusal.{Refusal}
 use Rattle.machine.specs.declared.refusal.Refusal.TheVariants.{Invalid}
 use Rattle.machine.specs.Control.{amount_of}
-use Rattle.driver.specs.declared.turn.Doing.TheVariants.{SetMax, SetMin}
+use Rattle.driver.specs.declared.turn.Stage.TheVariants.{SetMax, SetMin}
 use Rattle.driver.specs.Turns.{Judged, reclaims, with_amount}
 use Rattle.driver.proofs.judge.write_named.Goals as goal
 

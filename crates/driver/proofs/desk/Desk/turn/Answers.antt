@@ -9,31 +9,31 @@ use Rattle.driver.proofs.TicketLemmas.{first_own}
 use Rattle.driver.proofs.Runs.{turn_taken, turn_does, turn_begun, turn_refused}
 use Rattle.driver.proofs.desk.Desk.turn.Goals as goal
 
-pub turn_doing-requires-clause-on : goal.turn_doing-requires-clause-on
-turn_doing-requires-clause-on g c =
+pub turn_stage-requires-clause-on : goal.turn_stage-requires-clause-on
+turn_stage-requires-clause-on g c =
     record { asks = record { first = c.judge.ensures.pass ∙ c.requires.asks.first; given = c.requires.asks.given }; own = c.take.ensures.own (swap_of c.args.self.now) c.requires.own; blocks = c.requires.blocks }
 
-pub turn_doing-requires-in-Does-clause-on : goal.turn_doing-requires-in-Does-clause-on
-turn_doing-requires-in-Does-clause-on g c = record { asks = record { first = c.requires.asks.first; given = c.requires.asks.given }; own = c.take.ensures.own (swap_of c.args.self.now) c.requires.own; blocks = c.requires.blocks }
+pub turn_stage-requires-in-Does-clause-on : goal.turn_stage-requires-in-Does-clause-on
+turn_stage-requires-in-Does-clause-on g c = record { asks = record { first = c.requires.asks.first; given = c.requires.asks.given }; own = c.take.ensures.own (swap_of c.args.self.now) c.requires.own; blocks = c.requires.blocks }
 
-pub turn_doing-requires-in-Does-clause-own : goal.turn_doing-requires-in-Does-clause-own
-turn_doing-requires-in-Does-clause-own g c = c.in-Does.ensures.held (swap_of c.args.self.now) c.requires.own
+pub turn_stage-requires-in-Does-clause-own : goal.turn_stage-requires-in-Does-clause-own
+turn_stage-requires-in-Does-clause-own g c = c.in-Does.ensures.held (swap_of c.args.self.now) c.requires.own
 
 pub returns-in-Err-clause-on : goal.returns-in-Err-clause-on
 returns-in-Err-clause-on g c =
     record { asks = record { first = c.judge.ensures.pass ∙ c.requires.asks.first; given = c.requires.asks.given }; own = c.take.ensures.own (swap_of c.args.self.now) c.requires.own; blocks = c.requires.blocks }
 
-pub turn_doing-requires-clause-own : goal.turn_doing-requires-clause-own
-turn_doing-requires-clause-own g c =
-    first_own (swap_of c.args.self.now) c.args.self.now.book.state.tree c.args.actor c.in-Begun.command c.in-Ok.doing c.in-Ok.ensures.judged
+pub turn_stage-requires-clause-own : goal.turn_stage-requires-clause-own
+turn_stage-requires-clause-own g c =
+    first_own (swap_of c.args.self.now) c.args.self.now.book.state.tree c.args.actor c.in-Begun.command c.in-Ok.stage c.in-Ok.ensures.judged
 
-pub turn_doing-requires-clause-seated : goal.turn_doing-requires-clause-seated
-turn_doing-requires-clause-seated g c =
+pub turn_stage-requires-clause-seated : goal.turn_stage-requires-clause-seated
+turn_stage-requires-clause-seated g c =
     c.take.ensures.taken.seated (seated c.args.actor c.args.self.now.seats (λ rests. let wrong : Begun c.in-Begun.command ≡ Rests = c.in-Begun.ensures.was ∙ rests in cc))
 
-pub turn_doing-requires-in-Does-clause-seated : goal.turn_doing-requires-in-Does-clause-seated
-turn_doing-requires-in-Does-clause-seated g c =
-    c.take.ensures.taken.seated (seated c.args.actor c.args.self.now.seats (λ rests. let wrong : Does c.in-Does.doing ≡ Rests = c.in-Does.ensures.was ∙ rests in cc))
+pub turn_stage-requires-in-Does-clause-seated : goal.turn_stage-requires-in-Does-clause-seated
+turn_stage-requires-in-Does-clause-seated g c =
+    c.take.ensures.taken.seated (seated c.args.actor c.args.self.now.seats (λ rests. let wrong : Does c.in-Does.stage ≡ Rests = c.in-Does.ensures.was ∙ rests in cc))
 
 pub returns-in-Err-clause-turn : goal.returns-in-Err-clause-turn
 returns-in-Err-clause-turn g c =
@@ -43,18 +43,18 @@ returns-in-Err-clause-turn g c =
     (turn_refused old _ c.args.actor c.in-Begun.command c.in-Err.cause (sym c.in-Begun.ensures.was) (sym c.in-Err.ensures.judged)
     (ap (λ (ss : List Seat). record old { seats = ss }) (c.take.ensures.taken.rests within)))
 
-pub returns-in_ok-turn_doing-in-Ok-clause-turn : goal.returns-in_ok-turn_doing-in-Ok-clause-turn
-returns-in_ok-turn_doing-in-Ok-clause-turn g c =
+pub returns-in_ok-turn_stage-in-Ok-clause-turn : goal.returns-in_ok-turn_stage-in-Ok-clause-turn
+returns-in_ok-turn_stage-in-Ok-clause-turn g c =
     let old : World = world c.args.self.now (g.D.BlockDevice.disk c.args.device.now) in
-    let new : World = world c.turn_doing.new.self (g.D.BlockDevice.disk c.turn_doing.new.device) in
+    let new : World = world c.turn_stage.new.self (g.D.BlockDevice.disk c.turn_stage.new.device) in
     let within : place_of c.args.actor old.seats < length old.seats = seated c.args.actor old.seats (λ rests. let wrong : Begun c.in-Begun.command ≡ Rests = c.in-Begun.ensures.was ∙ rests in cc) in
-    turn_begun old new c.args.actor c.in-Begun.command c.in-Ok.doing c.in_ok-turn_doing-in-Ok.field-0 (sym c.in-Begun.ensures.was) (sym c.in-Ok.ensures.judged)
-    (turn_taken old c.take.new.self new c.args.actor c.in-Ok.doing c.in_ok-turn_doing-in-Ok.field-0 (c.take.ensures.taken.others within) c.in_ok-turn_doing-in-Ok.ensures.turn)
+    turn_begun old new c.args.actor c.in-Begun.command c.in-Ok.stage c.in_ok-turn_stage-in-Ok.field-0 (sym c.in-Begun.ensures.was) (sym c.in-Ok.ensures.judged)
+    (turn_taken old c.take.new.self new c.args.actor c.in-Ok.stage c.in_ok-turn_stage-in-Ok.field-0 (c.take.ensures.taken.others within) c.in_ok-turn_stage-in-Ok.ensures.turn)
 
-pub returns-in_ok-turn_doing-in-Does-clause-turn : goal.returns-in_ok-turn_doing-in-Does-clause-turn
-returns-in_ok-turn_doing-in-Does-clause-turn g c =
+pub returns-in_ok-turn_stage-in-Does-clause-turn : goal.returns-in_ok-turn_stage-in-Does-clause-turn
+returns-in_ok-turn_stage-in-Does-clause-turn g c =
     let old : World = world c.args.self.now (g.D.BlockDevice.disk c.args.device.now) in
-    let new : World = world c.turn_doing-in-Does.new.self (g.D.BlockDevice.disk c.turn_doing-in-Does.new.device) in
-    let within : place_of c.args.actor old.seats < length old.seats = seated c.args.actor old.seats (λ rests. let wrong : Does c.in-Does.doing ≡ Rests = c.in-Does.ensures.was ∙ rests in cc) in
-    turn_does old new c.args.actor c.in-Does.doing c.in_ok-turn_doing-in-Does.field-0 (sym c.in-Does.ensures.was)
-    (turn_taken old c.take.new.self new c.args.actor c.in-Does.doing c.in_ok-turn_doing-in-Does.field-0 (c.take.ensures.taken.others within) c.in_ok-turn_doing-in-Does.ensures.turn)
+    let new : World = world c.turn_stage-in-Does.new.self (g.D.BlockDevice.disk c.turn_stage-in-Does.new.device) in
+    let within : place_of c.args.actor old.seats < length old.seats = seated c.args.actor old.seats (λ rests. let wrong : Does c.in-Does.stage ≡ Rests = c.in-Does.ensures.was ∙ rests in cc) in
+    turn_does old new c.args.actor c.in-Does.stage c.in_ok-turn_stage-in-Does.field-0 (sym c.in-Does.ensures.was)
+    (turn_taken old c.take.new.self new c.args.actor c.in-Does.stage c.in_ok-turn_stage-in-Does.field-0 (c.take.ensures.taken.others within) c.in_ok-turn_stage-in-Does.ensures.turn)

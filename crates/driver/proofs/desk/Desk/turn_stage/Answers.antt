@@ -2,12 +2,12 @@ use Rattle.std.proofs.Common.{◌≡◌, ℕ, sym, ap, subst, arith}
 use Rattle.machine.specs.State.{Opening}
 use Rattle.driver.specs.Tickets.{OwnSeats}
 use Rattle.driver.specs.Desks.{swap_of}
-use Rattle.driver.proofs.desk.Desk.turn_doing.Goals as goal
+use Rattle.driver.proofs.desk.Desk.turn_stage.Goals as goal
 
 pub returns-clause-on : goal.returns-clause-on
 returns-clause-on g c =
     let swap : ℕ = swap_of c.args.self.now in
-    let served = c.in_ok-turned.ensures in
+    let served = c.in_ok-transition.ensures in
     let kept : swap_of c.serve.new.self ≡ swap = ap (λ (o : Opening). o.swap) served.opening in
     let sat : OwnSeats swap c.serve.new.self.seats = rw served.seats c.requires.on.own in
     let own : OwnSeats swap c.put.new.self = c.put.ensures.own swap sat (c.settle-outcome.ensures.own swap served.own) in
