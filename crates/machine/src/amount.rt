@@ -1,5 +1,8 @@
 //! How much memory, in whole pages.
 
+ghost use Rattle.std.specs.Prelude.{◌≡◌, ◌+◌};
+ghost use Rattle.machine.specs.Amounts.{exceeds, at_most};
+
 /// The value of a limit or of a protection (kernel: the counter of a `struct page_counter`).
 #[derive(Clone, Copy, Debug, PartialEq, Eq)]
 pub enum Amount {
@@ -7,4 +10,36 @@ pub enum Amount {
     Max,
     /// So many pages of 4,096 bytes.
     Pages(u64),
+}
+
+impl Amount {
+    /// Whether the count is more than the amount.
+    pub fn exceeded_by(self, count: u64) -> bool
+        ensures { result ≡ exceeds count self }
+    {
+        match self {
+            Amount::Max => false,
+            Amount::Pages(pages) => count > pages,
+        }
+    }
+
+    /// Whether one more than the count would be more than the amount.
+    pub fn is_full(self, count: u64) -> bool
+        ensures { result ≡ exceeds (count + 1) self }
+    {
+        match self {
+            Amount::Max => false,
+            Amount::Pages(pages) => count >= pages,
+        }
+    }
+
+    /// The lesser of the count and the amount.
+    pub fn at_most(self, count: u64) -> u64
+        ensures { result ≡ at_most count self }
+    {
+        match self {
+            Amount::Max => count,
+            Amount::Pages(pages) => count.min(pages),
+        }
+    }
 }

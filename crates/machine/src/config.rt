@@ -1,5 +1,10 @@
 //! What the opening of a run fixes.
 
+ghost use Rattle.std.specs.Prelude.{◌≡◌};
+ghost use Rattle.machine.specs.State.{are_marks, is_config};
+
+use crate::limit::{MOST_ENTRIES, MOST_FRAMES, MOST_SWAP};
+
 /// The daemon's marks, in free frames, `low` at most `high` and `high` at most the frames (kernel:
 /// `WMARK_LOW` and `WMARK_HIGH` of a `struct zone`).
 #[derive(Clone, Copy, Debug, Default, PartialEq, Eq)]
@@ -8,6 +13,15 @@ pub struct Watermarks {
     pub low: u32,
     /// It ends where so many are.
     pub high: u32,
+}
+
+impl Watermarks {
+    /// Whether the low mark is at most the high one, and that at most the frames.
+    pub fn are_in_order(self, frames: u32) -> bool
+        ensures { result ≡ are_marks self frames }
+    {
+        self.low <= self.high && self.high <= frames
+    }
 }
 
 /// How large the machine is.
@@ -21,4 +35,16 @@ pub struct Config {
     pub marks: Watermarks,
     /// The trace's limit, 1 to 1,048,576 entries.
     pub trace: u32,
+}
+
+impl Config {
+    /// Whether each number is within its limits, and the marks are in order.
+    pub fn is_valid(self) -> bool
+        ensures { result ≡ is_config self }
+    {
+        (1 <= self.frames && self.frames <= MOST_FRAMES)
+            && self.swap <= MOST_SWAP
+            && self.marks.are_in_order(self.frames)
+            && (1 <= self.trace && self.trace <= MOST_ENTRIES)
+    }
 }

@@ -13,6 +13,7 @@ pub mod control;
 pub mod entry;
 pub mod event;
 pub mod id;
+pub mod limit;
 pub mod print;
 pub mod record;
 pub mod refusal;

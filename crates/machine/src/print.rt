@@ -15,7 +15,7 @@ impl fmt::Display for Word {
             Word::Again => f.write_str("EAGAIN"),
             Word::TurnLimit => f.write_str("turn limit"),
             Word::Underway => f.write_str("Underway"),
-            Word::Refused(refusal) => f.write_str(refusal.name()),
+            Word::Refused(refusal) => write!(f, "{refusal}"),
         }
     }
 }

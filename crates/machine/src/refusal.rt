@@ -1,5 +1,7 @@
 //! Why an event, a command, an opening or a pass was refused. What is refused changed nothing.
 
+use std::fmt;
+
 #[derive(Clone, Copy, Debug, PartialEq, Eq)]
 pub enum Refusal {
     /// `EEXIST`: the group is there.
@@ -27,10 +29,10 @@ pub enum Refusal {
     Invalid,
 }
 
-impl Refusal {
-    /// The name that is printed.
-    pub fn name(self) -> &'static str {
-        match self {
+/// The name that is printed.
+impl fmt::Display for Refusal {
+    fn fmt<W: fmt::Write>(&self, f: &mut fmt::Formatter<W>) -> fmt::Result {
+        f.write_str(match self {
             Refusal::Exists => "EEXIST",
             Refusal::NoEntry => "ENOENT",
             Refusal::Busy => "EBUSY",
@@ -42,6 +44,6 @@ impl Refusal {
             Refusal::Stranger => "Stranger",
             Refusal::BadPlace => "BadPlace",
             Refusal::Invalid => "EINVAL",
-        }
+        })
     }
 }

@@ -1,7 +1,6 @@
 //! The counters of all groups.
 
 ghost use Rattle.std.specs.Prelude.{◌≡◌, ◌+◌, ◌<◌, ◌≤◌, ◌++◌, ◌∷◌, ℕ, List, [], length, slice_index, slice_set, Some, None, true, false, option_map, IfOk, OnOk, IfErr, OnErr, IsOk, IsSome};
-ghost use Rattle.machine.specs.Amounts.{exceeds, at_most};
 ghost use Rattle.machine.specs.Protection.{asked, asked_below, min_of};
 ghost use Rattle.machine.specs.Counts.{no_limits, limits_at, over_at};
 ghost use Rattle.machine.specs.Tree.{IsTree, IsAbove, node_at, is_live, has_children, share};
@@ -182,7 +181,7 @@ impl Counters {
         requires live { is_live self.now.tree group.0 ≡ true }
         ensures { result ≡ asked (min_of self.now.limits) (usage_of self.now) group.0 }
     {
-        at_most(self.usage(group), self.min(group))
+        self.min(group).at_most(self.usage(group))
     }
 
     /// The sum of `min_usage` over the groups that hang below this one (kernel:
@@ -197,7 +196,7 @@ impl Counters {
         for (number, count) in usage.iter().enumerate() {
             if self.lineage.is_child(number, group) {
                 // Each child counts pages of its own, and all are counted at the group.
-                sum += at_most(*count, self.limits[number].min);
+                sum += self.limits[number].min.at_most(*count);
             }
         }
         sum
@@ -286,26 +285,6 @@ impl Counters {
     }
 }
 
-/// Whether one page more than so many would pass the max.
-fn is_full(usage: u64, max: Amount) -> bool
-    ensures { result ≡ exceeds (usage + 1) max }
-{
-    match max {
-        Amount::Max => false,
-        Amount::Pages(pages) => usage >= pages,
-    }
-}
-
-/// The lesser of a count and an amount.
-fn at_most(count: u64, amount: Amount) -> u64
-    ensures { result ≡ at_most count amount }
-{
-    match amount {
-        Amount::Max => count,
-        Amount::Pages(pages) => count.min(pages),
-    }
-}
-
 /// The lowest group from this one up that is full.
 fn first_full(
     lineage: &Lineage,
@@ -321,7 +300,7 @@ fn first_full(
 {
     let mut at = Some(group);
     while let Some(here) = at {
-        if is_full(usage[here.0 as usize], limits[here.0 as usize].max) {
+        if limits[here.0 as usize].max.is_full(usage[here.0 as usize]) {
             return Some(here);
         }
         at = lineage.parent(here);
@@ -348,7 +327,7 @@ fn add_up(
 {
     let mut at = Some(group);
     while let Some(here) = at {
-        if is_full(usage[here.0 as usize], limits[here.0 as usize].max) {
+        if limits[here.0 as usize].max.is_full(usage[here.0 as usize]) {
             take_down(lineage, usage, group, Some(here));
             return Err(Over(here));
         }

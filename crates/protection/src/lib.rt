@@ -24,7 +24,6 @@
 #![tactic(auto)]
 
 ghost use Rattle.std.specs.Prelude.{◌≡◌, ◌≢◌, not, true, false};
-ghost use Rattle.machine.specs.Amounts.{exceeds};
 ghost use Rattle.machine.specs.Protection.{part_of, effective, min_of, opens};
 ghost use Rattle.machine.specs.Tree.{is_live, under};
 ghost use Rattle.group_tree.specs.Kin.{AreKin};
@@ -83,15 +82,5 @@ pub fn is_protected(tree: &Tree, counters: &Counters, target: GroupId, group: Gr
         return false;
     }
     let kept = effective(tree, counters, target, group);
-    !exceeds(counters.usage(group), kept)
-}
-
-/// Whether a count is more than an amount.
-fn exceeds(count: u64, amount: Amount) -> bool
-    ensures { result ≡ exceeds count amount }
-{
-    match amount {
-        Amount::Max => false,
-        Amount::Pages(pages) => count > pages,
-    }
+    !kept.exceeded_by(counters.usage(group))
 }

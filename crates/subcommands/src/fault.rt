@@ -13,7 +13,7 @@ pub(crate) enum Fault {
     TooLong,
     #[error(transparent)]
     Script(ScriptFault),
-    #[error("the run can't be made: {}", .0.name())]
+    #[error("the run can't be made: {0}")]
     Run(Refusal),
     #[error("the answers can't be written: {0}")]
     Unwritable(io::Error),

@@ -1,0 +1,22 @@
+//! The limits of what there can be.
+
+/// Page frames of a machine, at most.
+pub const MOST_FRAMES: u32 = 65_536;
+
+/// Swap blocks of a machine, at most.
+pub const MOST_SWAP: u32 = 65_536;
+
+/// Entries of a trace, at most.
+pub const MOST_ENTRIES: u32 = 1_048_576;
+
+/// Tasks that live at a time, at most.
+pub const MOST_TASKS: usize = 1024;
+
+/// The greatest number of a task.
+pub const LAST_TASK: u32 = 65_535;
+
+/// Virtual pages of a task. Their numbers are those below it.
+pub const TASK_PAGES: u32 = 1024;
+
+/// The greatest number that can be written where nothing sets a lesser limit.
+pub const LAST_NUMBER: u32 = u32::MAX;
