@@ -1,11 +1,10 @@
 //! Amounts of memory, as they are written to a control file.
 
-ghost use Rattle.std.specs.Prelude.{◌≡◌, ok_or};
+ghost use Rattle.std.specs.Prelude.{◌≡◌};
 ghost use Rattle.machine.specs.Control.{unit_of, last_unit, digits_part, is_plain, amount_of};
 
 use crate::PAGE_BYTES;
 use machine::amount::Amount;
-use machine::refusal::Refusal;
 use text_forms::number::{is_digits, long_number_of};
 
 /// What a letter at the end of an amount multiplies by, and 1 of another character.
@@ -47,18 +46,18 @@ fn is_plain(digits: &str) -> bool
 }
 
 /// The amount that a text writes: `max`, or a number of bytes with at most one of the suffixes K, M,
-/// G and T, rounded down to whole pages. `Invalid` of any other text, and of 2^64 bytes and more.
-pub fn parse_amount(text: &str) -> Result<Amount, Refusal>
-    ensures { result ≡ ok_or (amount_of text.now) Refusal.Invalid }
+/// G and T, rounded down to whole pages. `None` of any other text, and of 2^64 bytes and more.
+pub fn parse_amount(text: &str) -> Option<Amount>
+    ensures { result ≡ amount_of text.now }
 {
     if text == "max" {
-        return Ok(Amount::Max);
+        return Some(Amount::Max);
     }
     let (digits, unit) = split_unit(text);
     if !is_plain(digits) {
-        return Err(Refusal::Invalid);
+        return None;
     }
-    let number = long_number_of(digits).ok_or(Refusal::Invalid)?;
-    let bytes = number.checked_mul(unit).ok_or(Refusal::Invalid)?;
-    Ok(Amount::Pages(bytes / PAGE_BYTES))
+    let number = long_number_of(digits)?;
+    let bytes = number.checked_mul(unit)?;
+    Some(Amount::Pages(bytes / PAGE_BYTES))
 }

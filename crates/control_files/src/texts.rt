@@ -1,13 +1,12 @@
 //! What control files say.
 
-ghost use Rattle.std.specs.Prelude.{◌≡◌, IfOk, IfErr};
+ghost use Rattle.std.specs.Prelude.{◌≡◌, IfOk};
 ghost use Rattle.machine.specs.Control.{text_of, bytes_text, line, key_line, events_text};
 ghost use Rattle.std.specs.String.{string_bytes};
 
 use crate::PAGE_BYTES;
 use machine::amount::Amount;
 use machine::record::EventCounts;
-use machine::refusal::Refusal;
 use machine::reply::Shown;
 use std::alloc::{AllocError, Global};
 
@@ -39,24 +38,14 @@ fn events_lines(alloc: Global, counts: EventCounts) -> Result<String, AllocError
     Ok(lines)
 }
 
-fn text_of(alloc: Global, numbers: Shown) -> Result<String, AllocError>
+/// What a control file says of these numbers: pages in bytes, events by key. `AllocError` where memory
+/// is wanted and refused.
+pub fn show_text(alloc: Global, numbers: Shown) -> Result<String, AllocError>
     ensures { IfOk result (λ s. string_bytes s ≡ text_of numbers) }
 {
     match numbers {
         Shown::Pages(pages) | Shown::Amount(Amount::Pages(pages)) => pages_line(alloc, pages),
         Shown::Amount(Amount::Max) => String::from_str(alloc, "max\n"),
         Shown::Events(counts) => events_lines(alloc, counts),
-    }
-}
-
-/// What a control file says of these numbers: pages in bytes, events by key. `NoMemory` where memory
-/// is wanted and refused, and no other cause.
-pub fn show_text(alloc: Global, numbers: Shown) -> Result<String, Refusal>
-    ensures text { IfOk result (λ s. string_bytes s ≡ text_of numbers) }
-    ensures err { IfErr result (λ cause. cause ≡ Refusal.NoMemory) }
-{
-    match text_of(alloc, numbers) {
-        Ok(text) => Ok(text),
-        Err(AllocError) => Err(Refusal::NoMemory),
     }
 }
