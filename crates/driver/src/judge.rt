@@ -127,25 +127,19 @@ fn write_named(group: GroupId, file: ControlFile, text: &str) -> Result<Stage, R
         ControlFile::Current | ControlFile::Events | ControlFile::EventsLocal => {
             Err(Refusal::Invalid)
         }
-        ControlFile::Max => Ok(Stage::SetMax {
-            group,
-            max: parse_amount(text)?,
-        }),
-        ControlFile::Min => Ok(Stage::SetMin {
-            group,
-            min: parse_amount(text)?,
-        }),
-        ControlFile::Reclaim => reclaim(group, parse_amount(text)?),
-    }
-}
-
-/// There is no telling how many pages `max` would be.
-fn reclaim(group: GroupId, amount: Amount) -> Result<Stage, Refusal>
-    ensures { result ≡ reclaims group.0 amount }
-{
-    match amount {
-        Amount::Max => Err(Refusal::Invalid),
-        Amount::Pages(left) => Ok(Stage::Reclaim { group, left }),
+        ControlFile::Max => match parse_amount(text) {
+            Some(max) => Ok(Stage::SetMax { group, max }),
+            None => Err(Refusal::Invalid),
+        },
+        ControlFile::Min => match parse_amount(text) {
+            Some(min) => Ok(Stage::SetMin { group, min }),
+            None => Err(Refusal::Invalid),
+        },
+        ControlFile::Reclaim => match parse_amount(text) {
+            Some(Amount::Pages(left)) => Ok(Stage::Reclaim { group, left }),
+            // There is no telling how many pages `max` would be.
+            Some(Amount::Max) | None => Err(Refusal::Invalid),
+        },
     }
 }
 
