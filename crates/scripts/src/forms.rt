@@ -6,6 +6,7 @@ ghost use Rattle.scripts.specs.declared.forms.Word.{Word};
 ghost use Rattle.scripts.specs.Forms.{row, header, header_many, shell, task, part, form_of, is_named, word_named, is_line, takes_line, may_stand, actor_named, call_named};
 
 use machine::command::Actor;
+use machine::limit::{LAST_NUMBER, MOST_ENTRIES, MOST_FRAMES, MOST_SWAP};
 
 /// Who says a word.
 #[derive(Clone, Copy, Debug, PartialEq, Eq)]
@@ -89,28 +90,28 @@ pub struct Form {
 
 const FRAMES: Kind = Kind::Number {
     least: 1,
-    most: 65_536,
+    most: MOST_FRAMES,
 };
 
 const BLOCKS: Kind = Kind::Number {
     least: 0,
-    most: 65_536,
+    most: MOST_SWAP,
 };
 
 const ENTRIES: Kind = Kind::Number {
     least: 1,
-    most: 1_048_576,
+    most: MOST_ENTRIES,
 };
 
 /// Which call of its kind, counted from 1.
 const COUNT: Kind = Kind::Number {
     least: 1,
-    most: u32::MAX,
+    most: LAST_NUMBER,
 };
 
 const NUMBER: Kind = Kind::Number {
     least: 0,
-    most: u32::MAX,
+    most: LAST_NUMBER,
 };
 
 const BYTE: Kind = Kind::Number {

@@ -1,9 +1,8 @@
 //! How many frames the header asks for.
 
-ghost use Rattle.std.specs.Prelude.{◌≡◌, map, IfOk};
+ghost use Rattle.std.specs.Prelude.{◌≡◌, IfOk};
 ghost use Rattle.std.specs.Str.Lines.{lines};
-ghost use Rattle.scripts.specs.Faults.{now};
-ghost use Rattle.scripts.specs.Header.{word_of, is_skipped, is_of_header, is_frames, goes_on, frames_of, frames_asked, header_frames};
+ghost use Rattle.scripts.specs.Header.{word_of, is_skipped, is_of_header, is_frames, frames_of, frames_asked, header_frames};
 ghost use Rattle.scripts.specs.Reading.{IsPart};
 
 use crate::context::Context;
@@ -12,7 +11,7 @@ use crate::forms::{Speaker, Word, word_named};
 use crate::line::read_line;
 use crate::lines::{as_text, first_line};
 use crate::meaning::Item;
-use crate::words::words_of;
+use crate::words::{Token, words_of};
 use machine::config::{Config, Watermarks};
 use std::alloc::{AllocError, Global};
 
@@ -34,20 +33,20 @@ enum Part {
     Behind,
 }
 
-fn word_of(words: &[&str]) -> Option<Word>
-    ensures { result ≡ word_of (map now words.now) }
+fn word_of(words: &[Token<'_>]) -> Option<Word>
+    ensures { result ≡ word_of words.now }
 {
     match words.first() {
-        Some(first) => word_named(Speaker::Shell, first),
+        Some(first) => word_named(Speaker::Shell, first.text()),
         None => None,
     }
 }
 
-fn is_skipped(words: &[&str]) -> bool
-    ensures { result ≡ is_skipped (map now words.now) }
+fn is_skipped(words: &[Token<'_>]) -> bool
+    ensures { result ≡ is_skipped words.now }
 {
     match words.first() {
-        Some(first) => first.starts_with('#'),
+        Some(first) => first.text().starts_with('#'),
         None => true,
     }
 }
@@ -70,12 +69,6 @@ fn is_frames(word: Option<Word>) -> bool
     }
 }
 
-fn goes_on(words: &[&str]) -> bool
-    ensures { result ≡ goes_on (map now words.now) }
-{
-    is_skipped(words) || is_of_header(word_of(words))
-}
-
 fn part_of(alloc: Global, line: &[u8]) -> Result<Part, AllocError>
     ensures { IfOk result (λ part. IsPart part line.now) }
 {
@@ -83,10 +76,11 @@ fn part_of(alloc: Global, line: &[u8]) -> Result<Part, AllocError>
         return Ok(Part::Behind);
     };
     let words = words_of(alloc, text)?;
-    if !goes_on(words.as_slice()) {
+    let word = word_of(words.as_slice());
+    if !is_skipped(words.as_slice()) && !is_of_header(word) {
         return Ok(Part::Behind);
     }
-    if is_frames(word_of(words.as_slice())) {
+    if is_frames(word) {
         return Ok(Part::Frames);
     }
     Ok(Part::Other)

@@ -1,11 +1,12 @@
 //! What a line says, or its first fault.
 
-ghost use Rattle.std.specs.Prelude.{◌≡◌, map};
+ghost use Rattle.std.specs.Prelude.{◌≡◌};
 ghost use Rattle.std.specs.Option.{option_map};
+ghost use Rattle.scripts.specs.declared.forms.Manner.TheVariants.{Begun};
 ghost use Rattle.scripts.specs.Words.{words_of};
 ghost use Rattle.scripts.specs.Context.{around};
-ghost use Rattle.scripts.specs.Faults.{now, first_of, named_faults, bare_faults, line_faults, fault};
-ghost use Rattle.scripts.specs.Meaning.{named_means, bare_means, meaning};
+ghost use Rattle.scripts.specs.Faults.{now, first_of, named_faults, task_faults, bare_faults, line_faults, fault};
+ghost use Rattle.scripts.specs.Meaning.{named_means, task_means, bare_means, begun, meaning};
 ghost use Rattle.scripts.specs.Lines.{Reads};
 
 use crate::check::fault_of_word;
@@ -14,21 +15,20 @@ use crate::fault::{Cause, LineError};
 use crate::forms::{Manner, Speaker, Word, takes_line, word_named};
 use crate::lines::as_text;
 use crate::meaning::{Item, begun, item_of_word};
-use crate::words::words_of;
+use crate::words::{Token, words_of};
 use std::alloc::Global;
-use text_forms::number::is_digits;
 
 fn read_named(
     alloc: Global,
     context: &Context,
     manner: Manner,
-    task: Option<&str>,
+    task: Option<&Token<'_>>,
     word: Option<Word>,
-    arguments: &[&str],
+    arguments: &[Token<'_>],
 ) -> Result<Item, LineError>
     ensures { Reads result
-        (first_of (named_faults (around context.now) manner (option_map now task.entry) word (map now arguments.now)))
-        (named_means (option_map now task.entry) word (map now arguments.now)) }
+        (first_of (named_faults (around context.now) manner (option_map now task.entry) word arguments.now))
+        (named_means (option_map now task.entry) word arguments.now) }
 {
     let Some(word) = word else {
         return Err(LineError::Fault(Cause::UnknownWord));
@@ -39,58 +39,62 @@ fn read_named(
     Ok(item_of_word(alloc, task, word, arguments)?)
 }
 
-fn read_bare(
+/// Of a line that begins with a task's number.
+fn read_task(
     alloc: Global,
     context: &Context,
     manner: Manner,
-    words: &[&str],
+    task: &Token<'_>,
+    words: &[Token<'_>],
 ) -> Result<Item, LineError>
     ensures { Reads result
-        (first_of (bare_faults (around context.now) manner (map now words.now)))
-        (bare_means (map now words.now)) }
+        (first_of (task_faults (around context.now) manner task.now words.now))
+        (task_means task.now words.now) }
 {
-    let Some((first, more)) = words.split_first() else {
+    let Some((first, arguments)) = words.split_first() else {
         return Err(LineError::Fault(Cause::MissingArgument));
     };
-    if !is_digits(first) {
-        return read_named(
-            alloc,
-            context,
-            manner,
-            None,
-            word_named(Speaker::Shell, first),
-            more,
-        );
-    }
-    let Some((word, arguments)) = more.split_first() else {
-        return Err(LineError::Fault(Cause::MissingArgument));
-    };
-    read_named(
-        alloc,
-        context,
-        manner,
-        Some(first),
-        word_named(Speaker::Task, word),
-        arguments,
-    )
+    let word = word_named(Speaker::Task, first.text());
+    read_named(alloc, context, manner, Some(task), word, arguments)
 }
 
-fn read_words(alloc: Global, context: &Context, words: &[&str]) -> Result<Item, LineError>
+/// Of what stands behind `begin`.
+fn read_begun(alloc: Global, context: &Context, words: &[Token<'_>]) -> Result<Item, LineError>
     ensures { Reads result
-        (first_of (line_faults (around context.now) (map now words.now)))
-        (meaning (map now words.now)) }
+        (first_of (bare_faults (around context.now) Begun words.now))
+        (begun (bare_means words.now)) }
+{
+    let Some((first, more)) = words.split_first() else {
+        return Err(LineError::Fault(Cause::MissingArgument));
+    };
+    let item = if first.is_digits() {
+        read_task(alloc, context, Manner::Begun, first, more)?
+    } else {
+        let word = word_named(Speaker::Shell, first.text());
+        read_named(alloc, context, Manner::Begun, None, word, more)?
+    };
+    Ok(begun(item))
+}
+
+fn read_words(alloc: Global, context: &Context, words: &[Token<'_>]) -> Result<Item, LineError>
+    ensures { Reads result
+        (first_of (line_faults (around context.now) words.now))
+        (meaning words.now) }
 {
     let Some((first, more)) = words.split_first() else {
         return Ok(Item::Nothing);
     };
-    if first.starts_with('#') {
+    if first.text().starts_with('#') {
         return Ok(Item::Nothing);
     }
-    if takes_line(word_named(Speaker::Shell, first)) {
-        let item = read_bare(alloc, context, Manner::Begun, more)?;
-        return Ok(begun(item));
+    let word = word_named(Speaker::Shell, first.text());
+    if takes_line(word) {
+        return read_begun(alloc, context, more);
     }
-    read_bare(alloc, context, Manner::Whole, words)
+    if first.is_digits() {
+        return read_task(alloc, context, Manner::Whole, first, more);
+    }
+    read_named(alloc, context, Manner::Whole, None, word, more)
 }
 
 /// What a line says among those that the context is of.

@@ -1,6 +1,6 @@
 //! What the words of a line say.
 
-ghost use Rattle.std.specs.Prelude.{◌≡◌, map, length, IfOk};
+ghost use Rattle.std.specs.Prelude.{◌≡◌, length, IfOk};
 ghost use Rattle.std.specs.Option.{option_map};
 ghost use Rattle.machine.specs.declared.command.Command.TheVariants.{Protection};
 ghost use Rattle.scripts.specs.Forms.{form_of};
@@ -8,12 +8,12 @@ ghost use Rattle.scripts.specs.Faults.{now};
 ghost use Rattle.scripts.specs.Meaning.{number_value, byte_value, actor_of, actor_value, call_value, marks_of, access_to, word_means, begun};
 
 use crate::forms::{DeviceCall, Word, actor_named, call_named};
+use crate::words::Token;
 use machine::command::{Actor, Command};
 use machine::config::Watermarks;
 use machine::event::{Op, Place};
 use machine::text::Text;
 use std::alloc::{AllocError, Global};
-use text_forms::number::number_of;
 
 /// What a line says.
 #[derive(Debug, Drop)]
@@ -40,28 +40,28 @@ pub enum Item {
     Finishes(Actor),
 }
 
-fn number_value(word: &str) -> u32
+fn number_value(word: &Token<'_>) -> u32
     ensures { result ≡ number_value word.now }
 {
-    number_of(word).unwrap_or(0)
+    word.number().unwrap_or(0)
 }
 
-fn byte_value(word: &str) -> u8
+fn byte_value(word: &Token<'_>) -> u8
     ensures { result ≡ byte_value word.now }
 {
-    match number_of(word) {
+    match word.number() {
         Some(number) if number < 256 => number as u8,
         _ => 0,
     }
 }
 
-fn text_of(alloc: Global, word: &str) -> Result<Text, AllocError>
+fn text_of(alloc: Global, word: &Token<'_>) -> Result<Text, AllocError>
     ensures { IfOk result (λ text. text ≡ word.now) }
 {
-    Ok(Text::new(String::from_str(alloc, word)?))
+    Ok(Text::new(String::from_str(alloc, word.text())?))
 }
 
-fn actor_of(task: Option<&str>) -> Actor
+fn actor_of(task: Option<&Token<'_>>) -> Actor
     ensures { result ≡ actor_of (option_map now task.entry) }
 {
     match task {
@@ -70,19 +70,19 @@ fn actor_of(task: Option<&str>) -> Actor
     }
 }
 
-fn actor_value(word: &str) -> Actor
+fn actor_value(word: &Token<'_>) -> Actor
     ensures { result ≡ actor_value word.now }
 {
-    actor_named(word).unwrap_or(Actor::Task(number_value(word)))
+    actor_named(word.text()).unwrap_or(Actor::Task(number_value(word)))
 }
 
-fn call_value(word: &str) -> DeviceCall
+fn call_value(word: &Token<'_>) -> DeviceCall
     ensures { result ≡ call_value word.now }
 {
-    call_named(word).unwrap_or(DeviceCall::Read)
+    call_named(word.text()).unwrap_or(DeviceCall::Read)
 }
 
-pub fn marks_of(low: &str, high: &str) -> Watermarks
+pub fn marks_of(low: &Token<'_>, high: &Token<'_>) -> Watermarks
     ensures { result ≡ marks_of low.now high.now }
 {
     Watermarks {
@@ -91,7 +91,7 @@ pub fn marks_of(low: &str, high: &str) -> Watermarks
     }
 }
 
-fn protection(alloc: Global, target: &str, path: &str) -> Result<Command, AllocError>
+fn protection(alloc: Global, target: &Token<'_>, path: &Token<'_>) -> Result<Command, AllocError>
     ensures { IfOk result (λ command. command ≡ Protection target.now path.now) }
 {
     Ok(Command::Protection {
@@ -100,7 +100,7 @@ fn protection(alloc: Global, target: &str, path: &str) -> Result<Command, AllocE
     })
 }
 
-fn access_to(page: &str, offset: &str, op: Op) -> Command
+fn access_to(page: &Token<'_>, offset: &Token<'_>, op: Op) -> Command
     ensures { result ≡ access_to page.now offset.now op }
 {
     let place = Place::Virtual {
@@ -113,48 +113,48 @@ fn access_to(page: &str, offset: &str, op: Op) -> Command
 /// What a line with this word says, which stands behind a task's number where there is one.
 pub fn item_of_word(
     alloc: Global,
-    task: Option<&str>,
+    task: Option<&Token<'_>>,
     word: Word,
-    arguments: &[&str],
+    arguments: &[Token<'_>],
 ) -> Result<Item, AllocError>
     requires { length arguments.now ≡ length (form_of word).arguments }
-    ensures { IfOk result (λ item. item ≡ word_means (option_map now task.entry) word (map now arguments.now)) }
+    ensures { IfOk result (λ item. item ≡ word_means (option_map now task.entry) word arguments.now) }
 {
     let command = match word {
-        Word::Frames => return Ok(Item::Frames(number_value(arguments[0]))),
-        Word::Swap => return Ok(Item::Swap(number_value(arguments[0]))),
-        Word::Watermarks => return Ok(Item::Marks(marks_of(arguments[0], arguments[1]))),
-        Word::Trace => return Ok(Item::Trace(number_value(arguments[0]))),
+        Word::Frames => return Ok(Item::Frames(number_value(&arguments[0]))),
+        Word::Swap => return Ok(Item::Swap(number_value(&arguments[0]))),
+        Word::Watermarks => return Ok(Item::Marks(marks_of(&arguments[0], &arguments[1]))),
+        Word::Trace => return Ok(Item::Trace(number_value(&arguments[0]))),
         Word::Fault => {
-            let call = call_value(arguments[0]);
-            return Ok(Item::Fails(call, number_value(arguments[1])));
+            let call = call_value(&arguments[0]);
+            return Ok(Item::Fails(call, number_value(&arguments[1])));
         }
-        Word::Group => Command::Group(text_of(alloc, arguments[0])?),
+        Word::Group => Command::Group(text_of(alloc, &arguments[0])?),
         Word::Task => Command::Task {
-            task: number_value(arguments[0]),
-            path: text_of(alloc, arguments[1])?,
+            task: number_value(&arguments[0]),
+            path: text_of(alloc, &arguments[1])?,
         },
         Word::Set => Command::Set {
-            path: text_of(alloc, arguments[0])?,
-            file: text_of(alloc, arguments[1])?,
-            text: text_of(alloc, arguments[2])?,
+            path: text_of(alloc, &arguments[0])?,
+            file: text_of(alloc, &arguments[1])?,
+            text: text_of(alloc, &arguments[2])?,
         },
         Word::Cat => Command::Cat {
-            path: text_of(alloc, arguments[0])?,
-            file: text_of(alloc, arguments[1])?,
+            path: text_of(alloc, &arguments[0])?,
+            file: text_of(alloc, &arguments[1])?,
         },
-        Word::Protection => protection(alloc, arguments[0], arguments[1])?,
+        Word::Protection => protection(alloc, &arguments[0], &arguments[1])?,
         Word::Write => {
-            let byte = byte_value(arguments[2]);
-            access_to(arguments[0], arguments[1], Op::Write(byte))
+            let byte = byte_value(&arguments[2]);
+            access_to(&arguments[0], &arguments[1], Op::Write(byte))
         }
-        Word::Read => access_to(arguments[0], arguments[1], Op::Read),
+        Word::Read => access_to(&arguments[0], &arguments[1], Op::Read),
         Word::Exit => Command::Exit,
         Word::Daemon => return Ok(Item::Does(Actor::Daemon, Command::Daemon)),
         // The line behind it tells what is begun.
         Word::Begin => return Ok(Item::Nothing),
-        Word::Step => return Ok(Item::Advances(actor_value(arguments[0]))),
-        Word::Finish => return Ok(Item::Finishes(actor_value(arguments[0]))),
+        Word::Step => return Ok(Item::Advances(actor_value(&arguments[0]))),
+        Word::Finish => return Ok(Item::Finishes(actor_value(&arguments[0]))),
     };
     Ok(Item::Does(actor_of(task), command))
 }
