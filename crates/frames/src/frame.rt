@@ -3,12 +3,13 @@
 ghost use Rattle.std.specs.Prelude.{◌≡◌, ◌≢◌, ℕ, ◌<◌, IfOk, slice_index};
 ghost use Rattle.machine.specs.Access.{page_size};
 
+use machine::bytes::PAGE_BYTES;
 use machine::id::FrameId;
 use std::alloc::{AllocError, Global};
 use std::marker::Model;
 
 /// The bytes of a frame, which are those of the page that stands in it (kernel: `PAGE_SIZE`).
-pub const FRAME_BYTES: usize = 4096;
+pub const FRAME_BYTES: usize = PAGE_BYTES;
 
 /// A page frame: 4,096 bytes of memory, by its number (kernel: a page frame and its number). It is
 /// no `Drop`: it goes back to the pool that it came from, by [`Pool::give`](crate::Pool::give).

@@ -11,16 +11,11 @@ ghost use Rattle.machine.specs.Refusals.{number_refusal};
 ghost use Rattle.spaces.specs.Space.{was_killed, is_killed_life};
 
 use machine::id::{GroupId, PageId, TaskId};
+use machine::limit::{LAST_TASK, MOST_TASKS};
 use machine::record::{Life, Mapping, Task};
 use machine::refusal::Refusal;
 use std::alloc::{AllocError, Global};
 use std::marker::Model;
-
-/// As many tasks can live at a time.
-const LIVE_TASKS: usize = 1024;
-
-/// The greatest number of a task.
-const LAST_TASK: u32 = 65535;
 
 /// The tasks by their numbers, and what the virtual pages of the live ones show (kernel: each task's `mm_struct` with
 /// its page tables).
@@ -88,7 +83,7 @@ impl Spaces {
         if self.task(task).is_some() {
             return Some(Refusal::NumberUsed);
         }
-        if count_live(&self.tasks) >= LIVE_TASKS {
+        if count_live(&self.tasks) >= MOST_TASKS {
             return Some(Refusal::NoSpace);
         }
         None
