@@ -3,8 +3,10 @@
 ghost use Rattle.std.specs.Prelude.{◌≡◌, ℕ, ◌<◌, ◌≤◌, length};
 ghost use Rattle.block_store.specs.Device.{Disk, ReadsBlock, WritesBlock};
 
+use machine::bytes::PAGE_BYTES;
+
 /// The bytes of a block, which are those of a page.
-pub const BLOCK_BYTES: usize = 4096;
+pub const BLOCK_BYTES: usize = PAGE_BYTES;
 
 /// A call of a block device failed (kernel: `BLK_STS_IOERR`, which callers see as `EIO`).
 #[derive(Clone, Copy, Debug, PartialEq, Eq)]
