@@ -7,20 +7,6 @@ ghost use Rattle.events.specs.Tallies.{count_of_key};
 
 use machine::record::{EventCounts, Key};
 
-/// How often the key was counted.
-pub(crate) fn count_of(counts: &EventCounts, key: Key) -> u64
-    ensures { result ≡ count_of_key counts.now key }
-{
-    match key {
-        Key::Low => counts.low,
-        Key::High => counts.high,
-        Key::Max => counts.max,
-        Key::Oom => counts.oom,
-        Key::OomKill => counts.oom_kill,
-        Key::OomGroupKill => counts.oom_group_kill,
-    }
-}
-
 /// Counts the key once more.
 pub(crate) fn count_once(counts: &mut EventCounts, key: Key)
     requires { count_of_key counts.old key < u64.MAX }

@@ -7,7 +7,7 @@ ghost use Rattle.machine.specs.Tree.{node_at, is_live, has_children, under};
 ghost use Rattle.group_tree.specs.Lineages.{bare, IsLineage};
 ghost use Rattle.events.specs.Tallies.{Tells, no_counts, count_at, total_of, local_of};
 
-use crate::counts::{count_of, count_once};
+use crate::counts::count_once;
 use group_tree::Lineage;
 use machine::id::GroupId;
 use machine::record::{EventCounts, Key};
@@ -147,24 +147,6 @@ impl Events {
         self.lineage.is_lineage();
         count_once(&mut self.locals[group.0 as usize], key);
         count_up(&self.lineage, self.totals.as_mut_slice(), group, key);
-    }
-
-    /// How often the key was counted at the group or anywhere below it.
-    pub fn total(&self, group: GroupId, key: Key) -> u64
-        requires { is_live self.now.tree group.0 ≡ true }
-        ensures stored { result ≡ total_of self.now group.0 key }
-        ensures told { (counted : List Counted) → Tells self.now counted → result ≡ total_counted self.now.tree counted group.0 key }
-    {
-        count_of(&self.totals[group.0 as usize], key)
-    }
-
-    /// How often the key was counted at the group itself.
-    pub fn local(&self, group: GroupId, key: Key) -> u64
-        requires { is_live self.now.tree group.0 ≡ true }
-        ensures stored { result ≡ local_of self.now group.0 key }
-        ensures told { (counted : List Counted) → Tells self.now counted → result ≡ local_counted counted group.0 key }
-    {
-        count_of(&self.locals[group.0 as usize], key)
     }
 
     /// The counts of all keys at the group or anywhere below it (kernel: the file `memory.events`).

@@ -7,7 +7,7 @@ use Rattle.std.proofs.lemmas.List.Sums.{sum_by-append, sum_by-cons}
 use Rattle.std.proofs.lemmas.List.Folds.{find-append}
 use Rattle.std.proofs.lemmas.Bool.Decides.{nat_tests}
 use Rattle.machine.specs.declared.record.Mapping.{Mapping}
-use Rattle.machine.specs.Tasks.{is_of, is_at, is_to, mapped_at, size_of, mappers, mapping, without_task}
+use Rattle.machine.specs.Tasks.{is_of, is_at, is_to, mapped_at, mappers, mapping, without_task}
 use Rattle.machine.proofs.Values.{some_inj}
 use Rattle.machine.proofs.TreeLemmas.{eq_cases}
 use Rattle.machine.proofs.SlotLemmas.{one_if}
@@ -99,12 +99,6 @@ pub mapped_at-mappers : (ms : List Mapping) (t v p : ℕ) → mapped_at ms t v �
 mapped_at-mappers ms t v p e =
     let m = found (is_at t v) ms p e in
     find-counts (is_at t v) (is_to p) ms m.0 m.1 (let same = m.2 in grind (arith, nat_tests, same))
-
--- what is mapped at a place is a mapping of its task
-pub mapped_at-size : (ms : List Mapping) (t v p : ℕ) → mapped_at ms t v ≡ Some p → 1 ≤ size_of ms t
-mapped_at-size ms t v p e =
-    let m = found (is_at t v) ms p e in
-    find-counts (is_at t v) (is_of t) ms m.0 m.1 (and_parts (m.0.task.0 == t) (m.0.at == v) (find-passes (is_at t v) ms m.0 m.1)).0
 
 -- two places that show a page that is mapped once are one place
 pub mapped_at-one : (ms : List Mapping) (t v t' v' p : ℕ) → mappers ms p ≤ 1 → mapped_at ms t v ≡ Some p → mapped_at ms t' v' ≡ Some p → ((t == t') && (v == v')) ≡ true

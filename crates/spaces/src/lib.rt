@@ -8,7 +8,6 @@ ghost use Rattle.std.specs.Prelude.{◌≡◌, ◌+◌, ◌<◌, ◌≤◌, [], 
 ghost use Rattle.machine.specs.Slots.{there_and};
 ghost use Rattle.machine.specs.Tasks.{task_at, live_tasks, is_live_task, is_live_in, has_tasks, group_of_task, is_live_life, SetsTask, is_at, mapped_at, size_of, mappers, mapping, without_task};
 ghost use Rattle.machine.specs.Refusals.{number_refusal};
-ghost use Rattle.spaces.specs.Space.{was_killed, is_killed_life};
 
 use machine::id::{GroupId, PageId, TaskId};
 use machine::limit::{LAST_TASK, MOST_TASKS};
@@ -59,16 +58,6 @@ impl Spaces {
         match self.tasks.get(task.0 as usize) {
             Some(slot) => *slot,
             None => None,
-        }
-    }
-
-    /// Whether the task was there and relief ended it.
-    pub fn was_killed(&self, task: TaskId) -> bool
-        ensures { result ≡ was_killed self.now.tasks task.0 }
-    {
-        match self.task(task) {
-            Some(known) => is_killed(known.life),
-            None => false,
         }
     }
 
@@ -199,15 +188,6 @@ fn is_live(life: Life) -> bool
     match life {
         Life::Live => true,
         Life::Exited | Life::Killed => false,
-    }
-}
-
-fn is_killed(life: Life) -> bool
-    ensures { result ≡ is_killed_life life }
-{
-    match life {
-        Life::Killed => true,
-        Life::Live | Life::Exited => false,
     }
 }
 
