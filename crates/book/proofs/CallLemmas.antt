@@ -1,31 +1,39 @@
 -- One call: what it answers, and the book after it.
-use Rattle.std.proofs.Common.{◌≡◌, ℕ, ◌+◌, ◌<◌, ◌≤◌, true, false, List, [], ◌∷◌, ◌++◌, None, refl, sym, ap, ◌∙◌, subst, arith, length, length-append, add-one}
+use Rattle.std.proofs.Common.{◌≡◌, ℕ, ◌+◌, ◌<◌, ◌≤◌, ◌&&◌, Bool, true, false, List, [], ◌∷◌, ◌++◌, None, refl, sym, ap, ◌∙◌, subst, arith, length, length-append, add-one}
 use Rattle.std.specs.Prelude.{slice_index, slice_set, reverse, nat_lt, vec_len, vec_capacity}
 use Rattle.std.proofs.lemmas.List.{reverse-append, length-reverse, length-set}
 use Rattle.std.proofs.lemmas.List.Sums.{length-filter, count_by-le-length}
 use Rattle.std.proofs.lemmas.Bool.Decides.{nat_tests}
 use Rattle.machine.specs.declared.entry.Entry.{Entry}
-use Rattle.machine.specs.declared.refusal.Refusal.TheVariants.{Stranger}
+use Rattle.machine.specs.declared.refusal.Refusal.TheVariants.{Stranger, TraceFull}
 use Rattle.machine.specs.declared.event.Event.{Event}
 use Rattle.machine.specs.declared.event.Event.TheVariants as event
 use Rattle.machine.specs.declared.event.Query.TheVariants as query
 use Rattle.machine.specs.declared.reply.Reply.{Reply}
 use Rattle.machine.specs.declared.reply.Reply.TheVariants as reply
 use Rattle.machine.specs.declared.id.WorkerId.{WorkerId}
-use Rattle.machine.specs.Pages.{in_transfer}
+use Rattle.machine.specs.Pages.{in_transfer, is_coming_in, is_going_out}
+use Rattle.pages.specs.Tickets.{TicketOf}
+use Rattle.pages.specs.declared.end.End.{End}
+use Rattle.pages.specs.declared.end.End.TheVariants.{InFrame, OnBlock}
+use Rattle.book.specs.Events.{in_ended, out_ended}
 use Rattle.machine.specs.Counts.{Counted}
 use Rattle.machine.specs.State.{Opening, State}
 use Rattle.machine.specs.Refusals.{refusal}
 use Rattle.machine.specs.Reclaim.{target_of}
 use Rattle.machine.specs.Step.{Step}
 use Rattle.machine.specs.Lists.{Order, TakesNext, CursorsGoOn, Orders}
-use Rattle.machine.specs.History.{is_by, entries_by}
-use Rattle.machine.specs.Call.{Past, knows_ticket, need, is_trace_full, entry_of, Answers, Served, Called}
+use Rattle.machine.specs.History.{is_by, entries_by, taker}
+use Rattle.machine.specs.Call.{Past, is_worker, knows_ticket, need, is_trace_full, entry_of, Answers, Served, Called}
 use Rattle.book.specs.declared.book.Book.TheInside.{Inside}
-use Rattle.book.specs.Contents.{Contents, counting, counted_after}
+use Rattle.page_state.specs.States.{StateOf}
+use Rattle.book.specs.Effects.{counting, counted_after}
 use Rattle.book.specs.Serves.{Serves, IsAsked, is_refused}
 use Rattle.book.specs.Told.{group_in, counted_in, state_of, IsHistory}
 use Rattle.book.specs.Books.{past_of, IsBook}
+use Rattle.book.specs.declared.decision.Decision.{Decision}
+use Rattle.book.specs.Decisions.{IsDecided, entries_for}
+use Rattle.book.proofs.NeedLemmas.{entries-needed}
 use Rattle.book.proofs.HistoryLemmas.{Extending, steps_on, extends}
 
 -- ---- the tables, whatever was counted
@@ -144,7 +152,7 @@ fits : (limit wanted : ℕ) → nat_lt limit wanted ≡ false → wanted ≤ lim
 fits limit wanted e = grind (arith, nat_tests, e)
 
 -- where an entry extends the history, all entries and all transfers in flight have room
-module _ (b : Inside) (new : Contents) (worker : ℕ) (what : Event) (answer : Reply) (h : Extending b.state new (history_of b) b.counts.items worker what answer) where
+module _ (b : Inside) (new : StateOf) (worker : ℕ) (what : Event) (answer : Reply) (h : Extending b.state new (history_of b) b.counts.items worker what answer) where
   pub fits_more : length b.entries.items + 1 + in_transfer new.tables.pages ≤ b.state.tables.opening.limit
   fits_more =
       let s = state_of b.state (history_of b) in
@@ -162,7 +170,7 @@ module _ (b : Inside) (new : Contents) (worker : ℕ) (what : Event) (answer : R
       omega (arith, fits, room, ok)
 
 -- what is asked of a book, as its callers see it
-module _ (b : Inside) (past : Past) (is : IsBook b) (view_is : past_of b ≡ past) (new : Contents) (worker : ℕ) (passed : worker < past.passes) (what : Event) where
+module _ (b : Inside) (past : Past) (is : IsBook b) (view_is : past_of b ≡ past) (new : StateOf) (worker : ℕ) (passed : worker < past.passes) (what : Event) where
   passed_in : worker < length b.counts.items
   passed_in = subst (λ (p : Past). worker < p.passes) (sym view_is) passed
 
@@ -191,6 +199,52 @@ module _ (b : Inside) (past : Past) (is : IsBook b) (view_is : past_of b ≡ pas
             (let within = is.within in let all = length-reverse b.entries.items in omega (arith, within, all, free));
         serves = serves;
       }
+
+-- whether the trace is full for a decision is whether it is so for its event
+pub full-decided : (b : Inside) (past : Past) → past_of b ≡ past → (what : Event) (decided : Decision) → IsDecided b.state what decided → (n : ℕ) → n ≡ entries_for decided → (full : Bool)
+    → full ≡ nat_lt past.state.opening.limit (length past.history + in_transfer past.state.pages + n) → full ≡ is_trace_full past what
+full-decided b past view_is what decided is n entries full e =
+    e ∙ ap (λ (k : ℕ). nat_lt past.state.opening.limit (length past.history + in_transfer past.state.pages + k)) (entries ∙ entries-needed b.state what decided is ∙ ap (λ (p : Past). need p.state what) view_is)
+
+pub called-full : (b : Inside) (past : Past) → past_of b ≡ past → (worker : ℕ) (what : Event) → IsAsked what → refusal b.state.tables what ≡ None → is_trace_full past what ≡ true
+    → Called past worker what (reply.Refused TraceFull) past
+called-full b past view_is worker what asked none full =
+    let known = asked-knows past.state past.history worker what asked in
+    let unrefused : refusal past.state what ≡ None = sym (ap (λ (p : Past). refusal p.state what) view_is) ∙ refusal-counting b.state.tables (counted_in (history_of b)) what ∙ none in
+    rw known (rw unrefused (rw full (refl, refl)))
+
+-- ---- endings
+
+module _ (past : Past) (worker : ℕ) (end : End) (ticket : TicketOf) where
+  pub in-known : knows_ticket past.state past.history worker (in_ended end ticket) ≡ (is_coming_in past.state.pages ticket.number && is_worker worker (taker ticket.number past.history))
+  in-known = by_end end
+    where
+      by_end : (end : End) → knows_ticket past.state past.history worker (in_ended end ticket) ≡ (is_coming_in past.state.pages ticket.number && is_worker worker (taker ticket.number past.history))
+      by_end InFrame = refl
+      by_end OnBlock = refl
+
+  pub out-known : knows_ticket past.state past.history worker (out_ended end ticket) ≡ (is_going_out past.state.pages ticket.number && is_worker worker (taker ticket.number past.history))
+  out-known = by_end end
+    where
+      by_end : (end : End) → knows_ticket past.state past.history worker (out_ended end ticket) ≡ (is_going_out past.state.pages ticket.number && is_worker worker (taker ticket.number past.history))
+      by_end InFrame = refl
+      by_end OnBlock = refl
+
+pub in-none : (s : State) (end : End) (ticket : TicketOf) → refusal s (in_ended end ticket) ≡ None
+in-none s InFrame ticket = refl
+in-none s OnBlock ticket = refl
+
+pub in-free : (s : State) (end : End) (ticket : TicketOf) → need s (in_ended end ticket) ≡ 0
+in-free s InFrame ticket = refl
+in-free s OnBlock ticket = refl
+
+pub out-none : (s : State) (end : End) (ticket : TicketOf) → refusal s (out_ended end ticket) ≡ None
+out-none s InFrame ticket = refl
+out-none s OnBlock ticket = refl
+
+pub out-free : (s : State) (end : End) (ticket : TicketOf) → need s (out_ended end ticket) ≡ 0
+out-free s InFrame ticket = refl
+out-free s OnBlock ticket = refl
 
 -- ---- the book after it
 

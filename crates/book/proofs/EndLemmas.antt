@@ -11,13 +11,13 @@ use Rattle.machine.specs.declared.event.Event.TheVariants as event
 use Rattle.machine.specs.declared.reply.Reply.{Reply}
 use Rattle.machine.specs.declared.reply.Reply.TheVariants as reply
 use Rattle.machine.specs.Slots.{at, there_and}
-use Rattle.machine.specs.Pages.{Page, page_at, is_number, in_transfer}
+use Rattle.machine.specs.Pages.{Page, is_number}
 use Rattle.machine.specs.Counts.{Counted}
 use Rattle.machine.specs.Tasks.{task_at, is_live_life, is_live_task, lives, SetsTask, group_of, group_of_task, mapped_at, without_task}
 use Rattle.machine.specs.State.{State}
 use Rattle.machine.specs.Call.{need}
 use Rattle.machine.specs.Reclaim.{stands, target_of, has_takeable, has_transfer}
-use Rattle.machine.specs.Lists.{GoesOn, Orders}
+use Rattle.machine.specs.Lists.{Orders}
 use Rattle.machine.specs.Victim.{IsVictim}
 use Rattle.machine.specs.Step.{Unmaps, count_of}
 use Rattle.machine.specs.History.{InTask, Says, follow}
@@ -25,21 +25,13 @@ use Rattle.machine.proofs.Values.{unlike}
 use Rattle.machine.proofs.TreeLemmas.{eq_cases}
 use Rattle.machine.proofs.MappingLemmas.{mapped_at-without_task}
 use Rattle.events.specs.Tallies.{Tells}
-use Rattle.book.specs.Contents.{Contents, counting, Steps, Tallied, byte_shown, byte_at_spot, is_in_memory, is_known, ReadsByte}
+use Rattle.page_state.specs.States.{StateOf, byte_shown}
+use Rattle.book.specs.Effects.{counting, Steps, Tallied, byte_at_spot, is_in_memory, is_known, ReadsByte}
+use Rattle.page_state.specs.Changes.{LeavesOthers, EndsTask}
 use Rattle.book.specs.Serves.{Serves, starts}
 use Rattle.book.proofs.ServeLemmas.{IsQuiet, flights-kept, live_step, relieve_step, stands_counting, relief-needs}
 
--- what a task's end leaves to the others
-pub record LeavesOthers (old new : Contents) (t : ℕ) : Type 0 where
-  pub tables : new.tables ≡ record old.tables { pages = new.tables.pages; tasks = new.tables.tasks; mappings = without_task old.tables.mappings t }
-  pub pages : (u v q : ℕ) → u ≢ t → mapped_at old.tables.mappings u v ≡ Some q → page_at new.tables.pages q ≡ page_at old.tables.pages q
-  pub bytes : (u v k : ℕ) → u ≢ t → byte_shown new.bytes (mapped_at old.tables.mappings u v) k ≡ byte_shown old.bytes (mapped_at old.tables.mappings u v) k
-  pub moving : in_transfer new.tables.pages ≡ in_transfer old.tables.pages
-  pub flights : new.flights ≡ old.flights
-  pub goes : GoesOn old.tables.pages old.order.held new.tables.pages new.order.held
-  pub cursors : new.order.cursors ≡ old.order.cursors
-
-module _ (old new : Contents) (t : ℕ) (life : Life) (dead : is_live_life life ≡ false) (ends : SetsTask old.tables.tasks t (group_of_task old.tables.tasks t) life new.tables.tasks) (leaves : LeavesOthers old new t) where
+module _ (old new : StateOf) (t : ℕ) (life : Life) (dead : is_live_life life ≡ false) (ends : SetsTask old.tables.tasks t (group_of_task old.tables.tasks t) life new.tables.tasks) (leaves : LeavesOthers old new t) where
   -- the task itself is no live one
   ended : (u : ℕ) → u ≡ t → lives new.tables.tasks u ≡ false
   ended u same = ap (λ (x : ℕ). lives new.tables.tasks x) same ∙ ap (there_and is_live_task) ends.changed ∙ dead
@@ -96,7 +88,7 @@ module _ (old new : Contents) (t : ℕ) (life : Life) (dead : is_live_life life 
         opening = ap (λ (s : State). s.opening) leaves.tables;
       }
 
-pub serves-kill : (old new : Contents) (worker : ℕ) (why : Cause) (t : ℕ) → stands old.tables why ≡ true → has_takeable old.tables (target_of why) ≡ false → has_transfer old.tables (target_of why) ≡ false
+pub serves-kill : (old new : StateOf) (worker : ℕ) (why : Cause) (t : ℕ) → stands old.tables why ≡ true → has_takeable old.tables (target_of why) ≡ false → has_transfer old.tables (target_of why) ≡ false
     → IsVictim old.tables.tree old.tables.tasks old.tables.mappings (target_of why) (Some t)
     → Unmaps old.tables (without_task old.tables.mappings t) new.tables
     → SetsTask old.tables.tasks t (group_of_task old.tables.tasks t) Killed new.tables.tasks
@@ -107,14 +99,12 @@ serves-kill old new worker why t wants untakeable settled victim unmaps ends lea
     serves-ended old new t Killed refl ends leaves worker (event.Relieve why) (reply.KilledTask (record { 0 = t })) (record { says = λ spot. refl; ticket = refl; groups = λ u g. refl; given = refl })
     (λ c told. relieve_step (counting old.tables c) why _ _ (stands_counting old.tables c why ∙ wants) untakeable settled
     (victim, record { unmaps = unmaps; ends = ends; state = ap (λ (s : State). counting s (c ++ (count_of (target_of why) key.Oom ∷ count_of (group_of_task old.tables.tasks t) key.OomKill ∷ []))) leaves.tables }))
-    (leaves.goes, leaves.cursors) tells tt (relief-needs old.tables why)
+    (leaves.held, leaves.cursors) tells tt (relief-needs old.tables why)
 
-pub serves-exit : (old new : Contents) (worker t : ℕ) (task : Task) → task_at old.tables.tasks t ≡ Some task → task.life ≡ Live
-    → Unmaps old.tables (without_task old.tables.mappings t) new.tables
-    → SetsTask old.tables.tasks t (group_of_task old.tables.tasks t) Exited new.tables.tasks
-    → LeavesOthers old new t → ((c : List Counted) → Tells old.tallies c → Tells new.tallies c)
+pub serves-exit : (old new : StateOf) (worker t : ℕ) (task : Task) → task_at old.tables.tasks t ≡ Some task → task.life ≡ Live
+    → EndsTask old new t Exited → ((c : List Counted) → Tells old.tallies c → Tells new.tallies c)
     → Serves old worker (event.Exit (record { 0 = t })) reply.Ok new
-serves-exit old new worker t task is living unmaps ends leaves tells =
-    serves-ended old new t Exited refl ends leaves worker (event.Exit (record { 0 = t })) reply.Ok (record { says = λ spot. refl; ticket = refl; groups = λ u g. refl; given = refl })
-    (λ c told. live_step (counting old.tables c) _ task _ _ _ is living (refl, record { unmaps = unmaps; ends = ends; state = ap (λ (s : State). counting s c) leaves.tables }))
-    (leaves.goes, leaves.cursors) tells tt (omega arith)
+serves-exit old new worker t task is living exits tells =
+    serves-ended old new t Exited refl exits.ends exits.leaves worker (event.Exit (record { 0 = t })) reply.Ok (record { says = λ spot. refl; ticket = refl; groups = λ u g. refl; given = refl })
+    (λ c told. live_step (counting old.tables c) _ task _ _ _ is living (refl, record { unmaps = exits.unmaps; ends = exits.ends; state = ap (λ (s : State). counting s c) exits.leaves.tables }))
+    (exits.leaves.held, exits.leaves.cursors) tells tt (omega arith)

@@ -30,7 +30,8 @@ use Rattle.machine.proofs.TreeLemmas.{eq_cases}
 use Rattle.pages.specs.PageTable.{Stands}
 use Rattle.pages.specs.declared.flight.Flight.{Flight}
 use Rattle.events.specs.Tallies.{Tells}
-use Rattle.book.specs.Contents.{Contents, counting, counted_after, group_after, byte_at, byte_at_spot, knows, ReadsByte, Arrives, IsFetchOf, worker_of}
+use Rattle.page_state.specs.States.{StateOf, byte_at}
+use Rattle.book.specs.Effects.{counting, counted_after, group_after, byte_at_spot, knows, ReadsByte, Arrives, IsFetchOf, worker_of}
 use Rattle.book.specs.Serves.{Serves, starts}
 use Rattle.book.specs.Told.{group_in, counted_in, state_of, IsFetched, IsHistory}
 
@@ -65,7 +66,7 @@ done_lives s t place op byte hit new step = by_slot (task_at s.tasks t) _ step
     by_slot (Some task) F h = by_life task.life (F task) h
 
 -- a read that is done gave the last write
-pub read_right : (c : Contents) (history : List Entry) (what : Event) (answer : Reply) (new : State) (counted : List Counted)
+pub read_right : (c : StateOf) (history : List Entry) (what : Event) (answer : Reply) (new : State) (counted : List Counted)
     → ((t v o : ℕ) → lives c.tables.tasks t ≡ true → o < page_size → knows c t v ≡ true → byte_at c t v o ≡ last history (InTask t v o)) → Step (counting c.tables counted) what answer new → ReadsByte c what answer
     → IsRight history what answer
 read_right c history (event.Access t (Virtual v o) Read) (reply.Done byte hit) new counted bytes step reads =
@@ -85,7 +86,7 @@ starts-says (event.Spawn u g) reply.Ok t v o first quiet = let said : says (even
 starts-says what answer t v o first quiet = cc
 
 -- what an honest arrival brought is the last write
-arrived_last : (old : Contents) (history : List Entry) (what : Event) (answer : Reply) (t v o byte : ℕ)
+arrived_last : (old : StateOf) (history : List Entry) (what : Event) (answer : Reply) (t v o byte : ℕ)
     → ((p g f b n : ℕ) → lives old.tables.tasks t ≡ true → mapped_at old.tables.mappings t v ≡ Some p → Stands old.tables.pages p g (Coming f b n) → IsFetched history n t v)
     → (starts what answer t || lives old.tables.tasks t) ≡ true → IsHonest history what → o < page_size → Arrives old what t v o byte → byte ≡ follow (says what answer (InTask t v o)) (last history) (InTask t v o)
 arrived_last old history (event.Arrived ticket bytes) answer t v o byte coming living honest lt arrives =
@@ -144,7 +145,7 @@ taker_on flight n worker taken given before takers is = by_given given is
 -- ---- one entry more
 
 -- an event whose ticket is its worker's, that nothing refuses, and that is served with room for its entry
-pub record Extending (old new : Contents) (history : List Entry) (counts : List ℕ) (worker : ℕ) (what : Event) (answer : Reply) : Type 0 where
+pub record Extending (old new : StateOf) (history : List Entry) (counts : List ℕ) (worker : ℕ) (what : Event) (answer : Reply) : Type 0 where
   pub told : IsHistory old history counts
   pub passed : worker < length counts
   pub known : knows_ticket (state_of old history) history worker what ≡ true
@@ -152,7 +153,7 @@ pub record Extending (old new : Contents) (history : List Entry) (counts : List 
   pub room : is_full_for (state_of old history) history what ≡ false
   pub serves : Serves old worker what answer new
 
-module _ (old new : Contents) (history : List Entry) (counts : List ℕ) (worker : ℕ) (what : Event) (answer : Reply) (h : Extending old new history counts worker what answer) where
+module _ (old new : StateOf) (history : List Entry) (counts : List ℕ) (worker : ℕ) (what : Event) (answer : Reply) (h : Extending old new history counts worker what answer) where
   abbrev more : List Entry
   more = entry_of worker history what answer ∷ history
 

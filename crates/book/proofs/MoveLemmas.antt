@@ -1,11 +1,9 @@
 -- What a page that comes to stand elsewhere is to the plain machine: transfers that begin and end.
-use Rattle.std.proofs.Common.{◌≡◌, ◌≢◌, ◌⊎◌, inl, inr, ℕ, ◌+◌, ◌≤◌, ◌==◌, ◌&&◌, Bool, true, false, cond, if◌then◌else◌, List, Option, Some, None, eqb-true, eq-eqb, ne_eqb, refl, sym, ap, subst, ◌∙◌, arith}
-use Rattle.std.specs.Prelude.{IfSome}
+use Rattle.std.proofs.Common.{◌≡◌, ◌≢◌, ◌⊎◌, inl, inr, ℕ, ◌+◌, ◌≤◌, ◌==◌, Bool, true, false, cond, List, Option, Some, None, eqb-true, eq-eqb, ne_eqb, refl, sym, ap, subst, ◌∙◌, arith}
+use Rattle.std.specs.Prelude.{IfSome, slice_index}
 use Rattle.std.proofs.lemmas.Bool.{and_parts, or_right}
-use Rattle.std.proofs.lemmas.Bool.Decides.{nat_tests}
 use Rattle.machine.specs.declared.record.Life.TheVariants.{Live}
 use Rattle.machine.specs.declared.record.Task.{Task}
-use Rattle.machine.specs.declared.record.Mapping.{Mapping}
 use Rattle.machine.specs.declared.event.Place.{Place}
 use Rattle.machine.specs.declared.event.Place.TheVariants.{Virtual}
 use Rattle.machine.specs.declared.event.Op.{Op}
@@ -18,27 +16,36 @@ use Rattle.machine.specs.declared.reply.Reply.TheVariants as reply
 use Rattle.machine.specs.Slots.{at, Changes, there_and}
 use Rattle.machine.specs.Pages.{Memory, Residence, Held, Coming, Going, Away, Page, Pages, page_at, is_number, is_in_transfer, in_transfer, is_ticket_taken}
 use Rattle.machine.specs.Counts.{Counted}
-use Rattle.machine.specs.Tasks.{Tasks, task_at, lives, group_of_task, mapped_at, mappers}
+use Rattle.machine.specs.Tasks.{task_at, lives, group_of_task, mapped_at, mappers}
 use Rattle.machine.specs.State.{State, over_in, is_frame_free}
 use Rattle.machine.specs.Access.{meets}
 use Rattle.machine.specs.Call.{need, grows}
 use Rattle.machine.specs.Reclaim.{stands, target_of, is_takeable, has_takeable}
 use Rattle.machine.specs.Lists.{GoesOn, TakesNext, CursorsGoOn, Orders}
-use Rattle.machine.specs.Step.{MeetStep, StartsFetch, Takes, RelieveStep, ReclaimOneStep, EndsTransfer, in_frame, on_block, IsFreeFrame, IsFreeBlock}
+use Rattle.machine.specs.Step.{MeetStep, StartsFetch, Takes, RelieveStep, ReclaimOneStep, EndsTransfer, in_frame, on_block, IsFreeFrame}
 use Rattle.machine.specs.History.{Spot, InTask, Says, Nothing, says, follow, ticket_given, taker_or}
 use Rattle.machine.proofs.Values.{unlike}
 use Rattle.machine.proofs.TreeLemmas.{eq_cases}
 use Rattle.machine.proofs.SlotLemmas.{one_if}
-use Rattle.machine.proofs.MappingLemmas.{mapped_at-mappers, mapped_at-one}
+use Rattle.machine.proofs.MappingLemmas.{mapped_at-one}
 use Rattle.pages.specs.PageTable.{byte_in, Stands, anon_page, flight}
 use Rattle.pages.specs.declared.flight.Flight.{Flight}
-use Rattle.events.specs.Tallies.{Tells}
-use Rattle.book.specs.Contents.{Contents, counting, Steps, Tallied, group_after, byte_shown, byte_at_spot, is_in_memory, is_known, ReadsByte, Arrives, Follows, ChangesBytes, IsFetchOf, ChangesComing, ChangesFlights, worker_of, AreMapped, is_there, is_settled}
+use Rattle.pages.specs.declared.flight.Direction.{Direction}
+use Rattle.pages.specs.declared.flight.Direction.TheVariants.{In, Out}
+use Rattle.events.specs.Tallies.{Tallies, Tells}
+use Rattle.page_state.specs.States.{StateOf, byte_shown}
+use Rattle.page_state.specs.Mapped.{AreMapped, is_there, ended}
+use Rattle.book.specs.Effects.{counting, Steps, Tallied, group_after, byte_at_spot, is_in_memory, is_known, ReadsByte, Arrives, Follows, ChangesBytes, IsFetchOf, ChangesComing, ChangesFlights, worker_of}
 use Rattle.book.specs.Serves.{Serves, RepliesTo, starts, is_refused}
 use Rattle.book.specs.declared.event.Reply.TheVariants as given
 use Rattle.pages.specs.Tickets.{TicketOf}
-use Rattle.book.specs.Parts.{AsksPage}
-use Rattle.book.proofs.TransferLemmas.{free-other, any-some, under-taken, coming-under, in_transfer-changes}
+use Rattle.pages.specs.declared.end.End.{End}
+use Rattle.pages.specs.declared.end.End.TheVariants.{InFrame, OnBlock}
+use Rattle.pages.specs.Transfers.{residence_after}
+use Rattle.page_state.specs.Changes.{BeginsWriteOut, EndsTransfer as Settles}
+use Rattle.book.specs.Events.{in_ended, out_ended}
+use Rattle.book.specs.Decisions.{AsksPage}
+use Rattle.page_state.proofs.TransferLemmas.{free-other, any-some, under-taken, coming-under, in_transfer-changes}
 use Rattle.book.proofs.ServeLemmas.{flight-kept, live_step, granted_step, stands_counting}
 
 abbrev residence_or : Option Page → Residence
@@ -49,7 +56,7 @@ residence_of : (g g' : ℕ) (r r' : Residence) → Some (anon_page g r) ≡ Some
 residence_of g g' r r' e = ap residence_or e
 
 -- one page comes to stand elsewhere, or goes; the event says nothing of any byte
-pub record IsMove (old new : Contents) (what : Event) (answer : Reply) (p : ℕ) (to : Option Page) : Type 0 where
+pub record IsMove (old new : StateOf) (what : Event) (answer : Reply) (p : ℕ) (to : Option Page) : Type 0 where
   pub tables : new.tables ≡ record old.tables { pages = new.tables.pages }
   pub placed : Changes old.tables.pages new.tables.pages p to
   pub others : (q o : ℕ) → q ≢ p → byte_in new.bytes q o ≡ byte_in old.bytes q o
@@ -62,7 +69,7 @@ pub record IsMove (old new : Contents) (what : Event) (answer : Reply) (p : ℕ)
   pub coming : (t v g f b n : ℕ) → mapped_at old.tables.mappings t v ≡ Some p → to ≡ Some (anon_page g (Coming f b n)) → IsFetchOf what answer t v n
   pub fresh : (n : ℕ) → is_ticket_taken old.tables.pages n ≡ true → is_number (ticket_given answer) n ≡ false
 
-module _ (old new : Contents) (what : Event) (answer : Reply) (p : ℕ) (to : Option Page) (move : IsMove old new what answer p to) where
+module _ (old new : StateOf) (what : Event) (answer : Reply) (p : ℕ) (to : Option Page) (move : IsMove old new what answer p to) where
   same_place : (t v : ℕ) → mapped_at new.tables.mappings t v ≡ mapped_at old.tables.mappings t v
   same_place t v = ap (λ (s : State). mapped_at s.mappings t v) move.tables
 
@@ -129,8 +136,8 @@ module _ (old new : Contents) (what : Event) (answer : Reply) (p : ℕ) (to : Op
 -- ---- the transfers in flight
 
 -- a ticket is given to the worker
-pub flights-begun : (old new : Contents) (worker p n : ℕ) (answer : Reply) → ticket_given answer ≡ Some n → Changes old.flights new.flights n (Some (flight p worker)) → ChangesFlights old worker answer new
-flights-begun old new worker p n answer given listed m =
+pub flights-begun : (old new : StateOf) (worker p n : ℕ) (direction : Direction) (answer : Reply) → ticket_given answer ≡ Some n → Changes old.flights new.flights n (Some (flight p worker direction)) → ChangesFlights old worker answer new
+flights-begun old new worker p n direction answer given listed m =
     subst (λ (x : Option ℕ). IfSome (at new.flights m) (λ f. Some f.worker.0 ≡ taker_or m x worker (worker_of (at old.flights m)))) (sym given)
     (elim (eq_cases m n) [
       | inl same ↦
@@ -140,15 +147,15 @@ flights-begun old new worker p n answer given listed m =
           (flight-kept (at new.flights m) (at old.flights m) (listed.others m other))
     ])
   where
-    by_slot : (slot : Option Flight) → slot ≡ Some (flight p worker) → (n == m) ≡ true → IfSome slot (λ f. Some f.worker.0 ≡ cond (n == m) (Some worker) (worker_of (at old.flights m)))
+    by_slot : (slot : Option Flight) → slot ≡ Some (flight p worker direction) → (n == m) ≡ true → IfSome slot (λ f. Some f.worker.0 ≡ cond (n == m) (Some worker) (worker_of (at old.flights m)))
     by_slot None is hit = tt
     by_slot (Some f) is hit = worker_is f is ∙ ap (λ b. cond b (Some worker) (worker_of (at old.flights m))) (sym hit)
       where
-        worker_is : (f : Flight) → Some f ≡ Some (flight p worker) → Some f.worker.0 ≡ Some worker
+        worker_is : (f : Flight) → Some f ≡ Some (flight p worker direction) → Some f.worker.0 ≡ Some worker
         worker_is f is = ap worker_of is
 
 -- a transfer is in flight no more
-pub flights-ended : (old new : Contents) (worker n : ℕ) (answer : Reply) → ticket_given answer ≡ None → Changes old.flights new.flights n None → ChangesFlights old worker answer new
+pub flights-ended : (old new : StateOf) (worker n : ℕ) (answer : Reply) → ticket_given answer ≡ None → Changes old.flights new.flights n None → ChangesFlights old worker answer new
 flights-ended old new worker n answer none unlisted m =
     subst (λ (x : Option ℕ). IfSome (at new.flights m) (λ f. Some f.worker.0 ≡ taker_or m x worker (worker_of (at old.flights m)))) (sym none)
     (elim (eq_cases m n) [
@@ -166,21 +173,21 @@ silent-fetch : (t n : ℕ) (place : Place) (op : Op) (spot : Spot) → says (eve
 silent-fetch t n place Read spot = refl
 silent-fetch t n place (Write b) spot = refl
 
-reads-fetch : (s : Contents) (t n : ℕ) (place : Place) (op : Op) → ReadsByte s (event.Access (record { 0 = t }) place op) (reply.Fetch (record { 0 = n }))
+reads-fetch : (s : StateOf) (t n : ℕ) (place : Place) (op : Op) → ReadsByte s (event.Access (record { 0 = t }) place op) (reply.Fetch (record { 0 = n }))
 reads-fetch s t n place Read = tt
 reads-fetch s t n place (Write b) = tt
 
 -- an access to a page on its block needs an entry for the end too, where its charge is granted
-away-needs : (s : State) (t v o p g b : ℕ) (op : Op) (task : Task) → task_at s.tasks t ≡ Some task → task.life ≡ Live → mapped_at s.mappings t v ≡ Some p → Stands s.pages p g (Away b)
+pub away-needs : (s : State) (t v o p g b : ℕ) (op : Op) (task : Task) → task_at s.tasks t ≡ Some task → task.life ≡ Live → mapped_at s.mappings t v ≡ Some p → Stands s.pages p g (Away b)
     → over_in s g ≡ None → is_frame_free s ≡ true → need s (event.Access (record { 0 = t }) (Virtual v o) op) ≡ 2
 away-needs s t v o p g b op task known live shown away under free = rw known (rw live (rw shown (rw away (rw under (rw free refl)))))
 
-pub serves-fetch : (old new : Contents) (worker t v o p g f b n : ℕ) (op : Op) (task : Task) → AreMapped old.tables.pages old.tables.tasks old.tables.mappings
+pub serves-fetch : (old new : StateOf) (worker t v o p g f b n : ℕ) (op : Op) (task : Task) → AreMapped old.tables.pages old.tables.tasks old.tables.mappings
     → task_at old.tables.tasks t ≡ Some task → task.life ≡ Live → mapped_at old.tables.mappings t v ≡ Some p → Stands old.tables.pages p g (Away b)
     → over_in old.tables g ≡ None → is_frame_free old.tables ≡ true → IsFreeFrame old.tables f → is_ticket_taken old.tables.pages n ≡ false
     → Changes old.tables.pages new.tables.pages p (Some (anon_page g (Coming f b n)))
     → new.tables ≡ record old.tables { pages = new.tables.pages }
-    → ((q k : ℕ) → q ≢ p → byte_in new.bytes q k ≡ byte_in old.bytes q k) → Changes old.flights new.flights n (Some (flight p worker))
+    → ((q k : ℕ) → q ≢ p → byte_in new.bytes q k ≡ byte_in old.bytes q k) → Changes old.flights new.flights n (Some (flight p worker In))
     → GoesOn old.tables.pages old.order.held new.tables.pages new.order.held → new.order.cursors ≡ old.order.cursors → ((c : List Counted) → Tells old.tallies c → Tells new.tallies c)
     → Serves old worker (event.Access (record { 0 = t }) (Virtual v o) op) (reply.Fetch (record { 0 = n })) new
 serves-fetch old new worker t v o p g f b n op task mapped known live shown away under free frame fresh placed tables bytes listed goes cursors tells =
@@ -199,7 +206,7 @@ serves-fetch old new worker t v o p g f b n op task mapped known live shown away
     worker
     (λ c told. live_step (counting old.tables c) _ task _ _ _ known live (fetches c))
     (goes, cursors) tells (reads-fetch old t n (Virtual v o) op)
-    (flights-begun old new worker p n (reply.Fetch (record { 0 = n })) refl listed)
+    (flights-begun old new worker p n In (reply.Fetch (record { 0 = n })) refl listed)
     (let more = in_transfer-changes old.tables.pages new.tables.pages p (Some (anon_page g (Coming f b n))) placed in
     let was : one_if (there_and is_in_transfer (page_at old.tables.pages p)) ≡ 0 = ap (λ (slot : Option Page). one_if (there_and is_in_transfer slot)) away in
     let two = away-needs old.tables t v o p g b op task known live shown away under free in
@@ -224,53 +231,44 @@ serves-fetch old new worker t v o p g f b n op task mapped known live shown away
 
 -- ---- a write-out begins
 
-relief-two : (s : State) (why : Cause) → stands s why ≡ true → has_takeable s (target_of why) ≡ true → need s (event.Relieve why) ≡ 2
+pub relief-two : (s : State) (why : Cause) → stands s why ≡ true → has_takeable s (target_of why) ≡ true → need s (event.Relieve why) ≡ 2
 relief-two s why wants some = rw wants (rw some refl)
 
-reclaim-two : (s : State) (g : ℕ) → has_takeable s g ≡ true → need s (event.ReclaimOne (record { 0 = g })) ≡ 2
+pub reclaim-two : (s : State) (g : ℕ) → has_takeable s g ≡ true → need s (event.ReclaimOne (record { 0 = g })) ≡ 2
 reclaim-two s g some = rw some refl
 
 -- a page that may be taken for the target begins to be written out: the one in order
-pub record IsTaken (old new : Contents) (worker target p g f b n : ℕ) : Type 0 where
-  pub held : Stands old.tables.pages p g (Held f)
-  pub takeable : is_takeable old.tables target (anon_page g (Held f)) ≡ true
-  pub block : IsFreeBlock old.tables b
-  pub fresh : is_ticket_taken old.tables.pages n ≡ false
-  pub placed : Changes old.tables.pages new.tables.pages p (Some (anon_page g (Going f b n)))
-  pub tables : new.tables ≡ record old.tables { pages = new.tables.pages }
-  pub bytes : (q k : ℕ) → byte_in new.bytes q k ≡ byte_in old.bytes q k
-  pub listed : Changes old.flights new.flights n (Some (flight p worker))
-  pub goes : GoesOn old.tables.pages old.order.held new.tables.pages new.order.held
-  pub next : TakesNext old.tables old.order target new.tables new.order
+module _ (old new : StateOf) (target worker entry : ℕ) (ticket : TicketOf) (taken : BeginsWriteOut old new target worker entry ticket) where
+  same_tallies : (c : List Counted) → Tells old.tallies c → Tells new.tallies c
+  same_tallies c told = subst (λ (t : Tallies). Tells t c) (sym taken.tallies) told
 
-module _ (old new : Contents) (worker target p g f b n : ℕ) (taken : IsTaken old new worker target p g f b n) (same_tallies : (c : List Counted) → Tells old.tallies c → Tells new.tallies c) where
   pub taken-some : has_takeable old.tables target ≡ true
-  taken-some = any-some (is_takeable old.tables target) old.tables.pages p (ap (there_and (is_takeable old.tables target)) taken.held ∙ taken.takeable)
+  taken-some = any-some (is_takeable old.tables target) old.tables.pages taken.p (ap (there_and (is_takeable old.tables target)) taken.stood ∙ taken.takeable)
 
-  no_coming : {P : Type 0} (g' f' b' m : ℕ) → Some (anon_page g (Going f b n)) ≡ Some (anon_page g' (Coming f' b' m)) → P
-  no_coming g' f' b' m e = let same : Going f b n ≡ Coming f' b' m = residence_of g g' (Going f b n) (Coming f' b' m) e in absurd (cc)
+  no_coming : {P : Type 0} (g' f' b' m : ℕ) → Some (anon_page taken.g (Going taken.frame ticket.block ticket.number)) ≡ Some (anon_page g' (Coming f' b' m)) → P
+  no_coming g' f' b' m e = let same : Going taken.frame ticket.block ticket.number ≡ Coming f' b' m = residence_of taken.g g' (Going taken.frame ticket.block ticket.number) (Coming f' b' m) e in absurd (cc)
 
-  takes_it : (c : List Counted) → Takes (counting old.tables c) target (reply.Out (record { 0 = n })) (counting new.tables c)
+  takes_it : (c : List Counted) → Takes (counting old.tables c) target (reply.Out (record { 0 = ticket.number })) (counting new.tables c)
   takes_it c =
       record {
-        p = p;
-        page = anon_page g (Held f);
-        there = taken.held;
+        p = taken.p;
+        page = anon_page taken.g (Held taken.frame);
+        there = taken.stood;
         takeable = taken.takeable;
         leaves = record {
-          block = b;
-          block_free = record { in_range = taken.block.in_range; unused = taken.block.unused };
-          leave = record { ticket = n; ticket_free = taken.fresh; placed = taken.placed; answers = refl; state = ap (λ (s : State). counting s c) taken.tables };
+          block = ticket.block;
+          block_free = record { in_range = taken.block_free.in_range; unused = taken.block_free.unused };
+          leave = record { ticket = ticket.number; ticket_free = taken.ticket_free; placed = taken.placed; answers = refl; state = ap (λ (s : State). counting s c) taken.tables };
         };
       }
 
   -- whatever asks for it
-  serves-out : (what : Event) → Steps old what (reply.Out (record { 0 = n })) new → CursorsGoOn old.tables old.order what (reply.Out (record { 0 = n })) new.tables new.order
-      → Tallied old what (reply.Out (record { 0 = n })) new → ReadsByte old what (reply.Out (record { 0 = n }))
-      → ((spot : Spot) → says what (reply.Out (record { 0 = n })) spot ≡ Nothing) → ((u h : ℕ) → group_after what (reply.Out (record { 0 = n })) u h ≡ h) → need old.tables what ≡ 2
-      → Serves old worker what (reply.Out (record { 0 = n })) new
+  serves-out : (what : Event) → Steps old what (reply.Out (record { 0 = ticket.number })) new → CursorsGoOn old.tables old.order what (reply.Out (record { 0 = ticket.number })) new.tables new.order
+      → Tallied old what (reply.Out (record { 0 = ticket.number })) new → ReadsByte old what (reply.Out (record { 0 = ticket.number }))
+      → ((spot : Spot) → says what (reply.Out (record { 0 = ticket.number })) spot ≡ Nothing) → ((u h : ℕ) → group_after what (reply.Out (record { 0 = ticket.number })) u h ≡ h) → need old.tables what ≡ 2
+      → Serves old worker what (reply.Out (record { 0 = ticket.number })) new
   serves-out what steps cursors tallied reads silent groups two =
-      serves-move old new what (reply.Out (record { 0 = n })) p (Some (anon_page g (Going f b n)))
+      serves-move old new what (reply.Out (record { 0 = ticket.number })) taken.p (Some (anon_page taken.g (Going taken.frame ticket.block ticket.number)))
       (record {
         tables = taken.tables;
         placed = taken.placed;
@@ -278,28 +276,28 @@ module _ (old new : Contents) (worker target p g f b n : ℕ) (taken : IsTaken o
         silent = silent;
         groups = groups;
         given = refl;
-        own = λ u w k is there. inr (ap (there_and (λ (page : Page). is_in_memory page.residence)) taken.held, taken.bytes p k);
+        own = λ u w k is there. inr (ap (there_and (λ (page : Page). is_in_memory page.residence)) taken.stood, taken.bytes taken.p k);
         coming = λ u w g' f' b' m is same. no_coming g' f' b' m same;
-        fresh = λ m given. free-other old.tables.pages n m taken.fresh given;
+        fresh = λ m given. free-other old.tables.pages ticket.number m taken.ticket_free given;
       })
-      worker steps (taken.goes, cursors) tallied reads
-      (flights-begun old new worker p n (reply.Out (record { 0 = n })) refl taken.listed)
-      (let more = in_transfer-changes old.tables.pages new.tables.pages p (Some (anon_page g (Going f b n))) taken.placed in
-      let was : one_if (there_and is_in_transfer (page_at old.tables.pages p)) ≡ 0 = ap (λ (slot : Option Page). one_if (there_and is_in_transfer slot)) taken.held in
+      worker steps (taken.held, cursors) tallied reads
+      (flights-begun old new worker taken.p ticket.number Out (reply.Out (record { 0 = ticket.number })) refl taken.listed)
+      (let more = in_transfer-changes old.tables.pages new.tables.pages taken.p (Some (anon_page taken.g (Going taken.frame ticket.block ticket.number))) taken.placed in
+      let was : one_if (there_and is_in_transfer (page_at old.tables.pages taken.p)) ≡ 0 = ap (λ (slot : Option Page). one_if (there_and is_in_transfer slot)) taken.stood in
       omega (arith, more, was, two))
 
-  relieves : (why : Cause) → stands old.tables why ≡ true → target_of why ≡ target → (c : List Counted) → RelieveStep (counting old.tables c) why (reply.Out (record { 0 = n })) (counting new.tables c)
+  relieves : (why : Cause) → stands old.tables why ≡ true → target_of why ≡ target → (c : List Counted) → RelieveStep (counting old.tables c) why (reply.Out (record { 0 = ticket.number })) (counting new.tables c)
   relieves why wants same c =
       let here = stands_counting old.tables c why ∙ wants in
       let found : has_takeable (counting old.tables c) (target_of why) ≡ true = ap (has_takeable (counting old.tables c)) same ∙ taken-some in
-      rw here (rw found (subst (λ (t : ℕ). Takes (counting old.tables c) t (reply.Out (record { 0 = n })) (counting new.tables c)) (sym same) (takes_it c)))
+      rw here (rw found (subst (λ (t : ℕ). Takes (counting old.tables c) t (reply.Out (record { 0 = ticket.number })) (counting new.tables c)) (sym same) (takes_it c)))
 
-  reclaims : (h : ℕ) → h ≡ target → (c : List Counted) → ReclaimOneStep (counting old.tables c) h (reply.Out (record { 0 = n })) (counting new.tables c)
+  reclaims : (h : ℕ) → h ≡ target → (c : List Counted) → ReclaimOneStep (counting old.tables c) h (reply.Out (record { 0 = ticket.number })) (counting new.tables c)
   reclaims h same c =
       let found : has_takeable (counting old.tables c) h ≡ true = ap (has_takeable (counting old.tables c)) same ∙ taken-some in
-      rw found (subst (λ (t : ℕ). Takes (counting old.tables c) t (reply.Out (record { 0 = n })) (counting new.tables c)) (sym same) (takes_it c))
+      rw found (subst (λ (t : ℕ). Takes (counting old.tables c) t (reply.Out (record { 0 = ticket.number })) (counting new.tables c)) (sym same) (takes_it c))
 
-  pub serves-taken : (what : Event) → AsksPage old.tables what target → Serves old worker what (reply.Out (record { 0 = n })) new
+  pub serves-taken : (what : Event) → AsksPage old.tables what target → Serves old worker what (reply.Out (record { 0 = ticket.number })) new
   serves-taken (event.Relieve why) asks =
       serves-out (event.Relieve why) (λ c told. relieves why asks.0 asks.1 c) (subst (λ (t : ℕ). TakesNext old.tables old.order t new.tables new.order) (sym asks.1) taken.next) (λ c told. same_tallies c told) tt (λ spot. refl) (λ u h. refl)
       (relief-two old.tables why asks.0 (ap (has_takeable old.tables) asks.1 ∙ taken-some))
@@ -334,10 +332,6 @@ replies-out s (event.Show query) target ticket asks = absurd asks
 
 -- ---- transfers end
 
--- the page stands so after its transfer, or is gone where nothing maps it
-abbrev pub ended : List Mapping → ℕ → ℕ → Residence → Option Page
-ended mappings p g residence = if mappers mappings p == 0 then None else Some (anon_page g residence)
-
 settled_after : (b : Bool) (g : ℕ) (r : Residence) → is_in_transfer (anon_page g r) ≡ false → one_if (there_and is_in_transfer (cond b None (Some (anon_page g r)))) ≡ 0
 settled_after true g r rests = refl
 settled_after false g r rests = ap one_if rests
@@ -353,7 +347,7 @@ no_coming-after false g g' f' b' n' r rests e =
     unlike (is_in_transfer (anon_page g r)) (ap (λ (r : Residence). is_in_transfer (anon_page g r)) same) rests
 
 -- the end of a transfer, whatever it comes to
-module _ (old new : Contents) (worker p g n : ℕ) (from to : Residence) (what : Event) (stood : Stands old.tables.pages p g from) (moves : is_in_transfer (anon_page g from) ≡ true)
+module _ (old new : StateOf) (worker p g n : ℕ) (from to : Residence) (what : Event) (stood : Stands old.tables.pages p g from) (moves : is_in_transfer (anon_page g from) ≡ true)
     (rests : is_in_transfer (anon_page g to) ≡ false) (tables : new.tables ≡ record old.tables { pages = new.tables.pages }) (placed : Changes old.tables.pages new.tables.pages p (ended old.tables.mappings p g to))
     (unlisted : Changes old.flights new.flights n None) (bytes : (q k : ℕ) → q ≢ p → byte_in new.bytes q k ≡ byte_in old.bytes q k) where
   pub serves-end : Steps old what reply.Ok new → Orders old.tables old.order what reply.Ok new.tables new.order → Tallied old what reply.Ok new → ReadsByte old what reply.Ok → ((spot : Spot) → says what reply.Ok spot ≡ Nothing) → ((u g : ℕ) → group_after what reply.Ok u g ≡ g)
@@ -393,95 +387,40 @@ pub ends-on_block : (old new : State) (p g f b : ℕ) (from : ℕ → ℕ → Re
     → EndsTransfer old from on_block reply.Ok new
 ends-on_block old new p g f b from stood placed same = record { p = p; page = anon_page g (from f b); frame = f; block = b; there = stood; moves = refl; placed = placed; answers = refl; state = same }
 
+-- ---- the ends of transfers, as the parts make them
+
+-- what was in transfer is in memory no more where it is on its block alone
+not_away : {P : Type 0} (b : ℕ) → is_in_memory (Away b) ≡ true → P
+not_away b e = absurd (cc)
+
+pub serves-settled_in : (old new : StateOf) (worker p g f b : ℕ) (ticket : TicketOf) (end : End) → Stands old.tables.pages p g (Coming f b ticket.number) → Settles old new p g ticket.number (residence_after end f b)
+    → (end ≡ InFrame → (t v k : ℕ) → mapped_at old.tables.mappings t v ≡ Some p → byte_in new.bytes p k ≡ slice_index ticket.bytes k) → Serves old worker (in_ended end ticket) reply.Ok new
+serves-settled_in old new worker p g f b ticket InFrame stood ends own =
+    serves-end old new worker p g ticket.number (Coming f b ticket.number) (Held f) (event.Arrived (record { 0 = ticket.number }) ticket.bytes) stood refl refl ends.tables ends.placed ends.unlisted ends.others
+    (λ c told. ends-in_frame (counting old.tables c) _ p g f b (λ f b. Coming f b ticket.number) stood ends.placed (ap (λ (s : State). counting s c) ends.tables))
+    (ends.held, ends.cursors) (λ c told. subst (λ (t : Tallies). Tells t c) (sym ends.tallies) told) tt (λ spot. refl) (λ u g. refl)
+    (λ t v k shown there. inl (p, g, f, b, shown, stood, own refl t v k shown))
+serves-settled_in old new worker p g f b ticket OnBlock stood ends own =
+    serves-end old new worker p g ticket.number (Coming f b ticket.number) (Away b) (event.FetchFailed (record { 0 = ticket.number })) stood refl refl ends.tables ends.placed ends.unlisted ends.others
+    (λ c told. ends-on_block (counting old.tables c) _ p g f b (λ f b. Coming f b ticket.number) stood ends.placed (ap (λ (s : State). counting s c) ends.tables))
+    (ends.held, ends.cursors) (λ c told. subst (λ (t : Tallies). Tells t c) (sym ends.tallies) told) tt (λ spot. refl) (λ u g. refl)
+    (λ t v k shown there. not_away b there)
+
+pub serves-settled_out : (old new : StateOf) (worker p g f b : ℕ) (ticket : TicketOf) (end : End) → Stands old.tables.pages p g (Going f b ticket.number) → Settles old new p g ticket.number (residence_after end f b)
+    → (end ≡ InFrame → (t v k : ℕ) → mapped_at old.tables.mappings t v ≡ Some p → byte_in new.bytes p k ≡ byte_in old.bytes p k) → Serves old worker (out_ended end ticket) reply.Ok new
+serves-settled_out old new worker p g f b ticket InFrame stood ends own =
+    serves-end old new worker p g ticket.number (Going f b ticket.number) (Held f) (event.LeaveFailed (record { 0 = ticket.number })) stood refl refl ends.tables ends.placed ends.unlisted ends.others
+    (λ c told. ends-in_frame (counting old.tables c) _ p g f b (λ f b. Going f b ticket.number) stood ends.placed (ap (λ (s : State). counting s c) ends.tables))
+    (ends.held, ends.cursors) (λ c told. subst (λ (t : Tallies). Tells t c) (sym ends.tallies) told) tt (λ spot. refl) (λ u g. refl)
+    (λ t v k shown there. inr (going-known old.tables.pages p g f b ticket.number stood, own refl t v k shown))
+serves-settled_out old new worker p g f b ticket OnBlock stood ends own =
+    serves-end old new worker p g ticket.number (Going f b ticket.number) (Away b) (event.Left (record { 0 = ticket.number })) stood refl refl ends.tables ends.placed ends.unlisted ends.others
+    (λ c told. ends-on_block (counting old.tables c) _ p g f b (λ f b. Going f b ticket.number) stood ends.placed (ap (λ (s : State). counting s c) ends.tables))
+    (ends.held, ends.cursors) (λ c told. subst (λ (t : Tallies). Tells t c) (sym ends.tallies) told) tt (λ spot. refl) (λ u g. refl)
+    (λ t v k shown there. not_away b there)
+
 -- ---- mappings
 
 pub away-grows : (s : State) (t v o p g b : ℕ) (op : Op) (task : Task) → task_at s.tasks t ≡ Some task → task.life ≡ Live → mapped_at s.mappings t v ≡ Some p → Stands s.pages p g (Away b)
     → over_in s g ≡ None → is_frame_free s ≡ true → grows s (event.Access (record { 0 = t }) (Virtual v o) op) ≡ true
 away-grows s t v o p g b op task known live shown away under free = rw known (rw live (rw shown (rw away (rw under (rw free refl)))))
-
--- a page that is in transfer from now on is mapped as it was
-pub mapped-begun : (pages pages' : Pages) (tasks : Tasks) (mappings : List Mapping) (p : ℕ) (page page' : Page) → AreMapped pages tasks mappings → page_at pages p ≡ Some page → Changes pages pages' p (Some page')
-    → is_in_transfer page' ≡ true → AreMapped pages' tasks mappings
-mapped-begun pages pages' tasks mappings p page page' mapped there changes moves =
-    record {
-      most = λ q.
-          elim (eq_cases q p) [
-            | inl same ↦
-                (let most = mapped.most q in
-                let was : is_there (page_at pages q) ≡ 1 = ap (λ (x : ℕ). is_there (page_at pages x)) same ∙ ap is_there there in
-                let now : is_there (page_at pages' q) ≡ 1 = ap (λ (x : ℕ). is_there (page_at pages' x)) same ∙ ap is_there changes.changed in
-                omega (arith, most, was, now))
-            | inr other ↦ (let most = mapped.most q in let slot = ap is_there (changes.others q other) in omega (arith, most, slot))
-          ];
-      least = λ q.
-          elim (eq_cases q p) [
-            | inl same ↦ (let now : is_settled (page_at pages' q) ≡ 0 = ap (λ (x : ℕ). is_settled (page_at pages' x)) same ∙ ap is_settled changes.changed ∙ ap (λ b. cond b 0 1) moves in omega (arith, now))
-            | inr other ↦ (let least = mapped.least q in let slot = ap is_settled (changes.others q other) in omega (arith, least, slot))
-          ];
-      owned = mapped.owned;
-    }
-
--- and one whose transfer ends is gone where nothing maps it
-pub mapped-ended : (pages pages' : Pages) (tasks : Tasks) (mappings : List Mapping) (p g : ℕ) (page : Page) (residence : Residence) → AreMapped pages tasks mappings → page_at pages p ≡ Some page
-    → Changes pages pages' p (ended mappings p g residence) → AreMapped pages' tasks mappings
-mapped-ended pages pages' tasks mappings p g page residence mapped there changes =
-    record {
-      most = λ q.
-          elim (eq_cases q p) [
-            | inl same ↦ subst (λ (x : ℕ). mappers mappings x ≤ is_there (page_at pages' x)) (sym same) (subst (λ (slot : Option Page). mappers mappings p ≤ is_there slot) (sym changes.changed) most_at)
-            | inr other ↦ (let most = mapped.most q in let slot = ap is_there (changes.others q other) in omega (arith, most, slot))
-          ];
-      least = λ q.
-          elim (eq_cases q p) [
-            | inl same ↦ subst (λ (x : ℕ). is_settled (page_at pages' x) ≤ mappers mappings x) (sym same) (subst (λ (slot : Option Page). is_settled slot ≤ mappers mappings p) (sym changes.changed) least_at)
-            | inr other ↦ (let least = mapped.least q in let slot = ap is_settled (changes.others q other) in omega (arith, least, slot))
-          ];
-      owned = mapped.owned;
-    }
-  where
-    settled_one : (slot : Option Page) → is_settled slot ≤ 1
-    settled_one None = omega arith
-    settled_one (Some page) = elim (is_in_transfer page) as (λ b. cond b 0 1 ≤ 1) [ true ↦ omega arith | false ↦ omega arith ]
-
-    most_by : (n : ℕ) (b : Bool) → (n == 0) ≡ b → n ≤ 1 → n ≤ is_there (cond b None (Some (anon_page g residence)))
-    most_by n true is le = let none = eqb-true n 0 is in omega (arith, none)
-    most_by n false is le = le
-
-    least_by : (n : ℕ) (b : Bool) → (n == 0) ≡ b → is_settled (cond b None (Some (anon_page g residence))) ≤ n
-    least_by n true is = omega arith
-    least_by n false is = let one = settled_one (Some (anon_page g residence)) in let some : 1 ≤ n = grind (arith, nat_tests, is) in omega (arith, one, some)
-
-    most_at : mappers mappings p ≤ is_there (ended mappings p g residence)
-    most_at =
-        let most = mapped.most p in
-        let one : is_there (page_at pages p) ≡ 1 = ap is_there there in
-        most_by (mappers mappings p) (mappers mappings p == 0) refl (omega (arith, most, one))
-
-    least_at : is_settled (ended mappings p g residence) ≤ mappers mappings p
-    least_at = least_by (mappers mappings p) (mappers mappings p == 0) refl
-
--- a page that was settled, and then let go where nothing maps it
-pub settled-then : (pages mid pages' : Pages) (mappings : List Mapping) (p g : ℕ) (residence : Residence) → Changes pages mid p (Some (anon_page g residence))
-    → Changes mid pages' p (if mappers mappings p == 0 then None else page_at mid p) → Changes pages pages' p (ended mappings p g residence)
-settled-then pages mid pages' mappings p g residence settles goes =
-    record {
-      changed = goes.changed ∙ ap (λ (slot : Option Page). cond (mappers mappings p == 0) None slot) settles.changed;
-      others = λ q other. goes.others q other ∙ settles.others q other;
-    }
-
--- the bytes of other pages stay, and those of a page that something maps
-pub bytes-others : (mid new : List (Option (List ℕ))) (mappings : List Mapping) (p : ℕ) → ((q o : ℕ) → byte_in new q o ≡ (if (q == p) && (mappers mappings p == 0) then 0 else byte_in mid q o))
-    → (q o : ℕ) → q ≢ p → byte_in new q o ≡ byte_in mid q o
-bytes-others mid new mappings p bytes q o other = bytes q o ∙ ap (λ b. cond (b && (mappers mappings p == 0)) 0 (byte_in mid q o)) (ne_eqb q p other)
-
-pub bytes-own : (mid new : List (Option (List ℕ))) (mappings : List Mapping) (p t v : ℕ) → ((q o : ℕ) → byte_in new q o ≡ (if (q == p) && (mappers mappings p == 0) then 0 else byte_in mid q o))
-    → mapped_at mappings t v ≡ Some p → (o : ℕ) → byte_in new p o ≡ byte_in mid p o
-bytes-own mid new mappings p t v bytes shown o =
-    bytes p o ∙ ap (λ b. cond ((p == p) && b) 0 (byte_in mid p o)) (some_mapped (mappers mappings p) (mapped_at-mappers mappings t v p shown)) ∙ and_no (p == p)
-  where
-    some_mapped : (n : ℕ) → 1 ≤ n → (n == 0) ≡ false
-    some_mapped n le = grind (arith, nat_tests, le)
-
-    and_no : (b : Bool) → cond (b && false) 0 (byte_in mid p o) ≡ byte_in mid p o
-    and_no true = refl
-    and_no false = refl

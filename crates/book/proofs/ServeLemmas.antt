@@ -35,14 +35,15 @@ use Rattle.machine.specs.History.{Spot, InTask, Says, Nothing, says, follow, tic
 use Rattle.pages.specs.PageTable.{byte_in, Stands}
 use Rattle.pages.specs.declared.flight.Flight.{Flight}
 use Rattle.events.specs.Tallies.{Tells}
-use Rattle.book.specs.Contents.{Contents, counting, Steps, Tallied, group_after, byte_shown, byte_at, byte_at_spot, is_in_memory, is_known, knows, ReadsByte, ChangesFlights, worker_of}
+use Rattle.page_state.specs.States.{StateOf, byte_shown, byte_at}
+use Rattle.book.specs.Effects.{counting, Steps, Tallied, group_after, byte_at_spot, is_in_memory, is_known, knows, ReadsByte, ChangesFlights, worker_of}
 use Rattle.book.specs.Serves.{Serves, starts, is_refused}
-use Rattle.book.proofs.OrderLemmas.{InOrder, goes-on-still}
+use Rattle.page_state.proofs.OrderLemmas.{InOrder, goes-on-still}
 
 -- ---- where nothing changes that an event may tell of
 
 -- the pages with their bytes and transfers, the tasks and what they map are as they were
-pub record IsStill (old new : Contents) : Type 0 where
+pub record IsStill (old new : StateOf) : Type 0 where
   pub pages : new.tables.pages ≡ old.tables.pages
   pub tasks : new.tables.tasks ≡ old.tables.tasks
   pub mappings : new.tables.mappings ≡ old.tables.mappings
@@ -57,23 +58,23 @@ pub record IsQuiet (what : Event) (answer : Reply) : Type 0 where
   pub groups : (u g : ℕ) → group_after what answer u g ≡ g
   pub given : is_refused answer ≡ false
 
-pub still-self : (s : Contents) → IsStill s s
+pub still-self : (s : StateOf) → IsStill s s
 still-self s = record { pages = refl; tasks = refl; mappings = refl; bytes = refl; flights = refl; opening = refl }
 
 -- where no page and no cursor changes
-pub order-still : (old new : Contents) → InOrder old → new.tables.pages ≡ old.tables.pages → new.order ≡ old.order → GoesOn old.tables.pages old.order.held new.tables.pages new.order.held × (new.order.cursors ≡ old.order.cursors)
+pub order-still : (old new : StateOf) → InOrder old → new.tables.pages ≡ old.tables.pages → new.order ≡ old.order → GoesOn old.tables.pages old.order.held new.tables.pages new.order.held × (new.order.cursors ≡ old.order.cursors)
 order-still old new listed pages order = (goes-on-still old.tables.pages new.tables.pages old.order.held new.order.held listed pages (ap (λ (o : Order). o.held) order), ap (λ (o : Order). o.cursors) order)
 
 pub flight-kept : (slot before : Option Flight) → slot ≡ before → IfSome slot (λ f. Some f.worker.0 ≡ worker_of before)
 flight-kept None before e = tt
 flight-kept (Some f) before e = ap worker_of e
 
-pub flights-kept : (old new : Contents) (worker : ℕ) (answer : Reply) → ticket_given answer ≡ None → new.flights ≡ old.flights → ChangesFlights old worker answer new
+pub flights-kept : (old new : StateOf) (worker : ℕ) (answer : Reply) → ticket_given answer ≡ None → new.flights ≡ old.flights → ChangesFlights old worker answer new
 flights-kept old new worker answer none same n =
     subst (λ (m : Option ℕ). IfSome (at new.flights n) (λ f. Some f.worker.0 ≡ taker_or n m worker (worker_of (at old.flights n)))) (sym none)
     (flight-kept (at new.flights n) (at old.flights n) (ap (λ (fs : List (Option Flight)). at fs n) same))
 
-pub serves-still : (old new : Contents) (worker : ℕ) (what : Event) (answer : Reply) → IsStill old new → IsQuiet what answer
+pub serves-still : (old new : StateOf) (worker : ℕ) (what : Event) (answer : Reply) → IsStill old new → IsQuiet what answer
     → Steps old what answer new → Orders old.tables old.order what answer new.tables new.order → Tallied old what answer new → ReadsByte old what answer → 1 ≤ need old.tables what → Serves old worker what answer new
 serves-still old new worker what answer still quiet steps orders tallied reads needs =
     record {
@@ -151,7 +152,7 @@ frameless_step s over free Granted none is = rw none (rw is (refl, refl))
 
 -- ---- groups
 
-pub serves-mkdir : (old new : Contents) (worker : ℕ) (path : List ℕ)
+pub serves-mkdir : (old new : StateOf) (worker : ℕ) (path : List ℕ)
     → new.tables ≡ record old.tables { tree = old.tables.tree ++ new_node old.tables.tree path ∷ []; limits = old.tables.limits ++ no_limits ∷ [] } → new.bytes ≡ old.bytes → new.flights ≡ old.flights
     → InOrder old → new.order.held ≡ old.order.held → new.order.cursors ≡ old.order.cursors ++ None ∷ []
     → ((c : List Counted) → Tells old.tallies c → Tells new.tallies c) → Serves old worker (event.Mkdir path) reply.Ok new
@@ -169,7 +170,7 @@ serves-mkdir old new worker path tables bytes flights listed held cursors tells 
     (λ c told. ap (λ (s : State). counting s c) tables)
     (goes-on-still old.tables.pages new.tables.pages old.order.held new.order.held listed (ap (λ (s : State). s.pages) tables) held, cursors) tells tt (omega arith)
 
-pub serves-set : (old new : Contents) (worker g : ℕ) (setting : Setting)
+pub serves-set : (old new : StateOf) (worker g : ℕ) (setting : Setting)
     → new.tables ≡ record old.tables { limits = slice_set old.tables.limits g (with_setting (limits_at old.tables.limits g) setting) } → new.bytes ≡ old.bytes → new.flights ≡ old.flights
     → InOrder old → new.order ≡ old.order
     → ((c : List Counted) → Tells old.tallies c → Tells new.tallies c) → Serves old worker (event.Set (record { 0 = g }) setting) reply.Ok new
@@ -187,7 +188,7 @@ serves-set old new worker g setting tables bytes flights listed order tells =
     (λ c told. ap (λ (s : State). counting s c) tables) (order-still old new listed (ap (λ (s : State). s.pages) tables) order) tells tt (omega arith)
 
 -- what is shown is told for whatever events the tallies tell
-pub serves-show : (s : Contents) (worker : ℕ) (what : Query) (numbers : Shown) → InOrder s → ((c : List Counted) → Tells s.tallies c → numbers ≡ shown_of (counting s.tables c) what)
+pub serves-show : (s : StateOf) (worker : ℕ) (what : Query) (numbers : Shown) → InOrder s → ((c : List Counted) → Tells s.tallies c → numbers ≡ shown_of (counting s.tables c) what)
     → Serves s worker (event.Show what) (reply.Shown numbers) s
 serves-show s worker what numbers listed is =
     serves-still s s worker (event.Show what) (reply.Shown numbers) (still-self s) (record { says = λ spot. refl; ticket = refl; groups = λ u g. refl; given = refl })
@@ -196,7 +197,7 @@ serves-show s worker what numbers listed is =
 -- ---- accesses
 
 -- a task that was killed is told so
-pub serves-killed : (s : Contents) (worker t : ℕ) (place : Place) (op : Op) (task : Task) → task_at s.tables.tasks t ≡ Some task → task.life ≡ Killed → InOrder s
+pub serves-killed : (s : StateOf) (worker t : ℕ) (place : Place) (op : Op) (task : Task) → task_at s.tables.tasks t ≡ Some task → task.life ≡ Killed → InOrder s
     → Serves s worker (event.Access (record { 0 = t }) place op) reply.Killed s
 serves-killed s worker t place Read task is killed listed =
     serves-still s s worker (event.Access (record { 0 = t }) place Read) reply.Killed (still-self s) (record { says = λ spot. refl; ticket = refl; groups = λ u g. refl; given = refl })
@@ -205,14 +206,14 @@ serves-killed s worker t place (Write b) task is killed listed =
     serves-still s s worker (event.Access (record { 0 = t }) place (Write b)) reply.Killed (still-self s) (record { says = λ spot. refl; ticket = refl; groups = λ u g. refl; given = refl })
     (λ c told. killed_step (counting s.tables c) _ task _ is killed) (order-still s s listed refl refl) (λ c told. told) tt (access-needs s.tables t place (Write b))
 
-pub serves-unmapped : (s : Contents) (worker t v o : ℕ) (task : Task) → task_at s.tables.tasks t ≡ Some task → task.life ≡ Live → mapped_at s.tables.mappings t v ≡ None → o < page_size → InOrder s
+pub serves-unmapped : (s : StateOf) (worker t v o : ℕ) (task : Task) → task_at s.tables.tasks t ≡ Some task → task.life ≡ Live → mapped_at s.tables.mappings t v ≡ None → o < page_size → InOrder s
     → Serves s worker (event.Access (record { 0 = t }) (Virtual v o) Read) (reply.Done 0 None) s
 serves-unmapped s worker t v o task is living none within listed =
     serves-still s s worker (event.Access (record { 0 = t }) (Virtual v o) Read) (reply.Done 0 None) (still-self s) (record { says = λ spot. refl; ticket = refl; groups = λ u g. refl; given = refl })
     (λ c told. live_step (counting s.tables c) _ task _ _ _ is living (rw none (refl, refl))) (order-still s s listed refl refl) (λ c told. told)
     (sym (ap (λ m. byte_shown s.bytes m o) none), (ap (is_known s.tables.pages) none, within)) (access-needs s.tables t (Virtual v o) Read)
 
-pub serves-hit_read : (s : Contents) (worker t v o p g f : ℕ) (task : Task) → task_at s.tables.tasks t ≡ Some task → task.life ≡ Live → mapped_at s.tables.mappings t v ≡ Some p
+pub serves-hit_read : (s : StateOf) (worker t v o p g f : ℕ) (task : Task) → task_at s.tables.tasks t ≡ Some task → task.life ≡ Live → mapped_at s.tables.mappings t v ≡ Some p
     → Stands s.tables.pages p g (Held f) → o < page_size → InOrder s
     → Serves s worker (event.Access (record { 0 = t }) (Virtual v o) Read) (reply.Done (byte_in s.bytes p o) (Some (record { 0 = f }))) s
 serves-hit_read s worker t v o p g f task is living shown page within listed =
@@ -233,25 +234,25 @@ pub quiet-no_frame : (t : ℕ) (place : Place) (op : Op) → IsQuiet (event.Acce
 quiet-no_frame t place Read = record { says = λ spot. refl; ticket = refl; groups = λ u g. refl; given = refl }
 quiet-no_frame t place (Write b) = record { says = λ spot. refl; ticket = refl; groups = λ u g. refl; given = refl }
 
-reads-busy : (s : Contents) (t : ℕ) (place : Place) (op : Op) → ReadsByte s (event.Access (record { 0 = t }) place op) reply.Busy
+reads-busy : (s : StateOf) (t : ℕ) (place : Place) (op : Op) → ReadsByte s (event.Access (record { 0 = t }) place op) reply.Busy
 reads-busy s t place Read = tt
 reads-busy s t place (Write b) = tt
 
-reads-over : (s : Contents) (t a : ℕ) (place : Place) (op : Op) → ReadsByte s (event.Access (record { 0 = t }) place op) (reply.Over (record { 0 = a }))
+reads-over : (s : StateOf) (t a : ℕ) (place : Place) (op : Op) → ReadsByte s (event.Access (record { 0 = t }) place op) (reply.Over (record { 0 = a }))
 reads-over s t a place Read = tt
 reads-over s t a place (Write b) = tt
 
-reads-no_frame : (s : Contents) (t : ℕ) (place : Place) (op : Op) → ReadsByte s (event.Access (record { 0 = t }) place op) reply.NoFrame
+reads-no_frame : (s : StateOf) (t : ℕ) (place : Place) (op : Op) → ReadsByte s (event.Access (record { 0 = t }) place op) reply.NoFrame
 reads-no_frame s t place Read = tt
 reads-no_frame s t place (Write b) = tt
 
-pub serves-coming : (s : Contents) (worker t v o p g f b n : ℕ) (op : Op) (task : Task) → task_at s.tables.tasks t ≡ Some task → task.life ≡ Live → mapped_at s.tables.mappings t v ≡ Some p
+pub serves-coming : (s : StateOf) (worker t v o p g f b n : ℕ) (op : Op) (task : Task) → task_at s.tables.tasks t ≡ Some task → task.life ≡ Live → mapped_at s.tables.mappings t v ≡ Some p
     → Stands s.tables.pages p g (Coming f b n) → InOrder s → Serves s worker (event.Access (record { 0 = t }) (Virtual v o) op) reply.Busy s
 serves-coming s worker t v o p g f b n op task is living shown page listed =
     serves-still s s worker (event.Access (record { 0 = t }) (Virtual v o) op) reply.Busy (still-self s) (quiet-busy t (Virtual v o) op)
     (λ c told. live_step (counting s.tables c) _ task _ _ _ is living (rw shown (rw page (refl, refl)))) (order-still s s listed refl refl) (λ c told. told) (reads-busy s t (Virtual v o) op) (access-needs s.tables t (Virtual v o) op)
 
-pub serves-going : (s : Contents) (worker t v o p g f b n : ℕ) (op : Op) (task : Task) → task_at s.tables.tasks t ≡ Some task → task.life ≡ Live → mapped_at s.tables.mappings t v ≡ Some p
+pub serves-going : (s : StateOf) (worker t v o p g f b n : ℕ) (op : Op) (task : Task) → task_at s.tables.tasks t ≡ Some task → task.life ≡ Live → mapped_at s.tables.mappings t v ≡ Some p
     → Stands s.tables.pages p g (Going f b n) → InOrder s → Serves s worker (event.Access (record { 0 = t }) (Virtual v o) op) reply.Busy s
 serves-going s worker t v o p g f b n op task is living shown page listed =
     serves-still s s worker (event.Access (record { 0 = t }) (Virtual v o) op) reply.Busy (still-self s) (quiet-busy t (Virtual v o) op)
@@ -259,7 +260,7 @@ serves-going s worker t v o p g f b n op task is living shown page listed =
 
 -- ---- charges that are refused
 
-pub serves-over : (old new : Contents) (worker t v o a : ℕ) (op : Op) (task : Task) → task_at old.tables.tasks t ≡ Some task → task.life ≡ Live
+pub serves-over : (old new : StateOf) (worker t v o a : ℕ) (op : Op) (task : Task) → task_at old.tables.tasks t ≡ Some task → task.life ≡ Live
     → ((c : List Counted) → MeetStep (counting old.tables c) t task.group.0 (Virtual v o) op (meets (counting old.tables c) t (Virtual v o) op) (reply.Over (record { 0 = a })) (counting old.tables (c ++ count_of a key.Max ∷ [])))
     → new.tables ≡ old.tables → new.bytes ≡ old.bytes → new.flights ≡ old.flights → InOrder old → new.order ≡ old.order
     → ((c : List Counted) → Tells old.tallies c → Tells new.tallies (c ++ count_of a key.Max ∷ []))
@@ -279,7 +280,7 @@ serves-over old new worker t v o a op task is living meet tables bytes flights l
     (live_step (counting old.tables c) _ task _ _ _ is living (meet c)))
     (order-still old new listed (ap (λ (s : State). s.pages) tables) order) tells (reads-over old t a (Virtual v o) op) (access-needs old.tables t (Virtual v o) op)
 
-pub serves-no_frame : (old new : Contents) (worker t v o : ℕ) (op : Op) (task : Task) → task_at old.tables.tasks t ≡ Some task → task.life ≡ Live
+pub serves-no_frame : (old new : StateOf) (worker t v o : ℕ) (op : Op) (task : Task) → task_at old.tables.tasks t ≡ Some task → task.life ≡ Live
     → ((c : List Counted) → MeetStep (counting old.tables c) t task.group.0 (Virtual v o) op (meets (counting old.tables c) t (Virtual v o) op) reply.NoFrame (counting old.tables c))
     → new.tables ≡ old.tables → new.bytes ≡ old.bytes → new.flights ≡ old.flights → InOrder old → new.order ≡ old.order
     → ((c : List Counted) → Tells old.tallies c → Tells new.tallies c) → Serves old worker (event.Access (record { 0 = t }) (Virtual v o) op) reply.NoFrame new
@@ -326,7 +327,7 @@ stands_counting s c cause.Frame = refl
 quiet-relief : (why : Cause) (answer : Reply) → ticket_given answer ≡ None → is_refused answer ≡ false → IsQuiet (event.Relieve why) answer
 quiet-relief why answer none given = record { says = λ spot. refl; ticket = none; groups = λ u g. refl; given = given }
 
-pub serves-room : (s : Contents) (worker : ℕ) (why : Cause) → stands s.tables why ≡ false → InOrder s → Serves s worker (event.Relieve why) reply.Room s
+pub serves-room : (s : StateOf) (worker : ℕ) (why : Cause) → stands s.tables why ≡ false → InOrder s → Serves s worker (event.Relieve why) reply.Room s
 serves-room s worker why met listed =
     serves-still s s worker (event.Relieve why) reply.Room (still-self s) (quiet-relief why reply.Room refl refl)
     (λ c told. room c) (order-still s s listed refl refl) (λ c told. told) tt (relief-needs s.tables why)
@@ -334,7 +335,7 @@ serves-room s worker why met listed =
     room : (c : List Counted) → RelieveStep (counting s.tables c) why reply.Room (counting s.tables c)
     room c = let here = stands_counting s.tables c why ∙ met in rw here (refl, refl)
 
-pub serves-wait : (s : Contents) (worker : ℕ) (why : Cause) → stands s.tables why ≡ true → has_takeable s.tables (target_of why) ≡ false → has_transfer s.tables (target_of why) ≡ true → InOrder s
+pub serves-wait : (s : StateOf) (worker : ℕ) (why : Cause) → stands s.tables why ≡ true → has_takeable s.tables (target_of why) ≡ false → has_transfer s.tables (target_of why) ≡ true → InOrder s
     → Serves s worker (event.Relieve why) reply.Wait s
 serves-wait s worker why wants untakeable moving listed =
     serves-still s s worker (event.Relieve why) reply.Wait (still-self s) (quiet-relief why reply.Wait refl refl)
@@ -352,7 +353,7 @@ pub relieve_step : (s : State) (why : Cause) (answer : Reply) (new : State) → 
     → KillStep s (target_of why) answer new → RelieveStep s why answer new
 relieve_step s why answer new wants untakeable settled kill = rw wants (rw untakeable (rw settled kill))
 
-pub serves-no_victim : (old new : Contents) (worker : ℕ) (why : Cause) → stands old.tables why ≡ true → has_takeable old.tables (target_of why) ≡ false → has_transfer old.tables (target_of why) ≡ false
+pub serves-no_victim : (old new : StateOf) (worker : ℕ) (why : Cause) → stands old.tables why ≡ true → has_takeable old.tables (target_of why) ≡ false → has_transfer old.tables (target_of why) ≡ false
     → IsVictim old.tables.tree old.tables.tasks old.tables.mappings (target_of why) None → new.tables ≡ old.tables → new.bytes ≡ old.bytes → new.flights ≡ old.flights → InOrder old → new.order ≡ old.order
     → ((c : List Counted) → Tells old.tallies c → Tells new.tallies (c ++ count_of (target_of why) key.Oom ∷ [])) → Serves old worker (event.Relieve why) reply.NoVictim new
 serves-no_victim old new worker why wants untakeable settled nobody tables bytes flights listed order tells =
@@ -378,7 +379,7 @@ reclaim-needs s g = one_or_two (has_takeable s g)
 quiet-reclaim : (g : ℕ) (answer : Reply) → ticket_given answer ≡ None → is_refused answer ≡ false → IsQuiet (event.ReclaimOne (record { 0 = g })) answer
 quiet-reclaim g answer none given = record { says = λ spot. refl; ticket = none; groups = λ u g. refl; given = given }
 
-pub serves-reclaim_wait : (s : Contents) (worker g : ℕ) → has_takeable s.tables g ≡ false → has_transfer s.tables g ≡ true → InOrder s → Serves s worker (event.ReclaimOne (record { 0 = g })) reply.Wait s
+pub serves-reclaim_wait : (s : StateOf) (worker g : ℕ) → has_takeable s.tables g ≡ false → has_transfer s.tables g ≡ true → InOrder s → Serves s worker (event.ReclaimOne (record { 0 = g })) reply.Wait s
 serves-reclaim_wait s worker g untakeable moving listed =
     serves-still s s worker (event.ReclaimOne (record { 0 = g })) reply.Wait (still-self s) (quiet-reclaim g reply.Wait refl refl)
     (λ c told. waits c) (order-still s s listed refl refl) (λ c told. told) tt (reclaim-needs s.tables g)
@@ -389,7 +390,7 @@ serves-reclaim_wait s worker g untakeable moving listed =
         let some : has_transfer (counting s.tables c) g ≡ true = moving in
         rw none (rw some (refl, refl))
 
-pub serves-nothing : (s : Contents) (worker g : ℕ) → has_takeable s.tables g ≡ false → has_transfer s.tables g ≡ false → InOrder s → Serves s worker (event.ReclaimOne (record { 0 = g })) reply.Nothing s
+pub serves-nothing : (s : StateOf) (worker g : ℕ) → has_takeable s.tables g ≡ false → has_transfer s.tables g ≡ false → InOrder s → Serves s worker (event.ReclaimOne (record { 0 = g })) reply.Nothing s
 serves-nothing s worker g untakeable settled listed =
     serves-still s s worker (event.ReclaimOne (record { 0 = g })) reply.Nothing (still-self s) (quiet-reclaim g reply.Nothing refl refl)
     (λ c told. finds_none c) (order-still s s listed refl refl) (λ c told. told) tt (reclaim-needs s.tables g)
@@ -402,7 +403,7 @@ serves-nothing s worker g untakeable settled listed =
 
 -- ---- ends of tasks
 
-pub serves-exit_killed : (s : Contents) (worker t : ℕ) (task : Task) → task_at s.tables.tasks t ≡ Some task → task.life ≡ Killed → InOrder s → Serves s worker (event.Exit (record { 0 = t })) reply.Killed s
+pub serves-exit_killed : (s : StateOf) (worker t : ℕ) (task : Task) → task_at s.tables.tasks t ≡ Some task → task.life ≡ Killed → InOrder s → Serves s worker (event.Exit (record { 0 = t })) reply.Killed s
 serves-exit_killed s worker t task is killed listed =
     serves-still s s worker (event.Exit (record { 0 = t })) reply.Killed (still-self s) (record { says = λ spot. refl; ticket = refl; groups = λ u g. refl; given = refl })
     (λ c told. killed_step (counting s.tables c) _ task _ is killed) (order-still s s listed refl refl) (λ c told. told) tt (omega arith)

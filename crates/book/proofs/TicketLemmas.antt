@@ -11,7 +11,8 @@ use Rattle.pages.specs.PageTable.{anon_page, AreInFlight}
 use Rattle.pages.specs.declared.flight.Flight.{Flight}
 use Rattle.book.specs.declared.event.Reply.{Reply}
 use Rattle.book.specs.declared.event.Reply.TheVariants as reply
-use Rattle.book.specs.Contents.{Contents, worker_of, byte_shown, is_in_memory, is_known}
+use Rattle.page_state.specs.States.{StateOf, byte_shown}
+use Rattle.book.specs.Effects.{worker_of, is_in_memory, is_known}
 use Rattle.book.specs.Replies.{Gives}
 use Rattle.book.specs.Serves.{GivesTicket}
 use Rattle.book.specs.Told.{state_of, IsHistory}
@@ -66,7 +67,7 @@ module _ (pages : Pages) (flights : List (Option Flight)) (history : List Entry)
 -- ---- what is given out
 
 -- a ticket that the parts give out, as a book gives it
-pub gives_more : (new : Contents) (history : List Entry) (counts : List ℕ) (passes worker entry : ℕ) (answer : Reply) → IsHistory new history counts → entry ≡ length history → GivesTicket new worker entry answer
+pub gives_more : (new : StateOf) (history : List Entry) (counts : List ℕ) (passes worker entry : ℕ) (answer : Reply) → IsHistory new history counts → entry ≡ length history → GivesTicket new worker entry answer
     → Gives (record { state = state_of new history; history = history; order = new.order; passes = passes }) worker answer
 gives_more new history counts passes worker entry (reply.Fetch ticket) told newest gives =
     record {

@@ -25,11 +25,13 @@ use Rattle.machine.proofs.SlotLemmas.{one_if}
 use Rattle.machine.proofs.MappingLemmas.{mapped_at-mappers, mapped_at-one, mapped_at-push, mapped_at-push_other}
 use Rattle.pages.specs.PageTable.{byte_in, Stands, anon_page}
 use Rattle.events.specs.Tallies.{Tells}
-use Rattle.book.specs.Contents.{Contents, counting, byte_shown, byte_at, byte_at_spot, is_in_memory, is_known, knows, StaysComing, AreMapped, is_there}
+use Rattle.page_state.specs.States.{StateOf, byte_shown, byte_at}
+use Rattle.page_state.specs.Mapped.{AreMapped, is_there}
+use Rattle.book.specs.Effects.{counting, byte_at_spot, is_in_memory, is_known, knows, StaysComing}
 use Rattle.book.specs.Serves.{Serves}
-use Rattle.book.proofs.TransferLemmas.{in_transfer-changes}
+use Rattle.page_state.proofs.TransferLemmas.{in_transfer-changes}
 use Rattle.book.proofs.ServeLemmas.{order-still, flights-kept, live_step, granted_step, access-needs}
-use Rattle.book.proofs.OrderLemmas.{InOrder}
+use Rattle.page_state.proofs.OrderLemmas.{InOrder}
 
 -- tests that hold together are one
 alike : (a b : Bool) → (a ≡ true → b ≡ true) → (b ≡ true → a ≡ true) → a ≡ b
@@ -64,7 +66,7 @@ written_at d x y z b n before spot is e =
 unlike_held : {P : Type 0} (slot : Option Page) (g f g' f' b' n' : ℕ) → slot ≡ Some (anon_page g (Held f)) → slot ≡ Some (anon_page g' (Coming f' b' n')) → P
 unlike_held slot g f g' f' b' n' is also = unlike (there_and is_in_transfer slot) (ap (there_and is_in_transfer) also) (ap (there_and is_in_transfer) is)
 
-pub serves-hit_write : (old new : Contents) (worker t v o b p g f : ℕ) (task : Task) → AreMapped old.tables.pages old.tables.tasks old.tables.mappings
+pub serves-hit_write : (old new : StateOf) (worker t v o b p g f : ℕ) (task : Task) → AreMapped old.tables.pages old.tables.tasks old.tables.mappings
     → task_at old.tables.tasks t ≡ Some task → task.life ≡ Live → mapped_at old.tables.mappings t v ≡ Some p → Stands old.tables.pages p g (Held f)
     → new.tables ≡ old.tables → ((q k : ℕ) → byte_in new.bytes q k ≡ (if (q == p) && (o == k) then b else byte_in old.bytes q k)) → new.flights ≡ old.flights
     → InOrder old → new.order ≡ old.order → ((c : List Counted) → Tells old.tallies c → Tells new.tallies c)
@@ -133,7 +135,7 @@ serves-hit_write old new worker t v o b p g f task mapped is living shown page t
         (λ hit. eq-eqb q p (some_inj (sym e ∙ here u w hit))))
         (ap (λ m. byte_shown old.bytes m k) (sym e))
 
-pub serves-made : (old new : Contents) (worker t v o b p f : ℕ) (task : Task) → AreMapped old.tables.pages old.tables.tasks old.tables.mappings
+pub serves-made : (old new : StateOf) (worker t v o b p f : ℕ) (task : Task) → AreMapped old.tables.pages old.tables.tasks old.tables.mappings
     → task_at old.tables.tasks t ≡ Some task → task.life ≡ Live → mapped_at old.tables.mappings t v ≡ None
     → over_in old.tables task.group.0 ≡ None → is_frame_free old.tables ≡ true → IsFreeFrame old.tables f → page_at old.tables.pages p ≡ None
     → Changes old.tables.pages new.tables.pages p (Some (new_page task.group.0 f))
@@ -233,7 +235,7 @@ unmapped_of pages tasks mappings mapped t v none = at (mapped_at mappings t v) r
     at None is = refl
     at (Some p) is = absurd (let owned = mapped.owned t v p is in let unowned : is_some (task_at tasks t) ≡ false = ap is_some none in cc)
 
-pub serves-spawn : (old new : Contents) (worker t g : ℕ) → AreMapped old.tables.pages old.tables.tasks old.tables.mappings → task_at old.tables.tasks t ≡ None
+pub serves-spawn : (old new : StateOf) (worker t g : ℕ) → AreMapped old.tables.pages old.tables.tasks old.tables.mappings → task_at old.tables.tasks t ≡ None
     → SetsTask old.tables.tasks t g Live new.tables.tasks → new.tables ≡ record old.tables { tasks = new.tables.tasks } → new.bytes ≡ old.bytes → new.flights ≡ old.flights
     → InOrder old → new.order ≡ old.order → ((c : List Counted) → Tells old.tallies c → Tells new.tallies c)
     → Serves old worker (event.Spawn (record { 0 = t }) (record { 0 = g })) reply.Ok new

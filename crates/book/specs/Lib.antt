@@ -1,13 +1,8 @@
 pub mod Passes
 pub mod Events
 pub mod Replies
-pub mod Holdings
-pub mod Keeping
-pub mod Queue
-pub mod Room
-pub mod Contents
+pub mod Effects
 pub mod Serves
-pub mod Drops
-pub mod Parts
+pub mod Decisions
 pub mod Told
 pub mod Books

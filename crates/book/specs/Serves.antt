@@ -14,7 +14,8 @@ use Rattle.pages.specs.Transfers.{given_ticket}
 use Rattle.book.specs.declared.event.Reply.{Reply as Given}
 use Rattle.book.specs.declared.event.Reply.TheVariants as given
 use Rattle.book.specs.Replies.{IsAccessReply, IsReliefReply, IsReclaimReply, IsOkReply, IsExitReply, IsShownReply}
-use Rattle.book.specs.Contents.{Contents, Steps, Tallied, ChangesGroups, ReadsByte, ChangesBytes, ChangesComing, ChangesFlights}
+use Rattle.page_state.specs.States.{StateOf}
+use Rattle.book.specs.Effects.{Steps, Tallied, ChangesGroups, ReadsByte, ChangesBytes, ChangesComing, ChangesFlights}
 
 -- the event is the task's first
 abbrev pub starts : Event → Reply → ℕ → Bool
@@ -26,7 +27,7 @@ is_refused (reply.Refused why) = true
 is_refused answer = false
 
 -- the machine's step with this reply, asked by a worker; where a page is taken it is the one in order; a read gives the byte that stood there; and tasks' groups, bytes and transfers change as the event says
-pub record Serves (old : Contents) (worker : ℕ) (what : Event) (answer : Reply) (new : Contents) : Type 0 where
+pub record Serves (old : StateOf) (worker : ℕ) (what : Event) (answer : Reply) (new : StateOf) : Type 0 where
   pub steps : Steps old what answer new
   pub orders : Orders old.tables old.order what answer new.tables new.order
   pub tallied : Tallied old what answer new
@@ -63,7 +64,7 @@ RepliesTo (event.Show query) said = IsShownReply said
 RepliesTo what said = ⊥
 
 -- the ticket that is given out is that of a page in transfer; and a write-out has the page's bytes
-abbrev pub GivesTicket : Contents → ℕ → ℕ → Given → Type 0
+abbrev pub GivesTicket : StateOf → ℕ → ℕ → Given → Type 0
 GivesTicket new worker entry (given.Fetch ticket) =
     (p : ℕ) × (g : ℕ) × (f : ℕ) × Stands new.tables.pages p g (Coming f ticket.block ticket.number) × (ticket ≡ given_ticket ticket.number worker entry ticket.block ticket.bytes)
 GivesTicket new worker entry (given.Out ticket) =

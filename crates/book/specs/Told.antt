@@ -11,7 +11,8 @@ use Rattle.machine.specs.Legal.{Legal}
 use Rattle.machine.specs.History.{Right, InTask, at_offset, last, Fetched, fetch_of, Honest, taker, entries_by, Numbered}
 use Rattle.pages.specs.PageTable.{Stands}
 use Rattle.events.specs.Tallies.{Tells}
-use Rattle.book.specs.Contents.{Contents, counting, counted_after, group_after, knows, byte_at}
+use Rattle.page_state.specs.States.{StateOf, byte_at}
+use Rattle.book.specs.Effects.{counting, counted_after, group_after, knows}
 
 -- the group that a task was last put in
 abbrev pub group_in : List Entry → ℕ → ℕ
@@ -24,7 +25,7 @@ counted_in [] = []
 counted_in (entry ∷ earlier) = counted_after (group_in earlier) (counted_in earlier) entry.event entry.reply
 
 -- the tables, with the events that the history counts
-abbrev pub state_of : Contents → List Entry → State
+abbrev pub state_of : StateOf → List Entry → State
 state_of c history = counting c.tables (counted_in history)
 
 -- the read-in under a ticket began at this place, and what was last written there has not changed since
@@ -34,7 +35,7 @@ pub record IsFetched (history : List Entry) (n t v : ℕ) : Type 0 where
   pub same : (o : ℕ) → o < page_size → last fetch.earlier (at_offset o fetch.spot) ≡ last history (InTask t v o)
 
 -- the history leads to the tables, gave each read the last write where every arrival brought it, and is numbered by worker
-pub record IsHistory (c : Contents) (history : List Entry) (counts : List ℕ) : Type 0 where
+pub record IsHistory (c : StateOf) (history : List Entry) (counts : List ℕ) : Type 0 where
   pub legal : Legal c.tables.opening history (state_of c history)
   pub right : Honest history → Right history
   pub numbered : Numbered history

@@ -1,41 +1,35 @@
 //! The book: one event a call, and the history of what was answered.
 
-ghost use Rattle.std.specs.Prelude.{◌≡◌, ◌⊎◌, ℕ, ◌+◌, ◌<◌, ◌≤◌, ◌++◌, ◌∷◌, ◌&&◌, [], None, true, false, length, reverse, nat_le, slice_index, slice_set, option_map, IfOk, IfErr, OnErr, vec_len, vec_capacity};
+ghost use Rattle.std.specs.Prelude.{◌≡◌, ◌⊎◌, ℕ, ◌+◌, ◌<◌, ◌≤◌, ◌++◌, ◌∷◌, ◌&&◌, [], None, true, false, length, reverse, nat_lt, slice_index, slice_set, option_map, IfOk, IfErr, OnErr, vec_len, vec_capacity};
 ghost use Rattle.machine.specs.Tree.{find_group};
-ghost use Rattle.machine.specs.Pages.{used_frames, is_coming_in, is_going_out};
-ghost use Rattle.machine.specs.State.{opening_of, are_marks, is_config};
-ghost use Rattle.machine.specs.Refusals.{refusal};
+ghost use Rattle.machine.specs.Pages.{used_frames, in_transfer};
+ghost use Rattle.machine.specs.State.{opening_of, is_config};
 ghost use Rattle.machine.specs.Legal.{Legal};
 ghost use Rattle.machine.specs.Lists.{ListsHeld};
 ghost use Rattle.machine.specs.History.{Right, IsRight, Honest, Numbered, taker};
-ghost use Rattle.machine.specs.Call.{first_past, is_worker, is_trace_full, Called};
-ghost use Rattle.machine.specs.declared.event.Event.TheVariants as plain;
-ghost use Rattle.book.specs.Events.{event_of, reply_of};
+ghost use Rattle.machine.specs.Call.{first_past, is_worker, Called};
+ghost use Rattle.book.specs.Events.{event_of, reply_of, in_ended, in_ended_with, out_ended, out_ended_with, is_in_flight};
 ghost use Rattle.book.specs.Replies.{Replies, IsInReply, IsOutReply, IsBack, HandsBack, KeepsTicket, Gives};
 ghost use Rattle.book.specs.Serves.{IsAsked, RepliesTo};
 
+use crate::apply::apply;
+use crate::decide::decide;
 use crate::event::{Event, Reply};
-use crate::page_state::State;
 use crate::pass::Pass;
+use machine::bytes::PageBytes;
 use machine::config::{Config, Watermarks};
 use machine::entry::Entry;
 use machine::event::Event as PlainEvent;
 use machine::id::{GroupId, TicketId, WorkerId};
 use machine::refusal::Refusal;
 use machine::reply::Reply as PlainReply;
-use pages::{InTicket, OutTicket};
+use page_state::State;
+use pages::{Carries, Direction, End, InTicket, OutTicket, Ticket};
 use std::alloc::{AllocError, Global};
 use std::marker::Model;
 
 /// As many passes can be given out.
 const MOST_PASSES: usize = 131_072;
-
-/// The greatest number of frames, of swap blocks, and of entries of a trace.
-const MOST_FRAMES: u32 = 65_536;
-
-const MOST_SWAP: u32 = 65_536;
-
-const MOST_ENTRIES: u32 = 1_048_576;
 
 /// The groups, pages and tasks of one machine, with the history of what was asked and answered.
 ///
@@ -82,7 +76,7 @@ impl Book {
         ensures sized { IfOk result (λ b. is_config config ≡ true) }
         ensures err { IfErr result (λ cause. (cause ≡ Refusal.Invalid) × (is_config config ≡ false) ⊎ (cause ≡ Refusal.NoMemory) × (is_config config ≡ true)) }
     {
-        if !is_config(config) {
+        if !config.is_valid() {
             return Err(Refusal::Invalid);
         }
         match Book::make(alloc, config) {
@@ -143,10 +137,10 @@ impl Book {
             Event::Access { task, place, op } => {
                 self.ask(worker, PlainEvent::Access { task, place, op })
             }
-            Event::Arrived(ticket) => self.arrived(worker, ticket),
-            Event::FetchFailed(ticket) => self.fetch_failed(worker, ticket),
-            Event::Left(ticket) => self.left(worker, ticket),
-            Event::LeaveFailed(ticket) => self.leave_failed(worker, ticket),
+            Event::Arrived(ticket) => self.settle_in(worker, ticket, End::InFrame),
+            Event::FetchFailed(ticket) => self.settle_in(worker, ticket, End::OnBlock),
+            Event::Left(ticket) => self.settle_out(worker, ticket, End::OnBlock),
+            Event::LeaveFailed(ticket) => self.settle_out(worker, ticket, End::InFrame),
             Event::Relieve(cause) => self.ask(worker, PlainEvent::Relieve(cause)),
             Event::ReclaimOne(group) => self.ask(worker, PlainEvent::ReclaimOne(group)),
             Event::Spawn { task, group } => self.ask(worker, PlainEvent::Spawn { task, group }),
@@ -159,7 +153,8 @@ impl Book {
         }
     }
 
-    /// An event without a ticket.
+    /// An event without a ticket. It is refused for the first cause that stands; then for want of room in
+    /// the trace; then for want of memory. Else it is done, and is one entry more.
     fn ask(&mut self, worker: WorkerId, event: PlainEvent) -> Reply
         requires known { worker.0 < self.old.passes }
         requires asked { IsAsked event }
@@ -169,15 +164,16 @@ impl Book {
         ensures gives { Gives self.new worker.0 result }
         ensures passes { self.new.passes ≡ self.old.passes }
     {
-        if let Some(cause) = self.state.refusal(&event) {
-            return Reply::Refused(cause);
-        }
-        if self.is_full(&event) {
+        let decided = match decide(&self.state, &event) {
+            Err(cause) => return Reply::Refused(cause),
+            Ok(decided) => decided,
+        };
+        if self.is_full(decided.entries()) {
             return Reply::Refused(Refusal::TraceFull);
         }
         self.state.is_joined();
         let entry = self.entries.len() as u32 + 1;
-        match self.state.step(self.alloc, &event, worker, entry) {
+        match apply(&mut self.state, self.alloc, decided, worker, entry) {
             Err(AllocError) => Reply::Refused(Refusal::NoMemory),
             Ok(reply) => {
                 let said = plain(&reply);
@@ -187,129 +183,71 @@ impl Book {
         }
     }
 
-    /// Whether the trace has no room for the entries that the reply needs, besides those that are kept
-    /// for the ends of transfers.
-    fn is_full(&self, event: &PlainEvent) -> bool
-        requires asked { IsAsked event.now }
-        requires none { refusal self.now.state event.now ≡ None }
-        ensures { result ≡ is_trace_full self.now event.now }
+    /// Whether the trace has no room for so many entries, besides those that are kept for the ends of
+    /// transfers.
+    fn is_full(&self, entries: usize) -> bool
+        requires { entries ≤ 2 }
+        ensures { result ≡ nat_lt self.now.state.opening.limit (length self.now.history + in_transfer self.now.state.pages + entries) }
     {
         self.state.is_joined();
-        self.state.limit()
-            < self.entries.len() + self.state.transfers() as usize + self.state.need(event)
+        self.state.limit() < self.entries.len() + self.state.transfers() as usize + entries
     }
 
-    /// Whether the ticket is one of a page that is being read in, and the worker took it.
-    fn knows_in(&self, ticket: TicketId, worker: WorkerId) -> bool
-        ensures { result ≡ (is_coming_in self.now.state.pages ticket.0 && is_worker worker.0 (taker ticket.0 self.now.history)) }
+    /// Whether the ticket is one of a page in transfer in that direction, and the worker took it.
+    fn is_own(&self, ticket: TicketId, direction: Direction, worker: WorkerId) -> bool
+        ensures { result ≡ (is_in_flight direction self.now.state.pages ticket.0 && is_worker worker.0 (taker ticket.0 self.now.history)) }
     {
         self.state.is_joined();
-        self.state.is_own_in(ticket, worker)
+        match self.state.pages().flight(ticket) {
+            Some(flight) => flight.direction == direction && flight.worker == worker,
+            None => false,
+        }
     }
 
-    /// Whether the ticket is one of a page that is being written out, and the worker took it.
-    fn knows_out(&self, ticket: TicketId, worker: WorkerId) -> bool
-        ensures { result ≡ (is_going_out self.now.state.pages ticket.0 && is_worker worker.0 (taker ticket.0 self.now.history)) }
-    {
-        self.state.is_joined();
-        self.state.is_own_out(ticket, worker)
-    }
-
-    /// The end of a read-in, with the bytes that arrived. Like each end of a transfer it has room in the
-    /// trace, which was kept for it.
-    fn arrived(&mut self, worker: WorkerId, ticket: InTicket) -> Reply
+    /// The end of a read-in. Like each end of a transfer it has room in the trace, which was kept for it.
+    fn settle_in(&mut self, worker: WorkerId, ticket: InTicket, end: End) -> Reply
         requires { worker.0 < self.old.passes }
-        ensures called { Called self.old worker.0 (plain.Arrived (record { 0 = ticket.number }) ticket.bytes) (reply_of result) self.new }
+        ensures called { Called self.old worker.0 (in_ended end ticket) (reply_of result) self.new }
         ensures replies { IsInReply result }
         ensures keeps { HandsBack worker.0 ticket result }
         ensures passes { self.new.passes ≡ self.old.passes }
     {
         let number = ticket.number();
-        if !self.knows_in(number, worker) {
-            return Reply::StrangeIn(back_in(worker, ticket));
+        if !self.is_own(number, Direction::In, worker) {
+            return Reply::StrangeIn(back(worker, ticket));
         }
         self.state.is_joined();
-        let bytes = self.state.arrived(ticket);
+        let bytes = self.state.settle_in(ticket, end);
+        let event = in_ended(end, number, bytes);
         append(
             &mut self.entries,
             &mut self.counts,
             worker,
-            PlainEvent::Arrived {
-                ticket: number,
-                bytes,
-            },
-            PlainReply::Ok,
-        );
-        Reply::Ok
-    }
-
-    /// The end of a read-in that failed.
-    fn fetch_failed(&mut self, worker: WorkerId, ticket: InTicket) -> Reply
-        requires { worker.0 < self.old.passes }
-        ensures called { Called self.old worker.0 (plain.FetchFailed (record { 0 = ticket.number })) (reply_of result) self.new }
-        ensures replies { IsInReply result }
-        ensures keeps { HandsBack worker.0 ticket result }
-        ensures passes { self.new.passes ≡ self.old.passes }
-    {
-        let number = ticket.number();
-        if !self.knows_in(number, worker) {
-            return Reply::StrangeIn(back_in(worker, ticket));
-        }
-        self.state.is_joined();
-        self.state.fetch_failed(ticket);
-        append(
-            &mut self.entries,
-            &mut self.counts,
-            worker,
-            PlainEvent::FetchFailed(number),
+            event,
             PlainReply::Ok,
         );
         Reply::Ok
     }
 
     /// The end of a write-out.
-    fn left(&mut self, worker: WorkerId, ticket: OutTicket) -> Reply
+    fn settle_out(&mut self, worker: WorkerId, ticket: OutTicket, end: End) -> Reply
         requires { worker.0 < self.old.passes }
-        ensures called { Called self.old worker.0 (plain.Left (record { 0 = ticket.number })) (reply_of result) self.new }
+        ensures called { Called self.old worker.0 (out_ended end ticket) (reply_of result) self.new }
         ensures replies { IsOutReply result }
         ensures keeps { HandsBack worker.0 ticket result }
         ensures passes { self.new.passes ≡ self.old.passes }
     {
         let number = ticket.number();
-        if !self.knows_out(number, worker) {
-            return Reply::StrangeOut(back_out(worker, ticket));
+        if !self.is_own(number, Direction::Out, worker) {
+            return Reply::StrangeOut(back(worker, ticket));
         }
         self.state.is_joined();
-        self.state.left(ticket);
+        self.state.settle_out(ticket, end);
         append(
             &mut self.entries,
             &mut self.counts,
             worker,
-            PlainEvent::Left(number),
-            PlainReply::Ok,
-        );
-        Reply::Ok
-    }
-
-    /// The end of a write-out that failed.
-    fn leave_failed(&mut self, worker: WorkerId, ticket: OutTicket) -> Reply
-        requires { worker.0 < self.old.passes }
-        ensures called { Called self.old worker.0 (plain.LeaveFailed (record { 0 = ticket.number })) (reply_of result) self.new }
-        ensures replies { IsOutReply result }
-        ensures keeps { HandsBack worker.0 ticket result }
-        ensures passes { self.new.passes ≡ self.old.passes }
-    {
-        let number = ticket.number();
-        if !self.knows_out(number, worker) {
-            return Reply::StrangeOut(back_out(worker, ticket));
-        }
-        self.state.is_joined();
-        self.state.leave_failed(ticket);
-        append(
-            &mut self.entries,
-            &mut self.counts,
-            worker,
-            PlainEvent::LeaveFailed(number),
+            out_ended(end, number),
             PlainReply::Ok,
         );
         Reply::Ok
@@ -365,27 +303,6 @@ impl Book {
     }
 }
 
-/// Whether the configuration is within its limits.
-fn is_config(config: Config) -> bool
-    ensures { result ≡ is_config config }
-{
-    is_size(config.frames, MOST_FRAMES)
-        && (config.swap <= MOST_SWAP
-            && (are_marks(config.marks, config.frames) && is_size(config.trace, MOST_ENTRIES)))
-}
-
-fn are_marks(marks: Watermarks, frames: u32) -> bool
-    ensures { result ≡ are_marks marks frames }
-{
-    marks.low <= marks.high && marks.high <= frames
-}
-
-fn is_size(size: u32, most: u32) -> bool
-    ensures { result ≡ (nat_le 1 size && nat_le size most) }
-{
-    1 <= size && size <= most
-}
-
 /// Adds the worker's next entry at the end, where there is room for it.
 fn append(
     entries: &mut Vec<Entry>,
@@ -439,19 +356,28 @@ fn plain(reply: &Reply) -> PlainReply
     }
 }
 
-/// A ticket that the book does not take, handed back where its own worker asked.
-fn back_in(worker: WorkerId, ticket: InTicket) -> InTicket
-    ensures { IsBack worker.0 ticket result }
+/// The event by which a read-in ends.
+fn in_ended(end: End, ticket: TicketId, bytes: PageBytes) -> PlainEvent
+    ensures { result ≡ in_ended_with end ticket.0 bytes }
 {
-    if ticket.worker().0 == worker.0 {
-        ticket.hand_back()
-    } else {
-        ticket
+    match end {
+        End::InFrame => PlainEvent::Arrived { ticket, bytes },
+        End::OnBlock => PlainEvent::FetchFailed(ticket),
     }
 }
 
-/// The same of a write-out.
-fn back_out(worker: WorkerId, ticket: OutTicket) -> OutTicket
+/// The event by which a write-out ends.
+fn out_ended(end: End, ticket: TicketId) -> PlainEvent
+    ensures { result ≡ out_ended_with end ticket.0 }
+{
+    match end {
+        End::InFrame => PlainEvent::LeaveFailed(ticket),
+        End::OnBlock => PlainEvent::Left(ticket),
+    }
+}
+
+/// A ticket that the book does not take, handed back where its own worker asked.
+fn back<B: Carries>(worker: WorkerId, ticket: Ticket<B>) -> Ticket<B>
     ensures { IsBack worker.0 ticket result }
 {
     if ticket.worker().0 == worker.0 {

@@ -1,10 +1,8 @@
 //! The book: one event a call, each a proved step of the plain machine, and the history of what was
 //! answered.
 //!
-//! [`Book::call`] is the one place where a machine changes. Below it stand the parts, each seen as
-//! the machine's table that it keeps: the groups, their settings and counts, the pages with their
-//! bytes, the order in which they are taken, the tasks with what they map, the frames and swap slots that
-//! are free, the transfers in flight, and the events counted.
+//! [`Book::call`] is the one place where a machine changes. What an event will do is decided once,
+//! before anything changes, and then applied to the joined parts.
 #![tactic(auto)]
 
 pub use book::{Book, Trace};
@@ -12,20 +10,9 @@ pub use event::{Event, Reply};
 pub use pages::{InTicket, OutTicket};
 pub use pass::Pass;
 
-mod accesses;
+mod apply;
 mod book;
-mod endings;
+mod decide;
+mod decision;
 mod event;
-mod groups;
-mod holdings;
-mod lookup;
-mod needs;
-mod page_state;
 mod pass;
-mod queue;
-mod refusals;
-mod release;
-mod relief;
-mod room;
-mod tasks;
-mod unmap;

@@ -1,17 +1,20 @@
 -- Transfers in flight, after a change of one page and of one ticket.
-use Rattle.std.proofs.Common.{◌≡◌, ◌≢◌, ℕ, Bool, true, false, List, map, get_or, Option, Some, None, refl, sym, ap, ◌∙◌, subst, inl, inr}
+use Rattle.std.proofs.Common.{◌≡◌, ◌≢◌, ℕ, Bool, true, false, List, map, get_or, Option, Some, None, refl, sym, ap, ◌∙◌, subst, inl, inr, arith}
 use Rattle.std.specs.Prelude.{option_map, IfSome, IsSome}
+use Rattle.std.proofs.lemmas.Bool.{false_from_ne_true}
 use Rattle.std.proofs.lemmas.Bool.Decides.{eqb_tells}
-use Rattle.machine.specs.Slots.{at, there_and, Changes}
-use Rattle.machine.specs.Pages.{Page, Pages, Residence, Held, Coming, Going, Away, page_at, is_number, ticket_at, in_transfer_at, is_in_transfer}
+use Rattle.machine.specs.Slots.{at, there_and, any_there, Changes}
+use Rattle.machine.specs.Pages.{Page, Pages, Residence, Held, Coming, Going, Away, page_at, is_number, ticket_at, in_transfer_at, is_in_transfer, is_coming_at, is_going_at}
+use Rattle.pages.specs.declared.flight.Direction.{Direction}
+use Rattle.pages.specs.declared.flight.Direction.TheVariants.{In, Out}
 use Rattle.pages.specs.declared.flight.Flight.{Flight}
-use Rattle.pages.specs.declared.kept.Kept.{Kept}
-use Rattle.pages.specs.declared.kept.Kept.TheVariants as kept
-use Rattle.pages.specs.PageTable.{anon_page, flight, is_under_ticket, AreInFlight}
+use Rattle.pages.specs.declared.owned_page.OwnedPage.{OwnedPage}
+use Rattle.pages.specs.declared.owned_page.OwnedPage.TheVariants as owned_page
+use Rattle.pages.specs.PageTable.{anon_page, moving, flight, is_direction, is_flight_to, IsInTransfer, AreInFlight}
 use Rattle.pages.specs.Records.{page_of}
-use Rattle.pages.proofs.TableLemmas.{at-map}
+use Rattle.pages.proofs.TableLemmas.{at-map, any-none, any-only}
 
--- what stands at a number is in transfer under a ticket
+-- the page of a number is in transfer under a ticket
 abbrev pub under : Option Page → ℕ → Bool
 under slot n = there_and (λ page. is_number (ticket_at page.residence) n) slot
 
@@ -26,14 +29,14 @@ abbrev pub page_number : Option Flight → Option ℕ
 page_number slot = option_map (λ (f : Flight). f.page.0) slot
 
 -- what pages own makes pages of memory
-memory_of : (slot : Option Kept) → IfSome (option_map page_of slot) (λ page. page ≡ anon_page page.group page.residence)
+memory_of : (slot : Option OwnedPage) → IfSome (option_map page_of slot) (λ page. page ≡ anon_page page.group page.residence)
 memory_of None = tt
-memory_of (Some (kept.Held frame charge)) = refl
-memory_of (Some (kept.Coming frame charge slot ticket)) = refl
-memory_of (Some (kept.Going frame charge slot ticket)) = refl
-memory_of (Some (kept.Away group slot)) = refl
+memory_of (Some (owned_page.Held frame charge)) = refl
+memory_of (Some (owned_page.Coming frame charge slot ticket)) = refl
+memory_of (Some (owned_page.Going frame charge slot ticket)) = refl
+memory_of (Some (owned_page.Away group slot)) = refl
 
-pub AreMemory-owned : (owned : List (Option Kept)) → AreMemory (map (option_map page_of) owned)
+pub AreMemory-owned : (owned : List (Option OwnedPage)) → AreMemory (map (option_map page_of) owned)
 AreMemory-owned owned p = subst (λ slot. IfSome slot (λ page. page ≡ anon_page page.group page.residence)) (sym (at-map page_of owned p)) (memory_of (get_or owned p None))
 
 same_number : (ticket : Option ℕ) (m n : ℕ) → is_number ticket m ≡ true → is_number ticket n ≡ true → m ≡ n
@@ -46,6 +49,14 @@ same_number (Some t) m n first second =
       ]
       | inr apart ↦ absurd (let not = sym apart.0 ∙ first in cc)
     ]
+
+-- a page that is in transfer under a ticket
+pub under-moving : (slot : Option Page) (direction : Direction) (g frame block n : ℕ) → slot ≡ Some (anon_page g (moving direction frame block n)) → under slot n ≡ true
+under-moving slot direction g frame block n is = ap (λ s. under s n) is ∙ by_direction direction
+  where
+    by_direction : (d : Direction) → is_number (ticket_at (moving d frame block n)) n ≡ true
+    by_direction In = grind arith
+    by_direction Out = grind arith
 
 -- a page is in one transfer at most
 one_ticket : (slot : Option Page) (m n : ℕ) → under slot m ≡ true → under slot n ≡ true → m ≡ n
@@ -79,12 +90,12 @@ module _ (old new : Pages) (p : ℕ) (to : Option Page) (placed : Changes old ne
   under-own m = ap (λ slot. under slot m) placed.changed
 
   -- a flight of another page goes on
-  known-apart : (m : ℕ) (slot : Option Flight) → (under (page_at old p) m ≡ true → ⊥) → IfSome slot (λ f. is_under_ticket old f.page.0 m ≡ true) → IfSome slot (λ f. is_under_ticket new f.page.0 m ≡ true)
+  known-apart : (m : ℕ) (slot : Option Flight) → (under (page_at old p) m ≡ true → ⊥) → IfSome slot (IsInTransfer old m) → IfSome slot (IsInTransfer new m)
   known-apart m None other is = tt
   known-apart m (Some f) other is =
       elim (eqb_tells f.page.0 p) [
-        | inl same ↦ absurd (other (ap (λ q. under (page_at old q) m) (sym same.1) ∙ is))
-        | inr apart ↦ under-others f.page.0 m apart.1 ∙ is
+        | inl same ↦ absurd (other (under-moving _ f.direction is.group is.frame is.block m (ap (page_at old) (sym same.1) ∙ is.stands)))
+        | inr apart ↦ record { group = is.group; frame = is.frame; block = is.block; stands = placed.others f.page.0 apart.1 ∙ is.stands }
       ]
 
   -- a page that begins and ends in no transfer changes
@@ -99,17 +110,17 @@ module _ (old new : Pages) (p : ℕ) (to : Option Page) (placed : Changes old ne
   }
 
   -- a transfer begins under a free ticket
-  pub AreInFlight-begun : (flights later : List (Option Flight)) (n worker : ℕ) → AreInFlight old flights → IsSettled (page_at old p) → at flights n ≡ None → Changes flights later n (Some (flight p worker)) → under to n ≡ true → AreMemory new → AreInFlight new later
-  AreInFlight-begun flights later n worker is before free listed within memory = record {
+  pub AreInFlight-begun : (flights later : List (Option Flight)) (n worker : ℕ) (direction : Direction) (g frame block : ℕ) → to ≡ Some (anon_page g (moving direction frame block n)) → AreInFlight old flights → IsSettled (page_at old p) → at flights n ≡ None → Changes flights later n (Some (flight p worker direction)) → AreMemory new → AreInFlight new later
+  AreInFlight-begun flights later n worker direction g frame block begun is before free listed memory = record {
     memory = memory;
     known = λ m. elim (eqb_tells m n) [
-      | inl same ↦ subst (λ slot. IfSome slot (λ f. is_under_ticket new f.page.0 m ≡ true)) (sym (ap (at later) same.1 ∙ listed.changed)) (under-own m ∙ ap (under to) same.1 ∙ within)
-      | inr apart ↦ subst (λ slot. IfSome slot (λ f. is_under_ticket new f.page.0 m ≡ true)) (sym (listed.others m apart.1)) (known-apart m (at flights m) (λ moves. let not = sym (before m) ∙ moves in cc) (is.known m))
+      | inl same ↦ subst (λ k. IfSome (at later k) (IsInTransfer new k)) (sym same.1) (subst (λ slot. IfSome slot (IsInTransfer new n)) (sym listed.changed) (record { group = g; frame = frame; block = block; stands = placed.changed ∙ begun }))
+      | inr apart ↦ subst (λ slot. IfSome slot (IsInTransfer new m)) (sym (listed.others m apart.1)) (known-apart m (at flights m) (λ moves. let not = sym (before m) ∙ moves in cc) (is.known m))
     ];
     listed = λ q m moves. elim (eqb_tells q p) [
       | inl same ↦ (
           let here : under to m ≡ true = sym (under-own m) ∙ ap (λ r. under (page_at new r) m) (sym same.1) ∙ moves in
-          let number : m ≡ n = one_ticket to m n here within in
+          let number : m ≡ n = one_ticket to m n here (under-moving to direction g frame block n begun) in
           ap page_number (ap (at later) number ∙ listed.changed) ∙ ap Some (sym same.1)
           )
       | inr apart ↦ (
@@ -127,8 +138,8 @@ module _ (old new : Pages) (p : ℕ) (to : Option Page) (placed : Changes old ne
   AreInFlight-ended flights later n is within unlisted after memory = record {
     memory = memory;
     known = λ m. elim (eqb_tells m n) [
-      | inl same ↦ subst (λ slot. IfSome slot (λ f. is_under_ticket new f.page.0 m ≡ true)) (sym (ap (at later) same.1 ∙ unlisted.changed)) tt
-      | inr apart ↦ subst (λ slot. IfSome slot (λ f. is_under_ticket new f.page.0 m ≡ true)) (sym (unlisted.others m apart.1)) (known-apart m (at flights m) (λ moves. apart.1 (one_ticket (page_at old p) m n moves within)) (is.known m))
+      | inl same ↦ subst (λ slot. IfSome slot (IsInTransfer new m)) (sym (ap (at later) same.1 ∙ unlisted.changed)) tt
+      | inr apart ↦ subst (λ slot. IfSome slot (IsInTransfer new m)) (sym (unlisted.others m apart.1)) (known-apart m (at flights m) (λ moves. apart.1 (one_ticket (page_at old p) m n moves within)) (is.known m))
     ];
     listed = λ q m moves. elim (eqb_tells q p) [
       | inl same ↦ absurd (let not = sym (after m) ∙ sym (under-own m) ∙ ap (λ r. under (page_at new r) m) (sym same.1) ∙ moves in cc)
@@ -141,3 +152,40 @@ module _ (old new : Pages) (p : ℕ) (to : Option Page) (placed : Changes old ne
           )
     ];
   }
+
+-- ---- which way a ticket's page goes
+
+-- in transfer under this ticket, in this direction
+abbrev is_moving_at : Direction → ℕ → Residence → Bool
+is_moving_at In n residence = is_coming_at n residence
+is_moving_at Out n residence = is_going_at n residence
+
+moving-ticket : (d : Direction) (n : ℕ) (residence : Residence) → is_moving_at d n residence ≡ true → is_number (ticket_at residence) n ≡ true
+moving-ticket In n (Coming frame block ticket) is = is
+moving-ticket Out n (Going frame block ticket) is = is
+moving-ticket d n residence is = absurd (cc)
+
+moving-tells : (wanted d : Direction) (frame block n : ℕ) → is_moving_at wanted n (moving d frame block n) ≡ is_direction wanted d
+moving-tells In In frame block n = grind arith
+moving-tells Out Out frame block n = grind arith
+moving-tells In Out frame block n = refl
+moving-tells Out In frame block n = refl
+
+module _ (pages : Pages) (flights : List (Option Flight)) (is : AreInFlight pages flights) (n : ℕ) where
+  -- a page is in transfer under the ticket in a direction exactly where the ticket's flight is one in it
+  pub flies : (d : Direction) → any_there (λ page. is_moving_at d n page.residence) pages ≡ is_flight_to d (at flights n)
+  flies d = by_flight (at flights n) refl
+    where
+      under-test : (slot : Option Page) → there_and (λ page. is_moving_at d n page.residence) slot ≡ true → under slot n ≡ true
+      under-test None is = absurd (cc)
+      under-test (Some page) is = moving-ticket d n page.residence is
+
+      listed : (q : ℕ) → there_and (λ page. is_moving_at d n page.residence) (at pages q) ≡ true → page_number (at flights n) ≡ Some q
+      listed q hit = is.listed q n (under-test (page_at pages q) hit)
+
+      by_flight : (slot : Option Flight) → at flights n ≡ slot → any_there (λ page. is_moving_at d n page.residence) pages ≡ is_flight_to d slot
+      by_flight None e = any-none (λ page. is_moving_at d n page.residence) pages (λ q. false_from_ne_true _ (λ hit. let two = sym (ap page_number e) ∙ listed q hit in cc))
+      by_flight (Some f) e =
+          let it : IsInTransfer pages n f = subst (λ slot. IfSome slot (IsInTransfer pages n)) e (is.known n) in
+          any-only (λ page. is_moving_at d n page.residence) pages f.page.0 (λ q hit. let two = sym (ap page_number e) ∙ listed q hit in cc)
+          ∙ ap (there_and (λ page. is_moving_at d n page.residence)) it.stands ∙ moving-tells d f.direction it.frame it.block n

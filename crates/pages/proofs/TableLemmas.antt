@@ -1,15 +1,17 @@
--- Look-ups in the tables that places stand for, after a change at one number.
-use Rattle.std.proofs.Common.{◌≡◌, ◌≢◌, ◌<◌, ℕ, zero, suc, ◌==◌, ◌&&◌, cond, if◌then◌else◌, List, [], ◌∷◌, length, map, get_or, set, Option, Some, None, is_some, refl, sym, ap, ◌∙◌, inl, inr, arith}
+-- Look-ups in the tables that places make, after a change at one number.
+use Rattle.std.proofs.Common.{◌≡◌, ◌≢◌, ◌<◌, ℕ, zero, suc, ◌==◌, ◌&&◌, ◌||◌, Bool, true, false, cond, if◌then◌else◌, List, [], ◌∷◌, length, map, get_or, set, Option, Some, None, is_some, refl, sym, ap, ◌∙◌, inl, inr, arith}
 use Rattle.std.specs.Prelude.{option_map, slice_index, IsSome}
+use Rattle.std.proofs.lemmas.Bool.{or_right, false_from_ne_true}
 use Rattle.std.proofs.lemmas.Bool.Decides.{eqb_tells}
 use Rattle.std.proofs.lemmas.List.{get_or-set_same, get_or-set_other, get_or_past}
 use Rattle.slab.specs.Slab.{Slab, get, Updates}
-use Rattle.machine.specs.Slots.{at, Changes}
+use Rattle.machine.specs.Slots.{at, Changes, there_and, any_there}
+use Rattle.machine.proofs.SlotLemmas.{count_there-none, any_there-none}
 use Rattle.pages.specs.PageTable.{byte_of, byte_in}
 use Rattle.pages.specs.Records.{WritesByte}
 
 module _ {A : Type 0} where
-  -- what stands at a place is replaced
+  -- what is at a place is replaced
   pub Changes-set : (slots : List (Option A)) (k : ℕ) (to : Option A) → k < length slots → Changes slots (set slots k to) k to
   Changes-set slots k to within = record {
     changed = get_or-set_same slots k to None within;
@@ -23,7 +25,7 @@ module _ {A : Type 0} where
     others = λ m differs. after.others m differs ∙ before.others m differs;
   }
 
-  -- something stands at a place, so there is that place
+  -- something is at a place, so there is that place
   pub place_within : (slots : List (Option A)) (k : ℕ) → IsSome (at slots k) → k < length slots
   place_within slots k there = grind (arith, get_or_past)
 
@@ -33,7 +35,7 @@ module _ {A B : Type 0} (f : A → B) where
   at-map (slot ∷ slots) zero = refl
   at-map (slot ∷ slots) (suc k) = at-map slots k
 
-  -- a change of what stands there, for the table
+  -- a change of what is there, for the table
   pub Changes-map : (old new : List (Option A)) (k : ℕ) (to : Option A) → Changes old new k to → Changes (map (option_map f) old) (map (option_map f) new) k (option_map f to)
   Changes-map old new k to changes = record {
     changed = at-map new k ∙ ap (option_map f) changes.changed;
@@ -50,6 +52,23 @@ module _ {A B : Type 0} (f : A → B) where
   is_some-map None = refl
   is_some-map (Some a) = refl
 
+module _ {T : Type 0} (test : T → Bool) where
+  pub any-some : (xs : List (Option T)) (n : ℕ) → there_and test (at xs n) ≡ true → any_there test xs ≡ true
+  any-some [] n e = cc
+  any-some (x ∷ xs) zero e = ap (λ b. b || any_there test xs) e
+  any-some (x ∷ xs) (suc n) e = or_right (there_and test x) (any_there test xs) (any-some xs n e)
+
+  pub any-none : (xs : List (Option T)) → ((q : ℕ) → there_and test (at xs q) ≡ false) → any_there test xs ≡ false
+  any-none xs none = any_there-none test xs (count_there-none test xs none)
+
+  -- where no number but one can pass, that one decides
+  pub any-only : (xs : List (Option T)) (p : ℕ) → ((q : ℕ) → there_and test (at xs q) ≡ true → q ≡ p) → any_there test xs ≡ there_and test (at xs p)
+  any-only xs p only = by_test (there_and test (at xs p)) refl
+    where
+      by_test : (b : Bool) → there_and test (at xs p) ≡ b → any_there test xs ≡ b
+      by_test true is = any-some xs p is
+      by_test false is = any-none xs (λ q. false_from_ne_true (there_and test (at xs q)) (λ hit. let here = ap (λ (x : ℕ). there_and test (at xs x)) (sym (only q hit)) ∙ hit in let not = sym is ∙ here in cc))
+
 module _ {T A : Type 0} where
   -- a number and its place change alike
   pub taken-changes : (numbers later : Slab T) (old new : List (Option A)) (p : ℕ) (value : Option T) (to : Option A) → Updates numbers later p value → Changes old new p to → is_some value ≡ is_some to → ((n : ℕ) → is_some (get numbers n) ≡ is_some (at old n)) → (n : ℕ) → is_some (get later n) ≡ is_some (at new n)
@@ -63,7 +82,7 @@ none_of : {A B : Type 0} (number : Option A) (slot : Option B) → is_some numbe
 none_of number None same free = refl
 none_of number (Some b) same free = absurd (let is = sym (ap is_some free) ∙ same in cc)
 
--- at a number that is free nothing stands
+-- at a number that is free nothing is
 pub free-vacant : {T A : Type 0} (numbers : Slab T) (old : List (Option A)) (p : ℕ) → ((n : ℕ) → is_some (get numbers n) ≡ is_some (at old n)) → get numbers p ≡ None → at old p ≡ None
 free-vacant numbers old p taken free = none_of (get numbers p) (at old p) (taken p) free
 

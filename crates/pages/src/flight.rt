@@ -2,6 +2,15 @@
 
 use machine::id::{PageId, WorkerId};
 
+/// Which way a page in transfer goes.
+#[derive(Clone, Copy, Debug, PartialEq, Eq)]
+pub enum Direction {
+    /// It is being read in.
+    In,
+    /// It is being written out.
+    Out,
+}
+
 /// A transfer in flight, by its ticket.
 #[derive(Clone, Copy, Debug, PartialEq, Eq)]
 pub struct Flight {
@@ -9,4 +18,6 @@ pub struct Flight {
     pub page: PageId,
     /// The worker that has the ticket.
     pub worker: WorkerId,
+    /// Which way it goes.
+    pub direction: Direction,
 }

@@ -5,48 +5,50 @@
 //! ticket once its transfer has ended.
 #![tactic(auto)]
 
-ghost use Rattle.std.specs.Prelude.{◌≡◌, ℕ, ◌+◌, ◌<◌, ◌≤◌, ◌==◌, ◌&&◌, [], Some, None, OnOk, IsOk, IfOk, true, false, map, option_map, if◌then◌else◌};
+ghost use Rattle.std.specs.Prelude.{◌≡◌, ℕ, ◌+◌, ◌<◌, ◌≤◌, ◌==◌, ◌&&◌, [], Some, None, OnOk, IsOk, IfOk, IfSome, slice_index, true, false, map, option_map, if◌then◌else◌};
 ghost use Rattle.machine.specs.Slots.{at, Changes};
-ghost use Rattle.machine.specs.Pages as residence;
-ghost use Rattle.machine.specs.Pages.{page_at, is_held_in};
+ghost use Rattle.machine.specs.Pages.{Residence as PageResidence, Held, Coming, Away, page_at, is_held_in, is_coming_in, is_going_out};
 ghost use Rattle.machine.specs.Access.{page_size};
 ghost use Rattle.machine.specs.Step.{new_page};
-ghost use Rattle.pages.specs.PageTable.{byte_in, Stands, standing_of, is_moving_in, AreInFlight};
-ghost use Rattle.pages.specs.Transfers.{StartsIn, StartsOut, EndsIn, FailsOut, EndsAway};
+ghost use Rattle.pages.specs.PageTable.{byte_in, anon_page, Stands, residence_of, moving, is_moving_in, is_flight_to, IsInTransfer, AreInFlight};
+ghost use Rattle.pages.specs.Transfers.{StartsIn, StartsOut, Ends, IsFreed};
+ghost use Rattle.pages.specs.declared.flight.Direction.{Direction};
+ghost use Rattle.pages.specs.declared.flight.Direction.TheVariants as direction;
 ghost use Rattle.pages.specs.Records.{page_of};
 
-pub use flight::Flight;
-pub use kept::Kept;
-pub use standing::Standing;
-pub use ticket::{InTicket, OutTicket};
+pub use end::{End, Freed};
+pub use flight::{Direction, Flight};
+pub use owned_page::OwnedPage;
+pub use residence::Residence;
+pub use ticket::{Carries, InTicket, OutTicket, Ticket};
 
+mod end;
 mod flight;
-mod kept;
-mod standing;
+mod owned_page;
+mod residence;
 mod table;
 mod ticket;
 
 use block_store::Slot;
 use frames::{FRAME_BYTES, Frame, Spare};
-use machine::bytes::PageBytes;
 use machine::id::{GroupId, PageId, TicketId, WorkerId};
 use page_counter::Charge;
 use slab::Slab;
 use std::alloc::{AllocError, Global};
 use std::marker::Model;
 use table::{
-    group_of, into_away, into_held, into_moving, kept_at, list, place, read_at, set_zeros_but,
-    standing_of, take_at, unlist, write_at,
+    divide, fill_at, group_of, into_away, into_held, into_moving, list, owned_at, page_under,
+    place, read_at, residence_of, set_zeros_but, take_at, unlist, write_at,
 };
 
 /// The pages by their numbers, and the transfers in flight by theirs. It must be spent, by
-/// [`Pages::into_kept`].
+/// [`Pages::into_owned`].
 #[must_use]
 pub struct Pages {
     // The numbers that pages have.
     numbers: Slab<()>,
     // What each page owns, by its number.
-    kept: Vec<Option<Kept>>,
+    owned: Vec<Option<OwnedPage>>,
     // The transfers, by their tickets' numbers. Their room came from `new`.
     flights: Slab<Flight>,
 }
@@ -59,9 +61,9 @@ impl Model for Pages {
     ghost use Rattle.std.specs.Prelude.{vec_capacity};
     ghost use Rattle.pages.specs.Records.{table_of, IsTable};
 
-    ghost view = { λ s. table_of s.numbers s.kept.items (vec_capacity s.kept) s.flights };
+    ghost view = { λ s. table_of s.numbers s.owned.items (vec_capacity s.owned) s.flights };
 
-    ghost invariant = { λ s. IsTable s.numbers s.kept.items s.flights };
+    ghost invariant = { λ s. IsTable s.numbers s.owned.items s.flights };
 }
 
 impl Pages {
@@ -79,7 +81,7 @@ impl Pages {
         }
         Ok(Pages {
             numbers: Slab::new(alloc),
-            kept: Vec::new(alloc),
+            owned: Vec::new(alloc),
             flights,
         })
     }
@@ -93,8 +95,8 @@ impl Pages {
         ensures kept { self.old.room ≤ self.new.room }
     {
         self.numbers.reserve(1)?;
-        let more = self.numbers.capacity() - self.kept.len();
-        self.kept.reserve(more)
+        let more = self.numbers.capacity() - self.owned.len();
+        self.owned.reserve(more)
     }
 
     /// A new page in the frame: zeros, but for one byte. Its memory was asked for by `reserve`. Takes no
@@ -112,26 +114,28 @@ impl Pages {
     {
         set_zeros_but(&mut frame, offset, byte);
         let key = self.numbers.insert_reserved(());
-        place(&mut self.kept, key, Kept::Held { frame, charge });
+        place(&mut self.owned, key, OwnedPage::Held { frame, charge });
         PageId(key)
     }
 
     /// The group that the page belongs to, if the page is there.
     pub fn group(&self, page: PageId) -> Option<GroupId>
-        ensures { option_map (λ g. g.0) result ≡ option_map (λ page. page.group) (page_at self.now.pages page.0) }
+        ensures group { option_map (λ g. g.0) result ≡ option_map (λ page. page.group) (page_at self.now.pages page.0) }
+        ensures memory { IfSome (page_at self.now.pages page.0) (λ page. page ≡ anon_page page.group page.residence) }
     {
-        match kept_at(&self.kept, page.0) {
-            Some(kept) => Some(group_of(kept)),
+        match owned_at(&self.owned, page.0) {
+            Some(owned) => Some(group_of(owned)),
             None => None,
         }
     }
 
-    /// Where the page stands, if it is there.
-    pub fn standing(&self, page: PageId) -> Option<Standing>
-        ensures { result ≡ option_map (λ page. standing_of page.residence) (page_at self.now.pages page.0) }
+    /// Where the page is, if it is there.
+    pub fn residence(&self, page: PageId) -> Option<Residence>
+        ensures residence { result ≡ option_map (λ page. residence_of page.residence) (page_at self.now.pages page.0) }
+        ensures memory { IfSome (page_at self.now.pages page.0) (λ page. page ≡ anon_page page.group page.residence) }
     {
-        match kept_at(&self.kept, page.0) {
-            Some(kept) => Some(standing_of(kept)),
+        match owned_at(&self.owned, page.0) {
+            Some(owned) => Some(residence_of(owned)),
             None => None,
         }
     }
@@ -142,8 +146,8 @@ impl Pages {
         requires within { offset < page_size }
         ensures { result ≡ byte_in self.now.bytes page.0 offset }
     {
-        match kept_at(&self.kept, page.0) {
-            Some(kept) => read_at(kept, offset),
+        match owned_at(&self.owned, page.0) {
+            Some(owned) => read_at(owned, offset),
             None => unreachable!(),
         }
     }
@@ -156,7 +160,7 @@ impl Pages {
             ≡ (if (q == page.0) && (offset == o) then byte else byte_in self.old.bytes q o) }
         ensures others { self.new ≡ record self.old { bytes = self.new.bytes } }
     {
-        write_at(&mut self.kept[page.0], offset, byte);
+        write_at(&mut self.owned[page.0], offset, byte);
     }
 
     /// A page on its block is from now on being read into the frame. Whoever has the ticket reads the
@@ -170,20 +174,27 @@ impl Pages {
         entry: u32,
         buffer: Box<[u8; FRAME_BYTES]>,
     ) -> InTicket
-        requires away { (block : ℕ) × Stands self.old.pages page.0 charge (residence.Away block) }
+        requires away { (block : ℕ) × Stands self.old.pages page.0 charge (Away block) }
         requires room { 0 < self.old.tickets }
-        ensures { (block : ℕ) → Stands self.old.pages page.0 charge (residence.Away block) → StartsIn self.old self.new page.0 charge frame.number block worker.0 entry result }
+        ensures { (block : ℕ) → Stands self.old.pages page.0 charge (Away block) → StartsIn self.old self.new page.0 charge frame.number block worker.0 entry result }
     {
-        let slot = into_away(take_at(&mut self.kept, page.0));
+        let slot = into_away(take_at(&mut self.owned, page.0));
         let block = slot.block();
-        let ticket = list(&mut self.flights, Flight { page, worker });
-        let coming = Kept::Coming {
+        let ticket = list(
+            &mut self.flights,
+            Flight {
+                page,
+                worker,
+                direction: Direction::In,
+            },
+        );
+        let coming = OwnedPage::Coming {
             frame,
             charge,
             slot,
             ticket,
         };
-        place(&mut self.kept, page.0, coming);
+        place(&mut self.owned, page.0, coming);
         InTicket::new(ticket, worker, entry, block, buffer)
     }
 
@@ -197,104 +208,80 @@ impl Pages {
         worker: WorkerId,
         entry: u32,
     ) -> OutTicket
-        requires held { (g f : ℕ) × Stands self.old.pages page.0 g (residence.Held f) }
+        requires held { (g f : ℕ) × Stands self.old.pages page.0 g (Held f) }
         requires room { 0 < self.old.tickets }
-        ensures { (g f : ℕ) → Stands self.old.pages page.0 g (residence.Held f) → StartsOut self.old self.new page.0 g f slot worker.0 entry result }
+        ensures { (g f : ℕ) → Stands self.old.pages page.0 g (Held f) → StartsOut self.old self.new page.0 g f slot worker.0 entry result }
     {
-        let (frame, charge) = into_held(take_at(&mut self.kept, page.0));
+        let (frame, charge) = into_held(take_at(&mut self.owned, page.0));
         spare.fill(frame.bytes());
         let block = slot.block();
-        let ticket = list(&mut self.flights, Flight { page, worker });
-        let going = Kept::Going {
+        let ticket = list(
+            &mut self.flights,
+            Flight {
+                page,
+                worker,
+                direction: Direction::Out,
+            },
+        );
+        let going = OwnedPage::Going {
             frame,
             charge,
             slot,
             ticket,
         };
-        place(&mut self.kept, page.0, going);
+        place(&mut self.owned, page.0, going);
         OutTicket::new(ticket, worker, entry, block, spare)
     }
 
     /// The transfer of a ticket's number, if it is in flight.
     pub fn flight(&self, ticket: TicketId) -> Option<Flight>
-        ensures { result ≡ at self.now.flights ticket.0 }
+        ensures flight { result ≡ at self.now.flights ticket.0 }
+        ensures moves { IfSome result (λ flight. IsInTransfer self.now.pages ticket.0 flight) }
+        ensures coming { is_coming_in self.now.pages ticket.0 ≡ is_flight_to direction.In result }
+        ensures going { is_going_out self.now.pages ticket.0 ≡ is_flight_to direction.Out result }
     {
         self.flights.get(ticket.0 as usize).copied()
     }
 
-    /// The page has arrived: it is in its frame, with the bytes that the ticket read. Hands out its
-    /// slot and those bytes. Takes no memory.
-    pub fn end_in(&mut self, ticket: InTicket) -> (Slot, PageBytes)
-        requires { (p g f b : ℕ) × Stands self.old.pages p g (residence.Coming f b ticket.number) }
-        ensures ends { (p g f b : ℕ) → Stands self.old.pages p g (residence.Coming f b ticket.number) → EndsIn self.old self.new p g f ticket.number ticket.bytes }
-        ensures slot { (p g f b : ℕ) → Stands self.old.pages p g (residence.Coming f b ticket.number) → result.0 ≡ b }
-        ensures bytes { result.1 ≡ ticket.bytes }
+    /// The page that is being read in has the bytes that the ticket read. Takes no memory.
+    pub fn fill(&mut self, ticket: &InTicket)
+        requires { (p g f b : ℕ) × Stands self.old.pages p g (Coming f b ticket.now.number) }
+        ensures bytes { (p g f b : ℕ) → Stands self.old.pages p g (Coming f b ticket.now.number) → (q o : ℕ) → byte_in self.new.bytes q o
+            ≡ (if q == p then slice_index ticket.now.bytes o else byte_in self.old.bytes q o) }
+        ensures others { self.new ≡ record self.old { bytes = self.new.bytes } }
     {
-        let page = unlist(&mut self.flights, ticket.number());
-        let (mut frame, charge, slot) = into_moving(take_at(&mut self.kept, page.0));
-        let bytes = ticket.into_bytes();
-        frame.fill(bytes.bytes());
-        place(&mut self.kept, page.0, Kept::Held { frame, charge });
-        (slot, bytes)
+        let page = page_under(&self.flights, ticket.number());
+        fill_at(&mut self.owned[page.0], ticket.read());
     }
 
-    /// The page could not be read: it is on its block again. Hands out its frame and its charge. Takes
-    /// no memory.
-    pub fn fail_in(&mut self, ticket: InTicket) -> (Frame, Charge)
-        requires { (p g f b : ℕ) × Stands self.old.pages p g (residence.Coming f b ticket.number) }
-        ensures ends { (p g f b : ℕ) → Stands self.old.pages p g (residence.Coming f b ticket.number) → EndsAway self.old self.new p g b ticket.number }
-        ensures frame { (p g f b : ℕ) → Stands self.old.pages p g (residence.Coming f b ticket.number) → result.0.number ≡ f }
-        ensures charge { (p g f b : ℕ) → Stands self.old.pages p g (residence.Coming f b ticket.number) → result.1 ≡ g }
+    /// The transfer has ended, and its ticket with it: the page is in its frame or on its block. Hands
+    /// out what the page owns no more, and what the ticket carried. Takes no memory.
+    pub fn settle<B: Carries>(&mut self, ticket: Ticket<B>, end: End) -> (Freed, B)
+        requires { (d : Direction) × (p g f b : ℕ) × Stands self.old.pages p g (moving d f b ticket.number) }
+        ensures ends { (d : Direction) (p g f b : ℕ) → Stands self.old.pages p g (moving d f b ticket.number) → Ends self.old self.new p g f b ticket.number end }
+        ensures freed { (d : Direction) (p g f b : ℕ) → Stands self.old.pages p g (moving d f b ticket.number) → IsFreed g f b end result.0 }
+        ensures carried { B.bytes result.1 ≡ ticket.bytes }
     {
         let page = unlist(&mut self.flights, ticket.number());
-        let (frame, charge, slot) = into_moving(take_at(&mut self.kept, page.0));
-        let _ = ticket.into_bytes();
-        let group = charge.group();
-        place(&mut self.kept, page.0, Kept::Away { group, slot });
-        (frame, charge)
-    }
-
-    /// The page was written: it is on its block alone. Hands out its frame, its charge and the spare.
-    /// Takes no memory.
-    pub fn end_out(&mut self, ticket: OutTicket) -> (Frame, Charge, Spare)
-        requires { (p g f b : ℕ) × Stands self.old.pages p g (residence.Going f b ticket.number) }
-        ensures ends { (p g f b : ℕ) → Stands self.old.pages p g (residence.Going f b ticket.number) → EndsAway self.old self.new p g b ticket.number }
-        ensures frame { (p g f b : ℕ) → Stands self.old.pages p g (residence.Going f b ticket.number) → result.0.number ≡ f }
-        ensures charge { (p g f b : ℕ) → Stands self.old.pages p g (residence.Going f b ticket.number) → result.1 ≡ g }
-    {
-        let page = unlist(&mut self.flights, ticket.number());
-        let (frame, charge, slot) = into_moving(take_at(&mut self.kept, page.0));
-        let group = charge.group();
-        place(&mut self.kept, page.0, Kept::Away { group, slot });
-        (frame, charge, ticket.into_spare())
-    }
-
-    /// The page could not be written: it is in its frame, as it was. Hands out its slot and the spare.
-    /// Takes no memory.
-    pub fn fail_out(&mut self, ticket: OutTicket) -> (Slot, Spare)
-        requires { (p g f b : ℕ) × Stands self.old.pages p g (residence.Going f b ticket.number) }
-        ensures ends { (p g f b : ℕ) → Stands self.old.pages p g (residence.Going f b ticket.number) → FailsOut self.old self.new p g f ticket.number }
-        ensures slot { (p g f b : ℕ) → Stands self.old.pages p g (residence.Going f b ticket.number) → result.0 ≡ b }
-    {
-        let page = unlist(&mut self.flights, ticket.number());
-        let (frame, charge, slot) = into_moving(take_at(&mut self.kept, page.0));
-        place(&mut self.kept, page.0, Kept::Held { frame, charge });
-        (slot, ticket.into_spare())
+        let (frame, charge, slot) = into_moving(take_at(&mut self.owned, page.0));
+        let (owned, freed) = divide(frame, charge, slot, end);
+        place(&mut self.owned, page.0, owned);
+        (freed, ticket.into_carried())
     }
 
     /// The page is gone: what it owned is the caller's to give back. It is in no transfer. Takes no
     /// memory.
-    pub fn drop_page(&mut self, page: PageId) -> Kept
-        requires { (g : ℕ) × (r : residence.Residence) × (Stands self.old.pages page.0 g r) × (is_moving_in self.old.pages page.0 ≡ false) }
+    pub fn drop_page(&mut self, page: PageId) -> OwnedPage
+        requires { (g : ℕ) × (r : PageResidence) × (Stands self.old.pages page.0 g r) × (is_moving_in self.old.pages page.0 ≡ false) }
         ensures gone { Changes self.old.pages self.new.pages page.0 None }
         ensures bytes { (q o : ℕ) → byte_in self.new.bytes q o ≡ (if q == page.0 then 0 else byte_in self.old.bytes q o) }
-        ensures kept { page_at self.old.pages page.0 ≡ Some (page_of result) }
+        ensures owned { page_at self.old.pages page.0 ≡ Some (page_of result) }
         ensures room { self.old.room ≤ self.new.room }
         ensures flights { self.new.flights ≡ self.old.flights }
         ensures tickets { self.new.tickets ≡ self.old.tickets }
     {
         self.numbers.remove(page.0);
-        take_at(&mut self.kept, page.0)
+        take_at(&mut self.owned, page.0)
     }
 
     /// Nothing is done: what holds of every table of pages.
@@ -305,14 +292,14 @@ impl Pages {
     }
 
     /// Spends the table: what the pages own, by page number.
-    pub fn into_kept(self) -> Vec<Option<Kept>>
+    pub fn into_owned(self) -> Vec<Option<OwnedPage>>
         ensures { map (option_map page_of) result.items ≡ self.pages }
     {
         let Pages {
             numbers: _,
-            kept,
+            owned,
             flights: _,
         } = self;
-        kept
+        owned
     }
 }

@@ -3,76 +3,92 @@
 ghost use Rattle.std.specs.Prelude.{◌≡◌, ℕ, ◌+◌, ◌<◌, ◌≤◌, ◌==◌, Some, None, true, IsSome, option_map, option_copied, slice_index, vec_len, vec_capacity, if◌then◌else◌};
 ghost use Rattle.slab.specs.Slab.{slab_len, HasRoomFor, ContainsKey};
 ghost use Rattle.machine.specs.Slots.{at, there_and, Changes};
-ghost use Rattle.machine.specs.Pages.{in_transfer_at, is_held, is_held_at, frame_at, block_at};
+ghost use Rattle.machine.specs.Pages.{Coming, in_transfer_at, is_held, is_held_at, frame_at, block_at};
 ghost use Rattle.machine.specs.Access.{page_size};
 ghost use Rattle.pages.specs.PageTable as table;
+ghost use Rattle.pages.specs.PageTable.{anon_page};
+ghost use Rattle.pages.specs.Transfers.{residence_after, IsFreed};
+ghost use Rattle.pages.specs.declared.end.End.TheVariants as end_of;
 ghost use Rattle.pages.specs.Records.{page_of, bytes_of, WritesByte};
 
+use crate::end::{End, Freed};
 use crate::flight::Flight;
-use crate::kept::Kept;
-use crate::standing::Standing;
+use crate::owned_page::OwnedPage;
+use crate::residence::Residence;
 use block_store::Slot;
-use frames::Frame;
+use frames::{FRAME_BYTES, Frame};
 use machine::id::{GroupId, PageId, TicketId};
 use page_counter::Charge;
 use slab::Slab;
 use std::mem;
 
 /// What the page of a number owns, if the page is there.
-pub(crate) fn kept_at(slots: &[Option<Kept>], number: usize) -> Option<&Kept>
+pub(crate) fn owned_at(slots: &[Option<OwnedPage>], number: usize) -> Option<&OwnedPage>
     ensures { option_copied result ≡ at slots.now number }
 {
     match slots.get(number) {
-        Some(Some(kept)) => Some(kept),
+        Some(Some(owned)) => Some(owned),
         _ => None,
     }
 }
 
 /// The group that the page belongs to.
-pub(crate) fn group_of(kept: &Kept) -> GroupId
-    ensures { result.0 ≡ (page_of kept.now).group }
+pub(crate) fn group_of(owned: &OwnedPage) -> GroupId
+    ensures { result.0 ≡ (page_of owned.now).group }
 {
-    match kept {
-        Kept::Held { charge, .. } => charge.group(),
-        Kept::Coming { charge, .. } => charge.group(),
-        Kept::Going { charge, .. } => charge.group(),
-        Kept::Away { group, .. } => *group,
+    match owned {
+        OwnedPage::Held { charge, .. } => charge.group(),
+        OwnedPage::Coming { charge, .. } => charge.group(),
+        OwnedPage::Going { charge, .. } => charge.group(),
+        OwnedPage::Away { group, .. } => *group,
     }
 }
 
-/// Where the page stands.
-pub(crate) fn standing_of(kept: &Kept) -> Standing
-    ensures { result ≡ table.standing_of (page_of kept.now).residence }
+/// Where the page is.
+pub(crate) fn residence_of(owned: &OwnedPage) -> Residence
+    ensures { result ≡ table.residence_of (page_of owned.now).residence }
 {
-    match kept {
-        Kept::Held { frame, .. } => Standing::Held(frame.number()),
-        Kept::Coming { .. } => Standing::Coming,
-        Kept::Going { .. } => Standing::Going,
-        Kept::Away { slot, .. } => Standing::Away(slot.block()),
+    match owned {
+        OwnedPage::Held { frame, .. } => Residence::Held(frame.number()),
+        OwnedPage::Coming { .. } => Residence::Coming,
+        OwnedPage::Going { .. } => Residence::Going,
+        OwnedPage::Away { slot, .. } => Residence::Away(slot.block()),
     }
 }
 
 /// A byte of a page in a frame.
-pub(crate) fn read_at(kept: &Kept, offset: usize) -> u8
-    requires held { is_held (page_of kept.now) ≡ true }
+pub(crate) fn read_at(owned: &OwnedPage, offset: usize) -> u8
+    requires held { is_held (page_of owned.now) ≡ true }
     requires within { offset < page_size }
-    ensures { result ≡ slice_index (bytes_of kept.now) offset }
+    ensures { result ≡ slice_index (bytes_of owned.now) offset }
 {
-    match kept {
-        Kept::Held { frame, .. } => frame.read(offset),
+    match owned {
+        OwnedPage::Held { frame, .. } => frame.read(offset),
         _ => unreachable!(),
     }
 }
 
-/// Changes a byte of the page in a frame that stands there.
-pub(crate) fn write_at(slot: &mut Option<Kept>, offset: usize, byte: u8)
+/// Changes a byte of the page in a frame that is there.
+pub(crate) fn write_at(slot: &mut Option<OwnedPage>, offset: usize, byte: u8)
     requires held { there_and is_held (option_map page_of slot.old) ≡ true }
     requires within { offset < page_size }
     ensures page { option_map page_of slot.new ≡ option_map page_of slot.old }
     ensures bytes { WritesByte (option_map bytes_of slot.old) (option_map bytes_of slot.new) offset byte }
 {
     match slot {
-        Some(Kept::Held { frame, .. }) => frame.write(offset, byte),
+        Some(OwnedPage::Held { frame, .. }) => frame.write(offset, byte),
+        _ => unreachable!(),
+    }
+}
+
+/// Other bytes in place of all of those of the page that is being read in there.
+pub(crate) fn fill_at(slot: &mut Option<OwnedPage>, bytes: &[u8; FRAME_BYTES])
+    requires { (g f b n : ℕ) × (option_map page_of slot.old ≡ Some (anon_page g (Coming f b n))) }
+    ensures page { option_map page_of slot.new ≡ option_map page_of slot.old }
+    ensures bytes { option_map bytes_of slot.new ≡ Some bytes.now }
+{
+    match slot {
+        Some(OwnedPage::Coming { frame, .. }) => frame.fill(bytes),
         _ => unreachable!(),
     }
 }
@@ -89,9 +105,9 @@ pub(crate) fn set_zeros_but(frame: &mut Frame, offset: usize, byte: u8)
 }
 
 /// Takes out what the page of a number owns.
-pub(crate) fn take_at(slots: &mut Vec<Option<Kept>>, number: usize) -> Kept
+pub(crate) fn take_at(slots: &mut Vec<Option<OwnedPage>>, number: usize) -> OwnedPage
     requires { IsSome (at slots.old.items number) }
-    ensures kept { at slots.old.items number ≡ Some result }
+    ensures owned { at slots.old.items number ≡ Some result }
     ensures gone { Changes slots.old.items slots.new.items number None }
     ensures len { vec_len slots.new ≡ vec_len slots.old }
     ensures within { number < vec_len slots.new }
@@ -100,23 +116,23 @@ pub(crate) fn take_at(slots: &mut Vec<Option<Kept>>, number: usize) -> Kept
     slots[number].take().unwrap()
 }
 
-/// Puts what a page owns at its number, where nothing stands.
-pub(crate) fn place(slots: &mut Vec<Option<Kept>>, number: usize, kept: Kept)
+/// Puts what a page owns at its number, where nothing is.
+pub(crate) fn place(slots: &mut Vec<Option<OwnedPage>>, number: usize, owned: OwnedPage)
     requires vacant { at slots.old.items number ≡ None }
     requires room { number < vec_capacity slots.old }
-    ensures placed { Changes slots.old.items slots.new.items number (Some kept) }
+    ensures placed { Changes slots.old.items slots.new.items number (Some owned) }
     ensures len { (most : ℕ) → vec_len slots.old ≤ most → number < most → vec_len slots.new ≤ most }
     ensures capacity { vec_capacity slots.new ≡ vec_capacity slots.old }
 {
     reach(slots, number);
-    match mem::replace(&mut slots[number], Some(kept)) {
+    match mem::replace(&mut slots[number], Some(owned)) {
         None => {}
         Some(_) => unreachable!(),
     }
 }
 
 /// Adds empty places until there is one for the number.
-fn reach(slots: &mut Vec<Option<Kept>>, number: usize)
+fn reach(slots: &mut Vec<Option<OwnedPage>>, number: usize)
     requires { number < vec_capacity slots.old }
     ensures same { (n : ℕ) → at slots.new.items n ≡ at slots.old.items n }
     ensures within { number < vec_len slots.new }
@@ -129,34 +145,34 @@ fn reach(slots: &mut Vec<Option<Kept>>, number: usize)
 }
 
 /// What a page in a frame owns.
-pub(crate) fn into_held(kept: Kept) -> (Frame, Charge)
-    requires { is_held_at (page_of kept).residence ≡ true }
-    ensures frame { frame_at (page_of kept).residence ≡ Some result.0.number }
-    ensures bytes { bytes_of kept ≡ result.0.bytes }
-    ensures charge { (page_of kept).group ≡ result.1 }
+pub(crate) fn into_held(owned: OwnedPage) -> (Frame, Charge)
+    requires { is_held_at (page_of owned).residence ≡ true }
+    ensures frame { frame_at (page_of owned).residence ≡ Some result.0.number }
+    ensures bytes { bytes_of owned ≡ result.0.bytes }
+    ensures charge { (page_of owned).group ≡ result.1 }
 {
-    match kept {
-        Kept::Held { frame, charge } => (frame, charge),
+    match owned {
+        OwnedPage::Held { frame, charge } => (frame, charge),
         _ => unreachable!(),
     }
 }
 
 /// What a page in transfer owns.
-pub(crate) fn into_moving(kept: Kept) -> (Frame, Charge, Slot)
-    requires { in_transfer_at (page_of kept).residence ≡ true }
-    ensures frame { frame_at (page_of kept).residence ≡ Some result.0.number }
-    ensures bytes { bytes_of kept ≡ result.0.bytes }
-    ensures charge { (page_of kept).group ≡ result.1 }
-    ensures slot { block_at (page_of kept).residence ≡ Some result.2 }
+pub(crate) fn into_moving(owned: OwnedPage) -> (Frame, Charge, Slot)
+    requires { in_transfer_at (page_of owned).residence ≡ true }
+    ensures frame { frame_at (page_of owned).residence ≡ Some result.0.number }
+    ensures bytes { bytes_of owned ≡ result.0.bytes }
+    ensures charge { (page_of owned).group ≡ result.1 }
+    ensures slot { block_at (page_of owned).residence ≡ Some result.2 }
 {
-    match kept {
-        Kept::Coming {
+    match owned {
+        OwnedPage::Coming {
             frame,
             charge,
             slot,
             ticket: _,
         } => (frame, charge, slot),
-        Kept::Going {
+        OwnedPage::Going {
             frame,
             charge,
             slot,
@@ -166,13 +182,28 @@ pub(crate) fn into_moving(kept: Kept) -> (Frame, Charge, Slot)
     }
 }
 
-/// What a page on its block alone owns.
-pub(crate) fn into_away(kept: Kept) -> Slot
-    requires { frame_at (page_of kept).residence ≡ None }
-    ensures { block_at (page_of kept).residence ≡ Some result }
+/// What a page owns once its transfer has ended, and what it owns no more.
+pub(crate) fn divide(frame: Frame, charge: Charge, slot: Slot, end: End) -> (OwnedPage, Freed)
+    ensures page { page_of result.0 ≡ anon_page charge (residence_after end frame.number slot) }
+    ensures bytes { end ≡ end_of.InFrame → bytes_of result.0 ≡ frame.bytes }
+    ensures freed { IsFreed charge frame.number slot end result.1 }
 {
-    match kept {
-        Kept::Away { group: _, slot } => slot,
+    match end {
+        End::InFrame => (OwnedPage::Held { frame, charge }, Freed::Slot(slot)),
+        End::OnBlock => {
+            let group = charge.group();
+            (OwnedPage::Away { group, slot }, Freed::Room(frame, charge))
+        }
+    }
+}
+
+/// What a page on its block alone owns.
+pub(crate) fn into_away(owned: OwnedPage) -> Slot
+    requires { frame_at (page_of owned).residence ≡ None }
+    ensures { block_at (page_of owned).residence ≡ Some result }
+{
+    match owned {
+        OwnedPage::Away { group: _, slot } => slot,
         _ => unreachable!(),
     }
 }
@@ -187,6 +218,14 @@ pub(crate) fn list(flights: &mut Slab<Flight>, flight: Flight) -> TicketId
     ensures capacity { flights.new.capacity ≡ flights.old.capacity }
 {
     TicketId(flights.insert_reserved(flight) as u32)
+}
+
+/// The page of the transfer of a ticket.
+pub(crate) fn page_under(flights: &Slab<Flight>, ticket: TicketId) -> PageId
+    requires { ContainsKey flights.now ticket.0 }
+    ensures { option_map (λ flight. flight.page) (at flights.now.slots ticket.0) ≡ Some result }
+{
+    flights[ticket.0 as usize].page
 }
 
 /// The transfer of a ticket has ended: its page. The ticket's number is free again.

@@ -1,86 +1,90 @@
--- Which group gives a page, and that one does wherever a page can be taken.
-use Rattle.std.proofs.Common.{inl, inr, ◌≡◌, ℕ, ◌==◌, ◌&&◌, ◌||◌, not, Bool, true, false, if◌then◌else◌, List, [], ◌∷◌, get_or, Option, Some, None, refl, sym, ap, ◌∙◌, subst, arith}
-use Rattle.std.specs.Prelude.{find, is_some, is_none, All, option_map, IfSome}
+-- Which group gives a page, and that one does wherever one has a page to give.
+use Rattle.std.proofs.Common.{inl, inr, ◌≡◌, ℕ, ◌+◌, ◌<◌, ◌==◌, ◌&&◌, ◌||◌, Bool, true, false, if◌then◌else◌, List, [], ◌∷◌, get_or, drop, take, Option, Some, None, refl, sym, ap, ◌∙◌, subst, arith, rules}
+use Rattle.std.specs.Prelude.{find, is_some, All, IsSome, IfSome, IfNone, nat_lt, slice_index, count_by}
 use Rattle.std.specs.Option.{option_or}
 use Rattle.std.specs.List.{list_any}
 use Rattle.std.proofs.lemmas.Bool.{cases_Bool, and_parts}
-use Rattle.std.proofs.lemmas.List.Elements.{All-tail}
-use Rattle.std.proofs.lemmas.List.Folds.{find-append, list_any-append, list_any_at}
+use Rattle.std.proofs.lemmas.Bool.Decides.{nat_tests}
+use Rattle.std.proofs.lemmas.List.Elements.{All-head, All-tail, All-append, All-take, All-drop}
+use Rattle.std.proofs.lemmas.List.Sums.{sum_by-cons}
+use Rattle.std.proofs.lemmas.List.Folds.{find-append, list_any-append, list_any_at, Any-from_list_any}
 use Rattle.machine.specs.declared.id.GroupId.{GroupId}
 use Rattle.machine.specs.declared.id.PageId.{PageId}
-use Rattle.machine.specs.Order.{asking_order, served_by}
+use Rattle.machine.specs.Order.{round_from, place_in, asking_order, served_by}
 use Rattle.machine.specs.Tree.{Node, is_live, under, preorder}
-use Rattle.machine.proofs.TreeLemmas.{eq_cases}
+use Rattle.machine.proofs.SlotLemmas.{one_if}
 use Rattle.group_tree.specs.Groups.{IsGroupTree}
+use Rattle.group_tree.specs.Tables.{number}
 use Rattle.group_tree.proofs.PreorderLemmas.{preorder-has}
 use Rattle.page_counter.specs.Counts.{Counts}
-use Rattle.reclaim.specs.Pass.{Held, is_open, oldest_of, gives, is_any_takeable}
+use Rattle.reclaim.specs.Pass.{Held, AreHeld, is_open, oldest_of, gives, IsGiver, GivesNone}
 use Rattle.reclaim.specs.Walk.{is_at, behind, up_to, AreAsked}
 use Rattle.reclaim.proofs.WalkLemmas.{up_to-none, parts}
 
-either : {X : Type 0} (b r : Bool) (x : X) (o : Option X) → is_some o ≡ r → is_some (if b then Some x else o) ≡ (b || r)
-either true r x o e = refl
-either false r x o e = e
+-- ---- the first of a list that passes
 
--- one is found where one passes
-is_some-find : {X : Type 0} (test : X → Bool) (xs : List X) → is_some (find test xs) ≡ list_any test xs
-is_some-find test [] = refl
-is_some-find test (x ∷ xs) = either (test x) (list_any test xs) x (find test xs) (is_some-find test xs)
+module _ {X : Type 0} where
+  -- what is found is among them, and passes
+  pub found-passes : (P : X → Type 0) (f : X → Bool) (xs : List X) (y : X) → All P xs → find f xs ≡ Some y → P y × (f y ≡ true)
+  found-passes P f [] y all e = absurd cc
+  found-passes P f (x ∷ xs) y all e = by_test (found-passes P f xs y (All-tail P x xs all)) (f x) refl e
+    where
+      by_test : (find f xs ≡ Some y → P y × (f y ≡ true)) → (b : Bool) → f x ≡ b → (if b then Some x else find f xs) ≡ Some y → P y × (f y ≡ true)
+      by_test rest true is found = let same : x ≡ y = cc in (subst P same (All-head P x xs all), ap f (sym same) ∙ is)
+      by_test rest false is found = rest found
 
-taken : {X : Type 0} (test : X → Bool) (x y : X) (b : Bool) (o : Option X) → test x ≡ b → (o ≡ Some y → test y ≡ true) → (if b then Some x else o) ≡ Some y → test y ≡ true
-taken test x y true o passes later e = let same : x ≡ y = cc in ap test (sym same) ∙ passes
-taken test x y false o fails later e = later e
+  -- and where none is found, none passes
+  pub none-passes : (f : X → Bool) (xs : List X) → find f xs ≡ None → list_any f xs ≡ false
+  none-passes f [] e = refl
+  none-passes f (x ∷ xs) e = by_test (none-passes f xs) (f x) refl e
+    where
+      by_test : (find f xs ≡ None → list_any f xs ≡ false) → (b : Bool) → f x ≡ b → (if b then Some x else find f xs) ≡ None → (f x || list_any f xs) ≡ false
+      by_test rest true is none = absurd cc
+      by_test rest false is none = ap (λ b. b || list_any f xs) is ∙ rest none
 
--- what is found passes
-find-passes : {X : Type 0} (test : X → Bool) (xs : List X) (y : X) → find test xs ≡ Some y → test y ≡ true
-find-passes test [] y e = absurd cc
-find-passes test (x ∷ xs) y e = taken test x y (test x) (find test xs) refl (find-passes test xs y) e
+  find-nothing : (f : X → Bool) (xs : List X) → ((x : X) → f x ≡ false) → find f xs ≡ None
+  find-nothing f [] none = refl
+  find-nothing f (x ∷ xs) none = ap (λ b. if b then Some x else find f xs) (none x) ∙ find-nothing f xs none
 
-find-nothing : {X : Type 0} (test : X → Bool) (xs : List X) → ((x : X) → test x ≡ false) → find test xs ≡ None
-find-nothing test [] none = refl
-find-nothing test (x ∷ xs) none = ap (λ b. if b then Some x else find test xs) (none x) ∙ find-nothing test xs none
+  -- what is counted is found
+  pub counted-found : (f : X → Bool) (xs : List X) → 0 < count_by f xs → IsSome (find f xs)
+  counted-found f [] some = absurd (omega arith)
+  counted-found f (x ∷ xs) some =
+      let more = sum_by-cons (λ y. one_if (f y)) x xs in
+      elim (f x) as (λ b. f x ≡ b → IsSome (if b then Some x else find f xs)) [
+        | true ↦ λ is. search rules
+        | false ↦ λ is. counted-found f xs (let here = ap one_if is in omega (arith, some, more, here))
+      ] refl
 
--- without room in swap no group gives a page
-pub none-served : (tree : List Node) (counts : Counts) (held : Held) (swap_free : Bool) (target : ℕ) (last : Option ℕ) → swap_free ≡ false
-    → None ≡ served_by tree (gives tree counts held swap_free target) target last
-none-served tree counts held swap_free target last full =
-    sym (find-nothing (gives tree counts held swap_free target) (asking_order tree target last) (λ g. ap (λ b. b && (is_open tree counts target g && list_any (λ pair. pair.0.0 == g) held)) full))
+-- the page that is found of a group is that group's
+pub oldest-own : (pages : Held) (group : GroupId) (pair : GroupId × PageId) → oldest_of pages group.0 ≡ Some pair → oldest_of pages group.0 ≡ Some (group, pair.1)
+oldest-own pages group pair found =
+    let passes = (found-passes (λ (p : GroupId × PageId). Unit {0}) (λ p. p.0.0 == group.0) pages pair (λ k d lt. tt) found).1 in
+    let same : pair.0.0 ≡ group.0 = grind (arith, nat_tests, passes) in
+    found ∙ ap (λ (g : GroupId). Some (g, pair.1)) (ap (λ (n : ℕ). record group { 0 = n }) same)
 
--- One group of a walk.
-module _ (tree : List Node) (counts : Counts) (held : Held) (target g : ℕ) where
-  -- the page that it gives, if it gives one
-  abbrev pub Gives : Option (GroupId × PageId) → Type 0
-  Gives page = page ≡ (if is_open tree counts target g then oldest_of held g else None)
+-- a group of the list fails a test that none of the list passes
+among : (f : ℕ → Bool) (g : ℕ) (gs : List ℕ) → list_any (λ a. a == g) gs ≡ true → list_any f gs ≡ false → f g ≡ false
+among f g gs here none =
+    elim (cases_Bool (f g)) [
+      | inl passes ↦
+          (let place = Any-from_list_any (λ a. a == g) gs here in
+          let same : place.1 ≡ g = grind (arith, nat_tests, place.4) in
+          absurd (let found = list_any_at f gs place.0 place.1 place.2 (ap f (place.3 ∙ same) ∙ passes) in let wrong : true ≡ false = sym found ∙ none in cc))
+      | inr fails ↦ fails
+    ]
 
-  given : (b : Bool) (page : Option (GroupId × PageId)) → page ≡ (if b then oldest_of held g else None) → is_some page ≡ (b && list_any (λ pair. pair.0.0 == g) held)
-  given true page e = ap is_some e ∙ is_some-find (λ pair. pair.0.0 == g) held
-  given false page e = ap is_some e
+-- ---- one group of a walk
 
-  pub gives-page : (page : Option (GroupId × PageId)) → Gives page → is_some page ≡ gives tree counts held true target g
-  gives-page page e = given (is_open tree counts target g) page e
+-- a walk goes on behind a group that gives none, unless it ends there
+pub find-step : (test : ℕ → Bool) (g : ℕ) (walk rest : List ℕ) (last : Option ℕ) {gives_one ends : Bool} → walk ≡ g ∷ rest → test g ≡ gives_one → is_at last g ≡ ends
+    → find test (up_to walk last) ≡ (if gives_one then Some g else find test (if ends then [] else up_to rest last))
+find-step test g walk rest last {gives_one} {ends} e one end =
+    ap (λ w. find test (up_to w last)) e
+    ∙ ap (λ b. if b then Some g else find test (if is_at last g then [] else up_to rest last)) one
+    ∙ ap (λ b. if gives_one then Some g else find test (if b then [] else up_to rest last)) end
 
-  own_page : (b : Bool) (page : Option (GroupId × PageId)) → page ≡ (if b then oldest_of held g else None) → is_some page ≡ true
-      → (option_map (λ pair. pair.0.0) page ≡ Some g) × IfSome page (λ pair. oldest_of held pair.0.0 ≡ Some pair)
-  own_page b None e h = absurd cc
-  own_page false (Some pair) e h = absurd cc
-  own_page true (Some pair) e h =
-      let passes = find-passes (λ p. p.0.0 == g) held pair (sym e) in
-      let same : pair.0.0 ≡ g = grind (arith, passes) in
-      (ap Some same, ap (oldest_of held) same ∙ sym e)
-
-  -- it is the oldest of the group
-  pub page-is : (page : Option (GroupId × PageId)) → Gives page → is_some page ≡ true → (option_map (λ pair. pair.0.0) page ≡ Some g) × IfSome page (λ pair. oldest_of held pair.0.0 ≡ Some pair)
-  page-is page e h = own_page (is_open tree counts target g) page e h
-
-  -- a walk goes on behind a group that gives none, unless it ends there
-  pub find-step : (walk rest : List ℕ) (last : Option ℕ) {gives_one ends : Bool} → walk ≡ g ∷ rest → gives tree counts held true target g ≡ gives_one → is_at last g ≡ ends
-      → find (gives tree counts held true target) (up_to walk last) ≡ (if gives_one then Some g else find (gives tree counts held true target) (if ends then [] else up_to rest last))
-  find-step walk rest last {gives_one} {ends} e one end =
-      ap (λ w. find (gives tree counts held true target) (up_to w last)) e
-      ∙ ap (λ b. if b then Some g else find (gives tree counts held true target) (if is_at last g then [] else up_to rest last)) one
-      ∙ ap (λ b. if gives_one then Some g else find (gives tree counts held true target) (if b then [] else up_to rest last)) end
-
--- Which groups are asked.
+-- ---- which groups are asked
 module _ (tree : List Node) (target : ℕ) where
   pub asked-rest : (walk rest : List ℕ) (g : ℕ) → walk ≡ g ∷ rest → AreAsked tree target walk → AreAsked tree target rest
   asked-rest walk rest g e asked = All-tail (λ a. (is_live tree a ≡ true) × (under tree target a ≡ true)) g rest (subst (AreAsked tree target) e asked)
@@ -102,6 +106,18 @@ module _ (tree : List Node) (target : ℕ) where
       let among = list_any_at (λ a. a == g) (preorder tree target) k d lt (let same : (g == g) ≡ true = grind arith in same) in
       and_parts _ _ (sym (preorder-has tree groups target g live) ∙ among)
 
+  -- in the order in which they are
+  pub asked-order : (last : Option ℕ) → IsGroupTree tree → is_live tree target ≡ true → AreAsked tree target (asking_order tree target last)
+  asked-order last groups live = round (preorder tree target) (place_in (preorder tree target) last) (asked-all groups live)
+    where
+      round : (gs : List ℕ) (place : Option ℕ) → AreAsked tree target gs → AreAsked tree target (round_from gs place)
+      round gs None all = all
+      round gs (Some k) all =
+          All-append (λ g. (is_live tree g ≡ true) × (under tree target g ≡ true)) (drop (k + 1) gs) (take (k + 1) gs)
+          (All-drop (λ g. (is_live tree g ≡ true) × (under tree target g ≡ true)) (k + 1) gs all) (All-take (λ g. (is_live tree g ≡ true) × (under tree target g ≡ true)) (k + 1) gs all)
+
+-- ---- the two parts of a pass
+
 some_first : (a b : Option ℕ) → is_some a ≡ true → option_or a b ≡ a
 some_first None b e = absurd cc
 some_first (Some x) b e = refl
@@ -110,40 +126,34 @@ none_first : (a b : Option ℕ) → is_some a ≡ false → option_or a b ≡ b
 none_first None b e = refl
 none_first (Some x) b e = absurd cc
 
-same_some : (page : Option (GroupId × PageId)) → is_some (option_map (λ pair. pair.0.0) page) ≡ is_some page
+same_some : (group : Option GroupId) → is_some (number group) ≡ is_some group
 same_some None = refl
-same_some (Some pair) = refl
+same_some (Some group) = refl
 
--- The two parts of a pass.
-module _ (tree : List Node) (counts : Counts) (held : Held) (target : ℕ) (last : Option ℕ) where
-  parts-find : served_by tree (gives tree counts held true target) target last
-      ≡ option_or (find (gives tree counts held true target) (behind (preorder tree target) last)) (find (gives tree counts held true target) (up_to (preorder tree target) last))
-  parts-find =
-      ap (find (gives tree counts held true target)) (sym (parts (preorder tree target) last))
-      ∙ find-append (gives tree counts held true target) (behind (preorder tree target) last) (up_to (preorder tree target) last)
+module _ (tree : List Node) (test : ℕ → Bool) (target : ℕ) (last : Option ℕ) where
+  parts-find : served_by tree test target last ≡ option_or (find test (behind (preorder tree target) last)) (find test (up_to (preorder tree target) last))
+  parts-find = ap (find test) (sym (parts (preorder tree target) last)) ∙ find-append test (behind (preorder tree target) last) (up_to (preorder tree target) last)
 
   -- what the first part finds
-  behind-find : (rest : List ℕ) (page : Option (GroupId × PageId)) → rest ≡ behind (preorder tree target) last → option_map (λ pair. pair.0.0) page ≡ find (gives tree counts held true target) (up_to rest None)
-      → option_map (λ pair. pair.0.0) page ≡ find (gives tree counts held true target) (behind (preorder tree target) last)
-  behind-find rest page r e = e ∙ ap (find (gives tree counts held true target)) (up_to-none rest ∙ r)
+  behind-find : (rest : List ℕ) (group : Option GroupId) → rest ≡ behind (preorder tree target) last → number group ≡ find test (up_to rest None) → number group ≡ find test (behind (preorder tree target) last)
+  behind-find rest group r e = e ∙ ap (find test) (up_to-none rest ∙ r)
 
   -- is served
-  pub first_part : (rest : List ℕ) (page : Option (GroupId × PageId)) → rest ≡ behind (preorder tree target) last → option_map (λ pair. pair.0.0) page ≡ find (gives tree counts held true target) (up_to rest None)
-      → is_some page ≡ true → option_map (λ pair. pair.0.0) page ≡ served_by tree (gives tree counts held true target) target last
-  first_part rest page r e some =
-      let same = behind-find rest page r e in
-      same ∙ sym (parts-find ∙ some_first _ (find (gives tree counts held true target) (up_to (preorder tree target) last)) (ap is_some (sym same) ∙ same_some page ∙ some))
+  pub first_part : (rest : List ℕ) (group : Option GroupId) → rest ≡ behind (preorder tree target) last → number group ≡ find test (up_to rest None) → is_some group ≡ true → number group ≡ served_by tree test target last
+  first_part rest group r e some =
+      let same = behind-find rest group r e in
+      same ∙ sym (parts-find ∙ some_first _ (find test (up_to (preorder tree target) last)) (ap is_some (sym same) ∙ same_some group ∙ some))
 
   -- and else what the second part finds
-  pub second_part : (rest walk : List ℕ) (page later : Option (GroupId × PageId)) → rest ≡ behind (preorder tree target) last → walk ≡ preorder tree target
-      → option_map (λ pair. pair.0.0) page ≡ find (gives tree counts held true target) (up_to rest None) → is_some page ≡ false
-      → option_map (λ pair. pair.0.0) later ≡ find (gives tree counts held true target) (up_to walk last) → option_map (λ pair. pair.0.0) later ≡ served_by tree (gives tree counts held true target) target last
-  second_part rest walk page later r w e none f =
-      let same = behind-find rest page r e in
-      f ∙ ap (λ gs. find (gives tree counts held true target) (up_to gs last)) w
-      ∙ sym (parts-find ∙ none_first _ (find (gives tree counts held true target) (up_to (preorder tree target) last)) (ap is_some (sym same) ∙ same_some page ∙ none))
+  pub second_part : (rest walk : List ℕ) (group later : Option GroupId) → rest ≡ behind (preorder tree target) last → walk ≡ preorder tree target → number group ≡ find test (up_to rest None) → is_some group ≡ false
+      → number later ≡ find test (up_to walk last) → number later ≡ served_by tree test target last
+  second_part rest walk group later r w e none f =
+      let same = behind-find rest group r e in
+      f ∙ ap (λ gs. find test (up_to gs last)) w
+      ∙ sym (parts-find ∙ none_first _ (find test (up_to (preorder tree target) last)) (ap is_some (sym same) ∙ same_some group ∙ none))
 
--- That one gives a page wherever a page can be taken.
+-- ---- one gives a page wherever one has a page to give
+
 turn_here : (t all : Bool) → (all || (t || false)) ≡ (t || all)
 turn_here true true = refl
 turn_here true false = refl
@@ -168,75 +178,36 @@ around test (g ∷ gs) last =
           ∙ ap (λ b. test g || b) (around test gs last)
     ]
 
-one_more : (ox o e f fx has rest all : Bool) → e ≡ true → f ≡ true → ox ≡ o → all ≡ ((o && has) || rest) → ((ox && (e || fx)) || all) ≡ ((o && (f || has)) || ((ox && fx) || rest))
-one_more true true true true fx has rest all p q r t = refl
-one_more false false true true fx has rest all p q r t = t
-one_more true false true true fx has rest all p q r t = absurd cc
-one_more false true true true fx has rest all p q r t = absurd cc
-one_more ox o false f fx has rest all p q r t = absurd cc
-one_more ox o true false fx has rest all p q r t = absurd cc
+module _ (tree : List Node) (counts : Counts) (held : List ℕ) (swap_free : Bool) (target : ℕ) where
+  -- without room in swap no group gives a page
+  full : swap_free ≡ false → (g : ℕ) → gives tree counts held swap_free target g ≡ false
+  full e g = ap (λ b. b && (is_open tree counts target g && nat_lt 0 (slice_index held g))) e
 
-none_more : (ox o e f fx has rest all : Bool) → e ≡ false → f ≡ false → all ≡ ((o && has) || rest) → ((ox && (e || fx)) || all) ≡ ((o && (f || has)) || ((ox && fx) || rest))
-none_more ox o false false fx has rest all p q t = ap (λ b. (ox && fx) || b) t ∙ turn_on (ox && fx) (o && has) rest
-none_more ox o true f fx has rest all p q t = absurd cc
-none_more ox o false true fx has rest all p q t = absurd cc
+  pub none-served : (last : Option ℕ) → swap_free ≡ false → None ≡ served_by tree (gives tree counts held swap_free target) target last
+  none-served last e = sym (find-nothing (gives tree counts held swap_free target) (asking_order tree target last) (full e))
 
-no_page : (o : Bool) → false ≡ ((o && false) || false)
-no_page true = refl
-no_page false = refl
+  pub none-given : swap_free ≡ false → GivesNone tree counts held swap_free target
+  none-given e g live below = full e g
 
--- the pages of one group more
-more_pages : (test others : ℕ → Bool) (g : ℕ) (held : Held)
-    → list_any (λ pair. test pair.0.0 && ((g == pair.0.0) || others pair.0.0)) held
-    ≡ ((test g && list_any (λ pair. pair.0.0 == g) held) || list_any (λ pair. test pair.0.0 && others pair.0.0) held)
-more_pages test others g [] = no_page (test g)
-more_pages test others g (pair ∷ held) =
-    elim (eq_cases g pair.0.0) [
-      | inl same ↦
-          one_more (test pair.0.0) (test g) (g == pair.0.0) (pair.0.0 == g) (others pair.0.0) _ _ _ (grind (arith, same)) (grind (arith, same)) (ap test (sym same)) (more_pages test others g held)
-      | inr other ↦
-          none_more (test pair.0.0) (test g) (g == pair.0.0) (pair.0.0 == g) (others pair.0.0) _ _ _ (grind (arith, other)) (let flipped : pair.0.0 ≡ g → ⊥ = λ e. other (sym e) in grind (arith, flipped)) (more_pages test others g held)
-    ]
+  module _ (groups : IsGroupTree tree) (live : is_live tree target ≡ true) (last : Option ℕ) where
+    one_serves : (g : ℕ) → served_by tree (gives tree counts held swap_free target) target last ≡ Some g → IsGiver tree counts held swap_free target g
+    one_serves g found =
+        let is = found-passes (λ a. (is_live tree a ≡ true) × (under tree target a ≡ true)) (gives tree counts held swap_free target) (asking_order tree target last) g (asked-order tree target last groups live) found in
+        record { live = is.0.0; below = is.0.1; gives = is.1 }
 
-nothing : (test : ℕ → Bool) (held : Held) → false ≡ list_any (λ pair. test pair.0.0 && false) held
-nothing test [] = refl
-nothing test (pair ∷ held) = nothing test held ∙ neither (test pair.0.0) (list_any (λ p. test p.0.0 && false) held)
-  where
-    neither : (b r : Bool) → r ≡ ((b && false) || r)
-    neither true r = refl
-    neither false r = refl
+    none_serves : served_by tree (gives tree counts held swap_free target) target last ≡ None → GivesNone tree counts held swap_free target
+    none_serves nothing g there below =
+        among (gives tree counts held swap_free target) g (preorder tree target)
+        (preorder-has tree groups target g live ∙ ap (λ b. b && under tree target g) there ∙ below)
+        (sym (around (gives tree counts held swap_free target) (preorder tree target) last) ∙ sym (list_any-append (gives tree counts held swap_free target) (behind (preorder tree target) last) (up_to (preorder tree target) last))
+        ∙ ap (list_any (gives tree counts held swap_free target)) (parts (preorder tree target) last) ∙ none-passes (gives tree counts held swap_free target) (asking_order tree target last) nothing)
 
--- some group of the list has a page, where some page is of a group of the list
-by_pages : (test : ℕ → Bool) (held : Held) (gs : List ℕ)
-    → list_any (λ g. test g && list_any (λ pair. pair.0.0 == g) held) gs ≡ list_any (λ pair. test pair.0.0 && list_any (λ a. a == pair.0.0) gs) held
-by_pages test held [] = nothing test held
-by_pages test held (g ∷ gs) =
-    ap (λ b. (test g && list_any (λ pair. pair.0.0 == g) held) || b) (by_pages test held gs) ∙ sym (more_pages test (λ p. list_any (λ a. a == p) gs) g held)
+    -- the group that is served has a page to give
+    pub giver-served : (group : Option GroupId) → number group ≡ served_by tree (gives tree counts held swap_free target) target last → IfSome group (λ g. IsGiver tree counts held swap_free target g.0)
+    giver-served None e = tt
+    giver-served (Some g) e = one_serves g.0 (sym e)
 
-agree : {X : Type 0} (test same : X → Bool) (xs : List X) → All (λ x. test x ≡ same x) xs → list_any test xs ≡ list_any same xs
-agree test same [] all = refl
-agree test same (x ∷ xs) all = ap (λ b. b || list_any test xs) (all 0 x (omega arith)) ∙ ap (λ b. same x || b) (agree test same xs (All-tail (λ y. test y ≡ same y) x xs all))
-
-of_live : (live below o : Bool) → live ≡ true → (o && (live && below)) ≡ (below && o)
-of_live true true true e = refl
-of_live true true false e = refl
-of_live true false true e = refl
-of_live true false false e = refl
-of_live false below o e = absurd cc
-
-module _ (tree : List Node) (groups : IsGroupTree tree) (counts : Counts) (held : Held) (target : ℕ) (live : is_live tree target ≡ true) (known : All (λ pair. is_live tree pair.0.0 ≡ true) held) (last : Option ℕ) where
-  found : is_some (served_by tree (gives tree counts held true target) target last) ≡ is_any_takeable tree counts held true target
-  found =
-      is_some-find (gives tree counts held true target) (asking_order tree target last)
-      ∙ ap (list_any (gives tree counts held true target)) (sym (parts (preorder tree target) last))
-      ∙ list_any-append (gives tree counts held true target) (behind (preorder tree target) last) (up_to (preorder tree target) last)
-      ∙ around (gives tree counts held true target) (preorder tree target) last
-      ∙ by_pages (is_open tree counts target) held (preorder tree target)
-      ∙ agree (λ pair. is_open tree counts target pair.0.0 && list_any (λ a. a == pair.0.0) (preorder tree target)) (λ pair. under tree target pair.0.0 && is_open tree counts target pair.0.0) held
-      (λ k d lt.
-      let g = (get_or held k d).0.0 in
-      ap (λ b. is_open tree counts target g && b) (preorder-has tree groups target g live) ∙ of_live (is_live tree g) (under tree target g) (is_open tree counts target g) (known k d lt))
-
-  pub none-exactly : (page : Option (GroupId × PageId)) → option_map (λ pair. pair.0.0) page ≡ served_by tree (gives tree counts held true target) target last
-      → is_none page ≡ not (is_any_takeable tree counts held true target)
-  none-exactly page e = ap not (sym (same_some page) ∙ ap is_some e ∙ found)
+    -- and where none is served, none has
+    pub none-serves : (group : Option GroupId) → number group ≡ served_by tree (gives tree counts held swap_free target) target last → IfNone group (GivesNone tree counts held swap_free target)
+    none-serves None e = none_serves (sym e)
+    none-serves (Some g) e = tt

@@ -1,12 +1,12 @@
 //! The cursors of all targets.
 
-ghost use Rattle.std.specs.Prelude.{◌≡◌, ◌+◌, ◌<◌, ◌≤◌, ◌++◌, ◌∷◌, [], not, true, All, length, option_map, slice_set, is_none, IfSome, IfNone, IfOk, OnOk, OnErr, IsOk};
+ghost use Rattle.std.specs.Prelude.{◌≡◌, ◌+◌, ◌<◌, ◌≤◌, ◌++◌, ◌∷◌, [], true, length, option_map, slice_set, Some, None, IsSome, IfSome, IfNone, IfOk, OnOk, OnErr, IsOk};
 ghost use Rattle.machine.specs.Order.{served_by, cursor_at};
 ghost use Rattle.machine.specs.Tree.{is_live};
 ghost use Rattle.group_tree.specs.Kin.{AreKin};
-ghost use Rattle.reclaim.specs.Pass.{oldest_of, gives, is_any_takeable};
+ghost use Rattle.reclaim.specs.Pass.{oldest_of, gives, IsGiver, GivesNone};
 
-use crate::pass::served;
+use crate::pass::{oldest_of, served};
 use group_tree::Tree;
 use machine::id::{GroupId, PageId};
 use page_counter::Counters;
@@ -90,40 +90,50 @@ impl Cursors {
         self.last[group.0 as usize] = None;
     }
 
-    /// The page that a reclaim of the target takes next, after its group. The target's cursor goes
-    /// to that group.
+    /// The group that gives the next page to a reclaim of the target. Nothing changes.
     ///
-    /// `held` has the pages in frames, each after its group, and the one that has been there for
-    /// longest first. `None` where no page can be taken (`is_any_takeable`), and then nothing
-    /// changes. It takes no memory.
-    pub fn next_page(
-        &mut self,
+    /// `held` is, by group number, how many pages in frames each group has. `None` where no group at
+    /// or below the target has a page to give.
+    pub fn next_group(
+        &self,
         tree: &Tree,
         counters: &Counters,
-        held: &[(GroupId, PageId)],
+        held: &[u32],
         swap_free: bool,
         target: GroupId,
-    ) -> Option<(GroupId, PageId)>
+    ) -> Option<GroupId>
         requires kin { AreKin counters.now.tree tree.now }
         requires live { is_live tree.now target.0 ≡ true }
-        requires cursor { target.0 < length self.old.cursors }
-        requires held { All (λ pair. is_live tree.now pair.0.0 ≡ true) held.now }
-        // The group is the one whose turn it is, and the page is the oldest of its own.
-        ensures group { option_map (λ pair. pair.0.0) result
-            ≡ served_by tree.now (gives tree.now counters.now held.now swap_free target.0) target.0 (cursor_at self.old.cursors target.0) }
-        ensures page { IfSome result (λ pair. oldest_of held.now pair.0.0 ≡ Some pair) }
-        // There is one wherever a page can be taken.
-        ensures none { is_none result ≡ not (is_any_takeable tree.now counters.now held.now swap_free target.0) }
-        ensures cursor { IfSome result (λ pair. self.new.cursors ≡ slice_set self.old.cursors target.0 (Some pair.0.0)) }
-        ensures same { IfNone result (self.new.cursors ≡ self.old.cursors) }
-        ensures room { self.new.room ≡ self.old.room }
+        requires cursor { target.0 < length self.now.cursors }
+        requires places { length tree.now ≤ length held.now }
+        // It is the one whose turn it is.
+        ensures group { option_map (λ g. g.0) result
+            ≡ served_by tree.now (gives tree.now counters.now held.now swap_free target.0) target.0 (cursor_at self.now.cursors target.0) }
+        // There is one exactly where one has a page to give.
+        ensures giver { IfSome result (λ g. IsGiver tree.now counters.now held.now swap_free target.0 g.0) }
+        ensures none { IfNone result (GivesNone tree.now counters.now held.now swap_free target.0) }
     {
+        tree.groups_form_a_tree();
         if !swap_free {
             return None;
         }
         let last = self.last[target.0 as usize];
-        let (group, page) = served(tree, counters, held, target, last)?;
+        served(tree, counters, held, target, last)
+    }
+
+    /// The page that the group gives to a reclaim of the target: the one that has been in its frame
+    /// for longest. The target's cursor goes to the group. It takes no memory.
+    ///
+    /// `held` has the pages in frames, each after its group, and the one that has been there for
+    /// longest first. The group has one there.
+    pub fn serve(&mut self, held: &[(GroupId, PageId)], target: GroupId, group: GroupId) -> PageId
+        requires cursor { target.0 < length self.old.cursors }
+        requires held { IsSome (oldest_of held.now group.0) }
+        ensures page { oldest_of held.now group.0 ≡ Some (group, result) }
+        ensures cursors { self.new.cursors ≡ slice_set self.old.cursors target.0 (Some group.0) }
+        ensures room { self.new.room ≡ self.old.room }
+    {
         self.last[target.0 as usize] = Some(group);
-        Some((group, page))
+        oldest_of(held, group)
     }
 }

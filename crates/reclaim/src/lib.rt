@@ -12,6 +12,8 @@
 //! 4. Of the group that is served, the page is the one that has been in its frame for longest.
 //! 5. A page can only be taken where it has somewhere to go. All pages are anonymous, so with no
 //!    block free in swap no group has any to give.
+//! 6. Which group is served is told by counts, and nothing changes. Its page is chosen, and the
+//!    target's cursor moves, when it is served.
 //!
 //! So where `/p`, `/p/a` and `/q` have pages, and hang below the root in this order:
 //!
@@ -26,7 +28,6 @@
 #![tactic(auto)]
 
 pub use cursors::Cursors;
-pub use pass::is_any_takeable;
 
 mod cursors;
 mod pass;

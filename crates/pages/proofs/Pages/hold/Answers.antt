@@ -22,7 +22,7 @@ invariant_of-self c =
 
 pub returns-clause-placed : goal.returns-clause-placed
 returns-clause-placed c =
-    let before = map (option_map page_of) c.self.inside.kept.items in
+    let before = map (option_map page_of) c.self.inside.owned.items in
     let after = map (option_map page_of) c.place.new.slots.items in
     let p = c.insert_reserved-key.result in
     let placed = subst (λ n. Changes before after p (Some (new_page c.args.charge n))) c.set_zeros_but.ensures.number (Changes-map page_of _ _ p _ c.place.ensures.placed) in

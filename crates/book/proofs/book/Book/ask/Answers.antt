@@ -4,15 +4,16 @@ use Rattle.std.proofs.lemmas.List.{length-reverse}
 use Rattle.machine.specs.declared.reply.Reply.{Reply}
 use Rattle.book.specs.declared.book.Book.TheInside.{Inside}
 use Rattle.book.specs.Events.{reply_of}
+use Rattle.book.specs.Decisions.{AnswersTo, IsDecided}
 use Rattle.book.specs.Told.{counted_in}
-use Rattle.book.proofs.TallyLemmas.{few-tallied}
-use Rattle.book.proofs.HistoryLemmas.{Extending, read_on}
+use Rattle.page_state.proofs.TallyLemmas.{few-tallied}
+use Rattle.book.proofs.HistoryLemmas.{read_on}
 use Rattle.book.proofs.TicketLemmas.{gives_more}
-use Rattle.book.proofs.CallLemmas.{history_of, asks, has_room, few_of, few-counted, Appends, told_more, longer, called_more, book_more}
+use Rattle.book.proofs.CallLemmas.{history_of, asks, full-decided, called-full, has_room, few_of, few-counted, Appends, told_more, longer, called_more, book_more}
 use Rattle.book.proofs.book.Book.ask.Goals as goal
 
-pub step-requires-clause-few : goal.step-requires-clause-few
-step-requires-clause-few c =
+pub apply-requires-clause-few : goal.apply-requires-clause-few
+apply-requires-clause-few c =
     let b = c.self.inside in
     let few = few-counted (history_of b) in
     let all = length-reverse b.entries.items in
@@ -20,41 +21,67 @@ step-requires-clause-few c =
     let limit = c.is_joined.ensures.limit in
     few-tallied b.state.tallies (counted_in (history_of b)) 2097152 c.is_joined.ensures.lineage c.self.invariant.told.tallied (omega (arith, few, all, within, limit)) (omega arith)
 
+pub returns-then-is_full-clause-called : goal.returns-then-is_full-clause-called
+returns-then-is_full-clause-called c =
+    let b = c.self.inside in
+    let is : IsDecided b.state c.args.event c.in-Ok.decided = c.in-Ok.ensures in
+    let full = sym (full-decided b c.args.self.now c.self.view_is c.args.event c.in-Ok.decided is c.entries.result c.entries.ensures c.is_full.result c.is_full.ensures) ∙ c.if-is_full.true in
+    called-full b c.args.self.now c.self.view_is c.args.worker.0 c.args.event c.requires.asked is.none full
+
 pub append-requires-clause-room : goal.append-requires-clause-room
 append-requires-clause-room c =
-    has_room c.self.inside c.step.new.self c.args.worker.0 c.args.event (reply_of c.in-Ok.reply)
-    (asks c.self.inside c.args.self.now c.self.invariant c.self.view_is c.step.new.self c.args.worker.0 c.requires.known c.args.event (reply_of c.in-Ok.reply) c.requires.asked (sym c.refusal.ensures ∙ c.in_default.is) (sym c.if-is_full.ensures) c.in-Ok.ensures.serves)
-    c.self.invariant
+    let b = c.self.inside in
+    let is : IsDecided b.state c.args.event c.in-Ok.decided = c.in-Ok.ensures in
+    let room = sym (full-decided b c.args.self.now c.self.view_is c.args.event c.in-Ok.decided is c.entries.result c.entries.ensures c.is_full.result c.is_full.ensures) ∙ c.if-is_full.false in
+    let answers : AnswersTo b.state c.args.worker.0 (c.len.result + 1) c.args.event c.in-Ok-apply.reply c.apply.new.state = c.in-Ok-apply.ensures.carries c.args.event is in
+    let extending = asks b c.args.self.now c.self.invariant c.self.view_is c.apply.new.state c.args.worker.0 c.requires.known c.args.event (reply_of c.in-Ok-apply.reply) c.requires.asked is.none room answers.serves in
+    has_room b c.apply.new.state c.args.worker.0 c.args.event (reply_of c.in-Ok-apply.reply) extending c.self.invariant
 
 pub append-requires-clause-few : goal.append-requires-clause-few
 append-requires-clause-few c = few_of c.self.inside c.self.invariant c.is_joined.ensures.limit c.args.worker.0
 
-abbrev after : goal.After-append → Inside
-after c = record { alloc = c.self.inside.alloc; state = c.step.new.self; entries = c.append.new.entries; counts = c.append.new.counts }
+pub invariant_of-self-in-Ok-apply : goal.invariant_of-self-in-Ok-apply
+invariant_of-self-in-Ok-apply c =
+    let b = c.self.inside in
+    let is : IsDecided b.state c.args.event c.in-Ok.decided = c.in-Ok.ensures in
+    let room = sym (full-decided b c.args.self.now c.self.view_is c.args.event c.in-Ok.decided is c.entries.result c.entries.ensures c.is_full.result c.is_full.ensures) ∙ c.if-is_full.false in
+    let answers : AnswersTo b.state c.args.worker.0 (c.len.result + 1) c.args.event c.in-Ok-apply.reply c.apply.new.state = c.in-Ok-apply.ensures.carries c.args.event is in
+    let extending = asks b c.args.self.now c.self.invariant c.self.view_is c.apply.new.state c.args.worker.0 c.requires.known c.args.event (reply_of c.in-Ok-apply.reply) c.requires.asked is.none room answers.serves in
+    let after : Inside = record { alloc = b.alloc; state = c.apply.new.state; entries = c.append.new.entries; counts = c.append.new.counts } in
+    let appends = subst (λ (answer : Reply). Appends b after c.args.worker c.args.event answer) c.plain-said.ensures (record { entries = c.append.ensures.entries; room = c.append.ensures.room; counts = c.append.ensures.counts }) in
+    book_more b after c.args.worker c.args.event (reply_of c.in-Ok-apply.reply) c.self.invariant extending appends
 
-extending : (c : goal.After-append) → Extending c.self.inside.state c.step.new.self (history_of c.self.inside) c.self.inside.counts.items c.args.worker.0 c.args.event (reply_of c.in-Ok.reply)
-extending c =
-    asks c.self.inside c.args.self.now c.self.invariant c.self.view_is c.step.new.self c.args.worker.0 c.requires.known c.args.event (reply_of c.in-Ok.reply) c.requires.asked (sym c.refusal.ensures ∙ c.in_default.is) (sym c.if-is_full.ensures) c.in-Ok.ensures.serves
+pub returns-in-Ok-apply-clause-called : goal.returns-in-Ok-apply-clause-called
+returns-in-Ok-apply-clause-called c =
+    let b = c.self.inside in
+    let is : IsDecided b.state c.args.event c.in-Ok.decided = c.in-Ok.ensures in
+    let room = sym (full-decided b c.args.self.now c.self.view_is c.args.event c.in-Ok.decided is c.entries.result c.entries.ensures c.is_full.result c.is_full.ensures) ∙ c.if-is_full.false in
+    let answers : AnswersTo b.state c.args.worker.0 (c.len.result + 1) c.args.event c.in-Ok-apply.reply c.apply.new.state = c.in-Ok-apply.ensures.carries c.args.event is in
+    let extending = asks b c.args.self.now c.self.invariant c.self.view_is c.apply.new.state c.args.worker.0 c.requires.known c.args.event (reply_of c.in-Ok-apply.reply) c.requires.asked is.none room answers.serves in
+    let after : Inside = record { alloc = b.alloc; state = c.apply.new.state; entries = c.append.new.entries; counts = c.append.new.counts } in
+    let appends = subst (λ (answer : Reply). Appends b after c.args.worker c.args.event answer) c.plain-said.ensures (record { entries = c.append.ensures.entries; room = c.append.ensures.room; counts = c.append.ensures.counts }) in
+    rw (← c.self.view_is) (called_more b after c.args.worker c.args.event (reply_of c.in-Ok-apply.reply) c.self.invariant extending appends)
 
-appends : (c : goal.After-append) → Appends c.self.inside (after c) c.args.worker c.args.event (reply_of c.in-Ok.reply)
-appends c =
-    subst (λ (answer : Reply). Appends c.self.inside (after c) c.args.worker c.args.event answer)
-    c.plain-said.ensures (record { entries = c.append.ensures.entries; room = c.append.ensures.room; counts = c.append.ensures.counts })
+pub returns-in-Ok-apply-clause-reads : goal.returns-in-Ok-apply-clause-reads
+returns-in-Ok-apply-clause-reads c =
+    let b = c.self.inside in
+    let is : IsDecided b.state c.args.event c.in-Ok.decided = c.in-Ok.ensures in
+    let room = sym (full-decided b c.args.self.now c.self.view_is c.args.event c.in-Ok.decided is c.entries.result c.entries.ensures c.is_full.result c.is_full.ensures) ∙ c.if-is_full.false in
+    let answers : AnswersTo b.state c.args.worker.0 (c.len.result + 1) c.args.event c.in-Ok-apply.reply c.apply.new.state = c.in-Ok-apply.ensures.carries c.args.event is in
+    let extending = asks b c.args.self.now c.self.invariant c.self.view_is c.apply.new.state c.args.worker.0 c.requires.known c.args.event (reply_of c.in-Ok-apply.reply) c.requires.asked is.none room answers.serves in
+    rw (← c.self.view_is) (read_on b.state c.apply.new.state (history_of b) b.counts.items c.args.worker.0 c.args.event (reply_of c.in-Ok-apply.reply) extending)
 
-pub invariant_of-self-in-Ok : goal.invariant_of-self-in-Ok
-invariant_of-self-in-Ok c = book_more c.self.inside (after c) c.args.worker c.args.event (reply_of c.in-Ok.reply) c.self.invariant (extending c) (appends c)
-
-pub returns-in-Ok-clause-called : goal.returns-in-Ok-clause-called
-returns-in-Ok-clause-called c = rw (← c.self.view_is) (called_more c.self.inside (after c) c.args.worker c.args.event (reply_of c.in-Ok.reply) c.self.invariant (extending c) (appends c))
-
-pub returns-in-Ok-clause-reads : goal.returns-in-Ok-clause-reads
-returns-in-Ok-clause-reads c =
-    rw (← c.self.view_is) (read_on c.self.inside.state c.step.new.self (history_of c.self.inside) c.self.inside.counts.items c.args.worker.0 c.args.event (reply_of c.in-Ok.reply) (extending c))
-
-pub returns-in-Ok-clause-gives : goal.returns-in-Ok-clause-gives
-returns-in-Ok-clause-gives c =
-    let told = told_more c.self.inside (after c) c.args.worker c.args.event (reply_of c.in-Ok.reply) c.self.invariant (extending c) (appends c) in
-    let more = longer c.self.inside (after c) c.args.worker c.args.event (reply_of c.in-Ok.reply) c.self.invariant (extending c) (appends c) in
+pub returns-in-Ok-apply-clause-gives : goal.returns-in-Ok-apply-clause-gives
+returns-in-Ok-apply-clause-gives c =
+    let b = c.self.inside in
+    let is : IsDecided b.state c.args.event c.in-Ok.decided = c.in-Ok.ensures in
+    let room = sym (full-decided b c.args.self.now c.self.view_is c.args.event c.in-Ok.decided is c.entries.result c.entries.ensures c.is_full.result c.is_full.ensures) ∙ c.if-is_full.false in
+    let answers : AnswersTo b.state c.args.worker.0 (c.len.result + 1) c.args.event c.in-Ok-apply.reply c.apply.new.state = c.in-Ok-apply.ensures.carries c.args.event is in
+    let extending = asks b c.args.self.now c.self.invariant c.self.view_is c.apply.new.state c.args.worker.0 c.requires.known c.args.event (reply_of c.in-Ok-apply.reply) c.requires.asked is.none room answers.serves in
+    let after : Inside = record { alloc = b.alloc; state = c.apply.new.state; entries = c.append.new.entries; counts = c.append.new.counts } in
+    let appends = subst (λ (answer : Reply). Appends b after c.args.worker c.args.event answer) c.plain-said.ensures (record { entries = c.append.ensures.entries; room = c.append.ensures.room; counts = c.append.ensures.counts }) in
+    let told = told_more b after c.args.worker c.args.event (reply_of c.in-Ok-apply.reply) c.self.invariant extending appends in
+    let more = longer b after c.args.worker c.args.event (reply_of c.in-Ok-apply.reply) c.self.invariant extending appends in
     let len = c.len.ensures in
-    let ok = c.self.inside.entries.ok.0 in
-    gives_more c.step.new.self (reverse c.append.new.entries.items) c.append.new.counts.items (length c.append.new.counts.items) c.args.worker.0 (c.len.result + 1) c.in-Ok.reply told (omega (arith, more, len, ok)) c.in-Ok.ensures.gives
+    let ok = b.entries.ok.0 in
+    gives_more c.apply.new.state (reverse c.append.new.entries.items) c.append.new.counts.items (length c.append.new.counts.items) c.args.worker.0 (c.len.result + 1) c.in-Ok-apply.reply told (omega (arith, more, len, ok)) answers.gives

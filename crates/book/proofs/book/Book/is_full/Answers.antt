@@ -7,4 +7,4 @@ pub returns : goal.returns
 returns c =
     let b = c.self.inside in
     let count : c.len.result ≡ length (history_of b) = (let len = c.len.ensures in let same = length-reverse b.entries.items in let ok = b.entries.ok.0 in omega (arith, len, same, ok)) in
-    rw (← c.self.view_is) (rw (c.limit.ensures, count, c.transfers.ensures, c.need.ensures) refl)
+    rw (← c.self.view_is) (rw (c.limit.ensures, count, c.transfers.ensures) refl)

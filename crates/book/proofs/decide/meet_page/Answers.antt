@@ -1,0 +1,27 @@
+use Rattle.std.proofs.Common.{◌≡◌, ◌∙◌, inl, inr, sym, ap}
+use Rattle.std.specs.Prelude.{option_map}
+use Rattle.machine.specs.Pages.{Page, Pages, page_at}
+use Rattle.pages.specs.PageTable.{residence_of}
+use Rattle.page_state.proofs.MappedLemmas.{mapped_there}
+use Rattle.book.proofs.JudgeLemmas.{residence-none, residence-some, coming-stands, going-stands}
+use Rattle.book.proofs.decide.meet_page.Goals as goal
+
+pub unreachable-requires : goal.unreachable-requires
+unreachable-requires c =
+    let s = c.args.state.now in
+    let p = c.args.page.0 in
+    let found : c.residence.result ≡ option_map (λ (page : Page). residence_of page.residence) (page_at s.tables.pages p) =
+    c.residence.ensures.residence ∙ ap (λ (ps : Pages). option_map (λ (page : Page). residence_of page.residence) (page_at ps p)) c.pages.ensures.pages in
+    residence-none (page_at s.tables.pages p) (mapped_there s.tables.pages s.tables.tasks s.tables.mappings c.is_joined.ensures.mapped c.args.touch.task.0 c.args.touch.at p c.requires) (sym found ∙ c.in_default.is)
+
+pub returns-in-Coming : goal.returns-in-Coming
+returns-in-Coming c =
+    let s = c.args.state.now in
+    let p = c.args.page.0 in
+    let found : c.residence.result ≡ option_map (λ (page : Page). residence_of page.residence) (page_at s.tables.pages p) =
+    c.residence.ensures.residence ∙ ap (λ (ps : Pages). option_map (λ (page : Page). residence_of page.residence) (page_at ps p)) c.pages.ensures.pages in
+    let so = residence-some s.tables.pages s.flights c.is_joined.ensures.flights p c.in-Some.residence (sym c.in-Some.is ∙ found) in
+    elim c.in-Coming.is [
+      | inl is ↦ (let at = coming-stands s.tables.pages p so.0 so.1 so.2 (so.3 ∙ is) in (p, so.0, at.0, at.1, at.2, c.requires, inl at.3))
+      | inr is ↦ (let at = going-stands s.tables.pages p so.0 so.1 so.2 (so.3 ∙ is) in (p, so.0, at.0, at.1, at.2, c.requires, inr at.3))
+    ]

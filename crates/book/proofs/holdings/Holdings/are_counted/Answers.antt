@@ -1,4 +1,0 @@
-use Rattle.book.proofs.holdings.Holdings.are_counted.Goals as goal
-
-pub returns-clause-held : goal.returns-clause-held
-returns-clause-held c = rw (← c.self.view_is) c.self.invariant.held.once

@@ -1,0 +1,126 @@
+-- What an event does to the joined parts, said by itself: to what was counted, to the tasks' groups, to bytes, and to transfers.
+use Rattle.std.specs.Prelude.{◌≡◌, ◌⊎◌, ℕ, ◌<◌, ◌==◌, Bool, true, false, List, [], ◌∷◌, ◌++◌, slice_index, option_map, IfSome, Option, Some, None, if◌then◌else◌}
+use Rattle.machine.specs.declared.record.Key.TheVariants as key
+use Rattle.machine.specs.declared.event.Op.TheVariants.{Read}
+use Rattle.machine.specs.declared.event.Event.{Event}
+use Rattle.machine.specs.declared.event.Event.TheVariants as event
+use Rattle.machine.specs.declared.reply.Reply.{Reply}
+use Rattle.machine.specs.declared.reply.Reply.TheVariants as reply
+use Rattle.machine.specs.Slots.{at, there_and}
+use Rattle.machine.specs.Pages.{Residence, Held, Coming, Going, Pages, page_at, is_number}
+use Rattle.machine.specs.Counts.{Counted}
+use Rattle.machine.specs.Tasks.{lives, group_of_task, mapped_at}
+use Rattle.machine.specs.State.{State}
+use Rattle.machine.specs.Reclaim.{target_of}
+use Rattle.machine.specs.Step.{Step, count_of}
+use Rattle.machine.specs.Access.{page_size}
+use Rattle.machine.specs.Step.{virtual_page}
+use Rattle.machine.specs.History.{Spot, InTask, spot_of, Nothing, says, follow, ticket_given, taker_or}
+use Rattle.pages.specs.PageTable.{Stands}
+use Rattle.pages.specs.declared.flight.Flight.{Flight}
+use Rattle.events.specs.Tallies.{Tells}
+use Rattle.page_state.specs.States.{StateOf, byte_at}
+
+-- ---- events counted
+
+-- the tables with these events counted
+abbrev pub counting : State → List Counted → State
+counting s counted = record s { counted = counted }
+
+-- the events counted after an event, from those before and each task's group
+abbrev pub counted_after : (ℕ → ℕ) → List Counted → Event → Reply → List Counted
+counted_after group_of counted (event.Access t place op) (reply.Over g) = counted ++ count_of g.0 key.Max ∷ []
+counted_after group_of counted (event.Relieve cause) (reply.KilledTask t) = counted ++ (count_of (target_of cause) key.Oom ∷ count_of (group_of t.0) key.OomKill ∷ [])
+counted_after group_of counted (event.Relieve cause) reply.NoVictim = counted ++ count_of (target_of cause) key.Oom ∷ []
+counted_after group_of counted what answer = counted
+
+-- the machine's step, whatever was counted before that the tallies tell
+abbrev pub Steps : StateOf → Event → Reply → StateOf → Type 0
+Steps old what answer new =
+    (counted : List Counted) → Tells old.tallies counted → Step (counting old.tables counted) what answer (counting new.tables (counted_after (group_of_task old.tables.tasks) counted what answer))
+
+-- the tallies go on to tell what is counted
+abbrev pub Tallied : StateOf → Event → Reply → StateOf → Type 0
+Tallied old what answer new = (counted : List Counted) → Tells old.tallies counted → Tells new.tallies (counted_after (group_of_task old.tables.tasks) counted what answer)
+
+-- ---- groups of tasks
+
+-- a task's group after an event
+abbrev pub group_after : Event → Reply → ℕ → ℕ → ℕ
+group_after (event.Spawn t g) reply.Ok u before = if t.0 == u then g.0 else before
+group_after what answer u before = before
+
+-- each task's group is what the event says, or as it was
+abbrev pub ChangesGroups : StateOf → Event → Reply → StateOf → Type 0
+ChangesGroups old what answer new = (t : ℕ) → group_of_task new.tables.tasks t ≡ group_after what answer t (group_of_task old.tables.tasks t)
+
+-- ---- bytes
+
+abbrev pub byte_at_spot : StateOf → Spot → ℕ
+byte_at_spot c (InTask t v o) = byte_at c t v o
+
+-- a page whose bytes are in memory: it has a frame, and is not being read in
+abbrev pub is_in_memory : Residence → Bool
+is_in_memory (Held frame) = true
+is_in_memory (Going frame block ticket) = true
+is_in_memory residence = false
+
+abbrev pub is_known : Pages → Option ℕ → Bool
+is_known pages None = true
+is_known pages (Some p) = there_and (λ page. is_in_memory page.residence) (page_at pages p)
+
+-- the bytes of a task's virtual page are in memory
+abbrev pub knows : StateOf → ℕ → ℕ → Bool
+knows c t v = is_known c.tables.pages (mapped_at c.tables.mappings t v)
+
+abbrev pub KnowsSpot : StateOf → Spot → Type 0
+KnowsSpot c (InTask t v o) = (knows c t v ≡ true) × (o < page_size)
+
+-- a read answers the byte at its place, which is in memory
+abbrev pub ReadsByte : StateOf → Event → Reply → Type 0
+ReadsByte old (event.Access t place Read) (reply.Done byte hit) = (byte ≡ byte_at_spot old (spot_of t.0 place)) × KnowsSpot old (spot_of t.0 place)
+ReadsByte old what answer = Unit {0}
+
+-- the page at the place was being read in under the ticket that arrived, and this is its byte
+abbrev pub Arrives : StateOf → Event → ℕ → ℕ → ℕ → ℕ → Type 0
+Arrives old (event.Arrived ticket arrived) t v o byte =
+    (p : ℕ) × (g : ℕ) × (f : ℕ) × (b : ℕ) × (mapped_at old.tables.mappings t v ≡ Some p) × Stands old.tables.pages p g (Coming f b ticket.0) × (byte ≡ slice_index arrived o)
+Arrives old what t v o byte = ⊥
+
+-- the byte was in memory, and is what the event says of it, or as it was
+abbrev pub Follows : StateOf → Event → Reply → ℕ → ℕ → ℕ → ℕ → Type 0
+Follows old what answer t v o byte = (knows old t v ≡ true) × (byte ≡ follow (says what answer (InTask t v o)) (byte_at_spot old) (InTask t v o))
+
+-- each byte of a live task that is in memory
+abbrev pub ChangesBytes : StateOf → Event → Reply → StateOf → Type 0
+ChangesBytes old what answer new =
+    (t v o : ℕ) → lives new.tables.tasks t ≡ true → o < page_size → knows new t v ≡ true
+    → Arrives old what t v o (byte_at new t v o) ⊎ Follows old what answer t v o (byte_at new t v o)
+
+-- ---- transfers
+
+-- the event began to read in the page at the place, under this ticket
+abbrev pub IsFetchOf : Event → Reply → ℕ → ℕ → ℕ → Type 0
+IsFetchOf (event.Access u place op) (reply.Fetch m) t v n = (m.0 ≡ n) × (u.0 ≡ t) × (virtual_page place ≡ v)
+IsFetchOf what answer t v n = ⊥
+
+-- the page at the place was being read in before, and the event says nothing of it
+pub record StaysComing (old : StateOf) (what : Event) (answer : Reply) (t v p g f b n : ℕ) : Type 0 where
+  pub shown : mapped_at old.tables.mappings t v ≡ Some p
+  pub stands : Stands old.tables.pages p g (Coming f b n)
+  pub quiet : (o : ℕ) → says what answer (InTask t v o) ≡ Nothing
+  pub other : is_number (ticket_given answer) n ≡ false
+
+-- each page of a live task that is being read in
+abbrev pub ChangesComing : StateOf → Event → Reply → StateOf → Type 0
+ChangesComing old what answer new =
+    (t v p g f b n : ℕ) → lives new.tables.tasks t ≡ true → mapped_at new.tables.mappings t v ≡ Some p → Stands new.tables.pages p g (Coming f b n)
+    → IsFetchOf what answer t v n ⊎ StaysComing old what answer t v p g f b n
+
+abbrev pub worker_of : Option Flight → Option ℕ
+worker_of flight = option_map (λ (f : Flight). f.worker.0) flight
+
+-- each transfer in flight is the worker's who was given its ticket
+abbrev pub ChangesFlights : StateOf → ℕ → Reply → StateOf → Type 0
+ChangesFlights old worker answer new =
+    (n : ℕ) → IfSome (at new.flights n) (λ f. Some f.worker.0 ≡ taker_or n (ticket_given answer) worker (worker_of (at old.flights n)))

@@ -1,0 +1,194 @@
+//! What was decided is done: one change of the joined parts, and the answer.
+
+ghost use Rattle.std.specs.Prelude.{◌≡◌, ℕ, List, true, None, Some, IfOk, OnErr};
+ghost use Rattle.machine.specs.Tree.{is_live};
+ghost use Rattle.machine.specs.Refusals.{show_refusal};
+ghost use Rattle.machine.specs.Counts.{Counted};
+ghost use Rattle.machine.specs.Step.{shown_of};
+ghost use Rattle.machine.specs.declared.event.Event.{Event as Event_of};
+ghost use Rattle.events.specs.Tallies.{Tells};
+ghost use Rattle.page_state.specs.States.{AreFew};
+ghost use Rattle.book.specs.Effects.{counting};
+ghost use Rattle.book.specs.Decisions.{IsSound, IsTouch, MeetsSo, IsDecided, makes, Carries};
+ghost use Rattle.book.specs.declared.decision.Decision.TheVariants as decision;
+ghost use Rattle.book.specs.declared.decision.Meeting.TheVariants as meeting;
+
+use crate::decision::{Decision, Meeting, Touch};
+use crate::event::Reply;
+use machine::event::{Op, Query, Setting};
+use machine::id::{FrameId, GroupId, PageId, TaskId, WorkerId};
+use machine::record::{Key, Life};
+use machine::reply::Shown;
+use page_state::{NoRoom, State};
+use std::alloc::{AllocError, Global};
+
+/// Does what was decided, asked by the worker; `entry` is the place that the trace's entry will have.
+/// `AllocError` where memory was wanted and refused, and then nothing changed.
+pub fn apply(
+    state: &mut State,
+    alloc: Global,
+    decided: Decision<'_>,
+    worker: WorkerId,
+    entry: u32,
+) -> Result<Reply, AllocError>
+    requires few { AreFew state.old.tallies }
+    requires decided { (what : Event_of) × IsDecided state.old what decided }
+    ensures carries { IfOk result (λ said. Carries state.old worker.0 entry decided.entry said state.new) }
+    ensures err { OnErr result (state.new ≡ state.old) }
+    ensures makes { OnErr result (makes decided.entry ≡ true) }
+{
+    state.is_joined();
+    match decided {
+        Decision::Killed => Ok(Reply::Killed),
+        Decision::Access(touch, meeting) => {
+            let reply = access(state, alloc, touch, meeting, worker, entry)?;
+            Ok(reply)
+        }
+        Decision::Room => Ok(Reply::Room),
+        Decision::Take { target, group } => {
+            Ok(Reply::Out(state.start_out(target, group, worker, entry)))
+        }
+        Decision::Wait => Ok(Reply::Wait),
+        Decision::Nothing => Ok(Reply::Nothing),
+        Decision::Kill { limit, task } => Ok(kill(state, limit, task)),
+        Decision::NoVictim(limit) => {
+            state.count(limit, Key::Oom);
+            Ok(Reply::NoVictim)
+        }
+        Decision::Spawn { task, group } => {
+            state.spawn(task, group)?;
+            Ok(Reply::Ok)
+        }
+        Decision::Exit(task) => {
+            state.end_task(task, Life::Exited);
+            Ok(Reply::Ok)
+        }
+        Decision::Mkdir { parent, path } => {
+            state.mkdir(parent, path)?;
+            Ok(Reply::Ok)
+        }
+        Decision::Set { group, setting } => Ok(set(state, group, setting)),
+        Decision::Show(query) => Ok(Reply::Shown(shown(state, query))),
+    }
+}
+
+/// An access by a live task.
+fn access(
+    state: &mut State,
+    alloc: Global,
+    touch: Touch,
+    meeting: Meeting,
+    worker: WorkerId,
+    entry: u32,
+) -> Result<Reply, AllocError>
+    requires few { AreFew state.old.tallies }
+    requires touch { IsTouch state.old.tables touch }
+    requires meets { MeetsSo state.old.tables touch meeting }
+    ensures carries { IfOk result (λ said. Carries state.old worker.0 entry (decision.Access touch meeting) said state.new) }
+    ensures err { OnErr result (state.new ≡ state.old) }
+    ensures makes { OnErr result (makes (decision.Access touch meeting) ≡ true) }
+{
+    state.is_joined();
+    match meeting {
+        Meeting::Unmapped => Ok(Reply::Done { byte: 0, hit: None }),
+        Meeting::Hits(page, frame) => Ok(hit(state, touch, page, frame)),
+        Meeting::Transferring => Ok(Reply::Busy),
+        Meeting::NeedsPage(byte) => {
+            state.hold(touch.task, touch.at, touch.group, touch.offset, byte)?;
+            Ok(Reply::Done { byte, hit: None })
+        }
+        Meeting::NeedsSwapIn(page) => {
+            let ticket = state.start_in(alloc, page, worker, entry)?;
+            Ok(Reply::Fetch(ticket))
+        }
+        Meeting::Lacks(why) => Ok(refuse_charge(state, touch, why)),
+    }
+}
+
+/// An access to a page in a frame.
+fn hit(state: &mut State, touch: Touch, page: PageId, frame: FrameId) -> Reply
+    requires touch { IsTouch state.old.tables touch }
+    requires meets { MeetsSo state.old.tables touch (meeting.Hits page frame) }
+    ensures { (worker entry : ℕ) → Carries state.old worker entry (decision.Access touch (meeting.Hits page frame)) result state.new }
+{
+    state.is_joined();
+    match touch.op {
+        Op::Read => Reply::Done {
+            byte: state.pages().read(page, touch.offset as usize),
+            hit: Some(frame),
+        },
+        Op::Write(byte) => {
+            state.write(page, touch.offset, byte);
+            Reply::Done {
+                byte,
+                hit: Some(frame),
+            }
+        }
+    }
+}
+
+/// A charge is refused. Where a max is in its way, that is counted at the max's group.
+fn refuse_charge(state: &mut State, touch: Touch, why: NoRoom) -> Reply
+    requires few { AreFew state.old.tallies }
+    requires touch { IsTouch state.old.tables touch }
+    requires meets { MeetsSo state.old.tables touch (meeting.Lacks why) }
+    ensures { (worker entry : ℕ) → Carries state.old worker entry (decision.Access touch (meeting.Lacks why)) result state.new }
+{
+    state.is_joined();
+    match why {
+        NoRoom::Over(group) => {
+            state.count(group, Key::Max);
+            Reply::Over(group)
+        }
+        NoRoom::NoFrame => Reply::NoFrame,
+    }
+}
+
+/// Nothing can be reclaimed under the limit, and the task is killed for it.
+fn kill(state: &mut State, limit: GroupId, task: TaskId) -> Reply
+    requires few { AreFew state.old.tallies }
+    requires sound { IsSound state.old.tables state.old.order (decision.Kill limit task) }
+    ensures { (worker entry : ℕ) → Carries state.old worker entry (decision.Kill limit task) result state.new }
+{
+    state.is_joined();
+    let Some(known) = state.spaces().task(task) else {
+        unreachable!()
+    };
+    state.count(limit, Key::Oom);
+    state.count(known.group, Key::OomKill);
+    state.end_task(task, Life::Killed);
+    Reply::KilledTask(task)
+}
+
+/// Another value for a setting of a group.
+fn set(state: &mut State, group: GroupId, setting: Setting) -> Reply
+    requires { is_live state.old.tables.tree group.0 ≡ true }
+    ensures { (worker entry : ℕ) → Carries state.old worker entry (decision.Set group setting) result state.new }
+{
+    state.is_joined();
+    match setting {
+        Setting::Max(max) => {
+            state.set_max(group, max);
+            Reply::Ok
+        }
+        Setting::Min(min) => {
+            state.set_min(group, min);
+            Reply::Ok
+        }
+    }
+}
+
+/// The numbers that are asked for.
+fn shown(state: &State, query: Query) -> Shown
+    requires { show_refusal state.now.tables query ≡ None }
+    ensures { (counted : List Counted) → Tells state.now.tallies counted → result ≡ shown_of (counting state.now.tables counted) query }
+{
+    match query {
+        Query::Current(group) => Shown::Pages(state.usage(group)),
+        Query::Max(group) => Shown::Amount(state.max(group)),
+        Query::Min(group) => Shown::Amount(state.min(group)),
+        Query::Events(group) => Shown::Events(state.events(group)),
+        Query::EventsLocal(group) => Shown::Events(state.local_events(group)),
+        Query::Protection { target, group } => Shown::Amount(state.protection(target, group)),
+    }
+}

@@ -1,0 +1,342 @@
+//! What an event will do: each cause to refuse it, in order, and where there is none, what comes of it.
+//! Nothing changes here.
+
+ghost use Rattle.std.specs.Prelude.{◌≡◌, ℕ, true, None, Some, MatchResult};
+ghost use Rattle.machine.specs.declared.event.Event.TheVariants as event;
+ghost use Rattle.machine.specs.Tree.{is_live};
+ghost use Rattle.machine.specs.Pages as residence;
+ghost use Rattle.pages.specs.PageTable.{Stands};
+ghost use Rattle.machine.specs.Tasks.{task_at, mapped_at};
+ghost use Rattle.machine.specs.Reclaim.{stands, target_of};
+ghost use Rattle.machine.specs.Refusals.{refusal, below_target, bars_children, bars_tasks, file_refusal, show_refusal, spawn_refusal};
+ghost use Rattle.book.specs.Serves.{IsAsked};
+ghost use Rattle.book.specs.Decisions.{IsTouch, MeetsSo, IsDecided};
+
+use crate::decision::{Decision, Meeting, Touch};
+use machine::bytes::PAGE_BYTES;
+use machine::event::{Cause, Event, Op, Place, Query, Setting};
+use machine::id::{GroupId, PageId, TaskId};
+use machine::limit::TASK_PAGES;
+use machine::record::Life;
+use machine::refusal::Refusal;
+use oom::victim;
+use page_state::State;
+use pages::Residence;
+
+/// The first cause to refuse an event that has no ticket, room in the trace and memory aside; or what the
+/// event will do.
+pub fn decide<'e>(state: &State, event: &'e Event) -> Result<Decision<'e>, Refusal>
+    requires { IsAsked event.now }
+    ensures { MatchResult result (λ decided. IsDecided state.now event.now decided) (λ why. refusal state.now.tables event.now ≡ Some why) }
+{
+    match event {
+        Event::Access { task, place, op } => decide_access(state, *task, *place, *op),
+        Event::Relieve(cause) => Ok(decide_relief(state, *cause)),
+        Event::ReclaimOne(group) => decide_reclaim(state, *group),
+        Event::Spawn { task, group } => decide_spawn(state, *task, *group),
+        Event::Exit(task) => decide_exit(state, *task),
+        Event::Mkdir(path) => decide_mkdir(state, path.as_str()),
+        Event::Set { group, setting } => decide_set(state, *group, *setting),
+        Event::Show(query) => decide_show(state, *query),
+        Event::Arrived {
+            ticket: _,
+            bytes: _,
+        }
+        | Event::FetchFailed(_)
+        | Event::Left(_)
+        | Event::LeaveFailed(_) => unreachable!(),
+    }
+}
+
+// ---- accesses
+
+fn decide_access<'e>(
+    state: &State,
+    task: TaskId,
+    place: Place,
+    op: Op,
+) -> Result<Decision<'e>, Refusal>
+    ensures { MatchResult result (λ decided. IsDecided state.now (event.Access task place op) decided) (λ why. refusal state.now.tables (event.Access task place op) ≡ Some why) }
+{
+    let Some(known) = state.spaces().task(task) else {
+        return Err(Refusal::NoTask);
+    };
+    match known.life {
+        Life::Exited => Err(Refusal::NoTask),
+        Life::Killed => Ok(Decision::Killed),
+        Life::Live => decide_touch(state, task, known.group, place, op),
+    }
+}
+
+/// An access by a live task of the group.
+fn decide_touch<'e>(
+    state: &State,
+    task: TaskId,
+    group: GroupId,
+    place: Place,
+    op: Op,
+) -> Result<Decision<'e>, Refusal>
+    requires { task_at state.now.tables.tasks task.0 ≡ Some (record { group = group; life = Life.Live }) }
+    ensures { MatchResult result (λ decided. IsDecided state.now (event.Access task place op) decided) (λ why. refusal state.now.tables (event.Access task place op) ≡ Some why) }
+{
+    let Place::Virtual { page: at, offset } = place;
+    if at >= TASK_PAGES || offset as usize >= PAGE_BYTES {
+        return Err(Refusal::BadPlace);
+    }
+    let touch = Touch {
+        task,
+        group,
+        at,
+        offset,
+        op,
+    };
+    Ok(Decision::Access(touch, meet(state, touch)))
+}
+
+/// What an access meets.
+fn meet(state: &State, touch: Touch) -> Meeting
+    requires { IsTouch state.now.tables touch }
+    ensures { MeetsSo state.now.tables touch result }
+{
+    match state.spaces().page(touch.task, touch.at) {
+        None => meet_nothing(state, touch),
+        Some(page) => meet_page(state, touch, page),
+    }
+}
+
+/// An access where nothing is mapped.
+fn meet_nothing(state: &State, touch: Touch) -> Meeting
+    requires touch { IsTouch state.now.tables touch }
+    requires unmapped { mapped_at state.now.tables.mappings touch.task.0 touch.at ≡ None }
+    ensures { MeetsSo state.now.tables touch result }
+{
+    state.is_joined();
+    match touch.op {
+        Op::Read => Meeting::Unmapped,
+        Op::Write(byte) => match state.room_for(touch.group) {
+            Ok(()) => Meeting::NeedsPage(byte),
+            Err(why) => Meeting::Lacks(why),
+        },
+    }
+}
+
+/// An access to a page that is mapped.
+fn meet_page(state: &State, touch: Touch, page: PageId) -> Meeting
+    requires { mapped_at state.now.tables.mappings touch.task.0 touch.at ≡ Some page.0 }
+    ensures { MeetsSo state.now.tables touch result }
+{
+    state.is_joined();
+    let Some(residence) = state.pages().residence(page) else {
+        unreachable!()
+    };
+    match residence {
+        Residence::Held(frame) => Meeting::Hits(page, frame),
+        Residence::Coming | Residence::Going => Meeting::Transferring,
+        Residence::Away(_) => meet_away(state, touch, page),
+    }
+}
+
+/// An access to a page on its block.
+fn meet_away(state: &State, touch: Touch, page: PageId) -> Meeting
+    requires shown { mapped_at state.now.tables.mappings touch.task.0 touch.at ≡ Some page.0 }
+    requires away { (g b : ℕ) × Stands state.now.tables.pages page.0 g (residence.Away b) }
+    ensures { MeetsSo state.now.tables touch result }
+{
+    state.is_joined();
+    let Some(group) = state.pages().group(page) else {
+        unreachable!()
+    };
+    match state.room_for(group) {
+        Ok(()) => Meeting::NeedsSwapIn(page),
+        Err(why) => Meeting::Lacks(why),
+    }
+}
+
+// ---- reclaim
+
+/// Relief: room is not wanted any more; or a page is taken; or one in transfer may come free; or the worst
+/// task is killed, if there is one.
+fn decide_relief<'e>(state: &State, cause: Cause) -> Decision<'e>
+    ensures { IsDecided state.now (event.Relieve cause) result }
+{
+    state.is_joined();
+    if !is_wanted(state, cause) {
+        return Decision::Room;
+    }
+    let target = target_of(cause);
+    if let Some(group) = state.next_group(target) {
+        return Decision::Take { target, group };
+    }
+    if state.has_transfer(target) {
+        return Decision::Wait;
+    }
+    match victim(state.tree(), state.spaces(), target) {
+        Some(task) => Decision::Kill {
+            limit: target,
+            task,
+        },
+        None => Decision::NoVictim(target),
+    }
+}
+
+/// A page for whoever asks: it is taken; or one in transfer may come free; or there is nothing.
+fn decide_reclaim<'e>(state: &State, target: GroupId) -> Result<Decision<'e>, Refusal>
+    ensures { MatchResult result (λ decided. IsDecided state.now (event.ReclaimOne target) decided) (λ why. refusal state.now.tables (event.ReclaimOne target) ≡ Some why) }
+{
+    if !state.tree().is_live(target) {
+        return Err(Refusal::NoEntry);
+    }
+    if let Some(group) = state.next_group(target) {
+        return Ok(Decision::Take { target, group });
+    }
+    if state.has_transfer(target) {
+        return Ok(Decision::Wait);
+    }
+    Ok(Decision::Nothing)
+}
+
+/// Whether room is still wanted.
+fn is_wanted(state: &State, cause: Cause) -> bool
+    ensures { result ≡ stands state.now.tables cause }
+{
+    match cause {
+        Cause::Charge(group) => {
+            state.tree().is_live(group) && state.max(group).is_full(state.usage(group))
+        }
+        Cause::Lower(group) => {
+            state.tree().is_live(group) && state.max(group).exceeded_by(state.usage(group))
+        }
+        Cause::Frame => state.free_frames() == 0,
+    }
+}
+
+/// The group under which room is wanted.
+fn target_of(cause: Cause) -> GroupId
+    ensures { result.0 ≡ target_of cause }
+{
+    match cause {
+        Cause::Charge(group) | Cause::Lower(group) => group,
+        Cause::Frame => GroupId::ROOT,
+    }
+}
+
+// ---- tasks and groups
+
+fn decide_spawn<'e>(state: &State, task: TaskId, group: GroupId) -> Result<Decision<'e>, Refusal>
+    ensures { MatchResult result (λ decided. IsDecided state.now (event.Spawn task group) decided) (λ why. refusal state.now.tables (event.Spawn task group) ≡ Some why) }
+{
+    match spawn_refusal(state, task, group) {
+        Some(why) => Err(why),
+        None => Ok(Decision::Spawn { task, group }),
+    }
+}
+
+fn spawn_refusal(state: &State, task: TaskId, group: GroupId) -> Option<Refusal>
+    ensures { result ≡ spawn_refusal state.now.tables task.0 group.0 }
+{
+    if !state.tree().is_live(group) {
+        return Some(Refusal::NoEntry);
+    }
+    if bars_tasks(state, group) {
+        return Some(Refusal::Busy);
+    }
+    state.spaces().number_refusal(task)
+}
+
+fn decide_exit<'e>(state: &State, task: TaskId) -> Result<Decision<'e>, Refusal>
+    ensures { MatchResult result (λ decided. IsDecided state.now (event.Exit task) decided) (λ why. refusal state.now.tables (event.Exit task) ≡ Some why) }
+{
+    let Some(known) = state.spaces().task(task) else {
+        return Err(Refusal::NoTask);
+    };
+    match known.life {
+        Life::Exited => Err(Refusal::NoTask),
+        Life::Killed => Ok(Decision::Killed),
+        Life::Live => Ok(Decision::Exit(task)),
+    }
+}
+
+fn decide_mkdir<'e>(state: &State, path: &'e str) -> Result<Decision<'e>, Refusal>
+    ensures { MatchResult result (λ decided. IsDecided state.now (event.Mkdir path.now) decided) (λ why. refusal state.now.tables (event.Mkdir path.now) ≡ Some why) }
+{
+    let parent = match state.tree().parent_for(path) {
+        Err(why) => return Err(why),
+        Ok(parent) => parent,
+    };
+    if bars_children(state, parent) {
+        return Err(Refusal::Busy);
+    }
+    match state.tree().space_refusal(parent) {
+        Some(why) => Err(why),
+        None => Ok(Decision::Mkdir { parent, path }),
+    }
+}
+
+fn decide_set<'e>(state: &State, group: GroupId, setting: Setting) -> Result<Decision<'e>, Refusal>
+    ensures { MatchResult result (λ decided. IsDecided state.now (event.Set group setting) decided) (λ why. refusal state.now.tables (event.Set group setting) ≡ Some why) }
+{
+    match file_refusal(state, group) {
+        Some(why) => Err(why),
+        None => Ok(Decision::Set { group, setting }),
+    }
+}
+
+fn decide_show<'e>(state: &State, query: Query) -> Result<Decision<'e>, Refusal>
+    ensures { MatchResult result (λ decided. IsDecided state.now (event.Show query) decided) (λ why. refusal state.now.tables (event.Show query) ≡ Some why) }
+{
+    match show_refusal(state, query) {
+        Some(why) => Err(why),
+        None => Ok(Decision::Show(query)),
+    }
+}
+
+/// A control file that the root does not have.
+fn file_refusal(state: &State, group: GroupId) -> Option<Refusal>
+    ensures { result ≡ file_refusal state.now.tables.tree group.0 }
+{
+    if !state.tree().is_live(group) || group.0 == 0 {
+        return Some(Refusal::NoEntry);
+    }
+    None
+}
+
+fn show_refusal(state: &State, query: Query) -> Option<Refusal>
+    ensures { result ≡ show_refusal state.now.tables query }
+{
+    match query {
+        Query::Current(group)
+        | Query::Max(group)
+        | Query::Min(group)
+        | Query::Events(group)
+        | Query::EventsLocal(group) => file_refusal(state, group),
+        Query::Protection { target, group } => {
+            if is_below(state, target, group) {
+                None
+            } else {
+                Some(Refusal::NoEntry)
+            }
+        }
+    }
+}
+
+fn is_below(state: &State, target: GroupId, group: GroupId) -> bool
+    ensures { result ≡ below_target state.now.tables.tree target.0 group.0 }
+{
+    let tree = state.tree();
+    tree.is_live(target)
+        && (tree.is_live(group) && (tree.is_under(target, group) && target.0 != group.0))
+}
+
+/// Whether child groups keep the group from having tasks.
+fn bars_tasks(state: &State, group: GroupId) -> bool
+    ensures { result ≡ bars_tasks state.now.tables.tree group.0 }
+{
+    group.0 != 0 && state.tree().has_children(group)
+}
+
+/// Whether tasks keep the group from having child groups.
+fn bars_children(state: &State, group: GroupId) -> bool
+    ensures { result ≡ bars_children state.now.tables.tasks group.0 }
+{
+    group.0 != 0 && state.spaces().has_tasks(group)
+}

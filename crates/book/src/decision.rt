@@ -1,0 +1,85 @@
+//! What an event without a ticket will do, known before anything changes.
+
+ghost use Rattle.std.specs.Prelude.{◌≡◌};
+ghost use Rattle.book.specs.Decisions.{entries_for};
+
+use machine::event::{Op, Query, Setting};
+use machine::id::{FrameId, GroupId, PageId, TaskId};
+use page_state::NoRoom;
+
+/// A live task's access to a byte of one of its virtual pages.
+#[derive(Clone, Copy)]
+pub struct Touch {
+    pub task: TaskId,
+    /// The task's group.
+    pub group: GroupId,
+    /// The virtual page.
+    pub at: u32,
+    /// In bytes.
+    pub offset: u32,
+    pub op: Op,
+}
+
+/// What an access meets, and whether the charge that it needs is granted.
+#[derive(Clone, Copy)]
+pub enum Meeting {
+    /// A read where nothing is mapped.
+    Unmapped,
+    /// A page in this frame.
+    Hits(PageId, FrameId),
+    /// A page in transfer.
+    Transferring,
+    /// A write of this byte where nothing is mapped: a page is made.
+    NeedsPage(u8),
+    /// A page on its block: it is read in.
+    NeedsSwapIn(PageId),
+    /// A page would be made or read in, and there is no room for it.
+    Lacks(NoRoom),
+}
+
+/// What an event will do.
+#[derive(Clone, Copy)]
+pub enum Decision<'e> {
+    /// The task was killed before, and is told so.
+    Killed,
+    /// An access by a live task.
+    Access(Touch, Meeting),
+    /// Room is not wanted any more.
+    Room,
+    /// This group gives the next page to a reclaim of the target.
+    Take { target: GroupId, group: GroupId },
+    /// No page can be taken, but one in transfer may come free.
+    Wait,
+    /// No page can be taken, none is in transfer, and nobody is killed for it.
+    Nothing,
+    /// No page can be taken, none is in transfer, and this task is killed for it.
+    Kill { limit: GroupId, task: TaskId },
+    /// The same, and there is nobody to kill.
+    NoVictim(GroupId),
+    /// A task begins.
+    Spawn { task: TaskId, group: GroupId },
+    /// A live task ends by itself.
+    Exit(TaskId),
+    /// A group is made below this one.
+    Mkdir { parent: GroupId, path: &'e str },
+    /// A setting of a group changes.
+    Set { group: GroupId, setting: Setting },
+    /// Numbers are shown.
+    Show(Query),
+}
+
+impl Decision<'_> {
+    /// How many entries of the trace it needs: two where a transfer begins, one of them for its end.
+    pub fn entries(&self) -> usize
+        ensures { result ≡ entries_for self.now }
+    {
+        match self {
+            Decision::Access(_, Meeting::NeedsSwapIn(_)) => 2,
+            Decision::Take {
+                target: _,
+                group: _,
+            } => 2,
+            _ => 1,
+        }
+    }
+}

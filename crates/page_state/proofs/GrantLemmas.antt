@@ -1,0 +1,84 @@
+-- A charge and a frame that were granted, taken back, or used for a page.
+use Rattle.std.proofs.Common.{◌≡◌, ℕ, ◌<◌, true, false, length, Option, None, sym, ap, subst, ◌∙◌, arith}
+use Rattle.std.specs.Prelude.{IfSome}
+use Rattle.machine.specs.Slots.{there_and}
+use Rattle.machine.specs.Tree.{is_live}
+use Rattle.machine.specs.Pages.{Residence, Held, Pages, in_transfer_at, has_frame, has_this_frame, is_held, is_in_transfer, used_frames, is_frame_taken}
+use Rattle.machine.proofs.SlotLemmas.{count_there-some}
+use Rattle.group_tree.specs.Lineages.{IsLineage}
+use Rattle.group_tree.proofs.LineageLemmas.{live-within}
+use Rattle.frames.specs.Pool.{PoolOf}
+use Rattle.page_counter.specs.Counts.{Counts, usage_of, over_in}
+use Rattle.pages.specs.PageTable.{Stands}
+use Rattle.page_state.specs.declared.holdings.Holdings.TheInside.{Inside}
+use Rattle.page_state.specs.Room.{TakesRoom}
+use Rattle.page_state.specs.Holdings.{over_of, IsGranted}
+use Rattle.page_state.specs.Owned.{holdings_of, IsHolding, IsCounted}
+use Rattle.page_state.proofs.BalanceLemmas.{taken-in}
+use Rattle.page_state.proofs.CountLemmas.{root-small, over-counted}
+use Rattle.page_state.proofs.HoldingLemmas.{used-split, going-least}
+
+-- the group of a page is there
+pub stands-live : (c : Counts) (pages : Pages) (p g : ℕ) (r : Residence) → Stands pages p g r → IsCounted c pages → is_live c.tree g ≡ true
+stands-live c pages p g r stood counted = subst (λ slot. IfSome slot (λ page. is_live c.tree page.group ≡ true)) stood (counted.live p)
+
+module _ (h : Inside) (is : IsHolding h) where
+  -- where a frame is free, a page more may be held, or come to be in transfer
+  pub room-free : 0 < length h.pool.free → (length h.held.numbers < h.held.room.pages) × (length h.moving.numbers < h.moving.room) × (0 < h.pages.tickets)
+  room-free some =
+      let split = used-split h.pages.pages in
+      let all = is.kept.frames.all in
+      let held = is.held.len in
+      let moving = is.moving.len in
+      let held_room = is.held_room in
+      let moving_room = is.moving_room in
+      let tickets = is.tickets in
+      (omega arith, omega arith, omega arith)
+
+  -- a page in a frame may come to be in transfer
+  pub room-held : (p g f : ℕ) → Stands h.pages.pages p g (Held f) → (length h.moving.numbers < h.moving.room) × (0 < h.pages.tickets) × (0 < h.pool.spares)
+  room-held p g f stood =
+      let split = used-split h.pages.pages in
+      let all = is.kept.frames.all in
+      let moving = is.moving.len in
+      let moving_room = is.moving_room in
+      let tickets = is.tickets in
+      let spares = is.spares in
+      let going = going-least h.pages.pages in
+      let one = count_there-some is_held h.pages.pages p (ap (there_and is_held) stood) in
+      (omega arith, omega arith, omega arith)
+
+  -- and a page in transfer may be held again
+  pub room-moving : (p g : ℕ) (r : Residence) → Stands h.pages.pages p g r → in_transfer_at r ≡ true → length h.held.numbers < h.held.room.pages
+  room-moving p g r stood moves =
+      let split = used-split h.pages.pages in
+      let all = is.kept.frames.all in
+      let held = is.held.len in
+      let held_room = is.held_room in
+      let one = count_there-some is_in_transfer h.pages.pages p (ap (there_and is_in_transfer) stood ∙ moves) in
+      omega arith
+
+  -- the held pages of a group that is there are counted
+  pub group-counted : (g : ℕ) → is_live h.counters.tree g ≡ true → g < h.held.room.groups
+  group-counted g live = let within = live-within h.counters.tree g live in let all = is.held_counts in omega (arith, within, all)
+
+  -- the root counts few pages
+  pub few-charged : IsLineage h.counters.tree → usage_of h.counters 0 < 18446744073709551615
+  few-charged lineage = root-small h.counters h.pages.pages h.pool.frames (length h.pool.free) lineage is.kept.counted is.kept.frames.all is.few
+
+  pub over-granted : (g : ℕ) (o : Option ℕ) → IsLineage h.counters.tree → is_live h.counters.tree g ≡ true → over_in h.counters g ≡ o → over_of (holdings_of h) g ≡ o
+  over-granted g o lineage live over = over-counted h.counters h.pages.pages g lineage is.kept.counted live ∙ over
+
+  pub none-free : length h.pool.free ≡ 0 → used_frames h.pages.pages ≡ h.pool.frames
+  none-free none = let all = is.kept.frames.all in omega (arith, all, none)
+
+  -- where a charge is granted, no max is in its way and a frame is free
+  pub granted-over : (g : ℕ) → IsLineage h.counters.tree → is_live h.counters.tree g ≡ true → IsGranted (holdings_of h) g → over_in h.counters g ≡ None
+  granted-over g lineage live granted = sym (over-counted h.counters h.pages.pages g lineage is.kept.counted live) ∙ granted.under
+
+  pub granted-some : (g : ℕ) → IsGranted (holdings_of h) g → 0 < length h.pool.free
+  granted-some g granted = let all = is.kept.frames.all in let free = granted.free in omega (arith, all, free)
+
+  module _ (counters' : Counts) (pool' : PoolOf) (g f charge : ℕ) (room : TakesRoom h.counters counters' h.pool pool' g f charge) where
+    pub granted-frame : (f < h.pool.frames) × (is_frame_taken h.pages.pages f ≡ false)
+    granted-frame = taken-in has_this_frame has_frame h.pool.frames h.pool.free pool'.free h.pages.pages f room.frame.counts is.kept.frames

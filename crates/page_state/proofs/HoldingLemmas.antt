@@ -1,0 +1,343 @@
+-- The parts of the holdings go on to agree after one place in the table of pages changed.
+use Rattle.std.proofs.Common.{◌≡◌, ◌≢◌, inl, inr, ℕ, zero, suc, ◌+◌, ◌<◌, ◌≤◌, ◌==◌, ◌&&◌, Bool, true, false, cond, List, [], ◌∷◌, ◌++◌, length, Option, Some, None, eq-eqb, refl, sym, ap, ◌∙◌, subst, arith}
+use Rattle.std.specs.Prelude.{min, IfSome, option_map, option_to_list}
+use Rattle.std.proofs.lemmas.Bool.{cases_Bool}
+use Rattle.std.proofs.lemmas.Bool.Decides.{eqb_tells}
+use Rattle.std.specs.List.{All}
+use Rattle.std.proofs.lemmas.List.{map-append}
+use Rattle.std.proofs.lemmas.List.Elements.{All-nil}
+use Rattle.std.proofs.lemmas.List.Sums.{sum_by-cons}
+use Rattle.machine.specs.declared.id.GroupId.{GroupId}
+use Rattle.machine.specs.declared.id.PageId.{PageId}
+use Rattle.machine.specs.Lists.{is_page_of}
+use Rattle.machine.specs.declared.record.Limits.{Limits}
+use Rattle.machine.specs.Slots.{at, Changes, there_and, count_there, any_there}
+use Rattle.machine.specs.Tree.{Node}
+use Rattle.machine.specs.Pages.{Residence, Held, Coming, Going, Away, Page, Pages, page_at, is_some_number, frame_at, block_at, ticket_at, is_number, is_held_at, in_transfer_at, has_frame, has_this_frame, has_swap, is_held, is_held_in, is_in_transfer, in_transfer, used_frames, is_ticket_taken}
+use Rattle.machine.proofs.SlotLemmas.{one_if, any_there-none, count_there-none}
+use Rattle.frames.specs.Pool.{PoolOf, free_count}
+use Rattle.block_store.specs.Slots.{SlotsOf, slot_count}
+use Rattle.page_counter.specs.Counts.{Counts}
+use Rattle.pages.specs.declared.flight.Flight.{Flight}
+use Rattle.pages.specs.declared.owned_page.OwnedPage.{OwnedPage}
+use Rattle.pages.specs.Records.{page_of}
+use Rattle.pages.specs.PageTable.{anon_page, Stands, is_under_ticket, AreInFlight}
+use Rattle.page_state.specs.declared.holdings.Holdings.TheInside.{Inside}
+use Rattle.page_state.specs.Queue.{QueueOf, HeldRoom, queue_of, numbers_of, page_count}
+use Rattle.page_state.specs.Holdings.{with_order}
+use Rattle.page_state.specs.Owned.{holdings_of, has_this_block, is_leaving_at, is_going, AreKept, AreGrouped, AreListed, IsCounted, IsHolding, pages_of}
+use Rattle.page_state.proofs.BalanceLemmas.{Trades, changed-count, balanced-step, given-out}
+use Rattle.page_state.proofs.CountLemmas.{Recharges, counted-step}
+
+-- ---- lists of pages
+
+-- the list lacks what a place gave up, and has what it got
+pub record Relists (test : Page → Bool) (xs xs' : List ℕ) (p : ℕ) (from to : Option Page) : Type 0 where
+  pub once : (n : ℕ) → page_count xs' n + one_if (there_and test from && (p == n)) ≡ page_count xs n + one_if (there_and test to && (p == n))
+  pub len : length xs' + one_if (there_and test from) ≡ length xs + one_if (there_and test to)
+
+and_true : (b : Bool) → one_if (b && true) ≡ one_if b
+and_true true = refl
+and_true false = refl
+
+and_false : (b : Bool) → one_if (b && false) ≡ 0
+and_false true = refl
+and_false false = refl
+
+pub listed-step : (test : Page → Bool) (xs xs' : List ℕ) (pages pages' : Pages) (p : ℕ) (from to : Option Page) → page_at pages p ≡ from → Changes pages pages' p to → Relists test xs xs' p from to → AreListed test xs pages → AreListed test xs' pages'
+listed-step test xs xs' pages pages' p from to stood changes relists listed =
+    record {
+      once = λ n.
+          (let k = relists.once n in
+          let before = listed.once n in
+          elim (eqb_tells p n) [
+            | inl same ↦
+                (let was : one_if (there_and test (page_at pages n)) ≡ one_if (there_and test from) = ap (λ (slot : Option Page). one_if (there_and test slot)) (ap (page_at pages) (sym same.1) ∙ stood) in
+                let now : one_if (there_and test (page_at pages' n)) ≡ one_if (there_and test to) = ap (λ (slot : Option Page). one_if (there_and test slot)) (ap (page_at pages') (sym same.1) ∙ changes.changed) in
+                let from_n : one_if (there_and test from && (p == n)) ≡ one_if (there_and test from) = ap (λ b. one_if (there_and test from && b)) same.0 ∙ and_true (there_and test from) in
+                let to_n : one_if (there_and test to && (p == n)) ≡ one_if (there_and test to) = ap (λ b. one_if (there_and test to && b)) same.0 ∙ and_true (there_and test to) in
+                omega (arith, k, before, was, now, from_n, to_n))
+            | inr other ↦
+                (let kept : one_if (there_and test (page_at pages' n)) ≡ one_if (there_and test (page_at pages n)) = ap (λ (slot : Option Page). one_if (there_and test slot)) (changes.others n (λ e. other.1 (sym e))) in
+                let from_n : one_if (there_and test from && (p == n)) ≡ 0 = ap (λ b. one_if (there_and test from && b)) other.0 ∙ and_false (there_and test from) in
+                let to_n : one_if (there_and test to && (p == n)) ≡ 0 = ap (λ b. one_if (there_and test to && b)) other.0 ∙ and_false (there_and test to) in
+                omega (arith, k, before, kept, from_n, to_n))
+          ]);
+      len = (let c = changed-count test pages pages' p from to stood changes in let k = relists.len in let before = listed.len in omega (arith, c, k, before));
+    }
+
+pub listed-open : (test : Page → Bool) (xs : List ℕ) (pages : Pages) → xs ≡ [] → pages ≡ [] → AreListed test xs pages
+listed-open test xs pages none empty = rw (none, empty) (record { once = λ p. refl; len = refl })
+
+pub grouped-open : (queue : QueueOf) (pages : Pages) → queue.entries ≡ [] → queue.numbers ≡ [] → AreGrouped queue pages
+grouped-open queue pages none numbers =
+    record {
+      numbers = numbers ∙ ap numbers_of (sym none);
+      groups = subst (λ (entries : List (GroupId × PageId)). All (λ (entry : GroupId × PageId). is_page_of pages entry.0.0 entry.1.0 ≡ true) entries) (sym none) (All-nil (λ (entry : GroupId × PageId). is_page_of pages entry.0.0 entry.1.0 ≡ true));
+    }
+
+pub relists-same : (test : Page → Bool) (xs : List ℕ) (p : ℕ) (from to : Option Page) → there_and test from ≡ there_and test to → Relists test xs xs p from to
+relists-same test xs p from to same = record { once = λ n. ap (λ b. page_count xs n + one_if (b && (p == n))) same; len = ap (λ b. length xs + one_if b) same }
+
+-- a page comes to the list's end
+pub relists-in : (test : Page → Bool) (xs xs' : List ℕ) (q p : ℕ) (from to : Option Page) → q ≡ p → there_and test from ≡ false → there_and test to ≡ true
+    → ((n : ℕ) → page_count xs' n ≡ page_count xs n + cond (q == n) 1 0) → length xs' ≡ length xs + 1 → Relists test xs xs' p from to
+relists-in test xs xs' q p from to same fails passes counts more =
+    record {
+      once = λ n.
+          (let k = counts n in
+          let here : cond (q == n) 1 0 ≡ one_if (p == n) = ap (λ x. one_if (x == n)) same in
+          let was = ap (λ b. one_if (b && (p == n))) fails in
+          let now = ap (λ b. one_if (b && (p == n))) passes in
+          omega (arith, k, here, was, now));
+      len = (let was = ap one_if fails in let now = ap one_if passes in omega (arith, more, was, now));
+    }
+
+-- a page that stood in the list is taken out
+pub relists-out : (test : Page → Bool) (xs xs' : List ℕ) (pages : Pages) (q p : ℕ) (from to : Option Page) → q ≡ p → page_at pages p ≡ from → there_and test to ≡ false → AreListed test xs pages
+    → ((n : ℕ) → page_count xs' n + cond (q == n) (page_count xs q) 0 ≡ page_count xs n) → length xs' + page_count xs q ≡ length xs → Relists test xs xs' p from to
+relists-out test xs xs' pages q p from to same stood fails listed counts fewer =
+    let one : page_count xs q ≡ one_if (there_and test from) = ap (page_count xs) same ∙ listed.once p ∙ ap (λ (slot : Option Page). one_if (there_and test slot)) stood in
+    record {
+      once = λ n.
+          (let k = counts n in
+          let here = ap (λ m. cond (q == n) m 0) one in
+          let there = ap (λ x. cond (x == n) (one_if (there_and test from)) 0) same in
+          let both = swapped (there_and test from) (p == n) in
+          let now = ap (λ b. one_if (b && (p == n))) fails in
+          omega (arith, k, here, there, both, now));
+      len = (let now = ap one_if fails in omega (arith, fewer, one, now));
+    }
+  where
+    swapped : (b c : Bool) → one_if (b && c) ≡ cond c (one_if b) 0
+    swapped true true = refl
+    swapped true false = refl
+    swapped false true = refl
+    swapped false false = refl
+
+-- a page is listed once at most
+pub listed-once : (test : Page → Bool) (xs : List ℕ) (pages : Pages) (p : ℕ) → AreListed test xs pages → page_count xs p ≤ 1
+listed-once test xs pages p listed = let once = listed.once p in let one = one_if-least (there_and test (page_at pages p)) in omega (arith, once, one)
+  where
+    one_if-least : (b : Bool) → one_if b ≤ 1
+    one_if-least true = omega arith
+    one_if-least false = omega arith
+
+-- ---- what is free, or a page's
+
+pub kept-step : (c d : Counts) (pool pool' : PoolOf) (slots slots' : SlotsOf) (pages pages' : Pages) (p : ℕ) (from to : Option Page) → page_at pages p ≡ from → Changes pages pages' p to
+    → pool'.frames ≡ pool.frames → Trades has_this_frame has_frame pool.free pool'.free from to → slots'.blocks ≡ slots.blocks → Trades has_this_block has_swap slots.free slots'.free from to → Recharges c d from to
+    → AreKept c pool slots pages → AreKept d pool' slots' pages'
+kept-step c d pool pool' slots slots' pages pages' p from to stood changes frames free blocks cut charges kept =
+    record {
+      frames = rw frames (balanced-step has_this_frame has_frame pool.frames pool.free pool'.free pages pages' p from to stood changes free kept.frames);
+      blocks = rw blocks (balanced-step has_this_block has_swap slots.blocks slots.free slots'.free pages pages' p from to stood changes cut kept.blocks);
+      counted = counted-step c d pages pages' p from to stood changes charges kept.counted;
+    }
+
+-- the frame and the block of a page are not free
+pub frame-out : (c : Counts) (pool : PoolOf) (slots : SlotsOf) (pages : Pages) (p g : ℕ) (r : Residence) (f : ℕ) → Stands pages p g r → frame_at r ≡ Some f → AreKept c pool slots pages → (free_count pool.free f ≡ 0) × (f < pool.frames)
+frame-out c pool slots pages p g r f stood is kept =
+    given-out has_this_frame has_frame pool.frames pool.free pages p f (ap (there_and (has_this_frame f)) stood ∙ ap (λ (o : Option ℕ). is_number o f) is ∙ eq-eqb f f refl) kept.frames
+
+pub block-out : (c : Counts) (pool : PoolOf) (slots : SlotsOf) (pages : Pages) (p g : ℕ) (r : Residence) (b : ℕ) → Stands pages p g r → block_at r ≡ Some b → AreKept c pool slots pages → (slot_count slots.free b ≡ 0) × (b < slots.blocks)
+block-out c pool slots pages p g r b stood is kept =
+    given-out has_this_block has_swap slots.blocks slots.free pages p b (ap (there_and (has_this_block b)) stood ∙ ap (λ (o : Option ℕ). is_number o b) is ∙ eq-eqb b b refl) kept.blocks
+
+-- ---- the holdings
+
+-- one place changes, and each part with it
+pub record Moves (h h' : Inside) (p : ℕ) (from to : Option Page) : Type 0 where
+  pub stood : page_at h.pages.pages p ≡ from
+  pub changes : Changes h.pages.pages h'.pages.pages p to
+  pub kept : AreKept h'.counters h'.pool h'.slots h'.pages.pages
+  pub frames : h'.pool.frames ≡ h.pool.frames
+  pub groups : h'.counters.tree ≡ h.counters.tree
+  pub held : Relists is_held h.held.numbers h'.held.numbers p from to
+  pub moving : Relists is_in_transfer h.moving.numbers h'.moving.numbers p from to
+  pub held_groups : AreGrouped (queue_of h'.held) h'.pages.pages
+  pub moving_groups : AreGrouped h'.moving h'.pages.pages
+  pub held_room : h'.held.room ≡ h.held.room
+  pub moving_room : h'.moving.room ≡ h.moving.room
+  pub spares : h'.pool.spares + one_if (there_and is_going to) ≡ h.pool.spares + one_if (there_and is_going from)
+  pub tickets : h'.pages.tickets + one_if (there_and is_in_transfer to) ≡ h.pages.tickets + one_if (there_and is_in_transfer from)
+
+pub holding-step : (h h' : Inside) (p : ℕ) (from to : Option Page) → Moves h h' p from to → IsHolding h → IsHolding h'
+holding-step h h' p from to moves is =
+    let going = changed-count is_going h.pages.pages h'.pages.pages p from to moves.stood moves.changes in
+    let moving = changed-count is_in_transfer h.pages.pages h'.pages.pages p from to moves.stood moves.changes in
+    let frames = moves.frames in
+    record {
+      kept = moves.kept;
+      few = (let few = is.few in omega (arith, few, frames));
+      held = listed-step is_held h.held.numbers h'.held.numbers h.pages.pages h'.pages.pages p from to moves.stood moves.changes moves.held is.held;
+      moving = listed-step is_in_transfer h.moving.numbers h'.moving.numbers h.pages.pages h'.pages.pages p from to moves.stood moves.changes moves.moving is.moving;
+      held_groups = moves.held_groups;
+      moving_groups = moves.moving_groups;
+      held_room = (let room = ap (λ (r : HeldRoom). r.pages) moves.held_room in let fit = is.held_room in omega (arith, room, fit, frames));
+      held_counts = ap (λ (r : HeldRoom). r.groups) moves.held_room ∙ is.held_counts ∙ sym (ap length moves.groups);
+      moving_room = (let room = moves.moving_room in let fit = is.moving_room in omega (arith, room, fit, frames));
+      spares = (let k = moves.spares in let before = is.spares in omega (arith, k, before, going, frames));
+      tickets = (let k = moves.tickets in let before = is.tickets in omega (arith, k, before, moving, frames));
+    }
+
+-- ---- how many pages there are of a kind
+
+split_at : (r : Residence) → one_if (is_some_number (frame_at r)) ≡ one_if (is_held_at r) + one_if (in_transfer_at r)
+split_at (Held f) = refl
+split_at (Coming f b n) = refl
+split_at (Going f b n) = refl
+split_at (Away b) = refl
+
+split_slot : (slot : Option Page) → one_if (there_and has_frame slot) ≡ one_if (there_and is_held slot) + one_if (there_and is_in_transfer slot)
+split_slot None = refl
+split_slot (Some page) = split_at page.residence
+
+-- a page that has a frame is held or in transfer
+pub used-split : (pages : Pages) → used_frames pages ≡ count_there is_held pages + in_transfer pages
+used-split [] = refl
+used-split (slot ∷ pages) =
+    let used = sum_by-cons (λ (slot : Option Page). one_if (there_and has_frame slot)) slot pages in
+    let held = sum_by-cons (λ (slot : Option Page). one_if (there_and is_held slot)) slot pages in
+    let moving = sum_by-cons (λ (slot : Option Page). one_if (there_and is_in_transfer slot)) slot pages in
+    let here = split_slot slot in
+    let rest = used-split pages in
+    omega (arith, used, held, moving, here, rest)
+
+going_at : (r : Residence) → one_if (is_leaving_at r) ≤ one_if (in_transfer_at r)
+going_at (Held f) = omega arith
+going_at (Coming f b n) = omega arith
+going_at (Going f b n) = omega arith
+going_at (Away b) = omega arith
+
+going_slot : (slot : Option Page) → one_if (there_and is_going slot) ≤ one_if (there_and is_in_transfer slot)
+going_slot None = omega arith
+going_slot (Some page) = going_at page.residence
+
+pub going-least : (pages : Pages) → count_there is_going pages ≤ in_transfer pages
+going-least [] = omega arith
+going-least (slot ∷ pages) =
+    let going = sum_by-cons (λ (slot : Option Page). one_if (there_and is_going slot)) slot pages in
+    let moving = sum_by-cons (λ (slot : Option Page). one_if (there_and is_in_transfer slot)) slot pages in
+    let here = going_slot slot in
+    let rest = going-least pages in
+    omega (arith, going, moving, here, rest)
+
+pub not-going : (slot : Option Page) → there_and is_in_transfer slot ≡ false → one_if (there_and is_going slot) ≡ 0
+not-going slot settled = let less = going_slot slot in let none : one_if (there_and is_in_transfer slot) ≡ 0 = ap one_if settled in omega (arith, less, none)
+
+-- ---- where a page stands
+
+some_stands : (slot : Option Page) → IfSome slot (λ page. page ≡ anon_page page.group page.residence) → there_and is_held slot ≡ true → (g f : ℕ) × (slot ≡ Some (anon_page g (Held f)))
+some_stands None memory held = cc
+some_stands (Some page) memory held = let there = held_res page.residence held memory in (page.group, there.0, there.1)
+  where
+    held_res : (r : Residence) → is_held_at r ≡ true → page ≡ anon_page page.group r → (f : ℕ) × (Some page ≡ Some (anon_page page.group (Held f)))
+    held_res (Held f) held is = (f, ap Some is)
+    held_res (Coming f b n) held is = cc
+    held_res (Going f b n) held is = cc
+    held_res (Away b) held is = cc
+
+-- a page that is held stands in a frame
+pub held-stands : (pages : Pages) (flights : List (Option Flight)) (p : ℕ) → AreInFlight pages flights → is_held_in pages p ≡ true → (g f : ℕ) × Stands pages p g (Held f)
+held-stands pages flights p is held = some_stands (page_at pages p) (is.memory p) held
+
+-- a ticket that is not in flight is none that a page has
+pub ticket-free : (pages : Pages) (flights : List (Option Flight)) (n : ℕ) → AreInFlight pages flights → at flights n ≡ None → is_ticket_taken pages n ≡ false
+ticket-free pages flights n is free = any_there-none (λ page. is_number (ticket_at page.residence) n) pages (count_there-none (λ page. is_number (ticket_at page.residence) n) pages none)
+  where
+    none : (p : ℕ) → is_under_ticket pages p n ≡ false
+    none p =
+        elim (cases_Bool (is_under_ticket pages p n)) [
+          | inl so ↦ absurd (let listed = is.listed p n so in let gone = ap (option_map (λ (f : Flight). f.page.0)) free in cc)
+          | inr not_so ↦ not_so
+        ]
+
+-- ---- views
+
+pub same-view : (h h' : Inside) → h'.counters.tree ≡ h.counters.tree → h'.counters.limits ≡ h.counters.limits → h'.counters.room ≡ h.counters.room → h'.pool.frames ≡ h.pool.frames → h'.slots.blocks ≡ h.slots.blocks → h'.held.room ≡ h.held.room
+    → holdings_of h' ≡ with_order (holdings_of h) (holdings_of h').stored (holdings_of h').held
+same-view h h' tree limits room frames blocks held =
+    ap (λ (t : List Node). record (holdings_of h') { kin = t }) tree
+    ∙ ap (λ (l : List Limits). record (holdings_of h') { kin = h.counters.tree; limits = l }) limits
+    ∙ ap (λ (n : ℕ). record (holdings_of h') { kin = h.counters.tree; limits = h.counters.limits; frames = n }) frames
+    ∙ ap (λ (n : ℕ). record (holdings_of h') { kin = h.counters.tree; limits = h.counters.limits; frames = h.pool.frames; swap = n }) blocks
+    ∙ ap (λ (n : ℕ). record (holdings_of h') { kin = h.counters.tree; limits = h.counters.limits; frames = h.pool.frames; swap = h.slots.blocks; room = min n h'.held.room.more }) room
+    ∙ ap (λ (r : HeldRoom). record (holdings_of h') { kin = h.counters.tree; limits = h.counters.limits; frames = h.pool.frames; swap = h.slots.blocks; room = min h.counters.room r.more }) held
+
+-- ---- what pages own, one after the other
+
+pub pages-pop : (xs ys : List (Option OwnedPage)) (o : Option (Option OwnedPage)) (x : Option OwnedPage) → xs ≡ ys ++ option_to_list o → o ≡ Some x → pages_of xs ≡ pages_of ys ++ option_map page_of x ∷ []
+pages-pop xs ys o x is some = ap pages_of (is ∙ ap (λ (p : Option (Option OwnedPage)). ys ++ option_to_list p) some) ∙ map-append (option_map page_of) ys (x ∷ [])
+
+last_others : (pages : Pages) (x : Option Page) (q : ℕ) → q ≢ length pages → at pages q ≡ at (pages ++ x ∷ []) q
+last_others [] x zero other = absurd (other refl)
+last_others [] x (suc q) other = refl
+last_others (y ∷ pages) x zero other = refl
+last_others (y ∷ pages) x (suc q) other = last_others pages x q (λ e. other (ap suc e))
+
+last_gone : (pages : Pages) → at pages (length pages) ≡ None
+last_gone [] = refl
+last_gone (y ∷ pages) = last_gone pages
+
+pub last-stood : (pages : Pages) (x : Option Page) → page_at (pages ++ x ∷ []) (length pages) ≡ x
+last-stood [] x = refl
+last-stood (y ∷ pages) x = last-stood pages x
+
+pub last-goes : (pages : Pages) (x : Option Page) → Changes (pages ++ x ∷ []) pages (length pages) None
+last-goes pages x = record { changed = last_gone pages; others = last_others pages x }
+
+-- ---- the counters change, or how many groups there may be
+
+pub holding-counted : (h : Inside) (d : Counts) (n m : ℕ) → IsCounted d h.pages.pages → n ≡ length d.tree → IsHolding h → IsHolding (record h { counters = d; held = record h.held { room = record h.held.room { groups = n; more = m } } })
+holding-counted h d n m counted sized is =
+    record {
+      kept = record { frames = is.kept.frames; blocks = is.kept.blocks; counted = counted };
+      few = is.few;
+      held = is.held;
+      moving = is.moving;
+      held_groups = is.held_groups;
+      moving_groups = is.moving_groups;
+      held_room = is.held_room;
+      moving_room = is.moving_room;
+      held_counts = sized;
+      spares = is.spares;
+      tickets = is.tickets;
+    }
+
+-- ---- whether a page of the list passes another test too
+
+pub any-listed : (test more : Page → Bool) (xs : List ℕ) (pages : Pages) → AreListed test xs pages → ((p : ℕ) → 1 ≤ page_count xs p → there_and more (page_at pages p) ≡ false) → any_there (λ page. test page && more page) pages ≡ false
+any-listed test more xs pages listed none = any_there-none (λ page. test page && more page) pages (count_there-none (λ page. test page && more page) pages fails)
+  where
+    both : (slot : Option Page) → (one_if (there_and test slot) ≡ 1 → there_and more slot ≡ false) → there_and (λ page. test page && more page) slot ≡ false
+    both None h = refl
+    both (Some page) h = by_test (test page) h
+      where
+        by_test : (b : Bool) → (one_if b ≡ 1 → more page ≡ false) → (b && more page) ≡ false
+        by_test true h = h refl
+        by_test false h = refl
+
+    fails : (p : ℕ) → there_and (λ page. test page && more page) (at pages p) ≡ false
+    fails p = both (at pages p) (λ one. none p (let k = listed.once p in omega (arith, k, one)))
+
+pub any-at : (test : Page → Bool) (pages : Pages) (p : ℕ) → there_and test (page_at pages p) ≡ true → any_there test pages ≡ true
+any-at test [] p e = cc
+any-at test (slot ∷ pages) zero e = rw e
+any-at test (slot ∷ pages) (suc p) e =
+    elim (cases_Bool (there_and test slot)) [
+      | inl so ↦ rw so
+      | inr not_so ↦ rw not_so (any-at test pages p e)
+    ]
+
+pub listed-any : (test more : Page → Bool) (xs : List ℕ) (pages : Pages) (p : ℕ) → AreListed test xs pages → 1 ≤ page_count xs p → there_and more (page_at pages p) ≡ true → any_there (λ page. test page && more page) pages ≡ true
+listed-any test more xs pages p listed some passes =
+    any-at (λ page. test page && more page) pages p (both (page_at pages p) (let k = listed.once p in omega (arith, k, some)) passes)
+  where
+    both : (slot : Option Page) → 1 ≤ one_if (there_and test slot) → there_and more slot ≡ true → there_and (λ page. test page && more page) slot ≡ true
+    both None one passes = passes
+    both (Some page) one passes = by_test (test page) one
+      where
+        by_test : (b : Bool) → 1 ≤ one_if b → (b && more page) ≡ true
+        by_test true e = passes
+        by_test false e = absurd (omega (arith, e))

@@ -1,0 +1,92 @@
+-- Constructors of the joined record: what each kind of change leaves of the parts' agreement.
+use Rattle.std.proofs.Common.{◌≡◌, ◌∙◌, ◌<◌, ◌++◌, ◌∷◌, [], ℕ, true, false, List, length, Some, None, refl, sym, ap, subst, arith}
+use Rattle.std.specs.Prelude.{nat_lt}
+use Rattle.machine.specs.Tree.{Node, is_live, find_group}
+use Rattle.machine.specs.Names.{parent_path}
+use Rattle.machine.specs.Pages.{Pages, used_frames, charged}
+use Rattle.machine.specs.State.{over_in}
+use Rattle.std.proofs.lemmas.Bool.Decides.{nat_tests}
+use Rattle.machine.specs.Tasks.{lives, group_of_task}
+use Rattle.machine.specs.Lists.{GoesOn}
+use Rattle.machine.specs.Step.{new_node}
+use Rattle.machine.proofs.CursorLemmas.{cursors-push}
+use Rattle.group_tree.specs.Kin.{AreKin}
+use Rattle.group_tree.specs.Lineages.{bare, IsLineage}
+use Rattle.events.specs.Tallies.{Tallies}
+use Rattle.reclaim.specs.Cursors.{CursorsOf}
+use Rattle.spaces.specs.Space.{Space}
+use Rattle.page_state.specs.declared.joined.State.TheInside.{Inside}
+use Rattle.page_state.specs.declared.room.NoRoom.{NoRoom}
+use Rattle.page_state.specs.declared.room.NoRoom.TheVariants as lacks
+use Rattle.page_state.specs.Holdings.{HoldingsOf, Stored, with_order, over_of, IsGranted, Lacks}
+use Rattle.page_state.specs.Changes.{HasRoom, LacksRoom}
+use Rattle.page_state.specs.Joined.{joined_of, IsJoined}
+use Rattle.page_state.specs.Mapped.{AreMapped}
+use Rattle.page_state.proofs.KinLemmas.{kin-push, live-push, kin-over, over-live}
+use Rattle.page_state.proofs.OrderLemmas.{goes-on-listed, goes-on-still}
+
+-- pages changed, and what shows them with them; the cursors of as many groups, and no group
+pub joined-pages : (s : Inside) → IsJoined s → (h : HoldingsOf) (cursors : CursorsOf) (spaces : Space) → h ≡ with_order s.holdings h.stored h.held
+    → AreMapped h.stored.pages spaces.tasks spaces.mappings → ((t : ℕ) → lives spaces.tasks t ≡ true → is_live s.tree (group_of_task spaces.tasks t) ≡ true)
+    → GoesOn s.holdings.stored.pages s.holdings.held h.stored.pages h.held → length cursors.cursors ≡ length s.cursors.cursors
+    → IsJoined (record s { holdings = h; cursors = cursors; spaces = spaces })
+joined-pages s is h cursors spaces same mapped homes goes numbered =
+    record {
+      sized = is.sized;
+      frames = ap (λ (h : HoldingsOf). h.frames) same ∙ is.frames;
+      swap = ap (λ (h : HoldingsOf). h.swap) same ∙ is.swap;
+      held_kin = subst (λ (k : List Node). AreKin k s.tree) (sym (ap (λ (h : HoldingsOf). h.kin) same)) is.held_kin;
+      counted_kin = is.counted_kin;
+      mapped = mapped;
+      homes = homes;
+      listed = goes-on-listed _ _ _ _ goes;
+      cursors = numbered ∙ is.cursors;
+    }
+
+-- a group more, below one that is there
+pub joined-group : (s : Inside) → IsJoined s → (path : List ℕ) (parent : ℕ) → find_group s.tree (parent_path path) ≡ Some parent
+    → (tree : List Node) (h : HoldingsOf) (cursors : CursorsOf) (events : Tallies) → tree ≡ s.tree ++ new_node s.tree path ∷ []
+    → h.kin ≡ s.holdings.kin ++ bare (Some parent) ∷ [] → events.tree ≡ s.events.tree ++ bare (Some parent) ∷ []
+    → h.stored ≡ s.holdings.stored → h.held ≡ s.holdings.held → h.frames ≡ s.holdings.frames → h.swap ≡ s.holdings.swap
+    → cursors.cursors ≡ s.cursors.cursors ++ None ∷ [] → IsJoined (record s { tree = tree; holdings = h; cursors = cursors; events = events })
+joined-group s is path parent found tree h cursors events more kin counted stored held frames swap numbered =
+    record {
+      sized = is.sized;
+      frames = frames ∙ is.frames;
+      swap = swap ∙ is.swap;
+      held_kin = rw (kin, more) (kin-push s.holdings.kin s.tree parent (new_node s.tree path) is.held_kin found refl);
+      counted_kin = rw (counted, more) (kin-push s.events.tree s.tree parent (new_node s.tree path) is.counted_kin found refl);
+      mapped = subst (λ (ps : Pages). AreMapped ps s.spaces.tasks s.spaces.mappings) (sym (ap (λ (st : Stored). st.pages) stored)) is.mapped;
+      homes = λ t alive. rw more (live-push s.tree (new_node s.tree path) (group_of_task s.spaces.tasks t) (is.homes t alive));
+      listed = goes-on-listed _ _ _ _ (goes-on-still _ _ _ _ is.listed (ap (λ (st : Stored). st.pages) stored) held);
+      cursors = rw more (cursors-push s.tree (new_node s.tree path) s.cursors.cursors cursors.cursors is.cursors numbered);
+    }
+
+-- ---- room
+
+free-true : (used frames config : ℕ) → used < frames → frames ≡ config → nat_lt used config ≡ true
+free-true used frames config lt same = grind (arith, nat_tests, lt, same)
+
+free-false : (used frames config : ℕ) → used ≡ frames → frames ≡ config → nat_lt used config ≡ false
+free-false used frames config full same = grind (arith, nat_tests, full, same)
+
+free-less : (used frames config : ℕ) → nat_lt used config ≡ true → frames ≡ config → used < frames
+free-less used frames config free same = grind (arith, nat_tests, free, same)
+
+module _ (s : Inside) (is : IsJoined s) (g : ℕ) where
+  same_over : over_in (joined_of s).tables g ≡ over_of s.holdings g
+  same_over = sym (kin-over s.holdings.kin s.tree is.held_kin s.holdings.limits s.holdings.stored.pages g)
+
+  -- what is granted in the holdings has room in the tables
+  pub room-granted : IsGranted s.holdings g → HasRoom (joined_of s).tables g
+  room-granted granted = record { under = same_over ∙ granted.under; free = free-true (used_frames s.holdings.stored.pages) s.holdings.frames s.config.frames granted.free is.frames }
+
+  pub granted-room : HasRoom (joined_of s).tables g → IsGranted s.holdings g
+  granted-room room = record { under = sym same_over ∙ room.under; free = free-less (used_frames s.holdings.stored.pages) s.holdings.frames s.config.frames room.free is.frames }
+
+  pub room-lacking : IsLineage s.holdings.kin → is_live s.tree g ≡ true → (why : NoRoom) → Lacks s.holdings g why → LacksRoom (joined_of s).tables g why
+  room-lacking lineage live (lacks.Over a) over = (
+    same_over ∙ over,
+    sym (is.held_kin.living a.0) ∙ over-live s.holdings.kin lineage s.holdings.limits (charged s.holdings.kin s.holdings.stored.pages) a.0 g (is.held_kin.living g ∙ live) over,
+  )
+  room-lacking lineage live lacks.NoFrame full = (same_over ∙ full.0, free-false (used_frames s.holdings.stored.pages) s.holdings.frames s.config.frames full.1 is.frames)

@@ -1,0 +1,25 @@
+use Rattle.std.proofs.Common.{Bool, ap, subst, ◌∙◌}
+use Rattle.std.specs.Prelude.{IfNone}
+use Rattle.machine.specs.Order.{served_by, cursor_at}
+use Rattle.reclaim.specs.Pass.{gives, GivesNone}
+use Rattle.page_state.proofs.NextLemmas.{turn-is, none-is}
+use Rattle.page_state.proofs.holdings.Holdings.next_group.Goals as goal
+
+pub returns : goal.returns
+returns c =
+    let h = c.self.inside in
+    let tree = c.args.tree.now in
+    let target = c.args.target.0 in
+    let counts = c.counts-counts.result.now in
+    let last = cursor_at c.args.cursors.now.cursors target in
+    let order = c.groups_form_a_tree.ensures.earlier_parents in
+    let memory = c.are_in_flight.ensures.memory in
+    let kin = rw (← c.self.view_is) at c.requires.kin in
+    let swap = rw (← c.self.view_is) at c.has_swap.ensures in
+    let serves = c.next_group.ensures.group ∙ ap (λ (b : Bool). served_by tree (gives tree h.counters counts b target) target last) swap in
+    let none = subst (λ (b : Bool). IfNone c.next_group.result (GivesNone tree h.counters counts b target)) swap c.next_group.ensures.none in
+    rw (← c.self.view_is)
+    (record {
+      turn = turn-is h c.self.invariant tree kin order target memory c.groups_form_a_tree.ensures c.requires.live counts c.counts-counts.ensures.counts last c.next_group.result serves;
+      none = none-is h c.self.invariant tree kin order target memory c.groups_form_a_tree.ensures c.requires.live counts c.counts-counts.ensures.counts last c.next_group.result serves none;
+    })

@@ -1,0 +1,42 @@
+use Rattle.std.proofs.Common.{◌≡◌, ◌∙◌, length, sym, ap, arith}
+use Rattle.machine.specs.Slots.{count_there}
+use Rattle.machine.specs.Pages.{has_frame, has_this_frame, has_swap, is_held, is_in_transfer}
+use Rattle.page_state.specs.Owned.{has_this_block, is_going}
+use Rattle.page_state.specs.Queue.{queue_of}
+use Rattle.page_state.proofs.BalanceLemmas.{balanced-open}
+use Rattle.page_state.proofs.CountLemmas.{counted-open}
+use Rattle.page_state.proofs.HoldingLemmas.{listed-open, grouped-open}
+use Rattle.page_state.proofs.holdings.Holdings.open.Goals as goal
+
+pub invariant_of-result : goal.invariant_of-result
+invariant_of-result c =
+    let pool = c.in-Ok.pool in
+    let made = c.in-Ok.ensures in
+    let slots = c.in_ok-slots.slots in
+    let cut = c.in_ok-slots.ensures in
+    let pages = c.in-Ok-new.pages in
+    let none = c.in-Ok-new.ensures.pages in
+    let frames = made.frames in
+    let spares = made.spares in
+    let fits = c.ranges.frames.fits in
+    let held_room = c.in_ok-held.ensures.room in
+    let moving_room = c.in_ok-moving.ensures.room in
+    let tickets = c.in-Ok-new.ensures.tickets in
+    let going : count_there is_going pages.pages ≡ 0 = ap (count_there is_going) none in
+    record {
+      kept = record {
+        frames = rw frames (balanced-open has_this_frame has_frame c.args.frames pool.free pages.pages none made.once made.none_beyond made.all);
+        blocks = rw cut.blocks (balanced-open has_this_block has_swap c.args.swap slots.free pages.pages none cut.once cut.none_beyond cut.all);
+        counted = counted-open c.in_ok-counters.counters pages.pages none c.in_ok-counters.ensures.usage;
+      };
+      few = omega (arith, frames, fits);
+      held = listed-open is_held _ _ c.in_ok-held.ensures.numbers none;
+      moving = listed-open is_in_transfer _ _ c.in_ok-moving.ensures.numbers none;
+      held_groups = grouped-open (queue_of c.in_ok-held.held) pages.pages c.in_ok-held.ensures.entries c.in_ok-held.ensures.numbers;
+      moving_groups = grouped-open _ pages.pages c.in_ok-moving.ensures.entries c.in_ok-moving.ensures.numbers;
+      held_room = omega (arith, frames, held_room);
+      moving_room = omega (arith, frames, moving_room);
+      held_counts = c.in_ok-held.ensures.groups ∙ sym (ap length c.in_ok-counters.ensures.tree);
+      spares = omega (arith, frames, spares, going);
+      tickets = omega (arith, frames, tickets);
+    }

@@ -1,0 +1,107 @@
+use Rattle.std.proofs.Common.{◌≡◌, ◌∙◌, Some, eq-eqb, refl, sym, ap, subst, arith}
+use Rattle.machine.specs.Pages.{Coming, Away, is_held, is_in_transfer}
+use Rattle.page_counter.specs.Counts.{Charges, over_in}
+use Rattle.pages.specs.PageTable.{Stands, anon_page}
+use Rattle.pages.specs.Transfers.{StartsIn}
+use Rattle.page_state.specs.Queue.{queue_of}
+use Rattle.page_state.proofs.CountLemmas.{charge-usage}
+use Rattle.page_state.proofs.HoldingLemmas.{kept-step, holding-step, relists-same, relists-in, same-view, ticket-free}
+use Rattle.page_state.proofs.EntryLemmas.{grouped-same, grouped-in}
+use Rattle.page_state.proofs.OrderLemmas.{listed-held, goes-on-at}
+use Rattle.page_state.proofs.GrantLemmas.{stands-live, room-free, few-charged, granted-over, granted-some, granted-frame}
+use Rattle.page_state.proofs.holdings.Holdings.start_in.Goals as goal
+
+pub take_room-frame-requires-clause-few : goal.take_room-frame-requires-clause-few
+take_room-frame-requires-clause-few c = few-charged c.self.inside c.self.invariant c.are_counted.ensures.lineage
+
+pub take_room-frame-requires-clause-under : goal.take_room-frame-requires-clause-under
+take_room-frame-requires-clause-under c =
+    let h = c.self.inside in
+    let away = rw (← c.self.view_is) at c.requires.away in
+    let live = stands-live h.counters h.pages.pages c.args.page.0 away.0 (Away away.1) away.2 c.self.invariant.kept.counted in
+    ap (over_in h.counters) (c.group_of-group.ensures away.0 (Away away.1) away.2) ∙ granted-over h c.self.invariant away.0 c.are_counted.ensures.lineage live away.3
+
+pub take_room-frame-requires-clause-free : goal.take_room-frame-requires-clause-free
+take_room-frame-requires-clause-free c =
+    let away = rw (← c.self.view_is) at c.requires.away in
+    granted-some c.self.inside c.self.invariant away.0 away.3
+
+pub start_in-ticket-requires-clause-room : goal.start_in-ticket-requires-clause-room
+start_in-ticket-requires-clause-room c =
+    let away = rw (← c.self.view_is) at c.requires.away in
+    (room-free c.self.inside c.self.invariant (granted-some c.self.inside c.self.invariant away.0 away.3)).2
+
+pub push-requires : goal.push-requires
+push-requires c =
+    let away = rw (← c.self.view_is) at c.requires.away in
+    record { room = (room-free c.self.inside c.self.invariant (granted-some c.self.inside c.self.invariant away.0 away.3)).1 }
+
+pub invariant_of-self : goal.invariant_of-self
+invariant_of-self c =
+    let h = c.self.inside in
+    let away = rw (← c.self.view_is) at c.requires.away in
+    let p = c.args.page.0 in
+    let b = away.1 in
+    let g = c.take_room-frame.result.1 in
+    let f = c.take_room-frame.result.0.number in
+    let room = c.take_room-frame.ensures in
+    let same : g ≡ away.0 = room.group ∙ c.group_of-group.ensures away.0 (Away b) away.2 in
+    let stood : Stands h.pages.pages p g (Away b) = subst (λ x. Stands h.pages.pages p x (Away b)) (sym same) away.2 in
+    let starts = (c.start_in-ticket.ensures b stood).starts in
+    let n = c.start_in-ticket.result.number in
+    let from = Some (anon_page g (Away b)) in
+    let to = Some (anon_page g (Coming f b n)) in
+    let pages = c.start_in-ticket.new.self.pages in
+    let spares = room.frame.spares in
+    let tickets = starts.fewer in
+    holding-step h _ p from to
+    (record {
+      stood = stood;
+      changes = starts.placed;
+      kept = kept-step h.counters c.take_room-frame.new.counters h.pool c.take_room-frame.new.pool h.slots h.slots h.pages.pages pages p from to stood starts.placed room.frame.frames
+          (record { counts = λ m. (let k = room.frame.counts m in omega (arith, k)); len = (let k = room.frame.fewer in omega (arith, k)) })
+          refl (record { counts = λ m. refl; len = refl })
+          (record {
+            tree = room.charged.groups.tree;
+            usage = λ a lt. (let u = charge-usage h.counters c.take_room-frame.new.counters g a (subst (λ x. Charges h.counters c.take_room-frame.new.counters x) (sym room.group) room.charged) lt in omega (arith, u));
+            live = stands-live h.counters h.pages.pages p g (Away b) stood c.self.invariant.kept.counted;
+          })
+          c.self.invariant.kept;
+      frames = room.frame.frames;
+      groups = room.charged.groups.tree;
+      held = relists-same is_held h.held.numbers p from to refl;
+      moving = relists-in is_in_transfer h.moving.numbers c.push.new.self.numbers p p from to refl refl refl c.push.ensures.counts c.push.ensures.more;
+      held_groups = grouped-same (queue_of h.held) h.pages.pages pages p from to stood starts.placed c.self.invariant.held_groups (λ x listed own. own);
+      moving_groups = grouped-in h.moving h.pages.pages pages p from to stood starts.placed c.self.invariant.moving_groups c.push.new.self (c.group_of-group.result, c.args.page) c.push.ensures.entries c.push.ensures.last refl (eq-eqb g c.group_of-group.result.0 room.group) (λ x listed own. own);
+      held_room = refl;
+      moving_room = c.push.ensures.room;
+      spares = omega (arith, spares);
+      tickets = omega (arith, tickets);
+    })
+    c.self.invariant
+
+pub returns-clause-begins : goal.returns-clause-begins
+returns-clause-begins c =
+    let h = c.self.inside in
+    let p = c.args.page.0 in
+    let f = c.take_room-frame.result.0.number in
+    let room = c.take_room-frame.ensures in
+    let frame = granted-frame h c.self.invariant c.take_room-frame.new.counters c.take_room-frame.new.pool _ _ _ room in
+    let groups = room.charged.groups in
+    rw (← c.self.view_is) (λ g b stood.
+    let owned = c.group_of-group.ensures g (Away b) stood in
+    let same : c.take_room-frame.result.1 ≡ g = room.group ∙ owned in
+    let begins = subst (λ x. StartsIn h.pages c.start_in-ticket.new.self p x f b c.args.worker.0 c.args.entry c.start_in-ticket.result) same
+    (c.start_in-ticket.ensures b (subst (λ x. Stands h.pages.pages p x (Away b)) (sym same) stood)) in
+    record {
+      frame = f;
+      in_range = frame.0;
+      unused = frame.1;
+      ticket_free = ticket-free h.pages.pages h.pages.flights c.start_in-ticket.result.number c.are_in_flight.ensures begins.starts.free;
+      given = begins.starts.given;
+      placed = begins.starts.placed;
+      bytes = begins.bytes;
+      listed = begins.starts.listed;
+      order = goes-on-at h.pages.pages c.start_in-ticket.new.self.pages h.held.numbers (listed-held h.held.numbers h.pages.pages c.self.invariant.held.once) p _ _ stood begins.starts.placed refl;
+      others = same-view h (record h { pages = c.start_in-ticket.new.self; counters = c.take_room-frame.new.counters; pool = c.take_room-frame.new.pool; moving = c.push.new.self }) groups.tree groups.limits groups.room room.frame.frames refl refl;
+    })

@@ -1,0 +1,105 @@
+use Rattle.std.proofs.Common.{◌≡◌, ◌<◌, false, Some, eq-eqb, refl, sym, ap, subst, arith, length}
+use Rattle.machine.specs.Slots.{Changes}
+use Rattle.machine.specs.Pages.{Held, Going, is_held, is_in_transfer, has_swap, is_swap_taken}
+use Rattle.frames.specs.Pool.{PoolOf, free_count}
+use Rattle.pages.specs.PageTable.{anon_page}
+use Rattle.pages.specs.Transfers.{given_ticket}
+use Rattle.pages.specs.Tickets.{TicketOf}
+use Rattle.page_state.specs.Owned.{has_this_block}
+use Rattle.page_state.specs.Queue.{queue_of}
+use Rattle.page_state.proofs.BalanceLemmas.{taken-in}
+use Rattle.page_state.proofs.HoldingLemmas.{listed-once, kept-step, holding-step, relists-in, relists-out, same-view, ticket-free, held-stands}
+use Rattle.page_state.proofs.EntryLemmas.{grouped-in, grouped-out}
+use Rattle.page_state.proofs.OrderLemmas.{listed-held, goes-on-out}
+use Rattle.page_state.proofs.GrantLemmas.{stands-live, room-held}
+use Rattle.page_state.proofs.holdings.Holdings.start_out.Goals as goal
+
+pub take_spare-spare-requires : goal.take_spare-spare-requires
+take_spare-spare-requires c =
+    let h = c.self.inside in
+    let held = rw (← c.self.view_is) at c.requires.held in
+    let w = held-stands h.pages.pages h.pages.flights c.args.page.0 c.are_in_flight.ensures held in
+    (room-held h c.self.invariant c.args.page.0 w.0 w.1 w.2).2
+
+pub start_out-ticket-requires-clause-room : goal.start_out-ticket-requires-clause-room
+start_out-ticket-requires-clause-room c =
+    let h = c.self.inside in
+    let held = rw (← c.self.view_is) at c.requires.held in
+    let w = held-stands h.pages.pages h.pages.flights c.args.page.0 c.are_in_flight.ensures held in
+    (room-held h c.self.invariant c.args.page.0 w.0 w.1 w.2).1
+
+pub push-requires : goal.push-requires
+push-requires c =
+    let h = c.self.inside in
+    let held = rw (← c.self.view_is) at c.requires.held in
+    let w = held-stands h.pages.pages h.pages.flights c.args.page.0 c.are_in_flight.ensures held in
+    record { room = (room-held h c.self.invariant c.args.page.0 w.0 w.1 w.2).0 }
+
+pub invariant_of-self : goal.invariant_of-self
+invariant_of-self c =
+    let h = c.self.inside in
+    let held = rw (← c.self.view_is) at c.requires.held in
+    let p = c.args.page.0 in
+    let w = held-stands h.pages.pages h.pages.flights p c.are_in_flight.ensures held in
+    let g = w.0 in
+    let f = w.1 in
+    let starts = (c.start_out-ticket.ensures g f w.2).starts in
+    let b = c.take_slot-slot.result in
+    let slots = c.take_slot-slot.ensures in
+    let pool = c.take_spare-spare.ensures in
+    let from = Some (anon_page g (Held f)) in
+    let to = Some (anon_page g (Going f b c.start_out-ticket.result.number)) in
+    let spares = ap (λ (q : PoolOf). q.spares) pool in
+    let frames = ap (λ (q : PoolOf). q.frames) pool in
+    let tickets = starts.fewer in
+    holding-step h _ p from to
+    (record {
+      stood = w.2;
+      changes = starts.placed;
+      kept = kept-step h.counters h.counters h.pool c.take_spare-spare.new.pool h.slots c.take_slot-slot.new.slots h.pages.pages c.start_out-ticket.new.self.pages p from to w.2 starts.placed (sym frames)
+          (record {
+            counts = λ m. (let k = ap (λ (q : PoolOf). free_count q.free m) pool in omega (arith, k));
+            len = (let k = ap (λ (q : PoolOf). length q.free) pool in omega (arith, k));
+          })
+          slots.blocks
+          (record { counts = λ m. (let k = slots.counts m in omega (arith, k)); len = (let k = slots.fewer in omega (arith, k)) })
+          (record { tree = refl; usage = λ a lt. refl; live = stands-live h.counters h.pages.pages p g (Held f) w.2 c.self.invariant.kept.counted })
+          c.self.invariant.kept;
+      frames = sym frames;
+      groups = refl;
+      held = relists-out is_held h.held.numbers c.remove.new.self.numbers h.pages.pages p p from to refl w.2 refl c.self.invariant.held c.remove.ensures.counts c.remove.ensures.fewer;
+      moving = relists-in is_in_transfer h.moving.numbers c.push.new.self.numbers p p from to refl refl refl c.push.ensures.counts c.push.ensures.more;
+      held_groups = grouped-out (queue_of h.held) h.pages.pages c.start_out-ticket.new.self.pages p from to w.2 starts.placed c.self.invariant.held_groups (queue_of c.remove.new.self) p c.remove.ensures.entries c.remove.ensures.others refl;
+      moving_groups = grouped-in h.moving h.pages.pages c.start_out-ticket.new.self.pages p from to w.2 starts.placed c.self.invariant.moving_groups c.push.new.self (c.group_of-group.result, c.args.page) c.push.ensures.entries c.push.ensures.last refl (eq-eqb g c.group_of-group.result.0 (sym (c.group_of-group.ensures g (Held f) w.2))) (λ x listed own. own);
+      held_room = c.remove.ensures.room;
+      moving_room = c.push.ensures.room;
+      spares = omega (arith, spares);
+      tickets = omega (arith, tickets);
+    })
+    c.self.invariant
+
+pub returns : goal.returns
+returns c =
+    let h = c.self.inside in
+    let p = c.args.page.0 in
+    let slots = c.take_slot-slot.ensures in
+    let ticket = c.start_out-ticket.result in
+    let taken = taken-in has_this_block has_swap h.slots.blocks h.slots.free c.take_slot-slot.new.slots.free h.pages.pages c.take_slot-slot.result slots.counts c.self.invariant.kept.blocks in
+    rw (← c.self.view_is) (λ g f stood.
+    let begins = c.start_out-ticket.ensures g f stood in
+    let block : c.take_slot-slot.result ≡ ticket.block = sym (ap (λ (t : TicketOf). t.block) begins.starts.given) in
+    record {
+      in_range = subst (λ x. x < h.slots.blocks) block taken.0;
+      unused = subst (λ x. is_swap_taken h.pages.pages x ≡ false) block taken.1;
+      ticket_free = ticket-free h.pages.pages h.pages.flights ticket.number c.are_in_flight.ensures begins.starts.free;
+      given = subst (λ x. ticket ≡ given_ticket ticket.number c.args.worker.0 c.args.entry x ticket.bytes) block begins.starts.given;
+      holds = begins.holds;
+      placed = subst (λ x. Changes h.pages.pages c.start_out-ticket.new.self.pages p (Some (anon_page g (Going f x ticket.number)))) block begins.starts.placed;
+      bytes = begins.bytes;
+      listed = begins.starts.listed;
+      order = goes-on-out h.pages.pages c.start_out-ticket.new.self.pages h.held.numbers (listed-held h.held.numbers h.pages.pages c.self.invariant.held.once) p _ _ stood begins.starts.placed c.remove.new.self.numbers p c.remove.ensures.others refl refl;
+      others = same-view h (record h { pages = c.start_out-ticket.new.self; pool = c.take_spare-spare.new.pool; slots = c.take_slot-slot.new.slots; held = c.remove.new.self; moving = c.push.new.self }) refl refl refl (sym (ap (λ (q : PoolOf). q.frames) c.take_spare-spare.ensures)) slots.blocks c.remove.ensures.room;
+    })
+
+pub remove-requires : goal.remove-requires
+remove-requires c = record { once = listed-once is_held c.self.inside.held.numbers c.self.inside.pages.pages c.args.page.0 c.self.invariant.held }

@@ -1,0 +1,22 @@
+use Rattle.std.proofs.Common.{◌≡◌, ℕ, List, refl, sym, ap, subst}
+use Rattle.std.specs.List.{filter}
+use Rattle.machine.specs.Pages.{is_held_in}
+use Rattle.page_state.specs.Holdings.{Stored}
+use Rattle.page_state.proofs.KinLemmas.{kin-root}
+use Rattle.page_state.proofs.MappedLemmas.{mapped-open, homes-open}
+use Rattle.page_state.proofs.joined.State.open.Goals as goal
+
+pub invariant_of-result : goal.invariant_of-result
+invariant_of-result c =
+    let tree = c.in_ok-tree.ensures in
+    record {
+      sized = c.requires;
+      frames = c.in_ok-holdings.ensures.frames;
+      swap = c.in_ok-holdings.ensures.swap;
+      held_kin = rw (c.in_ok-holdings.ensures.kin, tree) kin-root;
+      counted_kin = rw (c.in_ok-events.ensures.tree, tree) kin-root;
+      mapped = mapped-open c.in_ok-holdings.holdings.stored.pages c.new-3.result.tasks c.new-3.result.mappings (ap (λ (s : Stored). s.pages) c.in_ok-holdings.ensures.stored) c.new-3.ensures.mappings;
+      homes = homes-open c.in_ok-tree.tree c.new-3.result.tasks c.new-3.ensures.tasks;
+      listed = subst (λ (held : List ℕ). filter (is_held_in c.in_ok-holdings.holdings.stored.pages) held ≡ held) (sym c.in_ok-holdings.ensures.held) refl;
+      cursors = rw (c.in_ok-cursors.ensures, tree) refl;
+    }

@@ -1,0 +1,157 @@
+-- How the joined parts change: one record for each change, which is one of the machine's tables in all parts at once.
+use Rattle.std.specs.Prelude.{◌≡◌, ◌≢◌, ℕ, ◌<◌, ◌==◌, ◌&&◌, if◌then◌else◌, false, true, List, [], ◌∷◌, ◌++◌, slice_index, slice_set, Some, None}
+use Rattle.machine.specs.declared.record.Key.{Key}
+use Rattle.machine.specs.declared.record.Life.{Life}
+use Rattle.machine.specs.declared.record.Limits.{Limits}
+use Rattle.machine.specs.Slots.{Changes}
+use Rattle.machine.specs.Tree.{is_live}
+use Rattle.machine.specs.Pages.{Residence, Held, Coming, Going, page_at, is_ticket_taken, in_transfer}
+use Rattle.machine.specs.Counts.{Counted, no_limits}
+use Rattle.machine.specs.Tasks.{SetsTask, group_of_task, mapped_at, mapping, without_task}
+use Rattle.machine.specs.State.{State, over_in, is_frame_free}
+use Rattle.machine.specs.Access.{page_size}
+use Rattle.machine.specs.Reclaim.{is_takeable}
+use Rattle.machine.specs.Lists.{GoesOn, TakesNext}
+use Rattle.machine.specs.Step.{IsFreeFrame, IsFreeBlock, Unmaps, count_of, new_node, new_page}
+use Rattle.pages.specs.PageTable.{byte_in, anon_page, flight, Stands}
+use Rattle.pages.specs.declared.flight.Direction.TheVariants.{In, Out}
+use Rattle.pages.specs.Tickets.{TicketOf}
+use Rattle.pages.specs.Transfers.{given_ticket}
+use Rattle.events.specs.Tallies.{Tells}
+use Rattle.page_state.specs.declared.room.NoRoom.{NoRoom}
+use Rattle.page_state.specs.declared.room.NoRoom.TheVariants as lacks
+use Rattle.page_state.specs.States.{StateOf, byte_shown}
+use Rattle.page_state.specs.Mapped.{ended}
+
+-- ---- room
+
+-- the charge of one page to g is granted: no max and no want of a frame is in its way
+pub record HasRoom (s : State) (g : ℕ) : Type 0 where
+  pub under : over_in s g ≡ None
+  pub free : is_frame_free s ≡ true
+
+-- it is not: the lowest group from g up has no room, one that is there; or no frame is free
+abbrev pub LacksRoom : State → ℕ → NoRoom → Type 0
+LacksRoom s g (lacks.Over a) = (over_in s g ≡ Some a.0) × (is_live s.tree a.0 ≡ true)
+LacksRoom s g lacks.NoFrame = (over_in s g ≡ None) × (is_frame_free s ≡ false)
+
+-- ---- counting
+
+-- the pages and the list of those that are held go on
+abbrev pub KeepsOrder : StateOf → StateOf → Type 0
+KeepsOrder old new = GoesOn old.tables.pages old.order.held new.tables.pages new.order.held
+
+-- an event is counted, and all else is as it was
+pub record CountsEvent (old new : StateOf) (g : ℕ) (key : Key) : Type 0 where
+  pub others : new ≡ record old { tallies = new.tallies }
+  pub tallied : (counted : List Counted) → Tells old.tallies counted → Tells new.tallies (counted ++ count_of g key ∷ [])
+
+-- ---- pages
+
+-- a page of zeros but for one byte is made for a virtual page of a task, and charged to the group
+pub record MakesPage (old new : StateOf) (t v g o byte : ℕ) : Type 0 where
+  pub page : ℕ
+  pub frame : ℕ
+  pub frame_free : IsFreeFrame old.tables frame
+  pub number_free : page_at old.tables.pages page ≡ None
+  pub placed : Changes old.tables.pages new.tables.pages page (Some (new_page g frame))
+  pub tables : new.tables ≡ record old.tables { pages = new.tables.pages; mappings = old.tables.mappings ++ mapping t v page ∷ [] }
+  pub bytes : (q k : ℕ) → byte_in new.bytes q k ≡ (if q == page then (if o == k then byte else 0) else byte_in old.bytes q k)
+  pub flights : new.flights ≡ old.flights
+  pub held : KeepsOrder old new
+  pub cursors : new.order.cursors ≡ old.order.cursors
+  pub tallies : new.tallies ≡ old.tallies
+
+-- a byte of a page in a frame is written
+pub record WritesByte (old new : StateOf) (p o byte : ℕ) : Type 0 where
+  pub tables : new.tables ≡ old.tables
+  pub bytes : (q k : ℕ) → byte_in new.bytes q k ≡ (if (q == p) && (o == k) then byte else byte_in old.bytes q k)
+  pub flights : new.flights ≡ old.flights
+  pub order : new.order ≡ old.order
+  pub tallies : new.tallies ≡ old.tallies
+
+-- a page of g on its block is from now on being read into a frame that no page had
+pub record BeginsReadIn (old new : StateOf) (p g block worker entry : ℕ) (ticket : TicketOf) : Type 0 where
+  pub frame : ℕ
+  pub frame_free : IsFreeFrame old.tables frame
+  pub ticket_free : is_ticket_taken old.tables.pages ticket.number ≡ false
+  pub given : ticket ≡ given_ticket ticket.number worker entry block ticket.bytes
+  pub placed : Changes old.tables.pages new.tables.pages p (Some (anon_page g (Coming frame block ticket.number)))
+  pub tables : new.tables ≡ record old.tables { pages = new.tables.pages }
+  pub bytes : (q k : ℕ) → q ≢ p → byte_in new.bytes q k ≡ byte_in old.bytes q k
+  pub listed : Changes old.flights new.flights ticket.number (Some (flight p worker In))
+  pub held : KeepsOrder old new
+  pub cursors : new.order.cursors ≡ old.order.cursors
+  pub tallies : new.tallies ≡ old.tallies
+
+-- the page that is next for the target is from now on being written to a swap block that no page had; the ticket has its bytes
+pub record BeginsWriteOut (old new : StateOf) (target worker entry : ℕ) (ticket : TicketOf) : Type 0 where
+  pub p : ℕ
+  pub g : ℕ
+  pub frame : ℕ
+  pub stood : Stands old.tables.pages p g (Held frame)
+  pub takeable : is_takeable old.tables target (anon_page g (Held frame)) ≡ true
+  pub block_free : IsFreeBlock old.tables ticket.block
+  pub ticket_free : is_ticket_taken old.tables.pages ticket.number ≡ false
+  pub given : ticket ≡ given_ticket ticket.number worker entry ticket.block ticket.bytes
+  pub holds : (k : ℕ) → k < page_size → slice_index ticket.bytes k ≡ byte_in new.bytes p k
+  pub placed : Changes old.tables.pages new.tables.pages p (Some (anon_page g (Going frame ticket.block ticket.number)))
+  pub tables : new.tables ≡ record old.tables { pages = new.tables.pages }
+  pub bytes : (q k : ℕ) → byte_in new.bytes q k ≡ byte_in old.bytes q k
+  pub listed : Changes old.flights new.flights ticket.number (Some (flight p worker Out))
+  pub held : KeepsOrder old new
+  pub next : TakesNext old.tables old.order target new.tables new.order
+  pub tallies : new.tallies ≡ old.tallies
+
+-- the transfer of a page of g under ticket n ends: the page is there, or gone where nothing maps it
+pub record EndsTransfer (old new : StateOf) (p g n : ℕ) (to : Residence) : Type 0 where
+  pub placed : Changes old.tables.pages new.tables.pages p (ended old.tables.mappings p g to)
+  pub tables : new.tables ≡ record old.tables { pages = new.tables.pages }
+  pub unlisted : Changes old.flights new.flights n None
+  pub others : (q k : ℕ) → q ≢ p → byte_in new.bytes q k ≡ byte_in old.bytes q k
+  pub held : KeepsOrder old new
+  pub cursors : new.order.cursors ≡ old.order.cursors
+  pub tallies : new.tallies ≡ old.tallies
+
+-- ---- tasks
+
+-- a task of the group begins
+pub record StartsTask (old new : StateOf) (t g : ℕ) (life : Life) : Type 0 where
+  pub starts : SetsTask old.tables.tasks t g life new.tables.tasks
+  pub tables : new.tables ≡ record old.tables { tasks = new.tables.tasks }
+  pub order : new.order ≡ old.order
+  pub bytes : new.bytes ≡ old.bytes
+  pub flights : new.flights ≡ old.flights
+  pub tallies : new.tallies ≡ old.tallies
+
+-- what a task's end leaves to the others
+pub record LeavesOthers (old new : StateOf) (t : ℕ) : Type 0 where
+  pub tables : new.tables ≡ record old.tables { pages = new.tables.pages; tasks = new.tables.tasks; mappings = without_task old.tables.mappings t }
+  pub pages : (u v q : ℕ) → u ≢ t → mapped_at old.tables.mappings u v ≡ Some q → page_at new.tables.pages q ≡ page_at old.tables.pages q
+  pub bytes : (u v k : ℕ) → u ≢ t → byte_shown new.bytes (mapped_at old.tables.mappings u v) k ≡ byte_shown old.bytes (mapped_at old.tables.mappings u v) k
+  pub moving : in_transfer new.tables.pages ≡ in_transfer old.tables.pages
+  pub flights : new.flights ≡ old.flights
+  pub held : KeepsOrder old new
+  pub cursors : new.order.cursors ≡ old.order.cursors
+
+-- a task ends so: its mappings go, and their pages that are in no transfer
+pub record EndsTask (old new : StateOf) (t : ℕ) (life : Life) : Type 0 where
+  pub unmaps : Unmaps old.tables (without_task old.tables.mappings t) new.tables
+  pub ends : SetsTask old.tables.tasks t (group_of_task old.tables.tasks t) life new.tables.tasks
+  pub leaves : LeavesOthers old new t
+  pub tallies : new.tallies ≡ old.tallies
+
+-- ---- groups
+
+-- a group of this path more, without limits, for which as a target no group was served
+pub record AddsGroup (old new : StateOf) (path : List ℕ) : Type 0 where
+  pub tables : new.tables ≡ record old.tables { tree = old.tables.tree ++ new_node old.tables.tree path ∷ []; limits = old.tables.limits ++ no_limits ∷ [] }
+  pub held : new.order.held ≡ old.order.held
+  pub cursors : new.order.cursors ≡ old.order.cursors ++ None ∷ []
+  pub bytes : new.bytes ≡ old.bytes
+  pub flights : new.flights ≡ old.flights
+  pub tallied : (counted : List Counted) → Tells old.tallies counted → Tells new.tallies counted
+
+-- other limits for a group
+abbrev pub sets_limits : StateOf → ℕ → Limits → StateOf
+sets_limits old g limits = record old { tables = record (old.tables) { limits = slice_set old.tables.limits g limits } }

@@ -1,0 +1,140 @@
+-- What contracts see of the holdings, and how they change.
+use Rattle.std.specs.Prelude.{◌≡◌, ◌≢◌, ℕ, ◌<◌, ◌==◌, ◌&&◌, ◌||◌, not, nat_lt, Bool, true, false, if◌then◌else◌, List, find, Option, Some, None, slice_index, slice_set}
+use Rattle.machine.specs.declared.record.Limits.{Limits}
+use Rattle.machine.specs.Slots.{Changes, there_and, any_there}
+use Rattle.machine.specs.Tree.{Node, under}
+use Rattle.machine.specs.Pages.{Page, Pages, Residence, Coming, Going, page_at, is_anon, is_held, is_frame_taken, is_swap_taken, is_ticket_taken, charged, used_frames, used_swap}
+use Rattle.machine.specs.Protection.{opens}
+use Rattle.machine.specs.Order.{served_by, cursor_at}
+use Rattle.machine.specs.Lists.{GoesOn, is_page_of}
+use Rattle.machine.specs.Counts.{over}
+use Rattle.machine.specs.Access.{page_size}
+use Rattle.machine.specs.Step.{new_page}
+use Rattle.pages.specs.Tickets.{TicketOf}
+use Rattle.pages.specs.Transfers.{given_ticket}
+use Rattle.pages.specs.PageTable.{byte_in, anon_page, flight}
+use Rattle.pages.specs.declared.flight.Direction.TheVariants.{In, Out}
+use Rattle.pages.specs.declared.flight.Flight.{Flight}
+use Rattle.page_state.specs.declared.room.NoRoom.{NoRoom}
+use Rattle.page_state.specs.declared.room.NoRoom.TheVariants as lacks
+
+-- the pages and their bytes, both by the page's number, and by ticket number the transfers in flight
+pub record Stored : Type 0 where
+  pub pages : Pages
+  pub bytes : List (Option (List ℕ))
+  pub flights : List (Option Flight)
+
+-- the groups without their paths, their limits, the pages, those in frames and in no transfer in the order in which they came there, how many frames and
+-- swap blocks there are, and for how many groups more there is memory
+pub record HoldingsOf : Type 0 where
+  pub kin : List Node
+  pub limits : List Limits
+  pub stored : Stored
+  pub held : List ℕ
+  pub frames : ℕ
+  pub swap : ℕ
+  pub room : ℕ
+
+-- with other pages, and all else as it was
+abbrev pub with_stored : HoldingsOf → Stored → HoldingsOf
+with_stored h stored = record h { stored = stored }
+
+-- with other pages and another order of them
+abbrev pub with_order : HoldingsOf → Stored → List ℕ → HoldingsOf
+with_order h stored held = record h { stored = stored; held = held }
+
+-- the pages in frames go on in their order
+abbrev pub StayInOrder : HoldingsOf → HoldingsOf → Type 0
+StayInOrder old new = GoesOn old.stored.pages old.held new.stored.pages new.held
+
+-- the lowest group from g up whose max one page more would pass
+abbrev pub over_of : HoldingsOf → ℕ → Option ℕ
+over_of h g = over h.kin h.limits (charged h.kin h.stored.pages) g
+
+-- a page of g came, of zeros but for one byte, into a frame that no page had
+pub record AddsPage (old new : HoldingsOf) (p g offset byte : ℕ) : Type 0 where
+  pub frame : ℕ
+  pub slot_free : page_at old.stored.pages p ≡ None
+  pub in_range : frame < old.frames
+  pub unused : is_frame_taken old.stored.pages frame ≡ false
+  pub placed : Changes old.stored.pages new.stored.pages p (Some (new_page g frame))
+  pub bytes : (q o : ℕ) → byte_in new.stored.bytes q o ≡ (if q == p then (if offset == o then byte else 0) else byte_in old.stored.bytes q o)
+  pub flights : new.stored.flights ≡ old.stored.flights
+  pub order : StayInOrder old new
+  pub others : new ≡ with_order old new.stored new.held
+
+-- the charge of one page to g is granted: no max and no want of a frame is in its way
+pub record IsGranted (h : HoldingsOf) (g : ℕ) : Type 0 where
+  pub under : over_of h g ≡ None
+  pub free : used_frames h.stored.pages < h.frames
+
+-- it is not: the lowest group from g up has no room; or no frame is free
+abbrev pub Lacks : HoldingsOf → ℕ → NoRoom → Type 0
+Lacks h g (lacks.Over a) = over_of h g ≡ Some a.0
+Lacks h g lacks.NoFrame = (over_of h g ≡ None) × (used_frames h.stored.pages ≡ h.frames)
+
+-- a page of g on its block is from now on being read into a frame that no page had
+pub record BeginsIn (old new : HoldingsOf) (p g block worker entry : ℕ) (ticket : TicketOf) : Type 0 where
+  pub frame : ℕ
+  pub in_range : frame < old.frames
+  pub unused : is_frame_taken old.stored.pages frame ≡ false
+  pub ticket_free : is_ticket_taken old.stored.pages ticket.number ≡ false
+  pub given : ticket ≡ given_ticket ticket.number worker entry block ticket.bytes
+  pub placed : Changes old.stored.pages new.stored.pages p (Some (anon_page g (Coming frame block ticket.number)))
+  pub bytes : (q o : ℕ) → q ≢ p → byte_in new.stored.bytes q o ≡ byte_in old.stored.bytes q o
+  pub listed : Changes old.stored.flights new.stored.flights ticket.number (Some (flight p worker In))
+  pub order : StayInOrder old new
+  pub others : new ≡ with_order old new.stored new.held
+
+-- a page in a frame is from now on being written to a swap block that no page had; the ticket has its bytes
+pub record BeginsOut (old new : HoldingsOf) (p g frame worker entry : ℕ) (ticket : TicketOf) : Type 0 where
+  pub in_range : ticket.block < old.swap
+  pub unused : is_swap_taken old.stored.pages ticket.block ≡ false
+  pub ticket_free : is_ticket_taken old.stored.pages ticket.number ≡ false
+  pub given : ticket ≡ given_ticket ticket.number worker entry ticket.block ticket.bytes
+  pub holds : (o : ℕ) → o < page_size → slice_index ticket.bytes o ≡ byte_in old.stored.bytes p o
+  pub placed : Changes old.stored.pages new.stored.pages p (Some (anon_page g (Going frame ticket.block ticket.number)))
+  pub bytes : (q o : ℕ) → byte_in new.stored.bytes q o ≡ byte_in old.stored.bytes q o
+  pub listed : Changes old.stored.flights new.stored.flights ticket.number (Some (flight p worker Out))
+  pub order : StayInOrder old new
+  pub others : new ≡ with_order old new.stored new.held
+
+-- the transfer of a page under a ticket has ended there
+pub record Settles (old new : HoldingsOf) (p g n : ℕ) (residence : Residence) : Type 0 where
+  pub placed : Changes old.stored.pages new.stored.pages p (Some (anon_page g residence))
+  pub unlisted : Changes old.stored.flights new.stored.flights n None
+  pub bytes : (q o : ℕ) → q ≢ p → byte_in new.stored.bytes q o ≡ byte_in old.stored.bytes q o
+  pub order : StayInOrder old new
+  pub others : new ≡ with_order old new.stored new.held
+
+-- a page is gone with its bytes
+pub record DropsPage (old new : HoldingsOf) (p : ℕ) : Type 0 where
+  pub gone : Changes old.stored.pages new.stored.pages p None
+  pub bytes : (q o : ℕ) → byte_in new.stored.bytes q o ≡ (if q == p then 0 else byte_in old.stored.bytes q o)
+  pub flights : new.stored.flights ≡ old.stored.flights
+  pub order : StayInOrder old new
+  pub others : new ≡ with_order old new.stored new.held
+
+-- ---- what a reclaim takes
+
+-- the page may be taken for the target
+abbrev pub takes : HoldingsOf → List Node → ℕ → Page → Bool
+takes h tree target page =
+    is_held page && under tree target page.group && opens false tree h.limits (charged tree h.stored.pages) target page.group
+    && (not (is_anon page.content) || nat_lt (used_swap h.stored.pages) h.swap)
+
+-- a page of the group may
+abbrev pub gives_of : HoldingsOf → List Node → ℕ → ℕ → Bool
+gives_of h tree target g = any_there (λ page. (page.group == g) && takes h tree target page) h.stored.pages
+
+-- it is the group's turn to give a page to the target
+abbrev pub IsTurn : HoldingsOf → List Node → List (Option ℕ) → ℕ → ℕ → Type 0
+IsTurn h tree cursors target g = served_by tree (gives_of h tree target) target (cursor_at cursors target) ≡ Some g
+
+-- the page that is next for the target, and the cursors after it was told
+pub record IsNext (h : HoldingsOf) (tree : List Node) (cursors : List (Option ℕ)) (target p : ℕ) (cursors' : List (Option ℕ)) : Type 0 where
+  pub g : ℕ
+  pub next : served_by tree (gives_of h tree target) target (cursor_at cursors target) ≡ Some g
+  pub first : find (is_page_of h.stored.pages g) h.held ≡ Some p
+  pub takeable : there_and (takes h tree target) (page_at h.stored.pages p) ≡ true
+  pub moves : cursors' ≡ slice_set cursors target (Some g)

@@ -1,0 +1,43 @@
+-- What the fields of the joined parts mean, and how the parts agree. No public clause cites it.
+use Rattle.std.specs.Prelude.{◌≡◌, ℕ, true, [], length}
+use Rattle.std.specs.List.{filter}
+use Rattle.machine.specs.Tree.{is_live}
+use Rattle.machine.specs.Pages.{is_held_in}
+use Rattle.machine.specs.Tasks.{lives, group_of_task}
+use Rattle.machine.specs.State.{opening_of, is_config}
+use Rattle.group_tree.specs.Kin.{AreKin}
+use Rattle.page_state.specs.declared.joined.State.TheInside.{Inside}
+use Rattle.page_state.specs.States.{StateOf, without_room}
+use Rattle.page_state.specs.Mapped.{AreMapped}
+
+abbrev pub joined_of : Inside → StateOf
+joined_of s =
+    record {
+      tables = record {
+        opening = opening_of s.config;
+        tree = s.tree;
+        limits = s.holdings.limits;
+        pages = s.holdings.stored.pages;
+        tasks = s.spaces.tasks;
+        mappings = s.spaces.mappings;
+        counted = [];
+      };
+      order = record { held = s.holdings.held; cursors = s.cursors.cursors };
+      bytes = s.holdings.stored.bytes;
+      tallies = without_room s.events;
+      flights = s.holdings.stored.flights;
+    }
+
+pub record IsJoined (s : Inside) : Type 0 where
+  pub sized : is_config s.config ≡ true
+  pub frames : s.holdings.frames ≡ s.config.frames
+  pub swap : s.holdings.swap ≡ s.config.swap
+  pub held_kin : AreKin s.holdings.kin s.tree
+  pub counted_kin : AreKin s.events.tree s.tree
+  pub mapped : AreMapped s.holdings.stored.pages s.spaces.tasks s.spaces.mappings
+  -- the group of a live task is there
+  pub homes : (t : ℕ) → lives s.spaces.tasks t ≡ true → is_live s.tree (group_of_task s.spaces.tasks t) ≡ true
+  -- each page in the order is held
+  pub listed : filter (is_held_in s.holdings.stored.pages) s.holdings.held ≡ s.holdings.held
+  -- each group has its cursor
+  pub cursors : length s.cursors.cursors ≡ length s.tree

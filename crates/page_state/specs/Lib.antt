@@ -1,0 +1,10 @@
+pub mod Holdings
+pub mod Owned
+pub mod Queue
+pub mod Relists
+pub mod Room
+pub mod Drops
+pub mod Mapped
+pub mod States
+pub mod Changes
+pub mod Joined

@@ -1,0 +1,35 @@
+-- What a contract sees of the joined parts: the machine's tables, the order in which pages are taken, the bytes of the pages, the transfers in flight.
+use Rattle.std.specs.Prelude.{ℕ, ◌<◌, List, Option, Some, None}
+use Rattle.machine.specs.declared.record.Key.{Key}
+use Rattle.machine.specs.Tasks.{mapped_at}
+use Rattle.machine.specs.State.{State}
+use Rattle.machine.specs.Lists.{Order}
+use Rattle.pages.specs.PageTable.{byte_in}
+use Rattle.pages.specs.declared.flight.Flight.{Flight}
+use Rattle.events.specs.Tallies.{Tallies, total_of}
+
+-- the tables, without the events counted so far, which a history tells; the order in which pages are taken; by page number the bytes; how often events
+-- were counted; and by ticket number the transfers in flight
+pub record StateOf : Type 0 where
+  pub tables : State
+  pub order : Order
+  pub bytes : List (Option (List ℕ))
+  pub tallies : Tallies
+  pub flights : List (Option Flight)
+
+-- what was counted, whatever memory there is for groups to come
+abbrev pub without_room : Tallies → Tallies
+without_room t = record t { room = 0 }
+
+-- each key was counted less often than a number of 64 bits holds
+abbrev pub AreFew : Tallies → Type 0
+AreFew t = (k : Key) → total_of t 0 k < 18446744073709551615
+
+-- a byte of what a virtual page shows, zero where it shows nothing
+abbrev pub byte_shown : List (Option (List ℕ)) → Option ℕ → ℕ → ℕ
+byte_shown bytes None o = 0
+byte_shown bytes (Some p) o = byte_in bytes p o
+
+-- the byte at a task's place
+abbrev pub byte_at : StateOf → ℕ → ℕ → ℕ → ℕ
+byte_at s t v o = byte_shown s.bytes (mapped_at s.tables.mappings t v) o

@@ -1,0 +1,81 @@
+//! Pages that are made, read in and written.
+
+ghost use Rattle.std.specs.Prelude.{◌≡◌, ℕ, ◌<◌, Some, None, true, is_some, IfOk, IfErr, OnOk, OnErr};
+ghost use Rattle.machine.specs.Tree.{is_live};
+ghost use Rattle.machine.specs.Pages as residence;
+ghost use Rattle.machine.specs.Pages.{is_held_in};
+ghost use Rattle.machine.specs.Tasks.{task_at, mapped_at};
+ghost use Rattle.machine.specs.Access.{page_size};
+ghost use Rattle.pages.specs.PageTable.{Stands};
+ghost use Rattle.page_state.specs.Changes.{HasRoom, LacksRoom, MakesPage, WritesByte, BeginsReadIn};
+
+use crate::joined::State;
+use crate::room::NoRoom;
+use machine::id::{GroupId, PageId, TaskId, WorkerId};
+use pages::InTicket;
+use std::alloc::{AllocError, Global};
+
+impl State {
+    /// Whether a page can be charged to the group and brought into a frame, and if not, why: a max comes
+    /// before the want of a frame (kernel: try_charge_memcg).
+    pub fn room_for(&self, group: GroupId) -> Result<(), NoRoom>
+        requires { is_live self.now.tables.tree group.0 ≡ true }
+        ensures room { OnOk result (HasRoom self.now.tables group.0) }
+        ensures lacks { IfErr result (λ why. LacksRoom self.now.tables group.0 why) }
+    {
+        self.holdings.are_counted();
+        self.holdings.room_for(group)
+    }
+
+    /// A page of zeros but for one byte, for a virtual page of a task that shows nothing. It is charged to
+    /// the group, which has room for it. `AllocError` where memory is refused, and then nothing changes.
+    pub fn hold(
+        &mut self,
+        task: TaskId,
+        at: u32,
+        group: GroupId,
+        offset: u32,
+        byte: u8,
+    ) -> Result<(), AllocError>
+        requires known { is_some (task_at self.old.tables.tasks task.0) ≡ true }
+        requires unmapped { mapped_at self.old.tables.mappings task.0 at ≡ None }
+        requires live { is_live self.old.tables.tree group.0 ≡ true }
+        requires room { HasRoom self.old.tables group.0 }
+        requires within { offset < page_size }
+        ensures makes { OnOk result (MakesPage self.old self.new task.0 at group.0 offset byte) }
+        ensures err { OnErr result (self.new ≡ self.old) }
+    {
+        let page = self
+            .holdings
+            .hold(&mut self.spaces, group, offset as usize, byte)?;
+        self.spaces.map(task, at, page);
+        Ok(())
+    }
+
+    /// Changes a byte of a page in a frame.
+    pub fn write(&mut self, page: PageId, offset: u32, byte: u8)
+        requires held { is_held_in self.old.tables.pages page.0 ≡ true }
+        requires within { offset < page_size }
+        ensures { WritesByte self.old self.new page.0 offset byte }
+    {
+        self.holdings.write(page, offset as usize, byte);
+    }
+
+    /// Begins to read in a page that is on its block. It is charged to its group, which has room for it.
+    /// `entry` is the place that the trace's entry will have. `AllocError` where memory is refused, and then
+    /// nothing changes.
+    pub fn start_in(
+        &mut self,
+        alloc: Global,
+        page: PageId,
+        worker: WorkerId,
+        entry: u32,
+    ) -> Result<InTicket, AllocError>
+        requires away { (g b : ℕ) × Stands self.old.tables.pages page.0 g (residence.Away b) × HasRoom self.old.tables g }
+        ensures begins { IfOk result (λ ticket. (g b : ℕ) → Stands self.old.tables.pages page.0 g (residence.Away b) → BeginsReadIn self.old self.new page.0 g b worker.0 entry ticket) }
+        ensures err { OnErr result (self.new ≡ self.old) }
+    {
+        let ticket = self.holdings.start_in(alloc, page, worker, entry)?;
+        Ok(ticket)
+    }
+}

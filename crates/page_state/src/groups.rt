@@ -1,0 +1,115 @@
+//! Groups: made and set, what they show, and the events that are counted at them.
+
+ghost use Rattle.std.specs.Prelude.{◌≡◌, ◌≢◌, ◌<◌, List, Some, None, true, false, OnOk, OnErr};
+ghost use Rattle.machine.specs.declared.record.Key.{Key as Key_of};
+ghost use Rattle.machine.specs.Names.{parent_path};
+ghost use Rattle.machine.specs.Tree.{is_live, under, find_group};
+ghost use Rattle.machine.specs.Counts.{Counted, is_key, limits_at, counts_by, total, local};
+ghost use Rattle.machine.specs.State.{usage, effective_min};
+ghost use Rattle.machine.specs.Refusals.{mkdir_refusal, bars_children};
+ghost use Rattle.events.specs.Tallies.{Tells, total_of};
+ghost use Rattle.page_state.specs.Changes.{CountsEvent, AddsGroup, sets_limits};
+
+use crate::joined::State;
+use machine::amount::Amount;
+use machine::id::GroupId;
+use machine::record::{EventCounts, Key};
+use std::alloc::AllocError;
+
+impl State {
+    /// The most pages that may be charged to the group and below it.
+    pub fn max(&self, group: GroupId) -> Amount
+        requires { is_live self.now.tables.tree group.0 ≡ true }
+        ensures { result ≡ (limits_at self.now.tables.limits group.0).max }
+    {
+        self.holdings.max(group)
+    }
+
+    /// Up to how many pages that it uses the group asks to be protected.
+    pub fn min(&self, group: GroupId) -> Amount
+        requires { is_live self.now.tables.tree group.0 ≡ true }
+        ensures { result ≡ (limits_at self.now.tables.limits group.0).min }
+    {
+        self.holdings.min(group)
+    }
+
+    /// How many pages are charged to the group or below it.
+    pub fn usage(&self, group: GroupId) -> u64
+        requires { is_live self.now.tables.tree group.0 ≡ true }
+        ensures { result ≡ usage self.now.tables group.0 }
+    {
+        self.holdings.usage(group)
+    }
+
+    /// The effective `memory.min` of a group below the target, for a reclaim of the target.
+    pub fn protection(&self, target: GroupId, group: GroupId) -> Amount
+        requires live { is_live self.now.tables.tree group.0 ≡ true }
+        requires under { under self.now.tables.tree target.0 group.0 ≡ true }
+        requires below { target.0 ≢ group.0 }
+        ensures { result ≡ effective_min self.now.tables target.0 group.0 }
+    {
+        self.holdings.protection(&self.tree, target, group)
+    }
+
+    /// How often each key was counted at the group or anywhere below it.
+    pub fn events(&self, group: GroupId) -> EventCounts
+        requires { is_live self.now.tables.tree group.0 ≡ true }
+        ensures { (counted : List Counted) → Tells self.now.tallies counted → result ≡ counts_by (total self.now.tables.tree counted group.0) }
+    {
+        self.events.totals(group)
+    }
+
+    /// How often each key was counted at the group itself.
+    pub fn local_events(&self, group: GroupId) -> EventCounts
+        requires { is_live self.now.tables.tree group.0 ≡ true }
+        ensures { (counted : List Counted) → Tells self.now.tallies counted → result ≡ counts_by (local counted group.0) }
+    {
+        self.events.locals(group)
+    }
+
+    /// Counts the key once at the group (kernel: `memcg_memory_event`).
+    pub fn count(&mut self, group: GroupId, key: Key)
+        requires live { is_live self.old.tables.tree group.0 ≡ true }
+        requires few { total_of self.old.tallies 0 key < u64.MAX }
+        ensures counts { CountsEvent self.old self.new group.0 key }
+        ensures others { (k : Key_of) → is_key key k ≡ false → total_of self.new.tallies 0 k ≡ total_of self.old.tallies 0 k }
+    {
+        self.events.are_told();
+        self.events.count(group, key);
+    }
+
+    /// Another max for the group. What is charged already stays.
+    pub fn set_max(&mut self, group: GroupId, max: Amount)
+        requires { is_live self.old.tables.tree group.0 ≡ true }
+        ensures { self.new ≡ sets_limits self.old group.0 (record (limits_at self.old.tables.limits group.0) { max = max }) }
+    {
+        self.holdings.set_max(group, max);
+    }
+
+    /// Another min for the group.
+    pub fn set_min(&mut self, group: GroupId, min: Amount)
+        requires { is_live self.old.tables.tree group.0 ≡ true }
+        ensures { self.new ≡ sets_limits self.old group.0 (record (limits_at self.old.tables.limits group.0) { min = min }) }
+    {
+        self.holdings.set_min(group, min);
+    }
+
+    /// A group of this path below its parent, which is there. Memory is asked for before anything changes:
+    /// `AllocError` where it is refused, and then nothing changes.
+    pub fn mkdir(&mut self, parent: GroupId, path: &str) -> Result<(), AllocError>
+        requires none { mkdir_refusal self.old.tables.tree (bars_children self.old.tables.tasks) path.now ≡ None }
+        requires parent { find_group self.old.tables.tree (parent_path path.now) ≡ Some parent.0 }
+        requires live { is_live self.old.tables.tree parent.0 ≡ true }
+        ensures adds { OnOk result (AddsGroup self.old self.new path.now) }
+        ensures err { OnErr result (self.new ≡ self.old) }
+    {
+        self.holdings.reserve_group()?;
+        self.events.reserve()?;
+        self.cursors.reserve()?;
+        let group = self.tree.mkdir(path)?;
+        self.holdings.add_group(group, parent);
+        self.events.add_reserved(group, parent);
+        self.cursors.add_reserved();
+        Ok(())
+    }
+}

@@ -1,0 +1,438 @@
+//! The pages, with the frames, the charges and the swap slots that they own.
+
+ghost use Rattle.std.specs.Prelude.{◌≡◌, ◌≢◌, ℕ, ◌+◌, ◌<◌, ◌==◌, ◌&&◌, ◌++◌, ◌∷◌, [], true, false, None, Some, IsSome, IfSome, IfOk, IfErr, OnOk, OnErr, nat_lt, length, not, is_none, slice_set, slice_index, List, if◌then◌else◌};
+ghost use Rattle.machine.specs.Slots.{any_there};
+ghost use Rattle.machine.specs.Tree.{Node, is_live, under};
+ghost use Rattle.machine.specs.Lists.{ListsHeld};
+ghost use Rattle.machine.specs.Pages as residence;
+ghost use Rattle.machine.specs.Pages.{Page, page_at, is_in_transfer, is_held_in, in_transfer, charged, used_frames, used_swap};
+ghost use Rattle.machine.specs.Counts.{no_limits, limits_at};
+ghost use Rattle.machine.specs.Protection.{effective, min_of};
+ghost use Rattle.machine.specs.Access.{page_size};
+ghost use Rattle.group_tree.specs.Kin.{AreKin};
+ghost use Rattle.group_tree.specs.Lineages.{bare, IsLineage};
+ghost use Rattle.pages.specs.PageTable.{byte_in, Stands, is_moving_in, AreInFlight};
+ghost use Rattle.pages.specs.Transfers.{residence_after};
+ghost use Rattle.page_state.specs.Holdings.{with_stored, IsGranted, Lacks, AddsPage, BeginsIn, BeginsOut, Settles, DropsPage, takes, IsTurn, IsNext};
+
+use crate::lookup::{group_of, is_any_under};
+use crate::queue::{HeldPages, Queue};
+use crate::release::{release, release_last};
+use crate::room::{NoRoom, take_room, take_slot, take_spare};
+use crate::settle::{end_transfer, fill, relist};
+use block_store::Slots;
+use frames::{FRAME_BYTES, Pool};
+use group_tree::Tree;
+use machine::amount::Amount;
+use machine::bytes::PageBytes;
+use machine::id::{GroupId, PageId, WorkerId};
+use page_counter::Counters;
+use pages::{End, InTicket, OutTicket, Pages};
+use protection::effective;
+use reclaim::Cursors;
+use spaces::Spaces;
+use std::alloc::{AllocError, Global};
+use std::marker::Model;
+
+/// The pages, the frames that no page stands in, the swap slots that no page stands on, and for each
+/// group its limits and how many pages are charged to it or below it. And the pages in frames, in the
+/// order in which they came into them. It must be spent, by [`Holdings::close`].
+#[must_use]
+pub struct Holdings {
+    pages: Pages,
+    pool: Pool,
+    slots: Slots,
+    counters: Counters,
+    // The pages in frames, in the order in which they came into them.
+    held: HeldPages,
+    // The pages in transfer.
+    moving: Queue,
+}
+
+impl Model for Holdings {
+    ghost use Rattle.page_state.specs.Holdings.{HoldingsOf};
+    ghost use Rattle.page_state.specs.Owned.{holdings_of, IsHolding};
+
+    ghost Value = { HoldingsOf };
+
+    ghost view = { holdings_of };
+
+    ghost invariant = { IsHolding };
+}
+
+impl Holdings {
+    /// No page, all frames and all swap slots free, and the root alone, without a limit.
+    pub fn open(alloc: Global, frames: u32, swap: u32) -> Result<Holdings, AllocError>
+        ensures kin { IfOk result (λ h. h.kin ≡ bare None ∷ []) }
+        ensures limits { IfOk result (λ h. h.limits ≡ no_limits ∷ []) }
+        ensures stored { IfOk result (λ h. h.stored ≡ record { pages = []; bytes = []; flights = [] }) }
+        ensures held { IfOk result (λ h. h.held ≡ []) }
+        ensures frames { IfOk result (λ h. h.frames ≡ frames) }
+        ensures swap { IfOk result (λ h. h.swap ≡ swap) }
+    {
+        let counters = Counters::new(alloc)?;
+        let held = HeldPages::open(alloc, frames)?;
+        let moving = Queue::open(alloc, frames)?;
+        let slots = Slots::open(alloc, swap)?;
+        let Ok(pool) = Pool::open(alloc, frames) else {
+            slots.close();
+            return Err(AllocError);
+        };
+        let Ok(pages) = Pages::new(alloc, frames) else {
+            pool.close();
+            slots.close();
+            return Err(AllocError);
+        };
+        Ok(Holdings {
+            pages,
+            pool,
+            slots,
+            counters,
+            held,
+            moving,
+        })
+    }
+
+    /// The pages, to be read.
+    pub fn pages(&self) -> &Pages
+        ensures pages { result.now.pages ≡ self.now.stored.pages }
+        ensures bytes { result.now.bytes ≡ self.now.stored.bytes }
+        ensures flights { result.now.flights ≡ self.now.stored.flights }
+    {
+        &self.pages
+    }
+
+    /// How many frames are free.
+    pub fn free(&self) -> u32
+        ensures { result + used_frames self.now.stored.pages ≡ self.now.frames }
+    {
+        self.pool.free()
+    }
+
+    /// Whether a swap block is free.
+    pub fn has_swap(&self) -> bool
+        ensures { result ≡ nat_lt (used_swap self.now.stored.pages) self.now.swap }
+    {
+        self.slots.free() > 0
+    }
+
+    /// How many pages are in transfer.
+    pub fn transfers(&self) -> u32
+        ensures { result ≡ in_transfer self.now.stored.pages }
+    {
+        self.moving.len() as u32
+    }
+
+    /// The most pages that may be charged to the group and below it.
+    pub fn max(&self, group: GroupId) -> Amount
+        requires { is_live self.now.kin group.0 ≡ true }
+        ensures { result ≡ (limits_at self.now.limits group.0).max }
+    {
+        self.counters.max(group)
+    }
+
+    /// How many pages are charged to the group or below it.
+    pub fn usage(&self, group: GroupId) -> u64
+        requires { is_live self.now.kin group.0 ≡ true }
+        ensures { result ≡ charged self.now.kin self.now.stored.pages group.0 }
+    {
+        self.counters.usage(group)
+    }
+
+    /// Another max for the group. What is charged already stays.
+    pub fn set_max(&mut self, group: GroupId, max: Amount)
+        requires { is_live self.old.kin group.0 ≡ true }
+        ensures { self.new ≡ record self.old { limits = slice_set self.old.limits group.0 (record (limits_at self.old.limits group.0) { max = max }) } }
+    {
+        self.counters.set_max(group, max);
+    }
+
+    /// Up to how many pages that it uses, with all below it, the group asks to be protected.
+    pub fn min(&self, group: GroupId) -> Amount
+        requires { is_live self.now.kin group.0 ≡ true }
+        ensures { result ≡ (limits_at self.now.limits group.0).min }
+    {
+        self.counters.min(group)
+    }
+
+    /// Another min for the group.
+    pub fn set_min(&mut self, group: GroupId, min: Amount)
+        requires { is_live self.old.kin group.0 ≡ true }
+        ensures { self.new ≡ record self.old { limits = slice_set self.old.limits group.0 (record (limits_at self.old.limits group.0) { min = min }) } }
+    {
+        self.counters.set_min(group, min);
+    }
+
+    /// The effective `memory.min` of a group below the target, for a reclaim of the target.
+    pub fn protection(&self, tree: &Tree, target: GroupId, group: GroupId) -> Amount
+        requires kin { AreKin self.now.kin tree.now }
+        requires live { is_live tree.now group.0 ≡ true }
+        requires under { under tree.now target.0 group.0 ≡ true }
+        requires below { target.0 ≢ group.0 }
+        ensures { result ≡ effective false tree.now (min_of self.now.limits) (charged tree.now self.now.stored.pages) target.0 group.0 }
+    {
+        tree.groups_form_a_tree();
+        effective(tree, &self.counters, target, group)
+    }
+
+    /// The group that gives the next page to a reclaim of the target: none where no page may be taken.
+    /// Nothing changes.
+    pub fn next_group(&self, tree: &Tree, cursors: &Cursors, target: GroupId) -> Option<GroupId>
+        requires kin { AreKin self.now.kin tree.now }
+        requires live { is_live tree.now target.0 ≡ true }
+        requires cursor { target.0 < length cursors.now.cursors }
+        ensures turn { IfSome result (λ g. IsTurn self.now tree.now cursors.now.cursors target.0 g.0) }
+        ensures none { is_none result ≡ not (any_there (takes self.now tree.now target.0) self.now.stored.pages) }
+    {
+        tree.groups_form_a_tree();
+        self.pages.are_in_flight();
+        let counts = self.held.counts();
+        cursors.next_group(tree, &self.counters, counts, self.has_swap(), target)
+    }
+
+    /// The page that the group gives to a reclaim of the target, whose turn it is, as
+    /// [`Holdings::next_group`] told. The target's cursor names the group from now on. Takes no memory.
+    pub fn serve(&self, cursors: &mut Cursors, target: GroupId, group: GroupId) -> PageId
+        requires turn { (tree : List Node) × IsTurn self.now tree cursors.old.cursors target.0 group.0 }
+        requires cursor { target.0 < length cursors.old.cursors }
+        ensures { (tree : List Node) → IsTurn self.now tree cursors.old.cursors target.0 group.0 → IsNext self.now tree cursors.old.cursors target.0 result.0 cursors.new.cursors }
+    {
+        self.pages.are_in_flight();
+        cursors.serve(self.held.as_slice(), target, group)
+    }
+
+    /// Asks for the memory of one group more.
+    pub fn reserve_group(&mut self) -> Result<(), AllocError>
+        ensures room { OnOk result (0 < self.new.room) }
+        ensures same { self.new ≡ record self.old { room = self.new.room } }
+    {
+        self.counters.reserve()?;
+        self.held.reserve_group()
+    }
+
+    /// A group below another. Its memory was asked for by [`Holdings::reserve_group`].
+    pub fn add_group(&mut self, group: GroupId, parent: GroupId)
+        requires room { 0 < self.old.room }
+        requires next { group.0 ≡ length self.old.kin }
+        requires parent { is_live self.old.kin parent.0 ≡ true }
+        ensures kin { self.new.kin ≡ self.old.kin ++ bare (Some parent.0) ∷ [] }
+        ensures limits { self.new.limits ≡ self.old.limits ++ no_limits ∷ [] }
+        ensures stored { self.new.stored ≡ self.old.stored }
+        ensures held { self.new.held ≡ self.old.held }
+        ensures frames { self.new.frames ≡ self.old.frames }
+        ensures swap { self.new.swap ≡ self.old.swap }
+    {
+        self.counters.add_reserved(group, parent);
+        self.held.add_group();
+    }
+
+    /// Nothing is done: what holds of the groups and of the pages of all holdings.
+    pub fn are_counted(&self)
+        ensures lineage { IsLineage self.now.kin }
+        ensures limits { length self.now.limits ≡ length self.now.kin }
+        ensures groups { (p : ℕ) → IfSome (page_at self.now.stored.pages p) (λ page. is_live self.now.kin page.group ≡ true) }
+        ensures flights { AreInFlight self.now.stored.pages self.now.stored.flights }
+        ensures held { ListsHeld self.now.stored.pages self.now.held }
+    {
+        self.counters.are_counted();
+        self.pages.are_in_flight();
+    }
+
+    /// Whether a page can be charged to the group and brought into a frame, and if not, why: a max comes
+    /// before the want of a frame.
+    pub fn room_for(&self, group: GroupId) -> Result<(), NoRoom>
+        requires { is_live self.now.kin group.0 ≡ true }
+        ensures granted { OnOk result (IsGranted self.now group.0) }
+        ensures lacks { IfErr result (λ why. Lacks self.now group.0 why) }
+    {
+        self.counters.are_counted();
+        if let Some(limit) = self.counters.over(group) {
+            return Err(NoRoom::Over(limit));
+        }
+        if self.pool.free() == 0 {
+            return Err(NoRoom::NoFrame);
+        }
+        Ok(())
+    }
+
+    /// A page of the group: zeros, but for one byte. There is room for it. The memory to map it is asked
+    /// for too. Where memory is wanting, nothing changes.
+    pub fn hold(
+        &mut self,
+        spaces: &mut Spaces,
+        group: GroupId,
+        offset: usize,
+        byte: u8,
+    ) -> Result<PageId, AllocError>
+        requires live { is_live self.old.kin group.0 ≡ true }
+        requires granted { IsGranted self.old group.0 }
+        requires within { offset < page_size }
+        ensures adds { IfOk result (λ page. AddsPage self.old self.new page.0 group.0 offset byte) }
+        ensures err { OnErr result (self.new ≡ self.old) }
+        ensures tasks { spaces.new.tasks ≡ spaces.old.tasks }
+        ensures mappings { spaces.new.mappings ≡ spaces.old.mappings }
+        ensures room { OnOk result (0 < spaces.new.room) }
+    {
+        self.counters.are_counted();
+        reserve_page(&mut self.pages, spaces)?;
+        let (frame, charge) = take_room(&mut self.counters, &mut self.pool, group);
+        let page = self.pages.hold(frame, charge, offset, byte);
+        self.held.push(group, page);
+        Ok(page)
+    }
+
+    /// Begins to read in a page that is on its block. There is room for it. The memory of the bytes that
+    /// will arrive is asked for; where it is wanting, nothing changes.
+    pub fn start_in(
+        &mut self,
+        alloc: Global,
+        page: PageId,
+        worker: WorkerId,
+        entry: u32,
+    ) -> Result<InTicket, AllocError>
+        requires away { (g b : ℕ) × Stands self.old.stored.pages page.0 g (residence.Away b) × IsGranted self.old g }
+        ensures begins { IfOk result (λ ticket. (g b : ℕ) → Stands self.old.stored.pages page.0 g (residence.Away b) → BeginsIn self.old self.new page.0 g b worker.0 entry ticket) }
+        ensures err { OnErr result (self.new ≡ self.old) }
+    {
+        self.counters.are_counted();
+        self.pages.are_in_flight();
+        let group = group_of(&self.pages, page);
+        let buffer = buffer(alloc)?;
+        let (frame, charge) = take_room(&mut self.counters, &mut self.pool, group);
+        let ticket = self
+            .pages
+            .start_in(page, frame, charge, worker, entry, buffer);
+        self.moving.push(group, page);
+        Ok(ticket)
+    }
+
+    /// Begins to write out a page that is in a frame, a swap block being free. Takes no memory.
+    pub fn start_out(&mut self, page: PageId, worker: WorkerId, entry: u32) -> OutTicket
+        requires held { is_held_in self.old.stored.pages page.0 ≡ true }
+        requires swap { used_swap self.old.stored.pages < self.old.swap }
+        ensures { (g f : ℕ) → Stands self.old.stored.pages page.0 g (residence.Held f) → BeginsOut self.old self.new page.0 g f worker.0 entry result }
+    {
+        self.pages.are_in_flight();
+        let group = group_of(&self.pages, page);
+        let slot = take_slot(&mut self.slots);
+        let spare = take_spare(&mut self.pool);
+        let ticket = self.pages.start_out(page, slot, spare, worker, entry);
+        self.held.remove(page);
+        self.moving.push(group, page);
+        ticket
+    }
+
+    /// The read-in of the page has ended so: it is in its frame, with the bytes that the ticket read, and
+    /// the last of those that came into theirs; or it is on its block, and its charge is taken back.
+    /// Hands out the ticket's bytes. Takes no memory.
+    pub fn settle_in(&mut self, page: PageId, ticket: InTicket, end: End) -> PageBytes
+        requires { (g f b : ℕ) × Stands self.old.stored.pages page.0 g (residence.Coming f b ticket.number) }
+        ensures settles { (g f b : ℕ) → Stands self.old.stored.pages page.0 g (residence.Coming f b ticket.number) → Settles self.old self.new page.0 g ticket.number (residence_after end f b) }
+        ensures arrives { end ≡ End.InFrame → (o : ℕ) → byte_in self.new.stored.bytes page.0 o ≡ slice_index ticket.bytes o }
+        ensures bytes { result ≡ ticket.bytes }
+    {
+        let group = group_of(&self.pages, page);
+        fill(&mut self.pages, page, &ticket, end);
+        let buffer = end_transfer(
+            ticket,
+            end,
+            &mut self.pages,
+            &mut self.counters,
+            &mut self.pool,
+            &mut self.slots,
+        );
+        relist(&mut self.held, &mut self.moving, group, page, end);
+        PageBytes::new(buffer)
+    }
+
+    /// The write-out of the page has ended so: it is on its block, and its charge is taken back; or it is
+    /// in its frame, as it was, and the last of those that came into theirs. Takes no memory.
+    pub fn settle_out(&mut self, page: PageId, ticket: OutTicket, end: End)
+        requires { (g f b : ℕ) × Stands self.old.stored.pages page.0 g (residence.Going f b ticket.number) }
+        ensures settles { (g f b : ℕ) → Stands self.old.stored.pages page.0 g (residence.Going f b ticket.number) → Settles self.old self.new page.0 g ticket.number (residence_after end f b) }
+        ensures stays { end ≡ End.InFrame → (o : ℕ) → byte_in self.new.stored.bytes page.0 o ≡ byte_in self.old.stored.bytes page.0 o }
+    {
+        let group = group_of(&self.pages, page);
+        let spare = end_transfer(
+            ticket,
+            end,
+            &mut self.pages,
+            &mut self.counters,
+            &mut self.pool,
+            &mut self.slots,
+        );
+        self.pool.give_spare(spare);
+        relist(&mut self.held, &mut self.moving, group, page, end);
+    }
+
+    /// Whether a page whose group is at or under the target is in transfer.
+    pub fn has_transfer(&self, tree: &Tree, target: GroupId) -> bool
+        ensures { result ≡ any_there (λ page. is_in_transfer page && under tree.now target.0 page.group) self.now.stored.pages }
+    {
+        is_any_under(self.moving.as_slice(), tree, target)
+    }
+
+    /// Changes a byte of a page in a frame.
+    pub fn write(&mut self, page: PageId, offset: usize, byte: u8)
+        requires held { is_held_in self.old.stored.pages page.0 ≡ true }
+        requires within { offset < page_size }
+        ensures pages { self.new.stored.pages ≡ self.old.stored.pages }
+        ensures bytes { (q o : ℕ) → byte_in self.new.stored.bytes q o
+            ≡ (if (q == page.0) && (offset == o) then byte else byte_in self.old.stored.bytes q o) }
+        ensures flights { self.new.stored.flights ≡ self.old.stored.flights }
+        ensures others { self.new ≡ with_stored self.old self.new.stored }
+    {
+        self.pages.write(page, offset, byte);
+    }
+
+    /// The page is gone, which is in no transfer: its frame and its charge, or its slot, go back. Takes
+    /// no memory.
+    pub fn drop_page(&mut self, page: PageId)
+        requires there { IsSome (page_at self.old.stored.pages page.0) }
+        requires settled { is_moving_in self.old.stored.pages page.0 ≡ false }
+        ensures { DropsPage self.old self.new page.0 }
+    {
+        self.pages.are_in_flight();
+        let owned = self.pages.drop_page(page);
+        release(owned, &mut self.counters, &mut self.pool, &mut self.slots);
+        self.held.remove(page);
+    }
+
+    /// Spends the holdings: each frame and each slot goes back, and each charge is taken back.
+    pub fn close(self) {
+        let Holdings {
+            pages,
+            mut pool,
+            mut slots,
+            mut counters,
+            held: _,
+            moving: _,
+        } = self;
+        let mut owned = pages.into_owned();
+        while release_last(&mut owned, &mut counters, &mut pool, &mut slots) {}
+        owned.destroy_empty();
+        pool.close();
+        slots.close();
+    }
+}
+
+/// Asks for the memory of one page more, and of its mapping.
+fn reserve_page(pages: &mut Pages, spaces: &mut Spaces) -> Result<(), AllocError>
+    ensures pages { pages.new ≡ record pages.old { room = pages.new.room } }
+    ensures tasks { spaces.new.tasks ≡ spaces.old.tasks }
+    ensures mappings { spaces.new.mappings ≡ spaces.old.mappings }
+    ensures page_room { OnOk result (0 < pages.new.room) }
+    ensures mapping_room { OnOk result (0 < spaces.new.room) }
+{
+    pages.reserve()?;
+    spaces.reserve()?;
+    Ok(())
+}
+
+/// The memory of a page's bytes that will arrive: zeros until then.
+fn buffer(alloc: Global) -> Result<Box<[u8; FRAME_BYTES]>, AllocError>
+    ensures zeros { IfOk result (λ bytes. (o : ℕ) → slice_index bytes.value o ≡ 0) }
+{
+    let buffer = Box::new(alloc, [0; FRAME_BYTES])?;
+    Ok(buffer)
+}

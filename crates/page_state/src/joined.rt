@@ -1,0 +1,156 @@
+//! The joined parts, and what of them is read.
+
+ghost use Rattle.std.specs.Prelude.{◌≡◌, ℕ, ◌+◌, ◌≤◌, [], true, IfSome, IfOk, length};
+ghost use Rattle.machine.specs.Tree.{is_live};
+ghost use Rattle.machine.specs.State.{first_state, opening_of, is_config};
+ghost use Rattle.machine.specs.Pages.{page_at, used_frames, in_transfer};
+ghost use Rattle.machine.specs.Tasks.{lives, group_of_task};
+ghost use Rattle.machine.specs.Lists.{first_order, ListsHeld};
+ghost use Rattle.group_tree.specs.Lineages.{IsLineage};
+ghost use Rattle.events.specs.Tallies.{Tells};
+ghost use Rattle.pages.specs.PageTable.{AreInFlight};
+ghost use Rattle.page_state.specs.States.{byte_at};
+ghost use Rattle.page_state.specs.Mapped.{AreMapped};
+
+use crate::holdings::Holdings;
+use events::Events;
+use group_tree::Tree;
+use machine::config::{Config, Watermarks};
+use pages::Pages;
+use reclaim::Cursors;
+use spaces::Spaces;
+use std::alloc::{AllocError, Global};
+use std::marker::Model;
+
+/// The groups with their settings, the pages with what they own, the tasks with what they map, and
+/// the counts of events. It must be spent, by [`State::close`].
+#[must_use]
+pub struct State {
+    pub(crate) config: Config,
+    pub(crate) tree: Tree,
+    pub(crate) holdings: Holdings,
+    pub(crate) cursors: Cursors,
+    pub(crate) events: Events,
+    pub(crate) spaces: Spaces,
+}
+
+impl Model for State {
+    ghost use Rattle.page_state.specs.States.{StateOf};
+
+    ghost Value = { StateOf };
+
+    ghost use Rattle.page_state.specs.Joined.{joined_of, IsJoined};
+
+    ghost view = { joined_of };
+
+    ghost invariant = { IsJoined };
+}
+
+impl State {
+    /// The root alone, all frames and all swap blocks free.
+    pub fn open(alloc: Global, config: Config) -> Result<State, AllocError>
+        requires { is_config config ≡ true }
+        ensures tables { IfOk result (λ s. s.tables ≡ first_state (opening_of config)) }
+        ensures order { IfOk result (λ s. s.order ≡ first_order) }
+        ensures bytes { IfOk result (λ s. (t v o : ℕ) → byte_at s t v o ≡ 0) }
+        ensures flights { IfOk result (λ s. s.flights ≡ []) }
+        ensures told { IfOk result (λ s. Tells s.tallies []) }
+    {
+        let tree = Tree::open(alloc)?;
+        let events = Events::new(alloc)?;
+        let cursors = Cursors::new(alloc)?;
+        let holdings = Holdings::open(alloc, config.frames, config.swap)?;
+        Ok(State {
+            config,
+            tree,
+            holdings,
+            cursors,
+            events,
+            spaces: Spaces::new(alloc),
+        })
+    }
+
+    /// Spends it: each frame, each slot and each charge goes back.
+    pub fn close(self) {
+        let State {
+            config: _,
+            tree: _,
+            holdings,
+            cursors: _,
+            events: _,
+            spaces: _,
+        } = self;
+        holdings.close();
+    }
+
+    /// The groups.
+    pub fn tree(&self) -> &Tree
+        ensures { result.now ≡ self.now.tables.tree }
+    {
+        &self.tree
+    }
+
+    /// How many frames are free.
+    pub fn free_frames(&self) -> u32
+        ensures { result + used_frames self.now.tables.pages ≡ self.now.tables.opening.frames }
+    {
+        self.holdings.free()
+    }
+
+    /// How many pages are in transfer.
+    pub fn transfers(&self) -> u32
+        ensures { result ≡ in_transfer self.now.tables.pages }
+    {
+        self.holdings.transfers()
+    }
+
+    /// The daemon's marks.
+    pub fn watermarks(&self) -> Watermarks
+        ensures { result ≡ self.now.tables.opening.marks }
+    {
+        self.config.marks
+    }
+
+    /// The trace's limit, in entries.
+    pub fn limit(&self) -> usize
+        ensures { result ≡ self.now.tables.opening.limit }
+    {
+        self.config.trace as usize
+    }
+
+    /// The tasks, and what their virtual pages show.
+    pub fn spaces(&self) -> &Spaces
+        ensures tasks { result.now.tasks ≡ self.now.tables.tasks }
+        ensures mappings { result.now.mappings ≡ self.now.tables.mappings }
+    {
+        &self.spaces
+    }
+
+    /// The pages, to be read.
+    pub fn pages(&self) -> &Pages
+        ensures pages { result.now.pages ≡ self.now.tables.pages }
+        ensures bytes { result.now.bytes ≡ self.now.bytes }
+        ensures flights { result.now.flights ≡ self.now.flights }
+    {
+        self.holdings.pages()
+    }
+
+    /// Nothing is done: what holds of all joined parts. What the opening fixed is within its limits; the
+    /// groups whose events are counted hang together; the root is there, and so is the group of each live
+    /// task and of each page; the pages that are mapped are there, and the transfers in flight are those of the pages in
+    /// transfer; the order has the held pages, each once, and each group has its cursor.
+    pub fn is_joined(&self)
+        ensures limit { self.now.tables.opening.limit ≤ 1048576 }
+        ensures lineage { IsLineage self.now.tallies.tree }
+        ensures root { is_live self.now.tables.tree 0 ≡ true }
+        ensures homes { (t : ℕ) → lives self.now.tables.tasks t ≡ true → is_live self.now.tables.tree (group_of_task self.now.tables.tasks t) ≡ true }
+        ensures groups { (p : ℕ) → IfSome (page_at self.now.tables.pages p) (λ page. is_live self.now.tables.tree page.group ≡ true) }
+        ensures mapped { AreMapped self.now.tables.pages self.now.tables.tasks self.now.tables.mappings }
+        ensures flights { AreInFlight self.now.tables.pages self.now.flights }
+        ensures listed { ListsHeld self.now.tables.pages self.now.order.held }
+        ensures cursors { length self.now.order.cursors ≡ length self.now.tables.tree }
+    {
+        self.events.are_told();
+        self.holdings.are_counted();
+    }
+}

@@ -1,0 +1,24 @@
+//! The parts of a machine joined: each call makes one change of the machine's tables, in all parts at
+//! once, so that between calls the parts agree.
+//!
+//! Below it stand the parts, each seen as the machine's table that it keeps: the groups, their limits and
+//! counts, the pages with their bytes, the order in which they are taken, the tasks with what they map, the
+//! frames and swap slots that are free, the transfers in flight, and how often events were counted.
+#![tactic(auto)]
+
+pub use joined::State;
+pub use room::NoRoom;
+
+mod accesses;
+mod endings;
+mod groups;
+mod holdings;
+mod joined;
+mod lookup;
+mod queue;
+mod reclaims;
+mod release;
+mod room;
+mod settle;
+mod tasks;
+mod unmap;

@@ -1,0 +1,34 @@
+//! Pages that are looked for in the table of pages.
+
+ghost use Rattle.std.specs.Prelude.{◌≡◌, ℕ};
+ghost use Rattle.std.specs.List.{list_any};
+ghost use Rattle.machine.specs.Tree.{under};
+ghost use Rattle.machine.specs.Pages.{Residence};
+ghost use Rattle.pages.specs.PageTable.{Stands};
+
+use group_tree::Tree;
+use machine::id::{GroupId, PageId};
+use pages::Pages;
+
+/// The group of a page that is there.
+pub fn group_of(pages: &Pages, page: PageId) -> GroupId
+    requires { (g : ℕ) × (r : Residence) × Stands pages.now.pages page.0 g r }
+    ensures { (g : ℕ) → (r : Residence) → Stands pages.now.pages page.0 g r → result.0 ≡ g }
+{
+    let Some(group) = pages.group(page) else {
+        unreachable!()
+    };
+    group
+}
+
+/// Whether one of the pages is of a group at or under the target.
+pub fn is_any_under(entries: &[(GroupId, PageId)], tree: &Tree, target: GroupId) -> bool
+    ensures { result ≡ list_any (λ entry. under tree.now target.0 entry.0.0) entries.now }
+{
+    for (group, _) in entries {
+        if tree.is_under(target, *group) {
+            return true;
+        }
+    }
+    false
+}

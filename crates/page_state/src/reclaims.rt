@@ -1,0 +1,48 @@
+//! What a reclaim takes, and how it begins to leave.
+
+ghost use Rattle.std.specs.Prelude.{◌≡◌, Some, true, is_some, IfSome};
+ghost use Rattle.machine.specs.Tree.{is_live};
+ghost use Rattle.machine.specs.Reclaim.{has_takeable, has_transfer};
+ghost use Rattle.machine.specs.Lists.{served};
+ghost use Rattle.page_state.specs.Changes.{BeginsWriteOut};
+
+use crate::joined::State;
+use machine::id::{GroupId, WorkerId};
+use pages::OutTicket;
+
+impl State {
+    /// The group that gives the next page to a reclaim of the target. There is one exactly where a page may
+    /// be taken.
+    pub fn next_group(&self, target: GroupId) -> Option<GroupId>
+        requires { is_live self.now.tables.tree target.0 ≡ true }
+        ensures next { IfSome result (λ g. served self.now.tables self.now.order target.0 ≡ Some g.0) }
+        ensures takeable { is_some result ≡ has_takeable self.now.tables target.0 }
+    {
+        self.holdings.next_group(&self.tree, &self.cursors, target)
+    }
+
+    /// Whether a page of a group at or under the target is in transfer, and may come free.
+    pub fn has_transfer(&self, target: GroupId) -> bool
+        ensures { result ≡ has_transfer self.now.tables target.0 }
+    {
+        self.holdings.has_transfer(&self.tree, target)
+    }
+
+    /// The page that is next for the target begins to be written out, and the target's cursor names its
+    /// group. `entry` is the place that the trace's entry will have. Takes no memory.
+    pub fn start_out(
+        &mut self,
+        target: GroupId,
+        group: GroupId,
+        worker: WorkerId,
+        entry: u32,
+    ) -> OutTicket
+        requires live { is_live self.old.tables.tree target.0 ≡ true }
+        requires next { served self.old.tables self.old.order target.0 ≡ Some group.0 }
+        ensures { BeginsWriteOut self.old self.new target.0 worker.0 entry result }
+    {
+        self.holdings.are_counted();
+        let page = self.holdings.serve(&mut self.cursors, target, group);
+        self.holdings.start_out(page, worker, entry)
+    }
+}

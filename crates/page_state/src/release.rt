@@ -1,0 +1,68 @@
+//! What pages owned is given back.
+
+ghost use Rattle.std.specs.Prelude.{◌≡◌, ◌<◌, true, false, vec_len};
+ghost use Rattle.page_counter.specs.Counts.{SameGroups};
+ghost use Rattle.pages.specs.Records.{page_of};
+ghost use Rattle.page_state.specs.Owned.{AreKept, Leaves, Releases, pages_of};
+
+use crate::room::give_room;
+use block_store::Slots;
+use frames::Pool;
+use page_counter::Counters;
+use pages::OwnedPage;
+
+/// Gives back what a page owned that is gone.
+pub fn release(owned: OwnedPage, counters: &mut Counters, pool: &mut Pool, slots: &mut Slots)
+    requires { Leaves counters.old pool.old slots.old (page_of owned) }
+    ensures releases { Releases (page_of owned) counters.old pool.old slots.old counters.new pool.new slots.new }
+    ensures groups { SameGroups counters.old counters.new }
+    ensures frames { pool.new.frames ≡ pool.old.frames }
+    ensures spares { pool.new.spares ≡ pool.old.spares }
+    ensures blocks { slots.new.blocks ≡ slots.old.blocks }
+{
+    counters.are_counted();
+    match owned {
+        OwnedPage::Held { frame, charge } => give_room(frame, charge, counters, pool),
+        OwnedPage::Coming {
+            frame,
+            charge,
+            slot,
+            ticket: _,
+        } => {
+            give_room(frame, charge, counters, pool);
+            slots.give(slot);
+        }
+        OwnedPage::Going {
+            frame,
+            charge,
+            slot,
+            ticket: _,
+        } => {
+            give_room(frame, charge, counters, pool);
+            slots.give(slot);
+        }
+        OwnedPage::Away { group: _, slot } => slots.give(slot),
+    }
+}
+
+/// Takes the last place away, and gives back what its page owned. False where there is no place.
+pub fn release_last(
+    owned: &mut Vec<Option<OwnedPage>>,
+    counters: &mut Counters,
+    pool: &mut Pool,
+    slots: &mut Slots,
+) -> bool
+    requires { AreKept counters.old pool.old slots.old (pages_of owned.old.items) }
+    ensures kept { AreKept counters.new pool.new slots.new (pages_of owned.new.items) }
+    ensures shorter { result ≡ true → vec_len owned.new < vec_len owned.old }
+    ensures empty { result ≡ false → vec_len owned.new ≡ 0 }
+{
+    match owned.pop() {
+        None => false,
+        Some(None) => true,
+        Some(Some(last)) => {
+            release(last, counters, pool, slots);
+            true
+        }
+    }
+}

@@ -1,0 +1,73 @@
+//! Room for a page: a charge and a frame, taken together and given back together.
+
+ghost use Rattle.std.specs.Prelude.{◌≡◌, ℕ, ◌+◌, ◌<◌, true, length, None};
+ghost use Rattle.machine.specs.Tree.{is_live};
+ghost use Rattle.frames.specs.Pool.{free_count};
+ghost use Rattle.page_counter.specs.Counts.{Charges, IsOut, usage_of, over_in};
+ghost use Rattle.page_state.specs.Room.{LacksFrame, LacksBlock, TakesRoom};
+
+use block_store::{Slot, Slots};
+use frames::{Frame, Pool, Spare};
+use machine::id::GroupId;
+use page_counter::{Charge, Counters};
+
+/// Why a page cannot be charged to a group and brought into a frame.
+#[derive(Clone, Copy, Debug, PartialEq, Eq)]
+pub enum NoRoom {
+    /// One page more would pass a max: this is the lowest group whose max it is.
+    Over(GroupId),
+    /// No frame is free.
+    NoFrame,
+}
+
+/// Charges a page to the group, and takes a frame for it. There is room for both.
+pub fn take_room(counters: &mut Counters, pool: &mut Pool, group: GroupId) -> (Frame, Charge)
+    requires live { is_live counters.old.tree group.0 ≡ true }
+    requires few { usage_of counters.old 0 < 18446744073709551615 }
+    requires under { over_in counters.old group.0 ≡ None }
+    requires free { 0 < length pool.old.free }
+    ensures { TakesRoom counters.old counters.new pool.old pool.new group.0 result.0.number result.1 }
+{
+    counters.are_counted();
+    let Ok(charge) = counters.try_charge(group) else {
+        unreachable!()
+    };
+    let Some(frame) = pool.take() else {
+        unreachable!()
+    };
+    (frame, charge)
+}
+
+/// Gives a frame back, and takes the charge back.
+pub fn give_room(frame: Frame, charge: Charge, counters: &mut Counters, pool: &mut Pool)
+    requires out { free_count pool.old.free frame.number ≡ 0 }
+    requires in_range { frame.number < pool.old.frames }
+    requires charged { IsOut counters.old charge }
+    ensures frame { LacksFrame pool.new pool.old frame.number }
+    ensures uncharged { Charges counters.new counters.old charge }
+{
+    pool.give(frame);
+    counters.uncharge(charge);
+}
+
+/// Takes a free swap slot; there is one.
+pub fn take_slot(slots: &mut Slots) -> Slot
+    requires { 0 < length slots.old.free }
+    ensures { LacksBlock slots.old slots.new result }
+{
+    let Some(slot) = slots.take() else {
+        unreachable!()
+    };
+    slot
+}
+
+/// Takes a spare; there is one.
+pub fn take_spare(pool: &mut Pool) -> Spare
+    requires { 0 < pool.old.spares }
+    ensures { pool.old ≡ record pool.new { spares = pool.new.spares + 1 } }
+{
+    let Some(spare) = pool.take_spare() else {
+        unreachable!()
+    };
+    spare
+}

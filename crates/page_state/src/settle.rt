@@ -1,0 +1,74 @@
+//! How a transfer's end changes what pages own, and the lists of pages.
+
+ghost use Rattle.std.specs.Prelude.{◌≡◌, ◌≢◌, ℕ, ◌<◌, length, slice_index};
+ghost use Rattle.machine.specs.Pages as residence;
+ghost use Rattle.page_counter.specs.Counts.{SameGroups};
+ghost use Rattle.pages.specs.declared.flight.Direction.{Direction};
+ghost use Rattle.pages.specs.PageTable.{Stands, byte_in, moving};
+ghost use Rattle.pages.specs.Transfers.{Ends};
+ghost use Rattle.page_state.specs.Owned.{AreKept};
+ghost use Rattle.page_state.specs.Relists.{JoinsAtEnd, LeavesQueue};
+
+use crate::queue::{HeldPages, Queue};
+use crate::room::give_room;
+use block_store::Slots;
+use frames::Pool;
+use machine::id::{GroupId, PageId};
+use page_counter::Counters;
+use pages::{Carries, End, Freed, InTicket, Pages, Ticket};
+
+/// The page has the bytes that the ticket read, where its read-in has ended in its frame.
+pub fn fill(pages: &mut Pages, page: PageId, ticket: &InTicket, end: End)
+    requires { (g f b : ℕ) × Stands pages.old.pages page.0 g (residence.Coming f b ticket.now.number) }
+    ensures filled { end ≡ End.InFrame → (o : ℕ) → byte_in pages.new.bytes page.0 o ≡ slice_index ticket.now.bytes o }
+    ensures bytes { (q o : ℕ) → q ≢ page.0 → byte_in pages.new.bytes q o ≡ byte_in pages.old.bytes q o }
+    ensures others { pages.new ≡ record pages.old { bytes = pages.new.bytes } }
+{
+    match end {
+        End::InFrame => pages.fill(ticket),
+        End::OnBlock => {}
+    }
+}
+
+/// The transfer has ended so, and what the page owns no more goes back. Hands out what the ticket
+/// carried.
+pub fn end_transfer<B: Carries>(
+    ticket: Ticket<B>,
+    end: End,
+    pages: &mut Pages,
+    counters: &mut Counters,
+    pool: &mut Pool,
+    slots: &mut Slots,
+) -> B
+    requires stands { (d : Direction) × (p g f b : ℕ) × Stands pages.old.pages p g (moving d f b ticket.number) }
+    requires kept { AreKept counters.old pool.old slots.old pages.old.pages }
+    ensures ends { (d : Direction) (p g f b : ℕ) → Stands pages.old.pages p g (moving d f b ticket.number) → Ends pages.old pages.new p g f b ticket.number end }
+    ensures kept { AreKept counters.new pool.new slots.new pages.new.pages }
+    ensures groups { SameGroups counters.old counters.new }
+    ensures frames { pool.new.frames ≡ pool.old.frames }
+    ensures spares { pool.new.spares ≡ pool.old.spares }
+    ensures blocks { slots.new.blocks ≡ slots.old.blocks }
+    ensures carried { B.bytes result ≡ ticket.bytes }
+{
+    counters.are_counted();
+    let (freed, carried) = pages.settle(ticket, end);
+    match freed {
+        Freed::Slot(slot) => slots.give(slot),
+        Freed::Room(frame, charge) => give_room(frame, charge, counters, pool),
+    }
+    carried
+}
+
+/// The page is in transfer no more, and is the last of those held where it is in its frame.
+pub fn relist(held: &mut HeldPages, moving: &mut Queue, group: GroupId, page: PageId, end: End)
+    requires room { length held.old.numbers < held.old.room.pages }
+    requires group { group.0 < held.old.room.groups }
+    ensures held { JoinsAtEnd end held.old held.new (group, page) }
+    ensures moving { LeavesQueue moving.old moving.new page.0 }
+{
+    moving.remove(page);
+    match end {
+        End::InFrame => held.push(group, page),
+        End::OnBlock => {}
+    }
+}

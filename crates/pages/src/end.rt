@@ -1,0 +1,24 @@
+//! How a transfer ends.
+
+use block_store::Slot;
+use frames::Frame;
+use page_counter::Charge;
+
+/// Where a page is once its transfer has ended: a read-in that succeeds and a write-out that fails end
+/// in its frame, the other two on its block.
+#[derive(Clone, Copy)]
+pub enum End {
+    /// In its frame.
+    InFrame,
+    /// On its block alone.
+    OnBlock,
+}
+
+/// What a page owns no more once its transfer has ended. Each part of it has to be spent.
+#[must_use]
+pub enum Freed {
+    /// The slot, where the page is in its frame.
+    Slot(Slot),
+    /// The frame and its charge, where the page is on its block.
+    Room(Frame, Charge),
+}

@@ -1,0 +1,16 @@
+//! Where a page is.
+
+use machine::id::FrameId;
+
+/// Where a page is.
+#[derive(Clone, Copy, Debug, PartialEq, Eq)]
+pub enum Residence {
+    /// In a frame.
+    Held(FrameId),
+    /// It is being read in.
+    Coming,
+    /// It is being written out.
+    Going,
+    /// On this block alone.
+    Away(u32),
+}
