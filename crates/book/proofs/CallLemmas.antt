@@ -1,5 +1,5 @@
 -- One call: what it answers, and the book after it.
-use Rattle.std.proofs.Common.{◌≡◌, ℕ, ◌+◌, ◌<◌, ◌≤◌, ◌&&◌, Bool, true, false, List, [], ◌∷◌, ◌++◌, None, refl, sym, ap, ◌∙◌, subst, arith, length, length-append, add-one}
+use Rattle.std.proofs.Common.{◌≡◌, ℕ, ◌+◌, ◌<◌, ◌≤◌, Bool, true, false, List, [], ◌∷◌, ◌++◌, None, refl, sym, ap, ◌∙◌, subst, arith, length, length-append, add-one}
 use Rattle.std.specs.Prelude.{slice_index, slice_set, reverse, nat_lt, vec_len, vec_capacity}
 use Rattle.std.proofs.lemmas.List.{reverse-append, length-reverse, length-set}
 use Rattle.std.proofs.lemmas.List.Sums.{length-filter, count_by-le-length}
@@ -12,23 +12,25 @@ use Rattle.machine.specs.declared.event.Query.TheVariants as query
 use Rattle.machine.specs.declared.reply.Reply.{Reply}
 use Rattle.machine.specs.declared.reply.Reply.TheVariants as reply
 use Rattle.machine.specs.declared.id.WorkerId.{WorkerId}
-use Rattle.machine.specs.Pages.{in_transfer, is_coming_in, is_going_out}
+use Rattle.machine.specs.declared.record.Direction.{Direction}
+use Rattle.machine.specs.declared.record.Direction.TheVariants.{In, Out}
+use Rattle.machine.specs.Pages.{in_transfer}
 use Rattle.pages.specs.Tickets.{TicketOf}
 use Rattle.pages.specs.declared.end.End.{End}
 use Rattle.pages.specs.declared.end.End.TheVariants.{InFrame, OnBlock}
-use Rattle.book.specs.Events.{in_ended, out_ended}
+use Rattle.book.specs.Events.{ended}
 use Rattle.machine.specs.Counts.{Counted}
 use Rattle.machine.specs.State.{Opening, State}
 use Rattle.machine.specs.Refusals.{refusal}
 use Rattle.machine.specs.Reclaim.{target_of}
 use Rattle.machine.specs.Step.{Step}
 use Rattle.machine.specs.Lists.{Order, TakesNext, CursorsGoOn, Orders}
-use Rattle.machine.specs.History.{is_by, entries_by, taker}
-use Rattle.machine.specs.Call.{Past, is_worker, knows_ticket, need, is_trace_full, entry_of, Answers, Served, Called}
+use Rattle.machine.specs.History.{is_by, entries_by}
+use Rattle.machine.specs.Call.{Past, Caller, took, knows_pass, need, is_trace_full, entry_of, Answers, Served, Called}
 use Rattle.book.specs.declared.book.Book.TheInside.{Inside}
 use Rattle.page_state.specs.States.{StateOf}
 use Rattle.book.specs.Effects.{counting, counted_after}
-use Rattle.book.specs.Serves.{Serves, IsAsked, is_refused}
+use Rattle.book.specs.MakesStep.{MakesStep, IsAsked, is_refused}
 use Rattle.book.specs.Told.{group_in, counted_in, state_of, IsHistory}
 use Rattle.book.specs.Books.{past_of, IsBook}
 use Rattle.book.specs.declared.decision.Decision.{Decision}
@@ -64,7 +66,7 @@ need-counting s c what = refl
 
 -- and so with the page that is next
 next-counting : (old new : State) (c d : List Counted) (order order' : Order) (target : ℕ) → TakesNext old order target new order' → TakesNext (counting old c) order target (counting new d) order'
-next-counting old new c d order order' target h = record { g = h.g; p = h.p; next = h.next; first = h.first; was = h.was; taken = h.taken; moves = h.moves }
+next-counting old new c d order order' target h = record { g = h.g; next = h.next; takes = record { p = h.takes.p; first = h.takes.first; was = h.takes.was; taken = h.takes.taken }; moves = h.moves }
 
 cursors-counting : (old new : State) (c d : List Counted) (order order' : Order) (what : Event) (answer : Reply) → CursorsGoOn old order what answer new order' → CursorsGoOn (counting old c) order what answer (counting new d) order'
 cursors-counting old new c d order order' (event.Relieve cause) (reply.Out ticket) h = next-counting old new c d order order' (target_of cause) h
@@ -80,24 +82,24 @@ orders-counting old new c d order order' what answer h = (h.0, cursors-counting 
 -- ---- answers of a call
 
 -- an event without a ticket is nobody's
-pub asked-knows : (s : State) (history : List Entry) (worker : ℕ) (what : Event) → IsAsked what → knows_ticket s history worker what ≡ true
-asked-knows s history worker (event.Arrived ticket bytes) asked = absurd asked
-asked-knows s history worker (event.FetchFailed ticket) asked = absurd asked
-asked-knows s history worker (event.Left ticket) asked = absurd asked
-asked-knows s history worker (event.LeaveFailed ticket) asked = absurd asked
-asked-knows s history worker what asked = refl
+pub asked-knows : (s : State) (history : List Entry) (caller : Caller) (what : Event) → IsAsked what → knows_pass s history caller what ≡ true
+asked-knows s history caller (event.Arrived ticket bytes) asked = absurd asked
+asked-knows s history caller (event.FetchFailed ticket) asked = absurd asked
+asked-knows s history caller (event.Left ticket) asked = absurd asked
+asked-knows s history caller (event.LeaveFailed ticket) asked = absurd asked
+asked-knows s history caller what asked = refl
 
-pub called-stranger : (old : Past) (worker : ℕ) (what : Event) → knows_ticket old.state old.history worker what ≡ false → Called old worker what (reply.Refused Stranger) old
-called-stranger old worker what strange = rw strange (refl, refl)
+pub called-stranger : (old : Past) (caller : Caller) (what : Event) → knows_pass old.state old.history caller what ≡ false → Called old caller what (reply.Refused Stranger) old
+called-stranger old caller what strange = rw strange (refl, refl)
 
 -- what is served, where it is no refusal
-served : (old : Past) (worker : ℕ) (what : Event) (answer : Reply) (new : Past) → is_refused answer ≡ false → Answers old worker what answer new → Served old worker what answer new
-served old worker what (reply.Refused why) new e h = cc
-served old worker what answer new e h = h
+served : (old : Past) (caller : Caller) (what : Event) (answer : Reply) (new : Past) → is_refused answer ≡ false → Answers old caller what answer new → Served old caller what answer new
+served old caller what (reply.Refused why) new e h = cc
+served old caller what answer new e h = h
 
-called-served : (old new : Past) (worker : ℕ) (what : Event) (answer : Reply) → knows_ticket old.state old.history worker what ≡ true → refusal old.state what ≡ None → is_trace_full old what ≡ false → is_refused answer ≡ false
-    → Answers old worker what answer new → Called old worker what answer new
-called-served old new worker what answer known none room given h = rw known (rw none (rw room (served old worker what answer new given h)))
+called-served : (old new : Past) (caller : Caller) (what : Event) (answer : Reply) → knows_pass old.state old.history caller what ≡ true → refusal old.state what ≡ None → is_trace_full old what ≡ false → is_refused answer ≡ false
+    → Answers old caller what answer new → Called old caller what answer new
+called-served old new caller what answer known none room given h = rw known (rw none (rw room (served old caller what answer new given h)))
 
 -- ---- in a book
 
@@ -106,7 +108,7 @@ history_of b = reverse b.entries.items
 
 -- the newest entry stands first
 reverse-entries : (entries : List Entry) (counts : List ℕ) (worker : ℕ) (what : Event) (answer : Reply) → slice_index counts worker ≡ length (entries_by worker (reverse entries))
-    → reverse (entries ++ record { worker = record { 0 = worker }; count = slice_index counts worker + 1; event = what; reply = answer } ∷ []) ≡ entry_of worker (reverse entries) what answer ∷ reverse entries
+    → reverse (entries ++ record { worker = record { 0 = worker }; count = slice_index counts worker + 1; event = what; reply = answer } ∷ []) ≡ entry_of (record { worker = worker }) (reverse entries) what answer ∷ reverse entries
 reverse-entries entries counts worker what answer counted =
     reverse-append entries (record { worker = record { 0 = worker }; count = slice_index counts worker + 1; event = what; reply = answer } ∷ [])
     ∙ ap (λ (n : ℕ). record { worker = record { 0 = worker }; count = n + 1; event = what; reply = answer } ∷ reverse entries) counted
@@ -115,7 +117,7 @@ reverse-entries entries counts worker what answer counted =
 few_by : (history : List Entry) (worker : ℕ) → length (entries_by worker history) ≤ length history
 few_by history worker = let same = length-filter (is_by worker) history in let le = count_by-le-length (is_by worker) history in omega (arith, same, le)
 
-pub few_of : (b : Inside) → IsBook b → b.state.tables.opening.limit ≤ 1048576 → (worker : ℕ) → slice_index b.counts.items worker ≤ 1048576
+pub few_of : (b : Inside) → IsBook b → b.state.tables.opening.trace_limit ≤ 1048576 → (worker : ℕ) → slice_index b.counts.items worker ≤ 1048576
 few_of b is limit worker =
     let counted = is.told.counted worker in
     let few = few_by (history_of b) worker in
@@ -153,12 +155,12 @@ fits limit wanted e = grind (arith, nat_tests, e)
 
 -- where an entry extends the history, all entries and all transfers in flight have room
 module _ (b : Inside) (new : StateOf) (worker : ℕ) (what : Event) (answer : Reply) (h : Extending b.state new (history_of b) b.counts.items worker what answer) where
-  pub fits_more : length b.entries.items + 1 + in_transfer new.tables.pages ≤ b.state.tables.opening.limit
+  pub fits_more : length b.entries.items + 1 + in_transfer new.tables.pages ≤ b.state.tables.opening.trace_limit
   fits_more =
       let s = state_of b.state (history_of b) in
-      let full = fits b.state.tables.opening.limit (length (history_of b) + in_transfer b.state.tables.pages + need s what) h.room in
+      let full = fits b.state.tables.opening.trace_limit (length (history_of b) + in_transfer b.state.tables.pages + need s what) h.room in
       let needs = need-counting b.state.tables (counted_in (history_of b)) what in
-      let kept = h.serves.kept in
+      let kept = h.makes_step.kept in
       let all = length-reverse b.entries.items in
       omega (arith, full, needs, kept, all)
 
@@ -175,76 +177,65 @@ module _ (b : Inside) (past : Past) (is : IsBook b) (view_is : past_of b ≡ pas
   passed_in = subst (λ (p : Past). worker < p.passes) (sym view_is) passed
 
   -- an event without a ticket extends the history, where nothing refuses it and there is room
-  pub asks : (answer : Reply) → IsAsked what → refusal b.state.tables what ≡ None → is_trace_full past what ≡ false → Serves b.state worker what answer new → Extending b.state new (history_of b) b.counts.items worker what answer
-  asks answer asked none room serves =
+  pub asks : (answer : Reply) → IsAsked what → refusal b.state.tables what ≡ None → is_trace_full past what ≡ false → MakesStep b.state worker what answer new → Extending b.state new (history_of b) b.counts.items worker what answer
+  asks answer asked none room makes_step =
       record {
         told = is.told;
         passed = passed_in;
-        known = asked-knows (state_of b.state (history_of b)) (history_of b) worker what asked;
+        known = asked-knows (state_of b.state (history_of b)) (history_of b) (record { worker = worker }) what asked;
         none = refusal-counting b.state.tables (counted_in (history_of b)) what ∙ none;
         room = subst (λ (p : Past). is_trace_full p what ≡ false) (sym view_is) room;
-        serves = serves;
+        makes_step = makes_step;
       }
 
   -- an ending extends the history, as it needs no room but that which was kept for it
-  pub ends : knows_ticket past.state past.history worker what ≡ true → refusal (state_of b.state (history_of b)) what ≡ None → need (state_of b.state (history_of b)) what ≡ 0
-      → Serves b.state worker what reply.Ok new → Extending b.state new (history_of b) b.counts.items worker what reply.Ok
-  ends known none free serves =
+  pub ends : knows_pass past.state past.history (record { worker = worker }) what ≡ true → refusal (state_of b.state (history_of b)) what ≡ None → need (state_of b.state (history_of b)) what ≡ 0
+      → MakesStep b.state worker what reply.Ok new → Extending b.state new (history_of b) b.counts.items worker what reply.Ok
+  ends known none free makes_step =
       record {
         told = is.told;
         passed = passed_in;
-        known = subst (λ (p : Past). knows_ticket p.state p.history worker what ≡ true) (sym view_is) known;
+        known = subst (λ (p : Past). knows_pass p.state p.history (record { worker = worker }) what ≡ true) (sym view_is) known;
         none = none;
-        room = not_full b.state.tables.opening.limit (length (history_of b) + in_transfer b.state.tables.pages + need (state_of b.state (history_of b)) what)
+        room = not_full b.state.tables.opening.trace_limit (length (history_of b) + in_transfer b.state.tables.pages + need (state_of b.state (history_of b)) what)
             (let within = is.within in let all = length-reverse b.entries.items in omega (arith, within, all, free));
-        serves = serves;
+        makes_step = makes_step;
       }
 
 -- whether the trace is full for a decision is whether it is so for its event
 pub full-decided : (b : Inside) (past : Past) → past_of b ≡ past → (what : Event) (decided : Decision) → IsDecided b.state what decided → (n : ℕ) → n ≡ entries_for decided → (full : Bool)
-    → full ≡ nat_lt past.state.opening.limit (length past.history + in_transfer past.state.pages + n) → full ≡ is_trace_full past what
+    → full ≡ nat_lt past.state.opening.trace_limit (length past.history + in_transfer past.state.pages + n) → full ≡ is_trace_full past what
 full-decided b past view_is what decided is n entries full e =
-    e ∙ ap (λ (k : ℕ). nat_lt past.state.opening.limit (length past.history + in_transfer past.state.pages + k)) (entries ∙ entries-needed b.state what decided is ∙ ap (λ (p : Past). need p.state what) view_is)
+    e ∙ ap (λ (k : ℕ). nat_lt past.state.opening.trace_limit (length past.history + in_transfer past.state.pages + k)) (entries ∙ entries-needed b.state what decided is ∙ ap (λ (p : Past). need p.state what) view_is)
 
-pub called-full : (b : Inside) (past : Past) → past_of b ≡ past → (worker : ℕ) (what : Event) → IsAsked what → refusal b.state.tables what ≡ None → is_trace_full past what ≡ true
-    → Called past worker what (reply.Refused TraceFull) past
-called-full b past view_is worker what asked none full =
-    let known = asked-knows past.state past.history worker what asked in
+pub called-full : (b : Inside) (past : Past) → past_of b ≡ past → (caller : Caller) (what : Event) → IsAsked what → refusal b.state.tables what ≡ None → is_trace_full past what ≡ true
+    → Called past caller what (reply.Refused TraceFull) past
+called-full b past view_is caller what asked none full =
+    let known = asked-knows past.state past.history caller what asked in
     let unrefused : refusal past.state what ≡ None = sym (ap (λ (p : Past). refusal p.state what) view_is) ∙ refusal-counting b.state.tables (counted_in (history_of b)) what ∙ none in
     rw known (rw unrefused (rw full (refl, refl)))
 
 -- ---- endings
 
-module _ (past : Past) (worker : ℕ) (end : End) (ticket : TicketOf) where
-  pub in-known : knows_ticket past.state past.history worker (in_ended end ticket) ≡ (is_coming_in past.state.pages ticket.number && is_worker worker (taker ticket.number past.history))
-  in-known = by_end end
-    where
-      by_end : (end : End) → knows_ticket past.state past.history worker (in_ended end ticket) ≡ (is_coming_in past.state.pages ticket.number && is_worker worker (taker ticket.number past.history))
-      by_end InFrame = refl
-      by_end OnBlock = refl
+-- whoever took the ticket may end its transfer, in its direction
+pub ended-known : (past : Past) (caller : Caller) (direction : Direction) (end : End) (ticket : TicketOf)
+    → knows_pass past.state past.history caller (ended direction end ticket) ≡ took past.state.pages past.history caller direction ticket.number
+ended-known past caller In InFrame ticket = refl
+ended-known past caller In OnBlock ticket = refl
+ended-known past caller Out InFrame ticket = refl
+ended-known past caller Out OnBlock ticket = refl
 
-  pub out-known : knows_ticket past.state past.history worker (out_ended end ticket) ≡ (is_going_out past.state.pages ticket.number && is_worker worker (taker ticket.number past.history))
-  out-known = by_end end
-    where
-      by_end : (end : End) → knows_ticket past.state past.history worker (out_ended end ticket) ≡ (is_going_out past.state.pages ticket.number && is_worker worker (taker ticket.number past.history))
-      by_end InFrame = refl
-      by_end OnBlock = refl
+pub ended-none : (s : State) (direction : Direction) (end : End) (ticket : TicketOf) → refusal s (ended direction end ticket) ≡ None
+ended-none s In InFrame ticket = refl
+ended-none s In OnBlock ticket = refl
+ended-none s Out InFrame ticket = refl
+ended-none s Out OnBlock ticket = refl
 
-pub in-none : (s : State) (end : End) (ticket : TicketOf) → refusal s (in_ended end ticket) ≡ None
-in-none s InFrame ticket = refl
-in-none s OnBlock ticket = refl
-
-pub in-free : (s : State) (end : End) (ticket : TicketOf) → need s (in_ended end ticket) ≡ 0
-in-free s InFrame ticket = refl
-in-free s OnBlock ticket = refl
-
-pub out-none : (s : State) (end : End) (ticket : TicketOf) → refusal s (out_ended end ticket) ≡ None
-out-none s InFrame ticket = refl
-out-none s OnBlock ticket = refl
-
-pub out-free : (s : State) (end : End) (ticket : TicketOf) → need s (out_ended end ticket) ≡ 0
-out-free s InFrame ticket = refl
-out-free s OnBlock ticket = refl
+pub ended-free : (s : State) (direction : Direction) (end : End) (ticket : TicketOf) → need s (ended direction end ticket) ≡ 0
+ended-free s In InFrame ticket = refl
+ended-free s In OnBlock ticket = refl
+ended-free s Out InFrame ticket = refl
+ended-free s Out OnBlock ticket = refl
 
 -- ---- the book after it
 
@@ -255,32 +246,32 @@ pub record Appends (b c : Inside) (w : WorkerId) (what : Event) (answer : Reply)
   pub counts : c.counts.items ≡ slice_set b.counts.items w.0 (slice_index b.counts.items w.0 + 1)
 
 module _ (b c : Inside) (w : WorkerId) (what : Event) (answer : Reply) (is : IsBook b) (h : Extending b.state c.state (history_of b) b.counts.items w.0 what answer) (appends : Appends b c w what answer) where
-  history_is : history_of c ≡ entry_of w.0 (history_of b) what answer ∷ history_of b
+  history_is : history_of c ≡ entry_of (record { worker = w.0 }) (history_of b) what answer ∷ history_of b
   history_is = ap reverse appends.entries ∙ reverse-entries b.entries.items b.counts.items w.0 what answer (is.told.counted w.0)
 
   pub told_more : IsHistory c.state (history_of c) c.counts.items
   told_more =
       subst (λ (h : List Entry). IsHistory c.state h c.counts.items) (sym history_is)
-      (subst (λ (counts : List ℕ). IsHistory c.state (entry_of w.0 (history_of b) what answer ∷ history_of b) counts) (sym appends.counts) (extends b.state c.state (history_of b) b.counts.items w.0 what answer h))
+      (subst (λ (counts : List ℕ). IsHistory c.state (entry_of (record { worker = w.0 }) (history_of b) what answer ∷ history_of b) counts) (sym appends.counts) (extends b.state c.state (history_of b) b.counts.items w.0 what answer h))
 
   pub longer : length (history_of c) ≡ length b.entries.items + 1
   longer = let more = ap length history_is in let all = length-reverse b.entries.items in let one = add-one (length (history_of b)) in omega (arith, more, all, one)
 
-  answers_more : Answers (past_of b) w.0 what answer (past_of c)
+  answers_more : Answers (past_of b) (record { worker = w.0 }) what answer (past_of c)
   answers_more =
       record {
         steps = subst (λ (h : List Entry). Step (state_of b.state (history_of b)) what answer (state_of c.state h)) (sym history_is) (steps_on b.state c.state (history_of b) b.counts.items w.0 what answer h);
-        order = orders-counting b.state.tables c.state.tables (counted_in (history_of b)) (counted_in (history_of c)) b.state.order c.state.order what answer h.serves.orders;
+        order = orders-counting b.state.tables c.state.tables (counted_in (history_of b)) (counted_in (history_of c)) b.state.order c.state.order what answer h.makes_step.orders;
         history = history_is;
         passes = ap length appends.counts ∙ length-set b.counts.items w.0 (slice_index b.counts.items w.0 + 1);
       }
 
-  pub called_more : Called (past_of b) w.0 what answer (past_of c)
-  called_more = called-served (past_of b) (past_of c) w.0 what answer h.known h.none h.room h.serves.given answers_more
+  pub called_more : Called (past_of b) (record { worker = w.0 }) what answer (past_of c)
+  called_more = called-served (past_of b) (past_of c) (record { worker = w.0 }) what answer h.known h.none h.room h.makes_step.given answers_more
 
   pub book_more : IsBook c
   book_more =
-      let same = ap (λ (o : Opening). o.limit) h.serves.opening in
+      let same = ap (λ (o : Opening). o.trace_limit) h.makes_step.opening in
       record {
         told = told_more;
         within = (let more = ap length appends.entries ∙ length-append b.entries.items _ in let fits = fits_more b c.state w.0 what answer h in omega (arith, more, fits, same));

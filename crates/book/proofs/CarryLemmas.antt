@@ -1,11 +1,11 @@
 -- What was decided and done is an answer to every event that the decision is one for.
-use Rattle.std.proofs.Common.{◌≡◌, ◌∙◌, inl, inr, ℕ, ◌++◌, ◌∷◌, [], true, false, List, Some, None, refl, sym, ap, subst}
+use Rattle.std.proofs.Common.{◌≡◌, ◌∙◌, ℕ, ◌++◌, ◌∷◌, [], true, false, List, Some, None, refl, sym, ap, subst}
 use Rattle.machine.specs.declared.id.GroupId.{GroupId}
 use Rattle.machine.specs.declared.id.TaskId.{TaskId}
 use Rattle.machine.specs.declared.id.PageId.{PageId}
 use Rattle.machine.specs.declared.id.FrameId.{FrameId}
 use Rattle.machine.specs.declared.record.Key.TheVariants as key
-use Rattle.machine.specs.declared.record.Life.TheVariants.{Live, Exited, Killed}
+use Rattle.machine.specs.declared.record.Life.TheVariants.{Exited, Killed}
 use Rattle.machine.specs.declared.event.Place.TheVariants.{Virtual}
 use Rattle.machine.specs.declared.event.Op.{Op}
 use Rattle.machine.specs.declared.event.Op.TheVariants.{Read, Write}
@@ -20,16 +20,15 @@ use Rattle.machine.specs.Tasks.{group_of_task}
 use Rattle.machine.specs.State.{over_in}
 use Rattle.machine.specs.Reclaim.{has_takeable, has_transfer}
 use Rattle.machine.specs.Victim.{IsVictim}
-use Rattle.machine.specs.Refusals.{refusal}
 use Rattle.machine.specs.Step.{count_of, shown_of, with_setting}
-use Rattle.pages.specs.PageTable.{byte_in, Stands}
+use Rattle.pages.specs.PagesOf.{byte_in, Stands}
 use Rattle.pages.specs.Tickets.{TicketOf}
 use Rattle.pages.specs.Transfers.{given_ticket}
-use Rattle.events.specs.Tallies.{Tallies, Tells}
+use Rattle.memory_events.specs.Tallies.{Tallies, Tells}
 use Rattle.page_state.specs.declared.room.NoRoom.TheVariants as lacks
 use Rattle.page_state.specs.States.{StateOf}
 use Rattle.page_state.specs.Mapped.{AreMapped}
-use Rattle.page_state.specs.Changes.{CountsEvent, MakesPage, WritesByte, BeginsReadIn, BeginsWriteOut, StartsTask, LeavesOthers, EndsTask, AddsGroup, sets_limits}
+use Rattle.page_state.specs.Changes.{CountsEvent, MakesPage, WritesByte, BeginsReadIn, BeginsWriteOut, StartsTask, EndsTask, AddsGroup, sets_limits}
 use Rattle.page_state.proofs.OrderLemmas.{InOrder}
 use Rattle.page_state.proofs.TallyLemmas.{tells-two}
 use Rattle.book.specs.declared.event.Reply.{Reply as Given}
@@ -41,13 +40,12 @@ use Rattle.book.specs.declared.decision.Decision.TheVariants as decision
 use Rattle.book.specs.Events.{reply_of}
 use Rattle.book.specs.Replies.{IsAccessReply}
 use Rattle.book.specs.Effects.{counting}
-use Rattle.book.specs.Serves.{Serves, GivesTicket}
+use Rattle.book.specs.MakesStep.{MakesStep, GivesTicket}
 use Rattle.book.specs.Decisions.{IsTouch, NeedsCharge, ForNew, ForAway, MeetsSo, IsIdleFor, IsOfKilled, AsksPage, WantsRoom, HasItsRoom, FindsNothing, AnswersTo, Carries}
-use Rattle.book.proofs.ServeLemmas.{serves-mkdir, serves-set, serves-show, serves-killed, serves-unmapped, serves-hit_read, serves-coming, serves-going, serves-over, serves-no_frame, unmapped-over, unmapped-no_frame, away-over, away-no_frame, serves-room, serves-wait, serves-no_victim, serves-reclaim_wait, serves-nothing, serves-exit_killed}
-use Rattle.book.proofs.MoveLemmas.{serves-fetch, serves-taken, replies-out}
-use Rattle.book.proofs.TouchLemmas.{serves-hit_write, serves-made, serves-spawn}
-use Rattle.book.proofs.EndLemmas.{serves-kill, serves-exit}
-use Rattle.book.proofs.JudgeLemmas.{spawn-unused}
+use Rattle.book.proofs.StepLemmas.{makes_step-mkdir, makes_step-set, makes_step-show, makes_step-killed, makes_step-unmapped, makes_step-hit_read, makes_step-busy, makes_step-over, makes_step-no_frame, unmapped-over, unmapped-no_frame, away-over, away-no_frame, makes_step-room, makes_step-wait, makes_step-no_victim, makes_step-reclaim_wait, makes_step-nothing, makes_step-exit_killed}
+use Rattle.book.proofs.MoveLemmas.{makes_step-fetch, makes_step-taken, replies-out}
+use Rattle.book.proofs.TouchLemmas.{makes_step-hit_write, makes_step-made, makes_step-spawn}
+use Rattle.book.proofs.EndLemmas.{makes_step-kill, makes_step-exit}
 
 -- to an event that is this one
 answers-to : (old new : StateOf) (worker entry : ℕ) (what other : Event) (said : Given) → what ≡ other → AnswersTo old worker entry other said new → AnswersTo old worker entry what said new
@@ -62,8 +60,8 @@ pub carries-killed : (s : StateOf) (worker entry : ℕ) → InOrder s → Carrie
 carries-killed s worker entry listed what is = by_event what is.fits
   where
     by_event : (what : Event) → IsOfKilled s.tables what → AnswersTo s worker entry what given.Killed s
-    by_event (event.Access t place op) k = record { serves = serves-killed s worker t.0 place op k.0 k.1 k.2 listed; gives = tt; replies = tt }
-    by_event (event.Exit t) k = record { serves = serves-exit_killed s worker t.0 k.0 k.1 k.2 listed; gives = tt; replies = tt }
+    by_event (event.Access t place op) k = record { makes_step = makes_step-killed s worker t.0 place op k.0 k.1 k.2 listed; gives = tt; replies = tt }
+    by_event (event.Exit t) k = record { makes_step = makes_step-exit_killed s worker t.0 k.0 k.1 k.2 listed; gives = tt; replies = tt }
     by_event other k = absurd k
 
 -- ---- accesses
@@ -72,59 +70,57 @@ module _ (old new : StateOf) (worker entry : ℕ) (touch : Touch) where
   abbrev accessed : Event
   accessed = event.Access touch.task (Virtual touch.at touch.offset) touch.op
 
-  carries-access : (met : Meeting) (said : Given) → Serves old worker accessed (reply_of said) new → GivesTicket new worker entry said → IsAccessReply said → Carries old worker entry (decision.Access touch met) said new
-  carries-access met said serves gives replies what is = answers-to old new worker entry what accessed said is.fits (record { serves = serves; gives = gives; replies = replies })
+  carries-access : (met : Meeting) (said : Given) → MakesStep old worker accessed (reply_of said) new → GivesTicket new worker entry said → IsAccessReply said → Carries old worker entry (decision.Access touch met) said new
+  carries-access met said makes_step gives replies what is = answers-to old new worker entry what accessed said is.fits (record { makes_step = makes_step; gives = gives; replies = replies })
 
 pub carries-unmapped : (s : StateOf) (worker entry : ℕ) (touch : Touch) → InOrder s → IsTouch s.tables touch → MeetsSo s.tables touch meeting.Unmapped
     → Carries s worker entry (decision.Access touch meeting.Unmapped) (given.Done 0 None) s
 carries-unmapped s worker entry touch listed is meets =
     carries-access s s worker entry touch meeting.Unmapped (given.Done 0 None)
-    (subst (λ (op : Op). Serves s worker (event.Access touch.task (Virtual touch.at touch.offset) op) (reply_of (given.Done 0 None)) s) (sym meets.0)
-    (serves-unmapped s worker touch.task.0 touch.at touch.offset is.task is.known is.live meets.1 is.within listed))
+    (subst (λ (op : Op). MakesStep s worker (event.Access touch.task (Virtual touch.at touch.offset) op) (reply_of (given.Done 0 None)) s) (sym meets.0)
+    (makes_step-unmapped s worker touch.task.0 touch.at touch.offset is.task is.known is.live meets.1 is.within listed))
     tt tt
 
 pub carries-hit_read : (s : StateOf) (worker entry : ℕ) (touch : Touch) (page : PageId) (frame : FrameId) (byte : ℕ) → InOrder s → IsTouch s.tables touch → MeetsSo s.tables touch (meeting.Hits page frame) → touch.op ≡ Read
     → byte ≡ byte_in s.bytes page.0 touch.offset → Carries s worker entry (decision.Access touch (meeting.Hits page frame)) (given.Done byte (Some frame)) s
 carries-hit_read s worker entry touch page frame byte listed is meets read same =
     carries-access s s worker entry touch (meeting.Hits page frame) (given.Done byte (Some frame))
-    (subst (λ (op : Op). Serves s worker (event.Access touch.task (Virtual touch.at touch.offset) op) (reply_of (given.Done byte (Some frame))) s) (sym read)
-    (subst (λ (b : ℕ). Serves s worker (event.Access touch.task (Virtual touch.at touch.offset) Read) (reply_of (given.Done b (Some frame))) s) (sym same)
-    (serves-hit_read s worker touch.task.0 touch.at touch.offset page.0 meets.0 frame.0 is.task is.known is.live meets.1 meets.2 is.within listed)))
+    (subst (λ (op : Op). MakesStep s worker (event.Access touch.task (Virtual touch.at touch.offset) op) (reply_of (given.Done byte (Some frame))) s) (sym read)
+    (subst (λ (b : ℕ). MakesStep s worker (event.Access touch.task (Virtual touch.at touch.offset) Read) (reply_of (given.Done b (Some frame))) s) (sym same)
+    (makes_step-hit_read s worker touch.task.0 touch.at touch.offset page.0 meets.0 frame.0 is.task is.known is.live meets.1 meets.2 is.within listed)))
     tt tt
 
-pub carries-hit_write : (old new : StateOf) (worker entry : ℕ) (touch : Touch) (page : PageId) (frame : FrameId) (byte : ℕ) → AreMapped old.tables.pages old.tables.tasks old.tables.mappings → InOrder old → IsTouch old.tables touch
+pub carries-hit_write : (old new : StateOf) (worker entry : ℕ) (touch : Touch) (page : PageId) (frame : FrameId) (byte : ℕ) → AreMapped old.tables.pages old.tables.page_tables → InOrder old → IsTouch old.tables touch
     → MeetsSo old.tables touch (meeting.Hits page frame) → touch.op ≡ Write byte → WritesByte old new page.0 touch.offset byte → Carries old worker entry (decision.Access touch (meeting.Hits page frame)) (given.Done byte (Some frame)) new
 carries-hit_write old new worker entry touch page frame byte mapped listed is meets write writes =
     carries-access old new worker entry touch (meeting.Hits page frame) (given.Done byte (Some frame))
-    (subst (λ (op : Op). Serves old worker (event.Access touch.task (Virtual touch.at touch.offset) op) (reply_of (given.Done byte (Some frame))) new) (sym write)
-    (serves-hit_write old new worker touch.task.0 touch.at touch.offset byte page.0 meets.0 frame.0 is.task mapped is.known is.live meets.1 meets.2
+    (subst (λ (op : Op). MakesStep old worker (event.Access touch.task (Virtual touch.at touch.offset) op) (reply_of (given.Done byte (Some frame))) new) (sym write)
+    (makes_step-hit_write old new worker touch.task.0 touch.at touch.offset byte page.0 meets.0 frame.0 is.task mapped is.known is.live meets.1 meets.2
     writes.tables writes.bytes writes.flights listed writes.order (tallies-kept old.tallies new.tallies writes.tallies)))
     tt tt
 
 pub carries-busy : (s : StateOf) (worker entry : ℕ) (touch : Touch) → InOrder s → IsTouch s.tables touch → MeetsSo s.tables touch meeting.Transferring
     → Carries s worker entry (decision.Access touch meeting.Transferring) given.Busy s
-carries-busy s worker entry touch listed is (p, g, f, b, n, shown, inl coming) =
-    carries-access s s worker entry touch meeting.Transferring given.Busy (serves-coming s worker touch.task.0 touch.at touch.offset p g f b n touch.op is.task is.known is.live shown coming listed) tt tt
-carries-busy s worker entry touch listed is (p, g, f, b, n, shown, inr going) =
-    carries-access s s worker entry touch meeting.Transferring given.Busy (serves-going s worker touch.task.0 touch.at touch.offset p g f b n touch.op is.task is.known is.live shown going listed) tt tt
+carries-busy s worker entry touch listed is (direction, p, g, f, b, n, shown, stands) =
+    carries-access s s worker entry touch meeting.Transferring given.Busy (makes_step-busy s worker touch.task.0 touch.at touch.offset p g f b n direction touch.op is.task is.known is.live shown stands listed) tt tt
 
-pub carries-made : (old new : StateOf) (worker entry : ℕ) (touch : Touch) (byte : ℕ) → AreMapped old.tables.pages old.tables.tasks old.tables.mappings → IsTouch old.tables touch
+pub carries-made : (old new : StateOf) (worker entry : ℕ) (touch : Touch) (byte : ℕ) → AreMapped old.tables.pages old.tables.page_tables → IsTouch old.tables touch
     → MeetsSo old.tables touch (meeting.NeedsPage byte) → MakesPage old new touch.task.0 touch.at touch.group.0 touch.offset byte → Carries old worker entry (decision.Access touch (meeting.NeedsPage byte)) (given.Done byte None) new
 carries-made old new worker entry touch byte mapped is meets makes =
     carries-access old new worker entry touch (meeting.NeedsPage byte) (given.Done byte None)
-    (subst (λ (op : Op). Serves old worker (event.Access touch.task (Virtual touch.at touch.offset) op) (reply_of (given.Done byte None)) new) (sym meets.0)
-    (serves-made old new worker touch.task.0 touch.at touch.offset byte own.page own.frame is.task mapped is.known is.live meets.1
-    (ap (λ (g : GroupId). over_in old.tables g.0) is.group ∙ meets.2.under) meets.2.free own.frame_free own.number_free own.placed own.tables own.bytes own.flights own.held own.cursors (tallies-kept old.tallies new.tallies own.tallies)))
+    (subst (λ (op : Op). MakesStep old worker (event.Access touch.task (Virtual touch.at touch.offset) op) (reply_of (given.Done byte None)) new) (sym meets.0)
+    (makes_step-made old new worker touch.task.0 touch.at touch.offset byte own.page own.frame is.task mapped is.known is.live meets.1
+    (ap (λ (g : GroupId). over_in old.tables g.0) is.group ∙ meets.2.under) meets.2.free own.frame_free own.number_free own.placed own.shown own.tables own.bytes own.flights own.held own.cursors (tallies-kept old.tallies new.tallies own.tallies)))
     tt tt
   where
     own : MakesPage old new touch.task.0 touch.at is.task.group.0 touch.offset byte
     own = subst (λ (g : GroupId). MakesPage old new touch.task.0 touch.at g.0 touch.offset byte) (sym is.group) makes
 
-pub carries-fetch : (old new : StateOf) (worker entry : ℕ) (touch : Touch) (page : PageId) (ticket : TicketOf) → AreMapped old.tables.pages old.tables.tasks old.tables.mappings → IsTouch old.tables touch
+pub carries-fetch : (old new : StateOf) (worker entry : ℕ) (touch : Touch) (page : PageId) (ticket : TicketOf) → AreMapped old.tables.pages old.tables.page_tables → IsTouch old.tables touch
     → (meets : MeetsSo old.tables touch (meeting.NeedsSwapIn page)) → BeginsReadIn old new page.0 meets.0 meets.1 worker entry ticket → Carries old worker entry (decision.Access touch (meeting.NeedsSwapIn page)) (given.Fetch ticket) new
 carries-fetch old new worker entry touch page ticket mapped is meets begins =
     carries-access old new worker entry touch (meeting.NeedsSwapIn page) (given.Fetch ticket)
-    (serves-fetch old new worker touch.task.0 touch.at touch.offset page.0 meets.0 begins.frame meets.1 ticket.number touch.op is.task mapped is.known is.live meets.2 meets.3 meets.4.under meets.4.free begins.frame_free
+    (makes_step-fetch old new worker touch.task.0 touch.at touch.offset page.0 meets.0 begins.frame meets.1 ticket.number touch.op is.task mapped is.known is.live meets.2 meets.3 meets.4.under meets.4.free begins.frame_free
     begins.ticket_free begins.placed begins.tables begins.bytes begins.listed begins.held begins.cursors (tallies-kept old.tallies new.tallies begins.tallies)) (
       page.0,
       meets.0,
@@ -142,14 +138,14 @@ carries-over old new worker entry touch a listed is (g, needs, full) counts =
     tables : new.tables ≡ old.tables
     tables = ap (λ (s : StateOf). s.tables) counts.others
 
-    by_need : NeedsCharge old.tables touch g → Serves old worker (event.Access touch.task (Virtual touch.at touch.offset) touch.op) (reply_of (given.Over a)) new
+    by_need : NeedsCharge old.tables touch g → MakesStep old worker (event.Access touch.task (Virtual touch.at touch.offset) touch.op) (reply_of (given.Over a)) new
     by_need (ForNew byte write none own) =
-        subst (λ (op : Op). Serves old worker (event.Access touch.task (Virtual touch.at touch.offset) op) (reply_of (given.Over a)) new) (sym write)
-        (serves-over old new worker touch.task.0 touch.at touch.offset a.0 (Write byte) is.task is.known is.live
+        subst (λ (op : Op). MakesStep old worker (event.Access touch.task (Virtual touch.at touch.offset) op) (reply_of (given.Over a)) new) (sym write)
+        (makes_step-over old new worker touch.task.0 touch.at touch.offset a.0 (Write byte) is.task is.known is.live
         (unmapped-over old.tables touch.task.0 touch.at touch.offset byte is.task.group.0 a.0 none (ap (λ (h : GroupId). over_in old.tables h.0) is.group ∙ ap (over_in old.tables) (sym own) ∙ full.0))
         tables (ap (λ (s : StateOf). s.bytes) counts.others) (ap (λ (s : StateOf). s.flights) counts.others) listed (ap (λ (s : StateOf). s.order) counts.others) counts.tallied)
     by_need (ForAway p block shown away) =
-        serves-over old new worker touch.task.0 touch.at touch.offset a.0 touch.op is.task is.known is.live
+        makes_step-over old new worker touch.task.0 touch.at touch.offset a.0 touch.op is.task is.known is.live
         (away-over old.tables touch.task.0 touch.at touch.offset p g is.task.group.0 block a.0 touch.op shown away full.0)
         tables (ap (λ (s : StateOf). s.bytes) counts.others) (ap (λ (s : StateOf). s.flights) counts.others) listed (ap (λ (s : StateOf). s.order) counts.others) counts.tallied
 
@@ -158,14 +154,14 @@ pub carries-no_frame : (s : StateOf) (worker entry : ℕ) (touch : Touch) → In
 carries-no_frame s worker entry touch listed is (g, needs, full) =
     carries-access s s worker entry touch (meeting.Lacks lacks.NoFrame) given.NoFrame (by_need needs) tt tt
   where
-    by_need : NeedsCharge s.tables touch g → Serves s worker (event.Access touch.task (Virtual touch.at touch.offset) touch.op) (reply_of given.NoFrame) s
+    by_need : NeedsCharge s.tables touch g → MakesStep s worker (event.Access touch.task (Virtual touch.at touch.offset) touch.op) (reply_of given.NoFrame) s
     by_need (ForNew byte write none own) =
-        subst (λ (op : Op). Serves s worker (event.Access touch.task (Virtual touch.at touch.offset) op) (reply_of given.NoFrame) s) (sym write)
-        (serves-no_frame s s worker touch.task.0 touch.at touch.offset (Write byte) is.task is.known is.live
+        subst (λ (op : Op). MakesStep s worker (event.Access touch.task (Virtual touch.at touch.offset) op) (reply_of given.NoFrame) s) (sym write)
+        (makes_step-no_frame s s worker touch.task.0 touch.at touch.offset (Write byte) is.task is.known is.live
         (unmapped-no_frame s.tables touch.task.0 touch.at touch.offset byte is.task.group.0 none (ap (λ (h : GroupId). over_in s.tables h.0) is.group ∙ ap (over_in s.tables) (sym own) ∙ full.0) full.1)
         refl refl refl listed refl (λ counted told. told))
     by_need (ForAway p block shown away) =
-        serves-no_frame s s worker touch.task.0 touch.at touch.offset touch.op is.task is.known is.live
+        makes_step-no_frame s s worker touch.task.0 touch.at touch.offset touch.op is.task is.known is.live
         (away-no_frame s.tables touch.task.0 touch.at touch.offset p g is.task.group.0 block touch.op shown away full.0 full.1)
         refl refl refl listed refl (λ counted told. told)
 
@@ -175,13 +171,13 @@ pub carries-room : (s : StateOf) (worker entry : ℕ) → InOrder s → Carries 
 carries-room s worker entry listed what is = by_event what is.fits
   where
     by_event : (what : Event) → HasItsRoom s.tables what → AnswersTo s worker entry what given.Room s
-    by_event (event.Relieve why) met = record { serves = serves-room s worker why met listed; gives = tt; replies = tt }
+    by_event (event.Relieve why) met = record { makes_step = makes_step-room s worker why met listed; gives = tt; replies = tt }
     by_event other met = absurd met
 
 pub carries-out : (old new : StateOf) (worker entry : ℕ) (target g : GroupId) (ticket : TicketOf) → BeginsWriteOut old new target.0 worker entry ticket → Carries old worker entry (decision.Take target g) (given.Out ticket) new
 carries-out old new worker entry target g ticket begins what is =
     record {
-      serves = serves-taken old new target.0 worker entry ticket begins what is.fits;
+      makes_step = makes_step-taken old new target.0 worker entry ticket begins what is.fits;
       gives = (begins.p, begins.g, begins.frame, begins.placed.changed, begins.given, begins.holds);
       replies = replies-out old.tables what target.0 ticket is.fits;
     }
@@ -192,19 +188,19 @@ carries-wait s worker entry listed what is = by_event what is.fits.0 is.fits.1 i
     by_event : (what : Event) (target : ℕ) → AsksPage s.tables what target → has_takeable s.tables target ≡ false → has_transfer s.tables target ≡ true → AnswersTo s worker entry what given.Wait s
     by_event (event.Relieve why) target asks none some =
         record {
-          serves = serves-wait s worker why asks.0 (ap (has_takeable s.tables) asks.1 ∙ none) (ap (has_transfer s.tables) asks.1 ∙ some) listed;
+          makes_step = makes_step-wait s worker why asks.0 (ap (has_takeable s.tables) asks.1 ∙ none) (ap (has_transfer s.tables) asks.1 ∙ some) listed;
           gives = tt;
           replies = tt;
         }
     by_event (event.ReclaimOne g) target asks none some =
-        record { serves = serves-reclaim_wait s worker g.0 (ap (has_takeable s.tables) asks ∙ none) (ap (has_transfer s.tables) asks ∙ some) listed; gives = tt; replies = tt }
+        record { makes_step = makes_step-reclaim_wait s worker g.0 (ap (has_takeable s.tables) asks ∙ none) (ap (has_transfer s.tables) asks ∙ some) listed; gives = tt; replies = tt }
     by_event other target asks none some = absurd asks
 
 pub carries-nothing : (s : StateOf) (worker entry : ℕ) → InOrder s → Carries s worker entry decision.Nothing given.Nothing s
 carries-nothing s worker entry listed what is = by_event what is.fits
   where
     by_event : (what : Event) → FindsNothing s.tables what → AnswersTo s worker entry what given.Nothing s
-    by_event (event.ReclaimOne g) idle = record { serves = serves-nothing s worker g.0 idle.untakeable idle.settled listed; gives = tt; replies = tt }
+    by_event (event.ReclaimOne g) idle = record { makes_step = makes_step-nothing s worker g.0 idle.untakeable idle.settled listed; gives = tt; replies = tt }
     by_event other idle = absurd idle
 
 pub carries-no_victim : (old new : StateOf) (worker entry : ℕ) (limit : GroupId) → InOrder old → CountsEvent old new limit.0 key.Oom → Carries old worker entry (decision.NoVictim limit) given.NoVictim new
@@ -216,8 +212,8 @@ carries-no_victim old new worker entry limit listed counts what is = by_event wh
     by_event : (what : Event) → WantsRoom old.tables what limit.0 → AnswersTo old worker entry what given.NoVictim new
     by_event (event.Relieve why) wants =
         record {
-          serves = serves-no_victim old new worker why wants.0 (ap (has_takeable old.tables) wants.1 ∙ idle.untakeable) (ap (has_transfer old.tables) wants.1 ∙ idle.settled)
-              (subst (λ (l : ℕ). IsVictim old.tables.tree old.tables.tasks old.tables.mappings l None) (sym wants.1) is.sound.2)
+          makes_step = makes_step-no_victim old new worker why wants.0 (ap (has_takeable old.tables) wants.1 ∙ idle.untakeable) (ap (has_transfer old.tables) wants.1 ∙ idle.settled)
+              (subst (λ (l : ℕ). IsVictim old.tables.tree old.tables.tasks old.tables.page_tables l None) (sym wants.1) is.sound.2)
               (ap (λ (s : StateOf). s.tables) counts.others) (ap (λ (s : StateOf). s.bytes) counts.others) (ap (λ (s : StateOf). s.flights) counts.others) listed (ap (λ (s : StateOf). s.order) counts.others)
               (subst (λ (l : ℕ). (counted : List Counted) → Tells old.tallies counted → Tells new.tallies (counted ++ count_of l key.Oom ∷ [])) (sym wants.1) counts.tallied);
           gives = tt;
@@ -226,9 +222,9 @@ carries-no_victim old new worker entry limit listed counts what is = by_event wh
     by_event other wants = absurd wants
 
 -- a task is killed: two events are counted, and then it ends
-pub carries-kill : (old first second new : StateOf) (worker entry : ℕ) (limit : GroupId) (t : TaskId) (g : ℕ) → CountsEvent old first limit.0 key.Oom → CountsEvent first second g key.OomKill → group_of_task old.tables.tasks t.0 ≡ g
+pub carries-kill : (old first second new : StateOf) (worker entry : ℕ) (limit : GroupId) (t : TaskId) (g : ℕ) → AreMapped old.tables.pages old.tables.page_tables → CountsEvent old first limit.0 key.Oom → CountsEvent first second g key.OomKill → group_of_task old.tables.tasks t.0 ≡ g
     → EndsTask second new t.0 Killed → Carries old worker entry (decision.Kill limit t) (given.KilledTask t) new
-carries-kill old first second new worker entry limit t g oom kills home ends what is = by_event what is.fits
+carries-kill old first second new worker entry limit t g mapped oom kills home ends what is = by_event what is.fits
   where
     idle : IsIdleFor old.tables limit.0
     idle = is.sound.1
@@ -239,21 +235,17 @@ carries-kill old first second new worker entry limit t g oom kills home ends wha
     ended : EndsTask (record old { tallies = second.tallies }) new t.0 Killed
     ended = subst (λ (s : StateOf). EndsTask s new t.0 Killed) same ends
 
-    leaves : LeavesOthers (record old { tallies = second.tallies }) new t.0
-    leaves = ended.leaves
-
     tallied : (counted : List Counted) → Tells old.tallies counted → Tells new.tallies (counted ++ (count_of limit.0 key.Oom ∷ count_of (group_of_task old.tables.tasks t.0) key.OomKill ∷ []))
     tallied counted told =
         subst (λ (h : ℕ). Tells new.tallies (counted ++ (count_of limit.0 key.Oom ∷ count_of h key.OomKill ∷ []))) (sym home)
-        (tallies-kept second.tallies new.tallies ended.tallies _ (tells-two old.tallies first.tallies second.tallies (count_of limit.0 key.Oom) (count_of g key.OomKill) oom.tallied kills.tallied counted told))
+        (tallies-kept second.tallies new.tallies ended.drops.tallies _ (tells-two old.tallies first.tallies second.tallies (count_of limit.0 key.Oom) (count_of g key.OomKill) oom.tallied kills.tallied counted told))
 
     by_event : (what : Event) → WantsRoom old.tables what limit.0 → AnswersTo old worker entry what (given.KilledTask t) new
     by_event (event.Relieve why) wants =
         record {
-          serves = serves-kill old new worker why t.0 wants.0 (ap (has_takeable old.tables) wants.1 ∙ idle.untakeable) (ap (has_transfer old.tables) wants.1 ∙ idle.settled)
-              (subst (λ (l : ℕ). IsVictim old.tables.tree old.tables.tasks old.tables.mappings l (Some t.0)) (sym wants.1) is.sound.2)
-              ended.unmaps ended.ends
-              (record { tables = leaves.tables; pages = leaves.pages; bytes = leaves.bytes; moving = leaves.moving; flights = leaves.flights; held = leaves.held; cursors = leaves.cursors })
+          makes_step = makes_step-kill old new second.tallies worker why t.0 wants.0 (ap (has_takeable old.tables) wants.1 ∙ idle.untakeable) (ap (has_transfer old.tables) wants.1 ∙ idle.settled)
+              (subst (λ (l : ℕ). IsVictim old.tables.tree old.tables.tasks old.tables.page_tables l (Some t.0)) (sym wants.1) is.sound.2)
+              mapped ended
               (subst (λ (l : ℕ). (counted : List Counted) → Tells old.tallies counted → Tells new.tallies (counted ++ (count_of l key.Oom ∷ count_of (group_of_task old.tables.tasks t.0) key.OomKill ∷ []))) (sym wants.1) tallied);
           gives = tt;
           replies = tt;
@@ -262,31 +254,31 @@ carries-kill old first second new worker entry limit t g oom kills home ends wha
 
 -- ---- tasks and groups
 
-pub carries-spawn : (old new : StateOf) (worker entry : ℕ) (t : TaskId) (g : GroupId) → AreMapped old.tables.pages old.tables.tasks old.tables.mappings → InOrder old → StartsTask old new t.0 g.0 Live
+pub carries-spawn : (old new : StateOf) (worker entry : ℕ) (t : TaskId) (g : GroupId) → InOrder old → StartsTask old new t.0 g.0
     → Carries old worker entry (decision.Spawn t g) given.Ok new
-carries-spawn old new worker entry t g mapped listed starts what is =
+carries-spawn old new worker entry t g listed starts what is =
     answers-to old new worker entry what (event.Spawn t g) given.Ok is.fits
     (record {
-      serves = serves-spawn old new worker t.0 g.0 mapped (spawn-unused old.tables t.0 g.0 (sym (ap (refusal old.tables) is.fits) ∙ is.none)) starts.starts starts.tables starts.bytes starts.flights listed starts.order (tallies-kept old.tallies new.tallies starts.tallies);
+      makes_step = makes_step-spawn old new worker t.0 g.0 starts listed (tallies-kept old.tallies new.tallies starts.tallies);
       gives = tt;
       replies = tt;
     })
 
-pub carries-exit : (old new : StateOf) (worker entry : ℕ) (t : TaskId) → EndsTask old new t.0 Exited → Carries old worker entry (decision.Exit t) given.Ok new
-carries-exit old new worker entry t ends what is =
+pub carries-exit : (old new : StateOf) (worker entry : ℕ) (t : TaskId) → AreMapped old.tables.pages old.tables.page_tables → EndsTask old new t.0 Exited → Carries old worker entry (decision.Exit t) given.Ok new
+carries-exit old new worker entry t mapped ends what is =
     answers-to old new worker entry what (event.Exit t) given.Ok is.fits
-    (record { serves = serves-exit old new worker t.0 is.sound.0 is.sound.1 is.sound.2 ends (tallies-kept old.tallies new.tallies ends.tallies); gives = tt; replies = tt })
+    (record { makes_step = makes_step-exit old new worker t.0 is.sound.0 is.sound.1 is.sound.2 mapped ends (tallies-kept old.tallies new.tallies ends.drops.tallies); gives = tt; replies = tt })
 
 pub carries-mkdir : (old new : StateOf) (worker entry : ℕ) (parent : GroupId) (path : List ℕ) (what : Event) → InOrder old → AddsGroup old new path → what ≡ event.Mkdir path → AnswersTo old worker entry what given.Ok new
 carries-mkdir old new worker entry parent path what listed adds same =
     answers-to old new worker entry what (event.Mkdir path) given.Ok same
-    (record { serves = serves-mkdir old new worker path adds.tables adds.bytes adds.flights listed adds.held adds.cursors adds.tallied; gives = tt; replies = tt })
+    (record { makes_step = makes_step-mkdir old new worker path adds.tables adds.bytes adds.flights listed adds.held adds.cursors adds.tallied; gives = tt; replies = tt })
 
 pub carries-set : (old new : StateOf) (worker entry : ℕ) (g : GroupId) (setting : Setting) → InOrder old → new ≡ sets_limits old g.0 (with_setting (limits_at old.tables.limits g.0) setting) → Carries old worker entry (decision.Set g setting) given.Ok new
 carries-set old new worker entry g setting listed sets what is =
     answers-to old new worker entry what (event.Set g setting) given.Ok is.fits
     (record {
-      serves = serves-set old new worker g.0 setting (ap (λ (s : StateOf). s.tables) sets) (ap (λ (s : StateOf). s.bytes) sets) (ap (λ (s : StateOf). s.flights) sets) listed (ap (λ (s : StateOf). s.order) sets)
+      makes_step = makes_step-set old new worker g.0 setting (ap (λ (s : StateOf). s.tables) sets) (ap (λ (s : StateOf). s.bytes) sets) (ap (λ (s : StateOf). s.flights) sets) listed (ap (λ (s : StateOf). s.order) sets)
           (tallies-kept old.tallies new.tallies (ap (λ (s : StateOf). s.tallies) sets));
       gives = tt;
       replies = tt;
@@ -295,4 +287,4 @@ carries-set old new worker entry g setting listed sets what is =
 pub carries-show : (s : StateOf) (worker entry : ℕ) (query : Query) (numbers : Shown) → InOrder s → ((counted : List Counted) → Tells s.tallies counted → numbers ≡ shown_of (counting s.tables counted) query)
     → Carries s worker entry (decision.Show query) (given.Shown numbers) s
 carries-show s worker entry query numbers listed shows what is =
-    answers-to s s worker entry what (event.Show query) (given.Shown numbers) is.fits (record { serves = serves-show s worker query numbers listed shows; gives = tt; replies = tt })
+    answers-to s s worker entry what (event.Show query) (given.Shown numbers) is.fits (record { makes_step = makes_step-show s worker query numbers listed shows; gives = tt; replies = tt })

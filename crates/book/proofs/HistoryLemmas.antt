@@ -24,15 +24,15 @@ use Rattle.machine.specs.Access.{page_size}
 use Rattle.machine.specs.Refusals.{refusal}
 use Rattle.machine.specs.Step.{Step, TaskStep, LifeStep}
 use Rattle.machine.specs.Legal.{Legal}
-use Rattle.machine.specs.History.{IsRight, Spot, InTask, Says, Byte, Nothing, says, says_if, follow, last, Fetched, fetched_by, fetch_of, HoldsLast, IsHonest, Honest, ticket_given, taker_or, taker, entries_by}
-use Rattle.machine.specs.Call.{is_full_for, knows_ticket, entry_of}
+use Rattle.machine.specs.History.{IsRight, Spot, InTask, Says, Byte, Nothing, says, says_if, follow, at_first, last, Fetched, fetched_by, fetch_of, HoldsLast, IsHonest, Honest, ticket_given, taker_or, taker, entries_by}
+use Rattle.machine.specs.Call.{is_full_for, knows_pass, entry_of}
 use Rattle.machine.proofs.TreeLemmas.{eq_cases}
-use Rattle.pages.specs.PageTable.{Stands}
+use Rattle.pages.specs.PagesOf.{Stands}
 use Rattle.pages.specs.declared.flight.Flight.{Flight}
-use Rattle.events.specs.Tallies.{Tells}
+use Rattle.memory_events.specs.Tallies.{Tells}
 use Rattle.page_state.specs.States.{StateOf, byte_at}
 use Rattle.book.specs.Effects.{counting, counted_after, group_after, byte_at_spot, knows, ReadsByte, Arrives, IsFetchOf, worker_of}
-use Rattle.book.specs.Serves.{Serves, starts}
+use Rattle.book.specs.MakesStep.{MakesStep, starts}
 use Rattle.book.specs.Told.{group_in, counted_in, state_of, IsFetched, IsHistory}
 
 -- ---- tests
@@ -67,8 +67,8 @@ done_lives s t place op byte hit new step = by_slot (task_at s.tasks t) _ step
 
 -- a read that is done gave the last write
 pub read_right : (c : StateOf) (history : List Entry) (what : Event) (answer : Reply) (new : State) (counted : List Counted)
-    → ((t v o : ℕ) → lives c.tables.tasks t ≡ true → o < page_size → knows c t v ≡ true → byte_at c t v o ≡ last history (InTask t v o)) → Step (counting c.tables counted) what answer new → ReadsByte c what answer
-    → IsRight history what answer
+    → ((t v o : ℕ) → lives c.tables.tasks t ≡ true → o < page_size → knows c t v ≡ true → byte_at c t v o ≡ last at_first history (InTask t v o)) → Step (counting c.tables counted) what answer new → ReadsByte c what answer
+    → IsRight at_first history what answer
 read_right c history (event.Access t (Virtual v o) Read) (reply.Done byte hit) new counted bytes step reads =
     reads.0 ∙ bytes t.0 v o (done_lives (counting c.tables counted) t.0 (Virtual v o) Read byte hit new step) reads.1.1 reads.1.0
 read_right c history what answer new counted bytes step reads = tt
@@ -87,28 +87,28 @@ starts-says what answer t v o first quiet = cc
 
 -- what an honest arrival brought is the last write
 arrived_last : (old : StateOf) (history : List Entry) (what : Event) (answer : Reply) (t v o byte : ℕ)
-    → ((p g f b n : ℕ) → lives old.tables.tasks t ≡ true → mapped_at old.tables.mappings t v ≡ Some p → Stands old.tables.pages p g (Coming f b n) → IsFetched history n t v)
-    → (starts what answer t || lives old.tables.tasks t) ≡ true → IsHonest history what → o < page_size → Arrives old what t v o byte → byte ≡ follow (says what answer (InTask t v o)) (last history) (InTask t v o)
+    → ((p g f b n : ℕ) → lives old.tables.tasks t ≡ true → mapped_at old.tables.page_tables t v ≡ Some p → Stands old.tables.pages p g (Coming f b n) → IsFetched history n t v)
+    → (starts what answer t || lives old.tables.tasks t) ≡ true → IsHonest at_first history what → o < page_size → Arrives old what t v o byte → byte ≡ follow (says what answer (InTask t v o)) (last at_first history) (InTask t v o)
 arrived_last old history (event.Arrived ticket bytes) answer t v o byte coming living honest lt arrives =
     let fetched = coming arrives.0 arrives.1 arrives.2 arrives.3 ticket.0 living arrives.4 arrives.5 in
-    arrives.6 ∙ subst (λ (f : Option Fetched). HoldsLast bytes f) fetched.found honest o lt ∙ fetched.same o lt
+    arrives.6 ∙ subst (λ (f : Option Fetched). HoldsLast at_first bytes f) fetched.found honest o lt ∙ fetched.same o lt
 arrived_last old history what answer t v o byte coming living honest lt arrives = absurd arrives
 
 -- ---- transfers
 
 -- an entry that begins a read-in is the one of its ticket
-fetch_began : (history : List Entry) (worker : ℕ) (what : Event) (answer : Reply) (t v n : ℕ) → IsFetchOf what answer t v n → IsFetched (entry_of worker history what answer ∷ history) n t v
+fetch_began : (history : List Entry) (worker : ℕ) (what : Event) (answer : Reply) (t v n : ℕ) → IsFetchOf what answer t v n → IsFetched (entry_of (record { worker = worker }) history what answer ∷ history) n t v
 fetch_began history worker (event.Access u (Virtual w o) Read) (reply.Fetch m) t v n began =
     record {
       fetch = record { spot = InTask u.0 w o; earlier = history };
       found = ap (λ b. cond b (Some (record { spot = InTask u.0 w o; earlier = history })) (fetch_of n history)) (eq-eqb m.0 n began.0);
-      same = λ o lt. ap (λ (u : ℕ). last history (InTask u w o)) began.1 ∙ ap (λ (w : ℕ). last history (InTask t w o)) began.2;
+      same = λ o lt. ap (λ (u : ℕ). last at_first history (InTask u w o)) began.1 ∙ ap (λ (w : ℕ). last at_first history (InTask t w o)) began.2;
     }
 fetch_began history worker (event.Access u (Virtual w o) (Write b)) (reply.Fetch m) t v n began =
     record {
       fetch = record { spot = InTask u.0 w o; earlier = history };
       found = ap (λ b. cond b (Some (record { spot = InTask u.0 w o; earlier = history })) (fetch_of n history)) (eq-eqb m.0 n began.0);
-      same = λ o lt. ap (λ (u : ℕ). last history (InTask u w o)) began.1 ∙ ap (λ (w : ℕ). last history (InTask t w o)) began.2;
+      same = λ o lt. ap (λ (u : ℕ). last at_first history (InTask u w o)) began.1 ∙ ap (λ (w : ℕ). last at_first history (InTask t w o)) began.2;
     }
 fetch_began history worker what answer t v n began = absurd began
 
@@ -118,12 +118,12 @@ fetched_by-other n (event.Access t (Virtual v o) op) (reply.Fetch m) earlier oth
 fetched_by-other n what answer earlier others other = refl
 
 fetch_stays : (history : List Entry) (worker : ℕ) (what : Event) (answer : Reply) (t v n : ℕ) → ((o : ℕ) → says what answer (InTask t v o) ≡ Nothing) → is_number (ticket_given answer) n ≡ false → IsFetched history n t v
-    → IsFetched (entry_of worker history what answer ∷ history) n t v
+    → IsFetched (entry_of (record { worker = worker }) history what answer ∷ history) n t v
 fetch_stays history worker what answer t v n quiet other fetched =
     record {
       fetch = fetched.fetch;
       found = fetched_by-other n what answer history (fetch_of n history) other ∙ fetched.found;
-      same = λ o lt. fetched.same o lt ∙ sym (ap (λ (said : Says). follow said (last history) (InTask t v o)) (quiet o));
+      same = λ o lt. fetched.same o lt ∙ sym (ap (λ (said : Says). follow said (last at_first history) (InTask t v o)) (quiet o));
     }
 
 -- who took a ticket, where the flights before were their takers'
@@ -148,43 +148,43 @@ taker_on flight n worker taken given before takers is = by_given given is
 pub record Extending (old new : StateOf) (history : List Entry) (counts : List ℕ) (worker : ℕ) (what : Event) (answer : Reply) : Type 0 where
   pub told : IsHistory old history counts
   pub passed : worker < length counts
-  pub known : knows_ticket (state_of old history) history worker what ≡ true
+  pub known : knows_pass (state_of old history) history (record { worker = worker }) what ≡ true
   pub none : refusal (state_of old history) what ≡ None
   pub room : is_full_for (state_of old history) history what ≡ false
-  pub serves : Serves old worker what answer new
+  pub makes_step : MakesStep old worker what answer new
 
 module _ (old new : StateOf) (history : List Entry) (counts : List ℕ) (worker : ℕ) (what : Event) (answer : Reply) (h : Extending old new history counts worker what answer) where
   abbrev more : List Entry
-  more = entry_of worker history what answer ∷ history
+  more = entry_of (record { worker = worker }) history what answer ∷ history
 
   -- the step that an entry more records
   pub steps_on : Step (state_of old history) what answer (state_of new more)
   steps_on =
       subst (λ (c : List Counted). Step (state_of old history) what answer (counting new.tables c)) (counted-same (group_of_task old.tables.tasks) (group_in history) h.told.groups (counted_in history) what answer)
-      (h.serves.steps (counted_in history) h.told.tallied)
+      (h.makes_step.steps (counted_in history) h.told.tallied)
 
-  pub read_on : Honest history → IsRight history what answer
-  read_on honest = read_right old history what answer _ (counted_in history) (h.told.bytes honest) (h.serves.steps (counted_in history) h.told.tallied) h.serves.reads
+  pub read_on : Honest at_first history → IsRight at_first history what answer
+  read_on honest = read_right old history what answer _ (counted_in history) (h.told.bytes honest) (h.makes_step.steps (counted_in history) h.told.tallied) h.makes_step.reads
 
   lived : (t v o : ℕ) → lives new.tables.tasks t ≡ true → says what answer (InTask t v o) ≡ Nothing → lives old.tables.tasks t ≡ true
-  lived t v o alive quiet = or_true (starts what answer t) (lives old.tables.tasks t) (h.serves.living t alive) (λ first. starts-says what answer t v o first quiet)
+  lived t v o alive quiet = or_true (starts what answer t) (lives old.tables.tasks t) (h.makes_step.living t alive) (λ first. starts-says what answer t v o first quiet)
 
-  bytes_on : Honest more → (t v o : ℕ) → lives new.tables.tasks t ≡ true → o < page_size → knows new t v ≡ true → byte_at new t v o ≡ last more (InTask t v o)
+  bytes_on : Honest at_first more → (t v o : ℕ) → lives new.tables.tasks t ≡ true → o < page_size → knows new t v ≡ true → byte_at new t v o ≡ last at_first more (InTask t v o)
   bytes_on honest t v o alive lt known =
-      elim (h.serves.bytes t v o alive lt known) [
-        | inl arrives ↦ arrived_last old history what answer t v o (byte_at new t v o) (h.told.coming t v) (h.serves.living t alive) honest.1 lt arrives
-        | inr follows ↦ follows.1 ∙ follow-same (says what answer (InTask t v o)) (byte_at_spot old) (last history) (InTask t v o) (λ quiet. h.told.bytes honest.0 t v o (lived t v o alive quiet) lt follows.0)
+      elim (h.makes_step.bytes t v o alive lt known) [
+        | inl arrives ↦ arrived_last old history what answer t v o (byte_at new t v o) (h.told.coming t v) (h.makes_step.living t alive) honest.1 lt arrives
+        | inr follows ↦ follows.1 ∙ follow-same (says what answer (InTask t v o)) (byte_at_spot old) (last at_first history) (InTask t v o) (λ quiet. h.told.bytes honest.0 t v o (lived t v o alive quiet) lt follows.0)
       ]
 
-  coming_on : (t v p g f b n : ℕ) → lives new.tables.tasks t ≡ true → mapped_at new.tables.mappings t v ≡ Some p → Stands new.tables.pages p g (Coming f b n) → IsFetched more n t v
+  coming_on : (t v p g f b n : ℕ) → lives new.tables.tasks t ≡ true → mapped_at new.tables.page_tables t v ≡ Some p → Stands new.tables.pages p g (Coming f b n) → IsFetched more n t v
   coming_on t v p g f b n alive shown stands =
-      elim (h.serves.coming t v p g f b n alive shown stands) [
+      elim (h.makes_step.coming t v p g f b n alive shown stands) [
         | inl began ↦ fetch_began history worker what answer t v n began
         | inr stays ↦ fetch_stays history worker what answer t v n stays.quiet stays.other (h.told.coming t v p g f b n (lived t v 0 alive (stays.quiet 0)) stays.shown stays.stands)
       ]
 
   takers_on : (n : ℕ) → IfSome (at new.flights n) (λ f. taker n more ≡ Some f.worker.0)
-  takers_on n = by_flight (at new.flights n) (h.serves.flights n)
+  takers_on n = by_flight (at new.flights n) (h.makes_step.flights n)
     where
       by_flight : (flight : Option Flight) → IfSome flight (λ f. Some f.worker.0 ≡ taker_or n (ticket_given answer) worker (worker_of (at old.flights n))) → IfSome flight (λ f. taker n more ≡ Some f.worker.0)
       by_flight None is = tt
@@ -198,23 +198,23 @@ module _ (old new : StateOf) (history : List Entry) (counts : List ℕ) (worker 
             ap (slice_index (slice_set counts worker (slice_index counts worker + 1))) same ∙ get_or-set_same counts worker (slice_index counts worker + 1) 0 h.passed
             ∙ ap (λ n. n + 1) (ap (slice_index counts) (sym same) ∙ h.told.counted w)
             ∙ add-one (length (entries_by w history))
-            ∙ ap (λ b. length (cond b (entry_of worker history what answer ∷ entries_by w history) (entries_by w history))) (sym hit))
+            ∙ ap (λ b. length (cond b (entry_of (record { worker = worker }) history what answer ∷ entries_by w history) (entries_by w history))) (sym hit))
         | inr other ↦
             (let miss : (worker == w) ≡ false = ne_eqb worker w (λ e. other (sym e)) in
             get_or-set_other counts worker w (slice_index counts worker + 1) 0 other ∙ h.told.counted w
-            ∙ ap (λ b. length (cond b (entry_of worker history what answer ∷ entries_by w history) (entries_by w history))) (sym miss))
+            ∙ ap (λ b. length (cond b (entry_of (record { worker = worker }) history what answer ∷ entries_by w history) (entries_by w history))) (sym miss))
       ]
 
   pub extends : IsHistory new more (slice_set counts worker (slice_index counts worker + 1))
   extends =
       record {
-        legal = (state_of old history, subst (λ opening. Legal opening history (state_of old history)) (sym h.serves.opening) h.told.legal, record { known = h.known; unrefused = h.none; room = h.room; steps = steps_on });
+        legal = (state_of old history, subst (λ opening. Legal opening history (state_of old history)) (sym h.makes_step.opening) h.told.legal, record { known = h.known; unrefused = h.none; room = h.room; steps = steps_on });
         right = λ honest. (h.told.right honest.0, read_on honest.0);
         numbered = (h.told.numbered, refl);
         bytes = bytes_on;
         coming = coming_on;
         takers = takers_on;
-        groups = λ t. h.serves.groups t ∙ ap (group_after what answer t) (h.told.groups t);
-        tallied = subst (λ (c : List Counted). Tells new.tallies c) (counted-same (group_of_task old.tables.tasks) (group_in history) h.told.groups (counted_in history) what answer) (h.serves.tallied (counted_in history) h.told.tallied);
+        groups = λ t. h.makes_step.groups t ∙ ap (group_after what answer t) (h.told.groups t);
+        tallied = subst (λ (c : List Counted). Tells new.tallies c) (counted-same (group_of_task old.tables.tasks) (group_in history) h.told.groups (counted_in history) what answer) (h.makes_step.tallied (counted_in history) h.told.tallied);
         counted = counted_on;
       }

@@ -1,4 +1,4 @@
-pub mod ServeLemmas
+pub mod StepLemmas
 pub mod JudgeLemmas
 pub mod MoveLemmas
 pub mod TouchLemmas

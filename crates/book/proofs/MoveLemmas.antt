@@ -19,34 +19,34 @@ use Rattle.machine.specs.Counts.{Counted}
 use Rattle.machine.specs.Tasks.{task_at, lives, group_of_task, mapped_at, mappers}
 use Rattle.machine.specs.State.{State, over_in, is_frame_free}
 use Rattle.machine.specs.Access.{meets}
-use Rattle.machine.specs.Call.{need, grows}
+use Rattle.machine.specs.Call.{fetches, need}
 use Rattle.machine.specs.Reclaim.{stands, target_of, is_takeable, has_takeable}
 use Rattle.machine.specs.Lists.{GoesOn, TakesNext, CursorsGoOn, Orders}
-use Rattle.machine.specs.Step.{MeetStep, StartsFetch, Takes, RelieveStep, ReclaimOneStep, EndsTransfer, in_frame, on_block, IsFreeFrame}
+use Rattle.machine.specs.Step.{MeetStep, StartsFetch, Takes, RelieveStep, ReclaimOneStep, EndsTransfer, or_gone, in_frame, on_block, IsFreeFrame}
 use Rattle.machine.specs.History.{Spot, InTask, Says, Nothing, says, follow, ticket_given, taker_or}
 use Rattle.machine.proofs.Values.{unlike}
 use Rattle.machine.proofs.TreeLemmas.{eq_cases}
 use Rattle.machine.proofs.SlotLemmas.{one_if}
 use Rattle.machine.proofs.MappingLemmas.{mapped_at-one}
-use Rattle.pages.specs.PageTable.{byte_in, Stands, anon_page, flight}
+use Rattle.pages.specs.PagesOf.{byte_in, Stands, anon_page, flight}
 use Rattle.pages.specs.declared.flight.Flight.{Flight}
-use Rattle.pages.specs.declared.flight.Direction.{Direction}
-use Rattle.pages.specs.declared.flight.Direction.TheVariants.{In, Out}
-use Rattle.events.specs.Tallies.{Tallies, Tells}
+use Rattle.machine.specs.declared.record.Direction.{Direction}
+use Rattle.machine.specs.declared.record.Direction.TheVariants.{In, Out}
+use Rattle.memory_events.specs.Tallies.{Tallies, Tells}
 use Rattle.page_state.specs.States.{StateOf, byte_shown}
-use Rattle.page_state.specs.Mapped.{AreMapped, is_there, ended}
+use Rattle.page_state.specs.Mapped.{AreMapped}
 use Rattle.book.specs.Effects.{counting, Steps, Tallied, group_after, byte_at_spot, is_in_memory, is_known, ReadsByte, Arrives, Follows, ChangesBytes, IsFetchOf, ChangesComing, ChangesFlights, worker_of}
-use Rattle.book.specs.Serves.{Serves, RepliesTo, starts, is_refused}
+use Rattle.book.specs.MakesStep.{MakesStep, RepliesTo, starts, is_refused}
 use Rattle.book.specs.declared.event.Reply.TheVariants as given
 use Rattle.pages.specs.Tickets.{TicketOf}
 use Rattle.pages.specs.declared.end.End.{End}
 use Rattle.pages.specs.declared.end.End.TheVariants.{InFrame, OnBlock}
 use Rattle.pages.specs.Transfers.{residence_after}
 use Rattle.page_state.specs.Changes.{BeginsWriteOut, EndsTransfer as Settles}
-use Rattle.book.specs.Events.{in_ended, out_ended}
+use Rattle.book.specs.Events.{ended}
 use Rattle.book.specs.Decisions.{AsksPage}
 use Rattle.page_state.proofs.TransferLemmas.{free-other, any-some, under-taken, coming-under, in_transfer-changes}
-use Rattle.book.proofs.ServeLemmas.{flight-kept, live_step, granted_step, stands_counting}
+use Rattle.book.proofs.StepLemmas.{flight-kept, live_step, granted_step, stands_counting}
 
 abbrev residence_or : Option Page → Residence
 residence_or None = Held 0
@@ -64,36 +64,36 @@ pub record IsMove (old new : StateOf) (what : Event) (answer : Reply) (p : ℕ) 
   pub groups : (u g : ℕ) → group_after what answer u g ≡ g
   pub given : is_refused answer ≡ false
   -- the bytes of the page itself, where it is in memory: they arrive, or are as they were
-  pub own : (t v o : ℕ) → mapped_at old.tables.mappings t v ≡ Some p → there_and (λ page. is_in_memory page.residence) to ≡ true
+  pub own : (t v o : ℕ) → mapped_at old.tables.page_tables t v ≡ Some p → there_and (λ page. is_in_memory page.residence) to ≡ true
       → Arrives old what t v o (byte_in new.bytes p o) ⊎ ((there_and (λ page. is_in_memory page.residence) (page_at old.tables.pages p) ≡ true) × (byte_in new.bytes p o ≡ byte_in old.bytes p o))
-  pub coming : (t v g f b n : ℕ) → mapped_at old.tables.mappings t v ≡ Some p → to ≡ Some (anon_page g (Coming f b n)) → IsFetchOf what answer t v n
+  pub coming : (t v g f b n : ℕ) → mapped_at old.tables.page_tables t v ≡ Some p → to ≡ Some (anon_page g (Coming f b n)) → IsFetchOf what answer t v n
   pub fresh : (n : ℕ) → is_ticket_taken old.tables.pages n ≡ true → is_number (ticket_given answer) n ≡ false
 
 module _ (old new : StateOf) (what : Event) (answer : Reply) (p : ℕ) (to : Option Page) (move : IsMove old new what answer p to) where
-  same_place : (t v : ℕ) → mapped_at new.tables.mappings t v ≡ mapped_at old.tables.mappings t v
-  same_place t v = ap (λ (s : State). mapped_at s.mappings t v) move.tables
+  same_place : (t v : ℕ) → mapped_at new.tables.page_tables t v ≡ mapped_at old.tables.page_tables t v
+  same_place t v = ap (λ (s : State). mapped_at s.page_tables t v) move.tables
 
   moved-bytes : ChangesBytes old what answer new
   moved-bytes t v o alive within known =
       subst (λ (m : Option ℕ). Arrives old what t v o (byte_shown new.bytes m o) ⊎ Follows old what answer t v o (byte_shown new.bytes m o)) (sym (same_place t v))
-      (by_place (mapped_at old.tables.mappings t v) refl (sym (ap (is_known new.tables.pages) (same_place t v)) ∙ known))
+      (by_place (mapped_at old.tables.page_tables t v) refl (sym (ap (is_known new.tables.pages) (same_place t v)) ∙ known))
     where
-      follows : (m : Option ℕ) (byte : ℕ) → mapped_at old.tables.mappings t v ≡ m → is_known old.tables.pages m ≡ true → byte ≡ byte_shown old.bytes m o → Follows old what answer t v o byte
+      follows : (m : Option ℕ) (byte : ℕ) → mapped_at old.tables.page_tables t v ≡ m → is_known old.tables.pages m ≡ true → byte ≡ byte_shown old.bytes m o → Follows old what answer t v o byte
       follows m byte is there e = (
         ap (is_known old.tables.pages) is ∙ there,
         e ∙ ap (λ (m : Option ℕ). byte_shown old.bytes m o) (sym is) ∙ sym (ap (λ (said : Says). follow said (byte_at_spot old) (InTask t v o)) (move.silent (InTask t v o))),
       )
 
-      at_page : (q : ℕ) → mapped_at old.tables.mappings t v ≡ Some q → q ≡ p → is_known new.tables.pages (Some p) ≡ true
+      at_page : (q : ℕ) → mapped_at old.tables.page_tables t v ≡ Some q → q ≡ p → is_known new.tables.pages (Some p) ≡ true
           → Arrives old what t v o (byte_in new.bytes p o) ⊎ Follows old what answer t v o (byte_in new.bytes p o)
       at_page q is same there =
-          let shown : mapped_at old.tables.mappings t v ≡ Some p = is ∙ ap Some same in
+          let shown : mapped_at old.tables.page_tables t v ≡ Some p = is ∙ ap Some same in
           elim (move.own t v o shown (sym (ap (there_and (λ (page : Page). is_in_memory page.residence)) move.placed.changed) ∙ there)) [
             | inl arrives ↦ inl arrives
             | inr kept ↦ inr (follows (Some p) (byte_in new.bytes p o) shown kept.0 kept.1)
           ]
 
-      by_place : (m : Option ℕ) → mapped_at old.tables.mappings t v ≡ m → is_known new.tables.pages m ≡ true
+      by_place : (m : Option ℕ) → mapped_at old.tables.page_tables t v ≡ m → is_known new.tables.pages m ≡ true
           → Arrives old what t v o (byte_shown new.bytes m o) ⊎ Follows old what answer t v o (byte_shown new.bytes m o)
       by_place None is there = inr (follows None 0 is refl refl)
       by_place (Some q) is there =
@@ -107,7 +107,7 @@ module _ (old new : StateOf) (what : Event) (answer : Reply) (p : ℕ) (to : Opt
 
   moved-coming : ChangesComing old what answer new
   moved-coming t v q g f b n alive shown stands =
-      let before : mapped_at old.tables.mappings t v ≡ Some q = sym (same_place t v) ∙ shown in
+      let before : mapped_at old.tables.page_tables t v ≡ Some q = sym (same_place t v) ∙ shown in
       elim (eq_cases q p) [
         | inl same ↦ inl (move.coming t v g f b n (before ∙ ap Some same) (sym (ap (page_at new.tables.pages) same ∙ move.placed.changed) ∙ stands))
         | inr other ↦
@@ -115,9 +115,9 @@ module _ (old new : StateOf) (what : Event) (answer : Reply) (p : ℕ) (to : Opt
             inr (record { shown = before; stands = stood; quiet = λ o. move.silent (InTask t v o); other = move.fresh n (under-taken old.tables.pages q n (coming-under old.tables.pages q g f b n stood)) }))
       ]
 
-  pub serves-move : (worker : ℕ) → Steps old what answer new → Orders old.tables old.order what answer new.tables new.order → Tallied old what answer new → ReadsByte old what answer → ChangesFlights old worker answer new
-      → in_transfer new.tables.pages + 1 ≤ in_transfer old.tables.pages + need old.tables what → Serves old worker what answer new
-  serves-move worker steps orders tallied reads flights kept =
+  pub makes_step-move : (worker : ℕ) → Steps old what answer new → Orders old.tables old.order what answer new.tables new.order → Tallied old what answer new → ReadsByte old what answer → ChangesFlights old worker answer new
+      → in_transfer new.tables.pages + 1 ≤ in_transfer old.tables.pages + need old.tables what → MakesStep old worker what answer new
+  makes_step-move worker steps orders tallied reads flights kept =
       record {
         steps = steps;
         orders = orders;
@@ -177,21 +177,24 @@ reads-fetch : (s : StateOf) (t n : ℕ) (place : Place) (op : Op) → ReadsByte 
 reads-fetch s t n place Read = tt
 reads-fetch s t n place (Write b) = tt
 
--- an access to a page on its block needs an entry for the end too, where its charge is granted
-pub away-needs : (s : State) (t v o p g b : ℕ) (op : Op) (task : Task) → task_at s.tasks t ≡ Some task → task.life ≡ Live → mapped_at s.mappings t v ≡ Some p → Stands s.pages p g (Away b)
-    → over_in s g ≡ None → is_frame_free s ≡ true → need s (event.Access (record { 0 = t }) (Virtual v o) op) ≡ 2
-away-needs s t v o p g b op task known live shown away under free = rw known (rw live (rw shown (rw away (rw under (rw free refl)))))
+-- an access to a page on its block begins to read it in, where its charge is granted: it needs an entry for the end too, and may want memory
+pub away-fetches : (s : State) (t v o p g b : ℕ) (op : Op) (task : Task) → task_at s.tasks t ≡ Some task → task.life ≡ Live → mapped_at s.page_tables t v ≡ Some p → Stands s.pages p g (Away b)
+    → over_in s g ≡ None → is_frame_free s ≡ true → fetches s t (Virtual v o) op ≡ true
+away-fetches s t v o p g b op task known live shown away under free = rw known (rw live (rw shown (rw away (rw under (rw free refl)))))
 
-pub serves-fetch : (old new : StateOf) (worker t v o p g f b n : ℕ) (op : Op) (task : Task) → AreMapped old.tables.pages old.tables.tasks old.tables.mappings
-    → task_at old.tables.tasks t ≡ Some task → task.life ≡ Live → mapped_at old.tables.mappings t v ≡ Some p → Stands old.tables.pages p g (Away b)
+pub fetch-needs : (s : State) (t : ℕ) (place : Place) (op : Op) → fetches s t place op ≡ true → need s (event.Access (record { 0 = t }) place op) ≡ 2
+fetch-needs s t place op fetch = ap (λ b. cond b 2 1) fetch
+
+pub makes_step-fetch : (old new : StateOf) (worker t v o p g f b n : ℕ) (op : Op) (task : Task) → AreMapped old.tables.pages old.tables.page_tables
+    → task_at old.tables.tasks t ≡ Some task → task.life ≡ Live → mapped_at old.tables.page_tables t v ≡ Some p → Stands old.tables.pages p g (Away b)
     → over_in old.tables g ≡ None → is_frame_free old.tables ≡ true → IsFreeFrame old.tables f → is_ticket_taken old.tables.pages n ≡ false
     → Changes old.tables.pages new.tables.pages p (Some (anon_page g (Coming f b n)))
     → new.tables ≡ record old.tables { pages = new.tables.pages }
     → ((q k : ℕ) → q ≢ p → byte_in new.bytes q k ≡ byte_in old.bytes q k) → Changes old.flights new.flights n (Some (flight p worker In))
     → GoesOn old.tables.pages old.order.held new.tables.pages new.order.held → new.order.cursors ≡ old.order.cursors → ((c : List Counted) → Tells old.tallies c → Tells new.tallies c)
-    → Serves old worker (event.Access (record { 0 = t }) (Virtual v o) op) (reply.Fetch (record { 0 = n })) new
-serves-fetch old new worker t v o p g f b n op task mapped known live shown away under free frame fresh placed tables bytes listed goes cursors tells =
-    serves-move old new (event.Access (record { 0 = t }) (Virtual v o) op) (reply.Fetch (record { 0 = n })) p (Some (anon_page g (Coming f b n)))
+    → MakesStep old worker (event.Access (record { 0 = t }) (Virtual v o) op) (reply.Fetch (record { 0 = n })) new
+makes_step-fetch old new worker t v o p g f b n op task mapped known live shown away under free frame fresh placed tables bytes listed goes cursors tells =
+    makes_step-move old new (event.Access (record { 0 = t }) (Virtual v o) op) (reply.Fetch (record { 0 = n })) p (Some (anon_page g (Coming f b n)))
     (record {
       tables = tables;
       placed = placed;
@@ -209,24 +212,24 @@ serves-fetch old new worker t v o p g f b n op task mapped known live shown away
     (flights-begun old new worker p n In (reply.Fetch (record { 0 = n })) refl listed)
     (let more = in_transfer-changes old.tables.pages new.tables.pages p (Some (anon_page g (Coming f b n))) placed in
     let was : one_if (there_and is_in_transfer (page_at old.tables.pages p)) ≡ 0 = ap (λ (slot : Option Page). one_if (there_and is_in_transfer slot)) away in
-    let two = away-needs old.tables t v o p g b op task known live shown away under free in
+    let two = fetch-needs old.tables t (Virtual v o) op (away-fetches old.tables t v o p g b op task known live shown away under free) in
     omega (arith, more, was, two))
   where
     starts_fetch : (c : List Counted) → StartsFetch (counting old.tables c) p g Memory b (reply.Fetch (record { 0 = n })) (counting new.tables c)
     starts_fetch c = record { frame = f; ticket = n; frame_free = record { in_range = frame.in_range; unused = frame.unused }; ticket_free = fresh; placed = placed; answers = refl; state = ap (λ (s : State). counting s c) tables }
 
-    fetches : (c : List Counted) → MeetStep (counting old.tables c) t task.group.0 (Virtual v o) op (meets (counting old.tables c) t (Virtual v o) op) (reply.Fetch (record { 0 = n })) (counting new.tables c)
+    fetches : (c : List Counted) → MeetStep (counting old.tables c) t task.group.0 op (meets (counting old.tables c) t (Virtual v o) op) (reply.Fetch (record { 0 = n })) (counting new.tables c)
     fetches c = rw shown (rw away (granted_step (counting old.tables c) _ _ _ _ _ under free (starts_fetch c)))
 
     ticket_same : (g' f' b' m : ℕ) → Some (anon_page g (Coming f b n)) ≡ Some (anon_page g' (Coming f' b' m)) → n ≡ m
     ticket_same g' f' b' m e = let same : Coming f b n ≡ Coming f' b' m = residence_of g g' (Coming f b n) (Coming f' b' m) e in cc
 
-    once : mappers old.tables.mappings p ≤ 1
-    once = let most = mapped.most p in let there : is_there (page_at old.tables.pages p) ≡ 1 = ap is_there away in omega (arith, most, there)
+    once : mappers old.tables.page_tables p ≤ 1
+    once = mapped.once p
 
-    both_of : (u w : ℕ) → mapped_at old.tables.mappings u w ≡ Some p → (t ≡ u) × (v ≡ w)
+    both_of : (u w : ℕ) → mapped_at old.tables.page_tables u w ≡ Some p → (t ≡ u) × (v ≡ w)
     both_of u w is =
-        let tests = and_parts (t == u) (v == w) (mapped_at-one old.tables.mappings t v u w p once shown is) in
+        let tests = and_parts (t == u) (v == w) (mapped_at-one old.tables.page_tables t v u w p once shown is) in
         (eqb-true t u tests.0, eqb-true v w tests.1)
 
 -- ---- a write-out begins
@@ -263,12 +266,12 @@ module _ (old new : StateOf) (target worker entry : ℕ) (ticket : TicketOf) (ta
       }
 
   -- whatever asks for it
-  serves-out : (what : Event) → Steps old what (reply.Out (record { 0 = ticket.number })) new → CursorsGoOn old.tables old.order what (reply.Out (record { 0 = ticket.number })) new.tables new.order
+  makes_step-out : (what : Event) → Steps old what (reply.Out (record { 0 = ticket.number })) new → CursorsGoOn old.tables old.order what (reply.Out (record { 0 = ticket.number })) new.tables new.order
       → Tallied old what (reply.Out (record { 0 = ticket.number })) new → ReadsByte old what (reply.Out (record { 0 = ticket.number }))
       → ((spot : Spot) → says what (reply.Out (record { 0 = ticket.number })) spot ≡ Nothing) → ((u h : ℕ) → group_after what (reply.Out (record { 0 = ticket.number })) u h ≡ h) → need old.tables what ≡ 2
-      → Serves old worker what (reply.Out (record { 0 = ticket.number })) new
-  serves-out what steps cursors tallied reads silent groups two =
-      serves-move old new what (reply.Out (record { 0 = ticket.number })) taken.p (Some (anon_page taken.g (Going taken.frame ticket.block ticket.number)))
+      → MakesStep old worker what (reply.Out (record { 0 = ticket.number })) new
+  makes_step-out what steps cursors tallied reads silent groups two =
+      makes_step-move old new what (reply.Out (record { 0 = ticket.number })) taken.p (Some (anon_page taken.g (Going taken.frame ticket.block ticket.number)))
       (record {
         tables = taken.tables;
         placed = taken.placed;
@@ -297,23 +300,23 @@ module _ (old new : StateOf) (target worker entry : ℕ) (ticket : TicketOf) (ta
       let found : has_takeable (counting old.tables c) h ≡ true = ap (has_takeable (counting old.tables c)) same ∙ taken-some in
       rw found (subst (λ (t : ℕ). Takes (counting old.tables c) t (reply.Out (record { 0 = ticket.number })) (counting new.tables c)) (sym same) (takes_it c))
 
-  pub serves-taken : (what : Event) → AsksPage old.tables what target → Serves old worker what (reply.Out (record { 0 = ticket.number })) new
-  serves-taken (event.Relieve why) asks =
-      serves-out (event.Relieve why) (λ c told. relieves why asks.0 asks.1 c) (subst (λ (t : ℕ). TakesNext old.tables old.order t new.tables new.order) (sym asks.1) taken.next) (λ c told. same_tallies c told) tt (λ spot. refl) (λ u h. refl)
+  pub makes_step-taken : (what : Event) → AsksPage old.tables what target → MakesStep old worker what (reply.Out (record { 0 = ticket.number })) new
+  makes_step-taken (event.Relieve why) asks =
+      makes_step-out (event.Relieve why) (λ c told. relieves why asks.0 asks.1 c) (subst (λ (t : ℕ). TakesNext old.tables old.order t new.tables new.order) (sym asks.1) taken.next) (λ c told. same_tallies c told) tt (λ spot. refl) (λ u h. refl)
       (relief-two old.tables why asks.0 (ap (has_takeable old.tables) asks.1 ∙ taken-some))
-  serves-taken (event.ReclaimOne h) asks =
-      serves-out (event.ReclaimOne h) (λ c told. reclaims h.0 asks c) (subst (λ (t : ℕ). TakesNext old.tables old.order t new.tables new.order) (sym asks) taken.next) (λ c told. same_tallies c told) tt (λ spot. refl) (λ u h. refl)
+  makes_step-taken (event.ReclaimOne h) asks =
+      makes_step-out (event.ReclaimOne h) (λ c told. reclaims h.0 asks c) (subst (λ (t : ℕ). TakesNext old.tables old.order t new.tables new.order) (sym asks) taken.next) (λ c told. same_tallies c told) tt (λ spot. refl) (λ u h. refl)
       (reclaim-two old.tables h.0 (ap (has_takeable old.tables) asks ∙ taken-some))
-  serves-taken (event.Access t place op) asks = absurd asks
-  serves-taken (event.Arrived ticket bytes) asks = absurd asks
-  serves-taken (event.FetchFailed ticket) asks = absurd asks
-  serves-taken (event.Left ticket) asks = absurd asks
-  serves-taken (event.LeaveFailed ticket) asks = absurd asks
-  serves-taken (event.Spawn t h) asks = absurd asks
-  serves-taken (event.Exit t) asks = absurd asks
-  serves-taken (event.Mkdir path) asks = absurd asks
-  serves-taken (event.Set h setting) asks = absurd asks
-  serves-taken (event.Show query) asks = absurd asks
+  makes_step-taken (event.Access t place op) asks = absurd asks
+  makes_step-taken (event.Arrived ticket bytes) asks = absurd asks
+  makes_step-taken (event.FetchFailed ticket) asks = absurd asks
+  makes_step-taken (event.Left ticket) asks = absurd asks
+  makes_step-taken (event.LeaveFailed ticket) asks = absurd asks
+  makes_step-taken (event.Spawn t h) asks = absurd asks
+  makes_step-taken (event.Exit t) asks = absurd asks
+  makes_step-taken (event.Mkdir path) asks = absurd asks
+  makes_step-taken (event.Set h setting) asks = absurd asks
+  makes_step-taken (event.Show query) asks = absurd asks
 
 -- the ticket is a reply to it
 pub replies-out : (s : State) (what : Event) (target : ℕ) (ticket : TicketOf) → AsksPage s what target → RepliesTo what (given.Out ticket)
@@ -348,14 +351,14 @@ no_coming-after false g g' f' b' n' r rests e =
 
 -- the end of a transfer, whatever it comes to
 module _ (old new : StateOf) (worker p g n : ℕ) (from to : Residence) (what : Event) (stood : Stands old.tables.pages p g from) (moves : is_in_transfer (anon_page g from) ≡ true)
-    (rests : is_in_transfer (anon_page g to) ≡ false) (tables : new.tables ≡ record old.tables { pages = new.tables.pages }) (placed : Changes old.tables.pages new.tables.pages p (ended old.tables.mappings p g to))
+    (rests : is_in_transfer (anon_page g to) ≡ false) (tables : new.tables ≡ record old.tables { pages = new.tables.pages }) (placed : Changes old.tables.pages new.tables.pages p (or_gone old.tables.page_tables p (anon_page g to)))
     (unlisted : Changes old.flights new.flights n None) (bytes : (q k : ℕ) → q ≢ p → byte_in new.bytes q k ≡ byte_in old.bytes q k) where
-  pub serves-end : Steps old what reply.Ok new → Orders old.tables old.order what reply.Ok new.tables new.order → Tallied old what reply.Ok new → ReadsByte old what reply.Ok → ((spot : Spot) → says what reply.Ok spot ≡ Nothing) → ((u g : ℕ) → group_after what reply.Ok u g ≡ g)
-      → ((t v o : ℕ) → mapped_at old.tables.mappings t v ≡ Some p → is_in_memory to ≡ true
+  pub makes_step-end : Steps old what reply.Ok new → Orders old.tables old.order what reply.Ok new.tables new.order → Tallied old what reply.Ok new → ReadsByte old what reply.Ok → ((spot : Spot) → says what reply.Ok spot ≡ Nothing) → ((u g : ℕ) → group_after what reply.Ok u g ≡ g)
+      → ((t v o : ℕ) → mapped_at old.tables.page_tables t v ≡ Some p → is_in_memory to ≡ true
       → Arrives old what t v o (byte_in new.bytes p o) ⊎ ((there_and (λ (page : Page). is_in_memory page.residence) (page_at old.tables.pages p) ≡ true) × (byte_in new.bytes p o ≡ byte_in old.bytes p o)))
-      → Serves old worker what reply.Ok new
-  serves-end steps orders tallied reads silent groups own =
-      serves-move old new what reply.Ok p (ended old.tables.mappings p g to)
+      → MakesStep old worker what reply.Ok new
+  makes_step-end steps orders tallied reads silent groups own =
+      makes_step-move old new what reply.Ok p (or_gone old.tables.page_tables p (anon_page g to))
       (record {
         tables = tables;
         placed = placed;
@@ -363,15 +366,15 @@ module _ (old new : StateOf) (worker p g n : ℕ) (from to : Residence) (what : 
         silent = silent;
         groups = groups;
         given = refl;
-        own = λ t v o is there. own t v o is (memory_after (mappers old.tables.mappings p == 0) g to there);
-        coming = λ t v g' f' b' n' is same. no_coming-after (mappers old.tables.mappings p == 0) g g' f' b' n' to rests same;
+        own = λ t v o is there. own t v o is (memory_after (mappers old.tables.page_tables p == 0) g to there);
+        coming = λ t v g' f' b' n' is same. no_coming-after (mappers old.tables.page_tables p == 0) g g' f' b' n' to rests same;
         fresh = λ m taken. refl;
       })
       worker steps orders tallied reads
       (flights-ended old new worker n reply.Ok refl unlisted)
-      (let less = in_transfer-changes old.tables.pages new.tables.pages p (ended old.tables.mappings p g to) placed in
+      (let less = in_transfer-changes old.tables.pages new.tables.pages p (or_gone old.tables.page_tables p (anon_page g to)) placed in
       let was : one_if (there_and is_in_transfer (page_at old.tables.pages p)) ≡ 1 = ap (λ (slot : Option Page). one_if (there_and is_in_transfer slot)) stood ∙ ap one_if moves in
-      let now = settled_after (mappers old.tables.mappings p == 0) g to rests in
+      let now = settled_after (mappers old.tables.page_tables p == 0) g to rests in
       omega (arith, less, was, now))
 
 -- a page that is being written out is in memory
@@ -379,11 +382,11 @@ pub going-known : (pages : Pages) (p g f b n : ℕ) → Stands pages p g (Going 
 going-known pages p g f b n stands = ap (there_and (λ (page : Page). is_in_memory page.residence)) stands
 
 -- the page is in its frame, or on its block: what the machine's step says of it
-pub ends-in_frame : (old new : State) (p g f b : ℕ) (from : ℕ → ℕ → Residence) → Stands old.pages p g (from f b) → Changes old.pages new.pages p (ended old.mappings p g (Held f)) → new ≡ record old { pages = new.pages }
+pub ends-in_frame : (old new : State) (p g f b : ℕ) (from : ℕ → ℕ → Residence) → Stands old.pages p g (from f b) → Changes old.pages new.pages p (or_gone old.page_tables p (anon_page g (Held f))) → new ≡ record old { pages = new.pages }
     → EndsTransfer old from in_frame reply.Ok new
 ends-in_frame old new p g f b from stood placed same = record { p = p; page = anon_page g (from f b); frame = f; block = b; there = stood; moves = refl; placed = placed; answers = refl; state = same }
 
-pub ends-on_block : (old new : State) (p g f b : ℕ) (from : ℕ → ℕ → Residence) → Stands old.pages p g (from f b) → Changes old.pages new.pages p (ended old.mappings p g (Away b)) → new ≡ record old { pages = new.pages }
+pub ends-on_block : (old new : State) (p g f b : ℕ) (from : ℕ → ℕ → Residence) → Stands old.pages p g (from f b) → Changes old.pages new.pages p (or_gone old.page_tables p (anon_page g (Away b))) → new ≡ record old { pages = new.pages }
     → EndsTransfer old from on_block reply.Ok new
 ends-on_block old new p g f b from stood placed same = record { p = p; page = anon_page g (from f b); frame = f; block = b; there = stood; moves = refl; placed = placed; answers = refl; state = same }
 
@@ -393,34 +396,28 @@ ends-on_block old new p g f b from stood placed same = record { p = p; page = an
 not_away : {P : Type 0} (b : ℕ) → is_in_memory (Away b) ≡ true → P
 not_away b e = absurd (cc)
 
-pub serves-settled_in : (old new : StateOf) (worker p g f b : ℕ) (ticket : TicketOf) (end : End) → Stands old.tables.pages p g (Coming f b ticket.number) → Settles old new p g ticket.number (residence_after end f b)
-    → (end ≡ InFrame → (t v k : ℕ) → mapped_at old.tables.mappings t v ≡ Some p → byte_in new.bytes p k ≡ slice_index ticket.bytes k) → Serves old worker (in_ended end ticket) reply.Ok new
-serves-settled_in old new worker p g f b ticket InFrame stood ends own =
-    serves-end old new worker p g ticket.number (Coming f b ticket.number) (Held f) (event.Arrived (record { 0 = ticket.number }) ticket.bytes) stood refl refl ends.tables ends.placed ends.unlisted ends.others
+pub makes_step-settled_in : (old new : StateOf) (worker p g f b : ℕ) (ticket : TicketOf) (end : End) → Stands old.tables.pages p g (Coming f b ticket.number) → Settles old new p g ticket.number (residence_after end f b)
+    → (end ≡ InFrame → (t v k : ℕ) → mapped_at old.tables.page_tables t v ≡ Some p → byte_in new.bytes p k ≡ slice_index ticket.bytes k) → MakesStep old worker (ended In end ticket) reply.Ok new
+makes_step-settled_in old new worker p g f b ticket InFrame stood ends own =
+    makes_step-end old new worker p g ticket.number (Coming f b ticket.number) (Held f) (event.Arrived (record { 0 = ticket.number }) ticket.bytes) stood refl refl ends.tables ends.placed ends.unlisted ends.others
     (λ c told. ends-in_frame (counting old.tables c) _ p g f b (λ f b. Coming f b ticket.number) stood ends.placed (ap (λ (s : State). counting s c) ends.tables))
     (ends.held, ends.cursors) (λ c told. subst (λ (t : Tallies). Tells t c) (sym ends.tallies) told) tt (λ spot. refl) (λ u g. refl)
     (λ t v k shown there. inl (p, g, f, b, shown, stood, own refl t v k shown))
-serves-settled_in old new worker p g f b ticket OnBlock stood ends own =
-    serves-end old new worker p g ticket.number (Coming f b ticket.number) (Away b) (event.FetchFailed (record { 0 = ticket.number })) stood refl refl ends.tables ends.placed ends.unlisted ends.others
+makes_step-settled_in old new worker p g f b ticket OnBlock stood ends own =
+    makes_step-end old new worker p g ticket.number (Coming f b ticket.number) (Away b) (event.FetchFailed (record { 0 = ticket.number })) stood refl refl ends.tables ends.placed ends.unlisted ends.others
     (λ c told. ends-on_block (counting old.tables c) _ p g f b (λ f b. Coming f b ticket.number) stood ends.placed (ap (λ (s : State). counting s c) ends.tables))
     (ends.held, ends.cursors) (λ c told. subst (λ (t : Tallies). Tells t c) (sym ends.tallies) told) tt (λ spot. refl) (λ u g. refl)
     (λ t v k shown there. not_away b there)
 
-pub serves-settled_out : (old new : StateOf) (worker p g f b : ℕ) (ticket : TicketOf) (end : End) → Stands old.tables.pages p g (Going f b ticket.number) → Settles old new p g ticket.number (residence_after end f b)
-    → (end ≡ InFrame → (t v k : ℕ) → mapped_at old.tables.mappings t v ≡ Some p → byte_in new.bytes p k ≡ byte_in old.bytes p k) → Serves old worker (out_ended end ticket) reply.Ok new
-serves-settled_out old new worker p g f b ticket InFrame stood ends own =
-    serves-end old new worker p g ticket.number (Going f b ticket.number) (Held f) (event.LeaveFailed (record { 0 = ticket.number })) stood refl refl ends.tables ends.placed ends.unlisted ends.others
+pub makes_step-settled_out : (old new : StateOf) (worker p g f b : ℕ) (ticket : TicketOf) (end : End) → Stands old.tables.pages p g (Going f b ticket.number) → Settles old new p g ticket.number (residence_after end f b)
+    → (end ≡ InFrame → (t v k : ℕ) → mapped_at old.tables.page_tables t v ≡ Some p → byte_in new.bytes p k ≡ byte_in old.bytes p k) → MakesStep old worker (ended Out end ticket) reply.Ok new
+makes_step-settled_out old new worker p g f b ticket InFrame stood ends own =
+    makes_step-end old new worker p g ticket.number (Going f b ticket.number) (Held f) (event.LeaveFailed (record { 0 = ticket.number })) stood refl refl ends.tables ends.placed ends.unlisted ends.others
     (λ c told. ends-in_frame (counting old.tables c) _ p g f b (λ f b. Going f b ticket.number) stood ends.placed (ap (λ (s : State). counting s c) ends.tables))
     (ends.held, ends.cursors) (λ c told. subst (λ (t : Tallies). Tells t c) (sym ends.tallies) told) tt (λ spot. refl) (λ u g. refl)
     (λ t v k shown there. inr (going-known old.tables.pages p g f b ticket.number stood, own refl t v k shown))
-serves-settled_out old new worker p g f b ticket OnBlock stood ends own =
-    serves-end old new worker p g ticket.number (Going f b ticket.number) (Away b) (event.Left (record { 0 = ticket.number })) stood refl refl ends.tables ends.placed ends.unlisted ends.others
+makes_step-settled_out old new worker p g f b ticket OnBlock stood ends own =
+    makes_step-end old new worker p g ticket.number (Going f b ticket.number) (Away b) (event.Left (record { 0 = ticket.number })) stood refl refl ends.tables ends.placed ends.unlisted ends.others
     (λ c told. ends-on_block (counting old.tables c) _ p g f b (λ f b. Going f b ticket.number) stood ends.placed (ap (λ (s : State). counting s c) ends.tables))
     (ends.held, ends.cursors) (λ c told. subst (λ (t : Tallies). Tells t c) (sym ends.tallies) told) tt (λ spot. refl) (λ u g. refl)
     (λ t v k shown there. not_away b there)
-
--- ---- mappings
-
-pub away-grows : (s : State) (t v o p g b : ℕ) (op : Op) (task : Task) → task_at s.tasks t ≡ Some task → task.life ≡ Live → mapped_at s.mappings t v ≡ Some p → Stands s.pages p g (Away b)
-    → over_in s g ≡ None → is_frame_free s ≡ true → grows s (event.Access (record { 0 = t }) (Virtual v o) op) ≡ true
-away-grows s t v o p g b op task known live shown away under free = rw known (rw live (rw shown (rw away (rw under (rw free refl)))))

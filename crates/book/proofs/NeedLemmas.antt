@@ -1,13 +1,13 @@
 -- How many entries a decision needs, and whether it may want memory: what the machine says of its event.
-use Rattle.std.proofs.Common.{◌≡◌, ◌∙◌, inl, inr, ℕ, Bool, true, false, if◌then◌else◌, refl, sym, ap}
-use Rattle.machine.specs.declared.id.GroupId.{GroupId}
+use Rattle.std.proofs.Common.{◌≡◌, ◌∙◌, ℕ, Bool, true, false, if◌then◌else◌, refl, sym, ap}
+use Rattle.machine.specs.declared.record.Direction.TheVariants.{In, Out}
 use Rattle.machine.specs.declared.event.Place.TheVariants.{Virtual}
 use Rattle.machine.specs.declared.event.Event.{Event}
 use Rattle.machine.specs.declared.event.Event.TheVariants as event
 use Rattle.machine.specs.Pages.{Page}
-use Rattle.machine.specs.State.{State, over_in}
+use Rattle.machine.specs.State.{State}
 use Rattle.machine.specs.Access.{Hits, NeedsCopy, is_shared_write}
-use Rattle.machine.specs.Call.{need, grows, meeting_need}
+use Rattle.machine.specs.Call.{meeting_fetches, need}
 use Rattle.machine.specs.Reclaim.{has_takeable, target_of}
 use Rattle.page_state.specs.declared.room.NoRoom.{NoRoom}
 use Rattle.page_state.specs.declared.room.NoRoom.TheVariants as lacks
@@ -18,15 +18,15 @@ use Rattle.book.specs.declared.decision.Meeting.{Meeting}
 use Rattle.book.specs.declared.decision.Meeting.TheVariants as meeting
 use Rattle.book.specs.declared.decision.Decision.{Decision}
 use Rattle.book.specs.declared.decision.Decision.TheVariants as decision
-use Rattle.book.specs.Decisions.{IsTouch, NeedsCharge, ForNew, ForAway, MeetsSo, IsDecided, IsOfKilled, AsksPage, WantsRoom, HasItsRoom, FindsNothing, entries_for, makes}
-use Rattle.book.proofs.MoveLemmas.{away-needs, away-grows, relief-two, reclaim-two}
+use Rattle.book.specs.Decisions.{IsTouch, NeedsCharge, ForNew, ForAway, MeetsSo, IsDecided, IsOfKilled, AsksPage, WantsRoom, HasItsRoom, FindsNothing, entries_for}
+use Rattle.book.proofs.MoveLemmas.{away-fetches, fetch-needs, relief-two, reclaim-two}
 
 -- ---- accesses
 
 -- a hit and a copy need one entry
-one_either : (s : State) (g p f : ℕ) (page : Page) (b : Bool) → 1 ≡ meeting_need s g (if b then NeedsCopy else Hits p page f)
-one_either s g p f page true = refl
-one_either s g p f page false = refl
+one_either : (s : State) (g v p f : ℕ) (page : Page) (b : Bool) → ◌≡◌ {A = ℕ} 1 (if meeting_fetches s g (if b then NeedsCopy v else Hits p page f) then 2 else 1)
+one_either s g v p f page true = refl
+one_either s g v p f page false = refl
 
 module _ (s : State) (touch : Touch) (is : IsTouch s touch) where
   abbrev accessed : Event
@@ -39,20 +39,12 @@ module _ (s : State) (touch : Touch) (is : IsTouch s touch) where
 
   pub access-entries : (met : Meeting) → MeetsSo s touch met → entries_for (decision.Access touch met) ≡ need s accessed
   access-entries meeting.Unmapped meets = rw is.known (rw is.live (rw meets.1 (rw meets.0 refl)))
-  access-entries (meeting.Hits p f) meets = rw is.known (rw is.live (rw meets.1 (rw meets.2 (one_either s is.task.group.0 p.0 f.0 _ (is_shared_write s.mappings p.0 touch.op)))))
-  access-entries meeting.Transferring (p, g, f, b, n, shown, inl coming) = rw is.known (rw is.live (rw shown (rw coming refl)))
-  access-entries meeting.Transferring (p, g, f, b, n, shown, inr going) = rw is.known (rw is.live (rw shown (rw going refl)))
+  access-entries (meeting.Hits p f) meets = rw is.known (rw is.live (rw meets.1 (rw meets.2 (one_either s is.task.group.0 touch.at p.0 f.0 _ (is_shared_write s.page_tables p.0 touch.op)))))
+  access-entries meeting.Transferring (In, p, g, f, b, n, shown, coming) = rw is.known (rw is.live (rw shown (rw coming refl)))
+  access-entries meeting.Transferring (Out, p, g, f, b, n, shown, going) = rw is.known (rw is.live (rw shown (rw going refl)))
   access-entries (meeting.NeedsPage byte) meets = rw is.known (rw is.live (rw meets.1 (rw meets.0 refl)))
-  access-entries (meeting.NeedsSwapIn p) meets = sym (away-needs s touch.task.0 touch.at touch.offset p.0 meets.0 meets.1 touch.op is.task is.known is.live meets.2 meets.3 meets.4.under meets.4.free)
+  access-entries (meeting.NeedsSwapIn p) meets = sym (fetch-needs s touch.task.0 (Virtual touch.at touch.offset) touch.op (away-fetches s touch.task.0 touch.at touch.offset p.0 meets.0 meets.1 touch.op is.task is.known is.live meets.2 meets.3 meets.4.under meets.4.free))
   access-entries (meeting.Lacks why) meets = lacking meets.0 meets.1 why meets.2
-
-  pub access-grows : (met : Meeting) → MeetsSo s touch met → makes (decision.Access touch met) ≡ true → grows s accessed ≡ true
-  access-grows (meeting.NeedsPage byte) meets e = rw is.known (rw is.live (rw meets.1 (rw meets.0 (rw (ap (λ (g : GroupId). over_in s g.0) is.group ∙ meets.2.under) (rw meets.2.free refl)))))
-  access-grows (meeting.NeedsSwapIn p) meets e = away-grows s touch.task.0 touch.at touch.offset p.0 meets.0 meets.1 touch.op is.task is.known is.live meets.2 meets.3 meets.4.under meets.4.free
-  access-grows meeting.Unmapped meets e = absurd (cc)
-  access-grows (meeting.Hits p f) meets e = absurd (cc)
-  access-grows meeting.Transferring meets e = absurd (cc)
-  access-grows (meeting.Lacks why) meets e = absurd (cc)
 
 -- ---- other events
 

@@ -11,7 +11,7 @@ past_of b = record { state = state_of b.state (reverse b.entries.items); history
 pub record IsBook (b : Inside) : Type 0 where
   pub told : IsHistory b.state (reverse b.entries.items) b.counts.items
   -- each transfer in flight has room for the entry of its end
-  pub within : length b.entries.items + in_transfer b.state.tables.pages ≤ b.state.tables.opening.limit
+  pub within : length b.entries.items + in_transfer b.state.tables.pages ≤ b.state.tables.opening.trace_limit
   -- the trace's room comes from the opening
-  pub room : b.state.tables.opening.limit ≤ vec_capacity b.entries
+  pub room : b.state.tables.opening.trace_limit ≤ vec_capacity b.entries
   pub few : length b.counts.items ≤ 131072

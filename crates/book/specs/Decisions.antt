@@ -1,22 +1,23 @@
 -- What an event without a ticket will do, as it is decided before anything changes.
-use Rattle.std.specs.Prelude.{◌≡◌, ◌⊎◌, ℕ, ◌<◌, Bool, true, false, Some, None}
+use Rattle.std.specs.Prelude.{◌≡◌, ℕ, ◌<◌, Bool, true, false, Some, None}
 use Rattle.machine.specs.declared.record.Life.TheVariants.{Live, Killed}
 use Rattle.machine.specs.declared.record.Task.{Task}
+use Rattle.machine.specs.declared.record.Direction.{Direction}
 use Rattle.machine.specs.declared.event.Place.TheVariants.{Virtual}
 use Rattle.machine.specs.declared.event.Op.TheVariants.{Read, Write}
 use Rattle.machine.specs.declared.event.Event.{Event}
 use Rattle.machine.specs.declared.event.Event.TheVariants as event
 use Rattle.machine.specs.Names.{parent_path}
 use Rattle.machine.specs.Tree.{is_live, find_group}
-use Rattle.machine.specs.Pages.{Held, Coming, Going, Away}
+use Rattle.machine.specs.Pages.{Held, Away}
 use Rattle.machine.specs.Tasks.{task_at, mapped_at}
 use Rattle.machine.specs.State.{State}
-use Rattle.machine.specs.Access.{page_size}
+use Rattle.machine.specs.Access.{page_size, task_pages}
 use Rattle.machine.specs.Refusals.{refusal}
 use Rattle.machine.specs.Reclaim.{stands, target_of, has_takeable, has_transfer}
 use Rattle.machine.specs.Victim.{IsVictim}
 use Rattle.machine.specs.Lists.{Order, served}
-use Rattle.pages.specs.PageTable.{Stands}
+use Rattle.pages.specs.PagesOf.{moving, Stands}
 use Rattle.page_state.specs.States.{StateOf}
 use Rattle.page_state.specs.Changes.{HasRoom, LacksRoom}
 use Rattle.book.specs.declared.event.Reply.{Reply as Given}
@@ -26,7 +27,7 @@ use Rattle.book.specs.declared.decision.Meeting.TheVariants as meeting
 use Rattle.book.specs.declared.decision.Decision.{Decision}
 use Rattle.book.specs.declared.decision.Decision.TheVariants as decision
 use Rattle.book.specs.Events.{reply_of}
-use Rattle.book.specs.Serves.{Serves, GivesTicket, RepliesTo}
+use Rattle.book.specs.MakesStep.{MakesStep, GivesTicket, RepliesTo}
 
 -- ---- accesses
 
@@ -36,21 +37,22 @@ pub record IsTouch (s : State) (touch : Touch) : Type 0 where
   pub known : task_at s.tasks touch.task.0 ≡ Some task
   pub live : task.life ≡ Live
   pub group : task.group ≡ touch.group
+  pub inside : touch.at < task_pages
   pub within : touch.offset < page_size
 
 -- it needs a charge to g: a write where nothing is mapped to the task's own group, a page on its block to the page's
 pub data NeedsCharge (s : State) (touch : Touch) (g : ℕ) : Type 0 where
-  ForNew : (byte : ℕ) → touch.op ≡ Write byte → mapped_at s.mappings touch.task.0 touch.at ≡ None → g ≡ touch.group.0 → NeedsCharge s touch g
-  ForAway : (p block : ℕ) → mapped_at s.mappings touch.task.0 touch.at ≡ Some p → Stands s.pages p g (Away block) → NeedsCharge s touch g
+  ForNew : (byte : ℕ) → touch.op ≡ Write byte → mapped_at s.page_tables touch.task.0 touch.at ≡ None → g ≡ touch.group.0 → NeedsCharge s touch g
+  ForAway : (p block : ℕ) → mapped_at s.page_tables touch.task.0 touch.at ≡ Some p → Stands s.pages p g (Away block) → NeedsCharge s touch g
 
 -- what it meets, and whether the charge that it needs is granted
 abbrev pub MeetsSo : State → Touch → Meeting → Type 0
-MeetsSo s touch meeting.Unmapped = (touch.op ≡ Read) × (mapped_at s.mappings touch.task.0 touch.at ≡ None)
-MeetsSo s touch (meeting.Hits p frame) = (g : ℕ) × (mapped_at s.mappings touch.task.0 touch.at ≡ Some p.0) × Stands s.pages p.0 g (Held frame.0)
+MeetsSo s touch meeting.Unmapped = (touch.op ≡ Read) × (mapped_at s.page_tables touch.task.0 touch.at ≡ None)
+MeetsSo s touch (meeting.Hits p frame) = (g : ℕ) × (mapped_at s.page_tables touch.task.0 touch.at ≡ Some p.0) × Stands s.pages p.0 g (Held frame.0)
 MeetsSo s touch meeting.Transferring =
-    (p : ℕ) × (g : ℕ) × (f : ℕ) × (b : ℕ) × (n : ℕ) × (mapped_at s.mappings touch.task.0 touch.at ≡ Some p) × (Stands s.pages p g (Coming f b n) ⊎ Stands s.pages p g (Going f b n))
-MeetsSo s touch (meeting.NeedsPage byte) = (touch.op ≡ Write byte) × (mapped_at s.mappings touch.task.0 touch.at ≡ None) × HasRoom s touch.group.0
-MeetsSo s touch (meeting.NeedsSwapIn p) = (g : ℕ) × (b : ℕ) × (mapped_at s.mappings touch.task.0 touch.at ≡ Some p.0) × Stands s.pages p.0 g (Away b) × HasRoom s g
+    (direction : Direction) × (p : ℕ) × (g : ℕ) × (f : ℕ) × (b : ℕ) × (n : ℕ) × (mapped_at s.page_tables touch.task.0 touch.at ≡ Some p) × Stands s.pages p g (moving direction f b n)
+MeetsSo s touch (meeting.NeedsPage byte) = (touch.op ≡ Write byte) × (mapped_at s.page_tables touch.task.0 touch.at ≡ None) × HasRoom s touch.group.0
+MeetsSo s touch (meeting.NeedsSwapIn p) = (g : ℕ) × (b : ℕ) × (mapped_at s.page_tables touch.task.0 touch.at ≡ Some p.0) × Stands s.pages p.0 g (Away b) × HasRoom s g
 MeetsSo s touch (meeting.Lacks why) = (g : ℕ) × NeedsCharge s touch g × LacksRoom s g why
 
 -- ---- decisions
@@ -64,8 +66,8 @@ pub record IsIdleFor (s : State) (target : ℕ) : Type 0 where
 abbrev pub IsSound : State → Order → Decision → Type 0
 IsSound s order (decision.Access touch met) = IsTouch s touch × MeetsSo s touch met
 IsSound s order (decision.Take target g) = (is_live s.tree target.0 ≡ true) × (served s order target.0 ≡ Some g.0) × (has_takeable s target.0 ≡ true)
-IsSound s order (decision.Kill limit t) = (is_live s.tree limit.0 ≡ true) × IsIdleFor s limit.0 × IsVictim s.tree s.tasks s.mappings limit.0 (Some t.0)
-IsSound s order (decision.NoVictim limit) = (is_live s.tree limit.0 ≡ true) × IsIdleFor s limit.0 × IsVictim s.tree s.tasks s.mappings limit.0 None
+IsSound s order (decision.Kill limit t) = (is_live s.tree limit.0 ≡ true) × IsIdleFor s limit.0 × IsVictim s.tree s.tasks s.page_tables limit.0 (Some t.0)
+IsSound s order (decision.NoVictim limit) = (is_live s.tree limit.0 ≡ true) × IsIdleFor s limit.0 × IsVictim s.tree s.tasks s.page_tables limit.0 None
 IsSound s order (decision.Exit t) = (task : Task) × (task_at s.tasks t.0 ≡ Some task) × (task.life ≡ Live)
 IsSound s order (decision.Mkdir parent path) = (find_group s.tree (parent_path path.now) ≡ Some parent.0) × (is_live s.tree parent.0 ≡ true)
 IsSound s order other = Unit {0}
@@ -127,9 +129,8 @@ entries_for (decision.Access touch (meeting.NeedsSwapIn p)) = 2
 entries_for (decision.Take target g) = 2
 entries_for other = 1
 
--- whether it makes something, and so may want memory
+-- whether it makes something, and so may want memory: a group, a task, or what the bytes of a read-in arrive in
 abbrev pub makes : Decision → Bool
-makes (decision.Access touch (meeting.NeedsPage byte)) = true
 makes (decision.Access touch (meeting.NeedsSwapIn p)) = true
 makes (decision.Spawn t g) = true
 makes (decision.Mkdir parent path) = true
@@ -139,7 +140,7 @@ makes other = false
 
 -- the answer to an event, with the ticket that it gives out
 pub record AnswersTo (old : StateOf) (worker entry : ℕ) (what : Event) (said : Given) (new : StateOf) : Type 0 where
-  pub serves : Serves old worker what (reply_of said) new
+  pub makes_step : MakesStep old worker what (reply_of said) new
   pub gives : GivesTicket new worker entry said
   pub replies : RepliesTo what said
 

@@ -1,6 +1,7 @@
 -- What an event does to the joined parts, said by itself: to what was counted, to the tasks' groups, to bytes, and to transfers.
 use Rattle.std.specs.Prelude.{◌≡◌, ◌⊎◌, ℕ, ◌<◌, ◌==◌, Bool, true, false, List, [], ◌∷◌, ◌++◌, slice_index, option_map, IfSome, Option, Some, None, if◌then◌else◌}
 use Rattle.machine.specs.declared.record.Key.TheVariants as key
+use Rattle.machine.specs.declared.event.Place.TheVariants.{Virtual}
 use Rattle.machine.specs.declared.event.Op.TheVariants.{Read}
 use Rattle.machine.specs.declared.event.Event.{Event}
 use Rattle.machine.specs.declared.event.Event.TheVariants as event
@@ -14,11 +15,10 @@ use Rattle.machine.specs.State.{State}
 use Rattle.machine.specs.Reclaim.{target_of}
 use Rattle.machine.specs.Step.{Step, count_of}
 use Rattle.machine.specs.Access.{page_size}
-use Rattle.machine.specs.Step.{virtual_page}
 use Rattle.machine.specs.History.{Spot, InTask, spot_of, Nothing, says, follow, ticket_given, taker_or}
-use Rattle.pages.specs.PageTable.{Stands}
+use Rattle.pages.specs.PagesOf.{Stands}
 use Rattle.pages.specs.declared.flight.Flight.{Flight}
-use Rattle.events.specs.Tallies.{Tells}
+use Rattle.memory_events.specs.Tallies.{Tells}
 use Rattle.page_state.specs.States.{StateOf, byte_at}
 
 -- ---- events counted
@@ -71,7 +71,7 @@ is_known pages (Some p) = there_and (λ page. is_in_memory page.residence) (page
 
 -- the bytes of a task's virtual page are in memory
 abbrev pub knows : StateOf → ℕ → ℕ → Bool
-knows c t v = is_known c.tables.pages (mapped_at c.tables.mappings t v)
+knows c t v = is_known c.tables.pages (mapped_at c.tables.page_tables t v)
 
 abbrev pub KnowsSpot : StateOf → Spot → Type 0
 KnowsSpot c (InTask t v o) = (knows c t v ≡ true) × (o < page_size)
@@ -84,7 +84,7 @@ ReadsByte old what answer = Unit {0}
 -- the page at the place was being read in under the ticket that arrived, and this is its byte
 abbrev pub Arrives : StateOf → Event → ℕ → ℕ → ℕ → ℕ → Type 0
 Arrives old (event.Arrived ticket arrived) t v o byte =
-    (p : ℕ) × (g : ℕ) × (f : ℕ) × (b : ℕ) × (mapped_at old.tables.mappings t v ≡ Some p) × Stands old.tables.pages p g (Coming f b ticket.0) × (byte ≡ slice_index arrived o)
+    (p : ℕ) × (g : ℕ) × (f : ℕ) × (b : ℕ) × (mapped_at old.tables.page_tables t v ≡ Some p) × Stands old.tables.pages p g (Coming f b ticket.0) × (byte ≡ slice_index arrived o)
 Arrives old what t v o byte = ⊥
 
 -- the byte was in memory, and is what the event says of it, or as it was
@@ -101,12 +101,12 @@ ChangesBytes old what answer new =
 
 -- the event began to read in the page at the place, under this ticket
 abbrev pub IsFetchOf : Event → Reply → ℕ → ℕ → ℕ → Type 0
-IsFetchOf (event.Access u place op) (reply.Fetch m) t v n = (m.0 ≡ n) × (u.0 ≡ t) × (virtual_page place ≡ v)
+IsFetchOf (event.Access u (Virtual w o) op) (reply.Fetch m) t v n = (m.0 ≡ n) × (u.0 ≡ t) × (w ≡ v)
 IsFetchOf what answer t v n = ⊥
 
 -- the page at the place was being read in before, and the event says nothing of it
 pub record StaysComing (old : StateOf) (what : Event) (answer : Reply) (t v p g f b n : ℕ) : Type 0 where
-  pub shown : mapped_at old.tables.mappings t v ≡ Some p
+  pub shown : mapped_at old.tables.page_tables t v ≡ Some p
   pub stands : Stands old.tables.pages p g (Coming f b n)
   pub quiet : (o : ℕ) → says what answer (InTask t v o) ≡ Nothing
   pub other : is_number (ticket_given answer) n ≡ false
@@ -114,7 +114,7 @@ pub record StaysComing (old : StateOf) (what : Event) (answer : Reply) (t v p g 
 -- each page of a live task that is being read in
 abbrev pub ChangesComing : StateOf → Event → Reply → StateOf → Type 0
 ChangesComing old what answer new =
-    (t v p g f b n : ℕ) → lives new.tables.tasks t ≡ true → mapped_at new.tables.mappings t v ≡ Some p → Stands new.tables.pages p g (Coming f b n)
+    (t v p g f b n : ℕ) → lives new.tables.tasks t ≡ true → mapped_at new.tables.page_tables t v ≡ Some p → Stands new.tables.pages p g (Coming f b n)
     → IsFetchOf what answer t v n ⊎ StaysComing old what answer t v p g f b n
 
 abbrev pub worker_of : Option Flight → Option ℕ

@@ -1,16 +1,15 @@
 -- What stands in a history of an event and of a reply: a ticket by its number.
-use Rattle.std.specs.Prelude.{ℕ, Bool, List}
+use Rattle.std.specs.Prelude.{ℕ, List}
 use Rattle.machine.specs.declared.event.Event.{Event as Plain_event}
 use Rattle.machine.specs.declared.event.Event.TheVariants as plain
 use Rattle.machine.specs.declared.reply.Reply.{Reply as Plain_reply}
 use Rattle.machine.specs.declared.reply.Reply.TheVariants as said
 use Rattle.machine.specs.declared.refusal.Refusal.TheVariants.{Stranger}
-use Rattle.machine.specs.Pages.{Pages, is_coming_in, is_going_out}
 use Rattle.pages.specs.Tickets.{TicketOf}
 use Rattle.pages.specs.declared.end.End.{End}
 use Rattle.pages.specs.declared.end.End.TheVariants.{InFrame, OnBlock}
-use Rattle.pages.specs.declared.flight.Direction.{Direction}
-use Rattle.pages.specs.declared.flight.Direction.TheVariants.{In, Out}
+use Rattle.machine.specs.declared.record.Direction.{Direction}
+use Rattle.machine.specs.declared.record.Direction.TheVariants.{In, Out}
 use Rattle.book.specs.declared.event.Event.{Event}
 use Rattle.book.specs.declared.event.Event.TheVariants as event
 use Rattle.book.specs.declared.event.Reply.{Reply}
@@ -50,22 +49,12 @@ reply_of (reply.Refused why) = said.Refused why
 reply_of (reply.StrangeIn ticket) = said.Refused Stranger
 reply_of (reply.StrangeOut ticket) = said.Refused Stranger
 
--- the event by which a read-in ends, and that by which a write-out does
-abbrev pub in_ended_with : End → ℕ → List ℕ → Plain_event
-in_ended_with InFrame n bytes = plain.Arrived (record { 0 = n }) bytes
-in_ended_with OnBlock n bytes = plain.FetchFailed (record { 0 = n })
+-- the event by which a transfer in this direction ends so, under a ticket of this number, with what was read
+abbrev pub ended_with : Direction → End → ℕ → List ℕ → Plain_event
+ended_with In InFrame n bytes = plain.Arrived (record { 0 = n }) bytes
+ended_with In OnBlock n bytes = plain.FetchFailed (record { 0 = n })
+ended_with Out InFrame n bytes = plain.LeaveFailed (record { 0 = n })
+ended_with Out OnBlock n bytes = plain.Left (record { 0 = n })
 
-abbrev pub in_ended : End → TicketOf → Plain_event
-in_ended end ticket = in_ended_with end ticket.number ticket.bytes
-
-abbrev pub out_ended_with : End → ℕ → Plain_event
-out_ended_with InFrame n = plain.LeaveFailed (record { 0 = n })
-out_ended_with OnBlock n = plain.Left (record { 0 = n })
-
-abbrev pub out_ended : End → TicketOf → Plain_event
-out_ended end ticket = out_ended_with end ticket.number
-
--- the ticket is one of a page in transfer, in this direction
-abbrev pub is_in_flight : Direction → Pages → ℕ → Bool
-is_in_flight In pages n = is_coming_in pages n
-is_in_flight Out pages n = is_going_out pages n
+abbrev pub ended : Direction → End → TicketOf → Plain_event
+ended direction end ticket = ended_with direction end ticket.number ticket.bytes

@@ -1,8 +1,7 @@
-pub mod Passes
 pub mod Events
 pub mod Replies
 pub mod Effects
-pub mod Serves
+pub mod MakesStep
 pub mod Decisions
 pub mod Told
 pub mod Books

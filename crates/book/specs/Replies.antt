@@ -3,7 +3,7 @@ use Rattle.std.specs.Prelude.{◌≡◌, ℕ, ◌<◌, ◌==◌, ◌||◌, true,
 use Rattle.machine.specs.Pages.{Coming, Going, Page, page_at}
 use Rattle.machine.specs.Tasks.{lives, mapped_at}
 use Rattle.machine.specs.Access.{page_size}
-use Rattle.machine.specs.History.{InTask, last, Honest}
+use Rattle.machine.specs.History.{InTask, at_first, last, Honest}
 use Rattle.machine.specs.Call.{Past}
 use Rattle.pages.specs.Tickets.{TicketOf}
 use Rattle.book.specs.declared.event.Event.{Event}
@@ -123,8 +123,8 @@ pub record GivesOut (past : Past) (worker : ℕ) (ticket : TicketOf) : Type 0 wh
   pub own : ticket.worker ≡ worker
   pub entry : ticket.entry ≡ length past.history
   pub fresh : ticket.handed ≡ false
-  pub bytes : Honest past.history → (t v o : ℕ) → o < page_size → lives past.state.tasks t ≡ true → mapped_at past.state.mappings t v ≡ Some p
-      → slice_index ticket.bytes o ≡ last past.history (InTask t v o)
+  pub bytes : Honest at_first past.history → (t v o : ℕ) → o < page_size → lives past.state.tasks t ≡ true → mapped_at past.state.page_tables t v ≡ Some p
+      → slice_index ticket.bytes o ≡ last at_first past.history (InTask t v o)
 
 -- what a reply gives out, after the call
 abbrev pub Gives : Past → ℕ → Reply → Type 0

@@ -8,9 +8,9 @@ use Rattle.machine.specs.Tasks.{lives, group_of_task, mapped_at}
 use Rattle.machine.specs.Access.{page_size}
 use Rattle.machine.specs.State.{State}
 use Rattle.machine.specs.Legal.{Legal}
-use Rattle.machine.specs.History.{Right, InTask, at_offset, last, Fetched, fetch_of, Honest, taker, entries_by, Numbered}
-use Rattle.pages.specs.PageTable.{Stands}
-use Rattle.events.specs.Tallies.{Tells}
+use Rattle.machine.specs.History.{Right, InTask, at_offset, at_first, last, Fetched, fetch_of, Honest, taker, entries_by, Numbered}
+use Rattle.pages.specs.PagesOf.{Stands}
+use Rattle.memory_events.specs.Tallies.{Tells}
 use Rattle.page_state.specs.States.{StateOf, byte_at}
 use Rattle.book.specs.Effects.{counting, counted_after, group_after, knows}
 
@@ -32,16 +32,16 @@ state_of c history = counting c.tables (counted_in history)
 pub record IsFetched (history : List Entry) (n t v : ℕ) : Type 0 where
   pub fetch : Fetched
   pub found : fetch_of n history ≡ Some fetch
-  pub same : (o : ℕ) → o < page_size → last fetch.earlier (at_offset o fetch.spot) ≡ last history (InTask t v o)
+  pub same : (o : ℕ) → o < page_size → last at_first fetch.earlier (at_offset o fetch.spot) ≡ last at_first history (InTask t v o)
 
 -- the history leads to the tables, gave each read the last write where every arrival brought it, and is numbered by worker
 pub record IsHistory (c : StateOf) (history : List Entry) (counts : List ℕ) : Type 0 where
   pub legal : Legal c.tables.opening history (state_of c history)
-  pub right : Honest history → Right history
+  pub right : Honest at_first history → Right at_first history
   pub numbered : Numbered history
   -- the byte at each live task's place that is in memory is the one last written there
-  pub bytes : Honest history → (t v o : ℕ) → lives c.tables.tasks t ≡ true → o < page_size → knows c t v ≡ true → byte_at c t v o ≡ last history (InTask t v o)
-  pub coming : (t v p g f b n : ℕ) → lives c.tables.tasks t ≡ true → mapped_at c.tables.mappings t v ≡ Some p → Stands c.tables.pages p g (Coming f b n) → IsFetched history n t v
+  pub bytes : Honest at_first history → (t v o : ℕ) → lives c.tables.tasks t ≡ true → o < page_size → knows c t v ≡ true → byte_at c t v o ≡ last at_first history (InTask t v o)
+  pub coming : (t v p g f b n : ℕ) → lives c.tables.tasks t ≡ true → mapped_at c.tables.page_tables t v ≡ Some p → Stands c.tables.pages p g (Coming f b n) → IsFetched history n t v
   pub takers : (n : ℕ) → IfSome (at c.flights n) (λ f. taker n history ≡ Some f.worker.0)
   pub groups : (t : ℕ) → group_of_task c.tables.tasks t ≡ group_in history t
   pub tallied : Tells c.tallies (counted_in history)

@@ -6,7 +6,7 @@ ghost use Rattle.machine.specs.Refusals.{show_refusal};
 ghost use Rattle.machine.specs.Counts.{Counted};
 ghost use Rattle.machine.specs.Step.{shown_of};
 ghost use Rattle.machine.specs.declared.event.Event.{Event as Event_of};
-ghost use Rattle.events.specs.Tallies.{Tells};
+ghost use Rattle.memory_events.specs.Tallies.{Tells};
 ghost use Rattle.page_state.specs.States.{AreFew};
 ghost use Rattle.book.specs.Effects.{counting};
 ghost use Rattle.book.specs.Decisions.{IsSound, IsTouch, MeetsSo, IsDecided, makes, Carries};
@@ -94,7 +94,7 @@ fn access(
         Meeting::Hits(page, frame) => Ok(hit(state, touch, page, frame)),
         Meeting::Transferring => Ok(Reply::Busy),
         Meeting::NeedsPage(byte) => {
-            state.hold(touch.task, touch.at, touch.group, touch.offset, byte)?;
+            state.hold(touch.task, touch.at, touch.group, touch.offset, byte);
             Ok(Reply::Done { byte, hit: None })
         }
         Meeting::NeedsSwapIn(page) => {

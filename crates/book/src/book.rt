@@ -1,16 +1,16 @@
 //! The book: one event a call, and the history of what was answered.
 
-ghost use Rattle.std.specs.Prelude.{◌≡◌, ◌⊎◌, ℕ, ◌+◌, ◌<◌, ◌≤◌, ◌++◌, ◌∷◌, ◌&&◌, [], None, true, false, length, reverse, nat_lt, slice_index, slice_set, option_map, IfOk, IfErr, OnErr, vec_len, vec_capacity};
+ghost use Rattle.std.specs.Prelude.{◌≡◌, ◌⊎◌, ℕ, ◌+◌, ◌<◌, ◌≤◌, ◌++◌, ◌∷◌, List, [], None, true, false, length, reverse, nat_lt, slice_index, slice_set, option_map, IfOk, IfErr, OnErr, vec_len, vec_capacity};
 ghost use Rattle.machine.specs.Tree.{find_group};
 ghost use Rattle.machine.specs.Pages.{used_frames, in_transfer};
 ghost use Rattle.machine.specs.State.{opening_of, is_config};
 ghost use Rattle.machine.specs.Legal.{Legal};
 ghost use Rattle.machine.specs.Lists.{ListsHeld};
-ghost use Rattle.machine.specs.History.{Right, IsRight, Honest, Numbered, taker};
-ghost use Rattle.machine.specs.Call.{first_past, is_worker, Called};
-ghost use Rattle.book.specs.Events.{event_of, reply_of, in_ended, in_ended_with, out_ended, out_ended_with, is_in_flight};
+ghost use Rattle.machine.specs.History.{Right, IsRight, Honest, Numbered, at_first};
+ghost use Rattle.machine.specs.Call.{first_past, took, Called};
+ghost use Rattle.book.specs.Events.{event_of, reply_of, ended, ended_with};
 ghost use Rattle.book.specs.Replies.{Replies, IsInReply, IsOutReply, IsBack, HandsBack, KeepsTicket, Gives};
-ghost use Rattle.book.specs.Serves.{IsAsked, RepliesTo};
+ghost use Rattle.book.specs.MakesStep.{IsAsked, RepliesTo};
 
 use crate::apply::apply;
 use crate::decide::decide;
@@ -21,10 +21,11 @@ use machine::config::{Config, Watermarks};
 use machine::entry::Entry;
 use machine::event::Event as PlainEvent;
 use machine::id::{GroupId, TicketId, WorkerId};
+use machine::record::Direction;
 use machine::refusal::Refusal;
 use machine::reply::Reply as PlainReply;
 use page_state::State;
-use pages::{Carries, Direction, End, InTicket, OutTicket, Ticket};
+use pages::{Carries, End, InTicket, OutTicket, Ticket};
 use std::alloc::{AllocError, Global};
 use std::marker::Model;
 
@@ -124,8 +125,8 @@ impl Book {
     /// of the machine and exactly one entry more. A refused ticket comes back.
     pub fn call(&mut self, pass: &mut Pass, event: Event) -> Reply
         requires { pass.old.worker < self.old.passes }
-        ensures called { Called self.old pass.old.worker (event_of event) (reply_of result) self.new }
-        ensures reads { Honest self.old.history → IsRight self.old.history (event_of event) (reply_of result) }
+        ensures called { Called self.old pass.old (event_of event) (reply_of result) self.new }
+        ensures reads { Honest at_first self.old.history → IsRight at_first self.old.history (event_of event) (reply_of result) }
         ensures replies { Replies event result }
         ensures gives { Gives self.new pass.old.worker result }
         ensures keeps { KeepsTicket pass.old.worker event result }
@@ -158,8 +159,8 @@ impl Book {
     fn ask(&mut self, worker: WorkerId, event: PlainEvent) -> Reply
         requires known { worker.0 < self.old.passes }
         requires asked { IsAsked event }
-        ensures called { Called self.old worker.0 event (reply_of result) self.new }
-        ensures reads { Honest self.old.history → IsRight self.old.history event (reply_of result) }
+        ensures called { Called self.old (record { worker = worker.0 }) event (reply_of result) self.new }
+        ensures reads { Honest at_first self.old.history → IsRight at_first self.old.history event (reply_of result) }
         ensures replies { RepliesTo event result }
         ensures gives { Gives self.new worker.0 result }
         ensures passes { self.new.passes ≡ self.old.passes }
@@ -187,7 +188,7 @@ impl Book {
     /// transfers.
     fn is_full(&self, entries: usize) -> bool
         requires { entries ≤ 2 }
-        ensures { result ≡ nat_lt self.now.state.opening.limit (length self.now.history + in_transfer self.now.state.pages + entries) }
+        ensures { result ≡ nat_lt self.now.state.opening.trace_limit (length self.now.history + in_transfer self.now.state.pages + entries) }
     {
         self.state.is_joined();
         self.state.limit() < self.entries.len() + self.state.transfers() as usize + entries
@@ -195,7 +196,7 @@ impl Book {
 
     /// Whether the ticket is one of a page in transfer in that direction, and the worker took it.
     fn is_own(&self, ticket: TicketId, direction: Direction, worker: WorkerId) -> bool
-        ensures { result ≡ (is_in_flight direction self.now.state.pages ticket.0 && is_worker worker.0 (taker ticket.0 self.now.history)) }
+        ensures { result ≡ took self.now.state.pages self.now.history (record { worker = worker.0 }) direction ticket.0 }
     {
         self.state.is_joined();
         match self.state.pages().flight(ticket) {
@@ -207,7 +208,7 @@ impl Book {
     /// The end of a read-in. Like each end of a transfer it has room in the trace, which was kept for it.
     fn settle_in(&mut self, worker: WorkerId, ticket: InTicket, end: End) -> Reply
         requires { worker.0 < self.old.passes }
-        ensures called { Called self.old worker.0 (in_ended end ticket) (reply_of result) self.new }
+        ensures called { Called self.old (record { worker = worker.0 }) (ended Direction.In end ticket) (reply_of result) self.new }
         ensures replies { IsInReply result }
         ensures keeps { HandsBack worker.0 ticket result }
         ensures passes { self.new.passes ≡ self.old.passes }
@@ -232,7 +233,7 @@ impl Book {
     /// The end of a write-out.
     fn settle_out(&mut self, worker: WorkerId, ticket: OutTicket, end: End) -> Reply
         requires { worker.0 < self.old.passes }
-        ensures called { Called self.old worker.0 (out_ended end ticket) (reply_of result) self.new }
+        ensures called { Called self.old (record { worker = worker.0 }) (ended Direction.Out end ticket) (reply_of result) self.new }
         ensures replies { IsOutReply result }
         ensures keeps { HandsBack worker.0 ticket result }
         ensures passes { self.new.passes ≡ self.old.passes }
@@ -271,7 +272,7 @@ impl Book {
 
     /// The daemon's marks, which the opening fixed. They are asked for by no event.
     pub fn watermarks(&self) -> Watermarks
-        ensures { result ≡ self.now.state.opening.marks }
+        ensures { result ≡ self.now.state.opening.watermarks }
     {
         self.state.watermarks()
     }
@@ -280,7 +281,7 @@ impl Book {
     /// the list has each held page once and no other, and each group has a cursor.
     pub fn history_is_right(&self)
         ensures legal { Legal self.now.state.opening self.now.history self.now.state }
-        ensures right { Honest self.now.history → Right self.now.history }
+        ensures right { Honest at_first self.now.history → Right at_first self.now.history }
         ensures numbered { Numbered self.now.history }
         ensures listed { ListsHeld self.now.state.pages self.now.order.held }
         ensures cursors { length self.now.order.cursors ≡ length self.now.state.tree }
@@ -358,7 +359,7 @@ fn plain(reply: &Reply) -> PlainReply
 
 /// The event by which a read-in ends.
 fn in_ended(end: End, ticket: TicketId, bytes: PageBytes) -> PlainEvent
-    ensures { result ≡ in_ended_with end ticket.0 bytes }
+    ensures { result ≡ ended_with Direction.In end ticket.0 bytes }
 {
     match end {
         End::InFrame => PlainEvent::Arrived { ticket, bytes },
@@ -368,7 +369,7 @@ fn in_ended(end: End, ticket: TicketId, bytes: PageBytes) -> PlainEvent
 
 /// The event by which a write-out ends.
 fn out_ended(end: End, ticket: TicketId) -> PlainEvent
-    ensures { result ≡ out_ended_with end ticket.0 }
+    ensures { (bytes : List ℕ) → result ≡ ended_with Direction.Out end ticket.0 bytes }
 {
     match end {
         End::InFrame => PlainEvent::LeaveFailed(ticket),

@@ -5,11 +5,11 @@ ghost use Rattle.std.specs.Prelude.{◌≡◌, ℕ, true, None, Some, MatchResul
 ghost use Rattle.machine.specs.declared.event.Event.TheVariants as event;
 ghost use Rattle.machine.specs.Tree.{is_live};
 ghost use Rattle.machine.specs.Pages as residence;
-ghost use Rattle.pages.specs.PageTable.{Stands};
+ghost use Rattle.pages.specs.PagesOf.{Stands};
 ghost use Rattle.machine.specs.Tasks.{task_at, mapped_at};
 ghost use Rattle.machine.specs.Reclaim.{stands, target_of};
 ghost use Rattle.machine.specs.Refusals.{refusal, below_target, bars_children, bars_tasks, file_refusal, show_refusal, spawn_refusal};
-ghost use Rattle.book.specs.Serves.{IsAsked};
+ghost use Rattle.book.specs.MakesStep.{IsAsked};
 ghost use Rattle.book.specs.Decisions.{IsTouch, MeetsSo, IsDecided};
 
 use crate::decision::{Decision, Meeting, Touch};
@@ -107,7 +107,7 @@ fn meet(state: &State, touch: Touch) -> Meeting
 /// An access where nothing is mapped.
 fn meet_nothing(state: &State, touch: Touch) -> Meeting
     requires touch { IsTouch state.now.tables touch }
-    requires unmapped { mapped_at state.now.tables.mappings touch.task.0 touch.at ≡ None }
+    requires unmapped { mapped_at state.now.tables.page_tables touch.task.0 touch.at ≡ None }
     ensures { MeetsSo state.now.tables touch result }
 {
     state.is_joined();
@@ -122,7 +122,7 @@ fn meet_nothing(state: &State, touch: Touch) -> Meeting
 
 /// An access to a page that is mapped.
 fn meet_page(state: &State, touch: Touch, page: PageId) -> Meeting
-    requires { mapped_at state.now.tables.mappings touch.task.0 touch.at ≡ Some page.0 }
+    requires { mapped_at state.now.tables.page_tables touch.task.0 touch.at ≡ Some page.0 }
     ensures { MeetsSo state.now.tables touch result }
 {
     state.is_joined();
@@ -138,7 +138,7 @@ fn meet_page(state: &State, touch: Touch, page: PageId) -> Meeting
 
 /// An access to a page on its block.
 fn meet_away(state: &State, touch: Touch, page: PageId) -> Meeting
-    requires shown { mapped_at state.now.tables.mappings touch.task.0 touch.at ≡ Some page.0 }
+    requires shown { mapped_at state.now.tables.page_tables touch.task.0 touch.at ≡ Some page.0 }
     requires away { (g b : ℕ) × Stands state.now.tables.pages page.0 g (residence.Away b) }
     ensures { MeetsSo state.now.tables touch result }
 {
@@ -294,7 +294,7 @@ fn decide_show<'e>(state: &State, query: Query) -> Result<Decision<'e>, Refusal>
 fn file_refusal(state: &State, group: GroupId) -> Option<Refusal>
     ensures { result ≡ file_refusal state.now.tables.tree group.0 }
 {
-    if !state.tree().is_live(group) || group.0 == 0 {
+    if !state.tree().is_live(group) || group == GroupId::ROOT {
         return Some(Refusal::NoEntry);
     }
     None
@@ -331,12 +331,12 @@ fn is_below(state: &State, target: GroupId, group: GroupId) -> bool
 fn bars_tasks(state: &State, group: GroupId) -> bool
     ensures { result ≡ bars_tasks state.now.tables.tree group.0 }
 {
-    group.0 != 0 && state.tree().has_children(group)
+    group != GroupId::ROOT && state.tree().has_children(group)
 }
 
 /// Whether tasks keep the group from having child groups.
 fn bars_children(state: &State, group: GroupId) -> bool
     ensures { result ≡ bars_children state.now.tables.tasks group.0 }
 {
-    group.0 != 0 && state.spaces().has_tasks(group)
+    group != GroupId::ROOT && state.spaces().has_tasks(group)
 }

@@ -3,16 +3,16 @@
 use machine::id::WorkerId;
 use std::marker::Model;
 
-/// A worker's leave to ask the book that gave it out.
+/// A worker's leave to ask the book that gave it out. A contract sees it as the caller.
 #[derive(Debug, Drop)]
 pub struct Pass {
     worker: WorkerId,
 }
 
 impl Model for Pass {
-    ghost use Rattle.book.specs.Passes.{PassOf};
+    ghost use Rattle.machine.specs.Call.{Caller};
 
-    ghost Value = { PassOf };
+    ghost Value = { Caller };
 
     ghost view = { λ p. record { worker = p.worker.0 } };
 }

@@ -22,7 +22,7 @@ use Rattle.machine.specs.Tasks.{Tasks, task_at, live_tasks}
 use Rattle.machine.specs.State.{State}
 use Rattle.machine.specs.Access.{is_place}
 use Rattle.machine.specs.Refusals.{refusal, first_cause, bars_children, bars_tasks, number_refusal, life_refusal, task_refusal, below_refusal, mkdir_refusal, file_refusal, below_target, show_refusal}
-use Rattle.machine.specs.Call.{Past, Answers, Refuses, Served, JudgedBy, Called, knows_ticket, is_trace_full}
+use Rattle.machine.specs.Call.{Past, Caller, Answers, Refuses, Served, JudgedBy, Called, knows_pass, is_trace_full}
 use Rattle.pages.specs.Tickets.{TicketOf}
 use Rattle.book.specs.declared.event.Reply.{Reply as Book_reply}
 use Rattle.book.specs.declared.event.Reply.TheVariants as said
@@ -35,7 +35,7 @@ use Rattle.driver.specs.declared.turn.Pending.{Pending}
 use Rattle.driver.specs.declared.turn.Pending.TheVariants as pending
 use Rattle.driver.specs.declared.turn.Transition.{Transition}
 use Rattle.driver.specs.declared.turn.Transition.TheVariants.{Goes}
-use Rattle.driver.specs.Turns.{Tried, MadeRoom, MaxSet, Lowered, Reclaimed, Balanced, Made, Ended, WasShown, Closed, Told, ends_with, ends_refused, byte_answer, goes_on}
+use Rattle.driver.specs.Turns.{Tried, MadeRoom, MaxSet, Lowered, Reclaimed, Balanced, Made, Ended, WasShown, Closed, Told, ends_with, ends_refused, byte_answer, resumes_at}
 use Rattle.driver.specs.Schedule.{outcome_of, left_of}
 use Rattle.driver.proofs.Keeps.{number_at, pages_none, Fine, FineOutcome}
 
@@ -109,32 +109,32 @@ pub record IsRefused (old : Past) (answer : Reply) (new : Past) : Type 0 where
   pub same : new ≡ old
 
 -- one entry more
-pub record IsServed (old : Past) (worker : ℕ) (what : Event) (answer : Reply) (new : Past) : Type 0 where
+pub record IsServed (old : Past) (caller : Caller) (what : Event) (answer : Reply) (new : Past) : Type 0 where
   pub unrefused : refusal old.state what ≡ None
   pub room : is_trace_full old what ≡ false
   pub done : (why : Refusal) → answer ≡ reply.Refused why → ⊥
-  pub answers : Answers old worker what answer new
+  pub answers : Answers old caller what answer new
 
-pub data Comes (old : Past) (worker : ℕ) (what : Event) (answer : Reply) (new : Past) : Type 0 where
-  ByRefusal : IsRefused old answer new → Comes old worker what answer new
-  ByEntry : IsServed old worker what answer new → Comes old worker what answer new
+pub data Comes (old : Past) (caller : Caller) (what : Event) (answer : Reply) (new : Past) : Type 0 where
+  ByRefusal : IsRefused old answer new → Comes old caller what answer new
+  ByEntry : IsServed old caller what answer new → Comes old caller what answer new
 
-served_comes : (old new : Past) (worker : ℕ) (what : Event) (answer : Reply) → refusal old.state what ≡ None → is_trace_full old what ≡ false → Served old worker what answer new → Comes old worker what answer new
-served_comes old new worker what (reply.Refused why) none room h = ByRefusal (record { why = why; refused = refl; known = λ e. (let is = h.0 in cc); same = h.2 })
-served_comes old new worker what answer none room h = ByEntry (record { unrefused = none; room = room; done = λ why e. cc; answers = h })
+served_comes : (old new : Past) (caller : Caller) (what : Event) (answer : Reply) → refusal old.state what ≡ None → is_trace_full old what ≡ false → Served old caller what answer new → Comes old caller what answer new
+served_comes old new caller what (reply.Refused why) none room h = ByRefusal (record { why = why; refused = refl; known = λ e. (let is = h.0 in cc); same = h.2 })
+served_comes old new caller what answer none room h = ByEntry (record { unrefused = none; room = room; done = λ why e. cc; answers = h })
 
-pub called_comes : (old new : Past) (worker : ℕ) (what : Event) (answer : Reply) → knows_ticket old.state old.history worker what ≡ true → Called old worker what answer new → Comes old worker what answer new
-called_comes old new worker what answer known called = by_known (knows_ticket old.state old.history worker what) known called
+pub called_comes : (old new : Past) (caller : Caller) (what : Event) (answer : Reply) → knows_pass old.state old.history caller what ≡ true → Called old caller what answer new → Comes old caller what answer new
+called_comes old new caller what answer known called = by_known (knows_pass old.state old.history caller what) known called
   where
-    by_room : (full : Bool) → is_trace_full old what ≡ full → refusal old.state what ≡ None → MatchBool full (Refuses old TraceFull answer new) (Served old worker what answer new) → Comes old worker what answer new
+    by_room : (full : Bool) → is_trace_full old what ≡ full → refusal old.state what ≡ None → MatchBool full (Refuses old TraceFull answer new) (Served old caller what answer new) → Comes old caller what answer new
     by_room true is none h = ByRefusal (record { why = TraceFull; refused = h.0; known = λ e. cc; same = h.1 })
-    by_room false is none h = served_comes old new worker what answer none is h
+    by_room false is none h = served_comes old new caller what answer none is h
 
-    by_cause : (cause : Option Refusal) → refusal old.state what ≡ cause → JudgedBy old worker what cause answer new → Comes old worker what answer new
+    by_cause : (cause : Option Refusal) → refusal old.state what ≡ cause → JudgedBy old caller what cause answer new → Comes old caller what answer new
     by_cause (Some why) is h = ByRefusal (record { why = why; refused = h.0; known = λ e. refusal_causes old.state what (is ∙ ap (λ (w : Refusal). Some w) e); same = h.1 })
     by_cause None is h = by_room (is_trace_full old what) refl is h
 
-    by_known : (b : Bool) → b ≡ true → MatchBool b (JudgedBy old worker what (refusal old.state what) answer new) (Refuses old Stranger answer new) → Comes old worker what answer new
+    by_known : (b : Bool) → b ≡ true → MatchBool b (JudgedBy old caller what (refusal old.state what) answer new) (Refuses old Stranger answer new) → Comes old caller what answer new
     by_known true is h = by_cause (refusal old.state what) refl h
     by_known false is h = cc
 
@@ -163,11 +163,11 @@ fine_byte : (op : Op) (byte : ℕ) → Fine (byte_answer op byte)
 fine_byte Read byte = λ e. cc
 fine_byte (Write b) byte = λ e. cc
 
-goes_on_handless : (on : Resume) → number_at (left_of (Goes (goes_on on))) ≡ None
-goes_on_handless (resume.Try access) = refl
-goes_on_handless (resume.Lower g) = refl
-goes_on_handless (resume.Reclaim g left) = pages_none g.0 left
-goes_on_handless resume.Balance = refl
+resumes_at_handless : (on : Resume) → number_at (left_of (Goes (resumes_at on))) ≡ None
+resumes_at_handless (resume.Try access) = refl
+resumes_at_handless (resume.Lower g) = refl
+resumes_at_handless (resume.Reclaim g left) = pages_none g.0 left
+resumes_at_handless resume.Balance = refl
 
 abbrev KnownReply : Book_reply → Type 0
 KnownReply answered = reply_of answered ≡ reply.Refused Stranger → ⊥
@@ -253,5 +253,5 @@ told_next pending.Exit answered transition h known = ended_next answered transit
 told_next pending.Show answered transition h known = shown_next answered transition h known
 told_next (pending.Arrive access) answered transition h known = closed_next _ answered transition refl tt h known
 told_next pending.FetchFail answered transition h known = closed_next _ answered transition refl (λ e. cc) h known
-told_next (pending.Leave on) answered transition h known = closed_next _ answered transition (goes_on_handless on) tt h known
+told_next (pending.Leave on) answered transition h known = closed_next _ answered transition (resumes_at_handless on) tt h known
 told_next pending.LeaveFail answered transition h known = closed_next _ answered transition refl (λ e. cc) h known

@@ -23,7 +23,7 @@ use Rattle.machine.specs.declared.refusal.Refusal.TheVariants.{NoEntry}
 use Rattle.machine.specs.Tree.{Node, find_group}
 use Rattle.machine.specs.Control.{file_named, has_file, amount_of}
 use Rattle.machine.specs.State.{free_frames}
-use Rattle.machine.specs.Call.{Past}
+use Rattle.machine.specs.Call.{Past, Caller}
 use Rattle.block_store.specs.declared.device.Fault.{Fault}
 use Rattle.block_store.specs.Device.{Disk, ReadsBlock, WritesBlock}
 use Rattle.pages.specs.Tickets.{TicketOf}
@@ -45,7 +45,7 @@ use Rattle.driver.specs.declared.turn.Outcome.{Outcome}
 use Rattle.driver.specs.declared.turn.Activity.{Activity}
 use Rattle.driver.specs.declared.turn.Activity.TheVariants.{Rests, Begun, Does}
 use Rattle.driver.specs.declared.turn.Seat.{Seat}
-use Rattle.driver.specs.Turns.{wants_pages, wants_balance, wants_watch, done, byte_answer, goes_on, Tried, MadeRoom, MaxSet, Lowered, Reclaimed, Balanced, Made, Ended, WasShown, Closed, Told, ReadsIn, WritesOut, after_read, after_write, Judged, with_group, with_file, with_amount, reads_file, writes_file, reclaims, task_judged, shell_judged, daemon_judged, judged}
+use Rattle.driver.specs.Turns.{wants_pages, wants_balance, wants_watch, done, byte_answer, resumes_at, Tried, MadeRoom, MaxSet, Lowered, Reclaimed, Balanced, Made, Ended, WasShown, Closed, Told, ReadsIn, WritesOut, after_read, after_write, Judged, with_group, with_file, with_amount, reads_file, writes_file, reclaims, task_judged, shell_judged, daemon_judged, judged}
 use Rattle.driver.specs.Schedule.{World, first_world, is_of, activity_of, with_activity, outcome_of, left_of, WantTurn, wants_at, StageTurn, JudgedTurn, ActivityTurn, said_at, all_said, Goings, EndsIn, RunsOut, Begins, Stepped, Runs, is_error, errors}
 use Rattle.machine.proofs.SlotLemmas.{one_if}
 
@@ -83,7 +83,7 @@ byte-cost : (op : Op) (byte : ℕ) → cost (Ends (byte_answer op byte)) ≡ 0
 byte-cost Read byte = refl
 byte-cost (Write b) byte = refl
 
-on-cost : (on : Resume) → cost (Goes (goes_on on)) ≡ 0
+on-cost : (on : Resume) → cost (Goes (resumes_at on)) ≡ 0
 on-cost (resume.Try access) = refl
 on-cost (resume.Lower g) = refl
 on-cost (resume.Reclaim g left) = refl
@@ -173,7 +173,7 @@ told-cost pending.Exit said transition h = none-cost transition (ended-cost said
 told-cost pending.Show said transition h = none-cost transition (shown-cost said transition h)
 told-cost (pending.Arrive access) said transition h = closed-cost (Goes (stage.Try access)) said transition h
 told-cost pending.FetchFail said transition h = closed-cost (Ends (answer.Word word.Io)) said transition h
-told-cost (pending.Leave on) said transition h = let none = on-cost on in let most = closed-cost (Goes (goes_on on)) said transition h in omega (arith, none, most)
+told-cost (pending.Leave on) said transition h = let none = on-cost on in let most = closed-cost (Goes (resumes_at on)) said transition h in omega (arith, none, most)
 told-cost pending.LeaveFail said transition h = closed-cost (Ends (answer.Word word.Io)) said transition h
 
 -- ---- the device's answer
@@ -200,15 +200,15 @@ owed_of (want.Call remembers what) = owed_pending remembers
 owed_of (want.End said) = one_if (is_error said)
 owed_of wanted = 0
 
-want-cost : (past past' : Past) (old new : Disk) (wanted : Want) (transition : Transition) (most : ℕ) → owed_of wanted ≤ most
-    → WantTurn past old wanted transition past' new → cost transition + old.failures ≤ most + new.failures
-want-cost past past' old new (want.Call remembers what) transition most within turn =
+want-cost : (caller : Caller) (past past' : Past) (old new : Disk) (wanted : Want) (transition : Transition) (most : ℕ) → owed_of wanted ≤ most
+    → WantTurn caller past old wanted transition past' new → cost transition + old.failures ≤ most + new.failures
+want-cost caller past past' old new (want.Call remembers what) transition most within turn =
     let told : cost transition ≤ owed_pending remembers = told-cost remembers turn.0.said transition turn.0.told in
     let same : new.failures ≡ old.failures = ap (λ (d : Disk). d.failures) turn.1 in
     omega (arith, told, same, within)
-want-cost past past' old new (want.Read access ticket) transition most within turn = let read = read-cost old new access ticket transition turn.0 in omega (arith, read)
-want-cost past past' old new (want.Write on ticket) transition most within turn = let write = write-cost old new on ticket transition turn.0 in omega (arith, write)
-want-cost past past' old new (want.End said) transition most within turn =
+want-cost caller past past' old new (want.Read access ticket) transition most within turn = let read = read-cost old new access ticket transition turn.0 in omega (arith, read)
+want-cost caller past past' old new (want.Write on ticket) transition most within turn = let write = write-cost old new on ticket transition turn.0 in omega (arith, write)
+want-cost caller past past' old new (want.End said) transition most within turn =
     let says : cost transition ≡ one_if (is_error said) = ap cost turn.0 in
     let same : new.failures ≡ old.failures = ap (λ (d : Disk). d.failures) turn.2 in
     omega (arith, says, same, within)
@@ -238,13 +238,13 @@ none-owed wanted e = omega (arith, e)
 wants-owed : (past : Past) (now : Stage) → owed_of (wants_at past now) ≤ owed_at now
 wants-owed past (stage.FetchFail ticket) = omega arith
 wants-owed past (stage.LeaveFail ticket) = omega arith
-wants-owed past stage.Watch = none-owed _ (watch-owed past.state.opening.marks (free_frames past.state))
-wants-owed past stage.Balance = none-owed _ (balance-owed past.state.opening.marks (free_frames past.state))
+wants-owed past stage.Watch = none-owed _ (watch-owed past.state.opening.watermarks (free_frames past.state))
+wants-owed past stage.Balance = none-owed _ (balance-owed past.state.opening.watermarks (free_frames past.state))
 wants-owed past (stage.Reclaim g left) = none-owed _ (pages-owed g.0 left)
 wants-owed past others = omega arith
 
 stage-cost : (old new : World) (who : Actor) (now : Stage) (outcome : Outcome) (turn : StageTurn old who now outcome new) → cost turn.transition + old.disk.failures ≤ owed_at now + new.disk.failures
-stage-cost old new who now outcome turn = want-cost old.past new.past old.disk new.disk (wants_at old.past now) turn.transition (owed_at now) (wants-owed old.past now) turn.turns
+stage-cost old new who now outcome turn = want-cost old.caller old.past new.past old.disk new.disk (wants_at old.past now) turn.transition (owed_at now) (wants-owed old.past now) turn.turns
 
 -- a command that has had no turn owes nothing
 abbrev owed_judged : Judged → ℕ

@@ -13,6 +13,7 @@ use Rattle.machine.specs.declared.command.Reply.{Reply as Told_by}
 use Rattle.machine.specs.declared.command.Step.{Step as Line}
 use Rattle.machine.specs.declared.entry.Entry.{Entry}
 use Rattle.machine.specs.declared.id.TicketId.{TicketId}
+use Rattle.machine.specs.declared.record.Direction.TheVariants.{In, Out}
 use Rattle.machine.specs.declared.event.Place.TheVariants.{Virtual}
 use Rattle.machine.specs.declared.event.Event.{Event as Plain_event}
 use Rattle.machine.specs.declared.event.Event.TheVariants as plain
@@ -20,9 +21,9 @@ use Rattle.machine.specs.declared.reply.Reply.{Reply as Plain_reply}
 use Rattle.machine.specs.declared.reply.Reply.TheVariants as reply
 use Rattle.machine.specs.Pages.{Residence, Held, Coming, Going, Away, Page, page_at, is_held_at, block_at, ticket_at, is_ticket_taken, is_anon}
 use Rattle.machine.specs.Tasks.{mapped_at}
-use Rattle.machine.specs.State.{Opening, opening_of, is_config}
+use Rattle.machine.specs.State.{Opening, opening_of, blocks_of, is_config}
 use Rattle.machine.specs.Access.{page_size}
-use Rattle.machine.specs.History.{InTask, spot_of, Nothing, says, follow, last, Fetched, fetched_by, fetch_of, HoldsLast, IsHonest, Honest, ticket_given}
+use Rattle.machine.specs.History.{InTask, spot_of, Nothing, says, follow, at_first, last, Fetched, fetched_by, fetch_of, HoldsLast, IsHonest, Honest, ticket_given}
 use Rattle.machine.specs.Call.{Past}
 use Rattle.machine.specs.Legal.{Legal}
 use Rattle.machine.proofs.Values.{some_inj, never_some, unlike}
@@ -47,20 +48,20 @@ use Rattle.driver.specs.declared.turn.Seat.{Seat}
 use Rattle.driver.specs.declared.turn.Activity.{Activity}
 use Rattle.driver.specs.declared.turn.Activity.TheVariants.{Rests, Begun, Does}
 use Rattle.driver.specs.Turns.{ReadsIn, WritesOut, after_read, after_write}
-use Rattle.driver.specs.Schedule.{World, first_world, activity_of, with_activity, left_of, Asks, WantTurn, wants_at, StageTurn, Runs, fits}
-use Rattle.machine.proofs.Effects.{AllLive, Fetches, Goes, Stood, InFrame, ItStays, ItFetches, ItLeaves, ItFails, ItGoes, Effect, step_effect}
+use Rattle.driver.specs.Schedule.{World, first_caller, first_world, activity_of, with_activity, left_of, Asks, WantTurn, wants_at, StageTurn, Runs, fits}
+use Rattle.machine.proofs.Effects.{AllLive, Fetches, EndsOnBlock, Stood, InFrame, ItStays, ItFetches, ItLeaves, OnBlock, Effect, step_effect}
 use Rattle.machine.proofs.SoundLemmas.{pages_share_no_block, pages_share_no_ticket, legal-fit}
 use Rattle.driver.proofs.Keeps.{number_pending, number_wanted, in_hand, Alike, Same, Ticketless, wants_alike, number_at, is_idle, idle_none, FineOutcome, IsAt, runs_keep}
 use Rattle.driver.proofs.CallCases.{IsRefused, IsServed, Comes, ByRefusal, ByEntry, called_comes, Next, Handless, Reads, Writes, told_next}
-use Rattle.driver.proofs.Tickets.{IsGoing, KeepsPending, KeepsWanted, KeepsAt, at_flies, flies_taken, pending_known, not_out, still_known, Tickets, seats_all, tickets_rest, tickets_turn, tickets_first, own_keeps, others_differ}
+use Rattle.driver.proofs.Tickets.{IsGoing, KeepsPending, KeepsWanted, KeepsAt, at_flies, flies_taken, pending_known, not_out, still_known, Tickets, seats_all, tickets_rest, first_turns, tickets_turn, tickets_first, own_keeps, others_differ}
 
 -- ---- words
 
 -- these are the bytes of the page that is written out under this number, at each place that shows it
 abbrev pub PlacesHold : Past → ℕ → List ℕ → Type 0
 PlacesHold past number bytes =
-    (p f b t v o : ℕ) (page : Page) → page_at past.state.pages p ≡ Some page → page.residence ≡ Going f b number → mapped_at past.state.mappings t v ≡ Some p → o < page_size
-    → slice_index bytes o ≡ last past.history (InTask t v o)
+    (p f b t v o : ℕ) (page : Page) → page_at past.state.pages p ≡ Some page → page.residence ≡ Going f b number → mapped_at past.state.page_tables t v ≡ Some p → o < page_size
+    → slice_index bytes o ≡ last at_first past.history (InTask t v o)
 
 -- what an ending brings: the bytes of its block; or that its block holds the page
 abbrev pub BringsPending : Past → List (List ℕ) → Event → Type 0
@@ -88,19 +89,19 @@ stored_at residence = None
 -- it holds what was last written at each place that shows the page
 abbrev pub IsStored : Past → List (List ℕ) → Type 0
 IsStored past contents =
-    (t v p b o : ℕ) (page : Page) → mapped_at past.state.mappings t v ≡ Some p → page_at past.state.pages p ≡ Some page → stored_at page.residence ≡ Some b → o < page_size
-    → slice_index (held contents b) o ≡ last past.history (InTask t v o)
+    (t v p b o : ℕ) (page : Page) → mapped_at past.state.page_tables t v ≡ Some p → page_at past.state.pages p ≡ Some page → stored_at page.residence ≡ Some b → o < page_size
+    → slice_index (held contents b) o ≡ last at_first past.history (InTask t v o)
 
 -- the block of a page that is being read in holds what was last written when that began
 abbrev pub IsFetched : Past → List (List ℕ) → Type 0
 IsFetched past contents =
-    (p f b n : ℕ) (page : Page) → page_at past.state.pages p ≡ Some page → page.residence ≡ Coming f b n → HoldsLast (held contents b) (fetch_of n past.history)
+    (p f b n : ℕ) (page : Page) → page_at past.state.pages p ≡ Some page → page.residence ≡ Coming f b n → HoldsLast at_first (held contents b) (fetch_of n past.history)
 
 -- what is known of a past and of a device
 pub record Holds (opening : Opening) (past : Past) (contents : List (List ℕ)) : Type 0 where
-  pub live : AllLive past.state.mappings past.state.tasks
+  pub live : AllLive past.state.page_tables past.state.tasks
   pub legal : Legal opening past.history past.state
-  pub honest : Honest past.history
+  pub honest : Honest at_first past.history
   pub room : opening.swap ≤ length contents
   pub stored : IsStored past contents
   pub fetched : IsFetched past contents
@@ -186,15 +187,15 @@ fetch_other n what answer earlier others other = refl
 -- ---- an entry more
 
 module _ (opening : Opening) (old new : Past) (contents : List (List ℕ)) (what : Event) (answered : Reply)
-    (h : Holds opening old contents) (keeps : KeepsPending old what) (brings : BringsPending old contents what) (went : IsServed old 0 (event_of what) (reply_of answered) new) where
+    (h : Holds opening old contents) (keeps : KeepsPending old what) (brings : BringsPending old contents what) (went : IsServed old first_caller (event_of what) (reply_of answered) new) where
   effect : Effect old.state (event_of what) (reply_of answered) new.state
   effect = step_effect old.state new.state h.live (event_of what) (reply_of answered) went.unrefused went.answers.steps
 
   legal_on : Legal opening new.history new.state
   legal_on = rw went.answers.history (old.state, h.legal, record { known = pending_known old what keeps; unrefused = went.unrefused; room = went.room; steps = went.answers.steps })
 
-  last_on : (t v o : ℕ) → says (event_of what) (reply_of answered) (InTask t v o) ≡ Nothing → last new.history (InTask t v o) ≡ last old.history (InTask t v o)
-  last_on t v o silent = ap (λ (es : List Entry). last es (InTask t v o)) went.answers.history ∙ ap (λ s. follow s (last old.history) (InTask t v o)) silent
+  last_on : (t v o : ℕ) → says (event_of what) (reply_of answered) (InTask t v o) ≡ Nothing → last at_first new.history (InTask t v o) ≡ last at_first old.history (InTask t v o)
+  last_on t v o silent = ap (λ (es : List Entry). last at_first es (InTask t v o)) went.answers.history ∙ ap (λ s. follow s (last at_first old.history) (InTask t v o)) silent
 
   fetch_on : (n : ℕ) → (ticket_given (reply_of answered) ≡ Some n → ⊥) → fetch_of n new.history ≡ fetch_of n old.history
   fetch_on n other = ap (fetch_of n) went.answers.history ∙ fetch_other n (event_of what) (reply_of answered) old.history (fetch_of n old.history) other
@@ -204,8 +205,8 @@ module _ (opening : Opening) (old new : Past) (contents : List (List ℕ)) (what
   not_given p n page there ticket given = unlike (is_ticket_taken old.state.pages n) (flies_taken old n (record { p = p; page = page; there = there; ticket = ticket })) (effect.fresh n given)
 
   -- a place of a page without a frame of its own showed it before, and its bytes are what they were
-  place_on : (t v p : ℕ) (page : Page) → mapped_at new.state.mappings t v ≡ Some p → page_at new.state.pages p ≡ Some page → is_held_at page.residence ≡ false
-      → (mapped_at old.state.mappings t v ≡ Some p) × ((o : ℕ) → last new.history (InTask t v o) ≡ last old.history (InTask t v o))
+  place_on : (t v p : ℕ) (page : Page) → mapped_at new.state.page_tables t v ≡ Some p → page_at new.state.pages p ≡ Some page → is_held_at page.residence ≡ false
+      → (mapped_at old.state.page_tables t v ≡ Some p) × ((o : ℕ) → last at_first new.history (InTask t v o) ≡ last at_first old.history (InTask t v o))
   place_on t v p page mapped there away = let before = effect.places.place t v p page mapped there away in (before.0, λ o. last_on t v o (before.1 o))
 
   -- the page of an ending in hand is the one of that number
@@ -218,32 +219,32 @@ module _ (opening : Opening) (old new : Past) (contents : List (List ℕ)) (what
   stored_on : IsStored new contents
   stored_on t v p b o page mapped there stands within = by_stood (effect.pages.stood p page there)
     where
-      place : (mapped_at old.state.mappings t v ≡ Some p) × ((o : ℕ) → last new.history (InTask t v o) ≡ last old.history (InTask t v o))
+      place : (mapped_at old.state.page_tables t v ≡ Some p) × ((o : ℕ) → last at_first new.history (InTask t v o) ≡ last at_first old.history (InTask t v o))
       place = place_on t v p page mapped there (stored_frameless page.residence b stands)
 
-      before_stored : (before : Page) → page_at old.state.pages p ≡ Some before → stored_at before.residence ≡ Some b → slice_index (held contents b) o ≡ last new.history (InTask t v o)
+      before_stored : (before : Page) → page_at old.state.pages p ≡ Some before → stored_at before.residence ≡ Some b → slice_index (held contents b) o ≡ last at_first new.history (InTask t v o)
       before_stored before at block = h.stored t v p b o before place.0 at block within ∙ sym (place.1 o)
 
-      by_left : (k : Goes old.state (event_of what) p page.residence) → (own : TicketOf) → what ≡ event.Left own → own.number ≡ k.ticket.0 → k.block ≡ b → slice_index (held contents b) o ≡ last new.history (InTask t v o)
+      by_left : (k : EndsOnBlock Out old.state (event_of what) p page.residence) → (own : TicketOf) → what ≡ event.Left own → own.number ≡ k.ticket.0 → k.block ≡ b → slice_index (held contents b) o ≡ last at_first new.history (InTask t v o)
       by_left k own is number block =
           let hold : PlacesHold old own.number (held contents own.block) = subst (λ (e : Event). BringsPending old contents e) is brings in
           let kept : IsGoing old own = subst (λ (e : Event). KeepsPending old e) is keeps in
-          let going : k.before.residence ≡ Going k.frame k.block own.number = k.going ∙ ap (λ n. Going k.frame k.block n) (sym number) in
+          let going : k.before.residence ≡ Going k.frame k.block own.number = k.flew ∙ ap (λ n. Going k.frame k.block n) (sym number) in
           let same : own.block ≡ b = sym (going_block own p k.frame k.block k.before kept k.there going) ∙ block in
           ap (λ x. slice_index (held contents x) o) (sym same) ∙ hold p k.frame k.block t v o k.before k.there going place.0 within ∙ sym (place.1 o)
 
-      by_stood : Stood old.state (event_of what) (reply_of answered) p page.residence → slice_index (held contents b) o ≡ last new.history (InTask t v o)
+      by_stood : Stood old.state (event_of what) (reply_of answered) p page.residence → slice_index (held contents b) o ≡ last at_first new.history (InTask t v o)
       by_stood (InFrame f e) = never_some (stored_at page.residence) (ap stored_at e) stands
       by_stood (ItStays k) = before_stored k.before k.there (sym (ap stored_at k.same) ∙ stands)
       by_stood (ItFetches k) = before_stored k.before k.there (ap stored_at k.away ∙ sym (ap stored_at k.coming) ∙ stands)
       by_stood (ItLeaves k) = never_some (stored_at page.residence) (ap stored_at k.going) stands
-      by_stood (ItFails k) = before_stored k.before k.there (ap stored_at k.coming ∙ sym (ap stored_at k.away) ∙ stands)
-      by_stood (ItGoes k) = let left = left_event what k.ticket k.is in by_left k left.0 left.1 left.2 (some_inj (sym (ap stored_at k.away) ∙ stands))
+      by_stood (OnBlock In k) = before_stored k.before k.there (ap stored_at k.flew ∙ sym (ap stored_at k.away) ∙ stands)
+      by_stood (OnBlock Out k) = let left = left_event what k.ticket k.is in by_left k left.0 left.1 left.2 (some_inj (sym (ap stored_at k.away) ∙ stands))
 
   fetched_on : IsFetched new contents
   fetched_on p f b n page there coming = by_stood (effect.pages.stood p page there)
     where
-      by_fetch : (k : Fetches old.state (event_of what) (reply_of answered) p page.residence) → HoldsLast (held contents b) (fetch_of n new.history)
+      by_fetch : (k : Fetches old.state (event_of what) (reply_of answered) p page.residence) → HoldsLast at_first (held contents b) (fetch_of n new.history)
       by_fetch k =
           let both : Coming k.frame k.block k.ticket.0 ≡ Coming f b n = sym k.coming ∙ coming in
           let block : k.block ≡ b = some_inj (ap block_at both) in
@@ -253,43 +254,41 @@ module _ (opening : Opening) (old new : Past) (contents : List (List ℕ)) (what
           ∙ ap (λ (e : Plain_event). fetched_by n e (reply_of answered) old.history (fetch_of n old.history)) k.is
           ∙ ap (λ (r : Plain_reply). fetched_by n (plain.Access k.task (Virtual k.v k.offset) k.op) r old.history (fetch_of n old.history)) k.answers
           ∙ ap (λ (x : Bool). cond x (Some (record { spot = InTask k.task.0 k.v k.offset; earlier = old.history })) (fetch_of n old.history)) (ap (λ (m : ℕ). m == n) number ∙ eq-eqb n n refl) in
-          subst (λ (x : Option Fetched). HoldsLast (held contents b) x) (sym began)
+          subst (λ (x : Option Fetched). HoldsLast at_first (held contents b) x) (sym began)
           (λ o within. h.stored k.task.0 k.v p b o k.before k.mapped k.there (ap stored_at k.away ∙ ap (λ (x : ℕ). Some x) block) within)
 
-      by_stood : Stood old.state (event_of what) (reply_of answered) p page.residence → HoldsLast (held contents b) (fetch_of n new.history)
+      by_stood : Stood old.state (event_of what) (reply_of answered) p page.residence → HoldsLast at_first (held contents b) (fetch_of n new.history)
       by_stood (InFrame f' e) = coming_held page.residence f b n f' coming e
       by_stood (ItStays k) =
           let before : k.before.residence ≡ Coming f b n = sym k.same ∙ coming in
-          subst (λ (x : Option Fetched). HoldsLast (held contents b) x) (sym (fetch_on n (not_given p n k.before k.there (ap ticket_at before)))) (h.fetched p f b n k.before k.there before)
+          subst (λ (x : Option Fetched). HoldsLast at_first (held contents b) x) (sym (fetch_on n (not_given p n k.before k.there (ap ticket_at before)))) (h.fetched p f b n k.before k.there before)
       by_stood (ItFetches k) = by_fetch k
       by_stood (ItLeaves k) = coming_going page.residence f b n k.frame k.block k.ticket.0 coming k.going
-      by_stood (ItFails k) = coming_away page.residence f b n k.block coming k.away
-      by_stood (ItGoes k) = coming_away page.residence f b n k.block coming k.away
+      by_stood (OnBlock direction k) = coming_away page.residence f b n k.block coming k.away
 
-  honest_event : (e : Event) → KeepsPending old e → BringsPending old contents e → IsHonest old.history (event_of e)
+  honest_event : (e : Event) → KeepsPending old e → BringsPending old contents e → IsHonest at_first old.history (event_of e)
   honest_event (event.Arrived ticket) kept brought =
-      subst (λ (bytes : List ℕ). HoldsLast bytes (fetch_of ticket.number old.history)) (sym brought) (h.fetched kept.p kept.frame ticket.block ticket.number kept.page kept.there kept.coming)
+      subst (λ (bytes : List ℕ). HoldsLast at_first bytes (fetch_of ticket.number old.history)) (sym brought) (h.fetched kept.p kept.frame ticket.block ticket.number kept.page kept.there kept.coming)
   honest_event e kept brought = tt
 
-  honest_on : Honest new.history
+  honest_on : Honest at_first new.history
   honest_on = rw went.answers.history (h.honest, honest_event what keeps brings)
 
   -- a ticket in another's hand, or one that is taken up now
   hold_on : (number : ℕ) (bytes : List ℕ) → (ticket_given (reply_of answered) ≡ Some number → ⊥) → PlacesHold old number bytes → PlacesHold new number bytes
   hold_on number bytes other hold p f b t v o page there going mapped within = by_stood (effect.pages.stood p page there)
     where
-      place : (mapped_at old.state.mappings t v ≡ Some p) × ((o : ℕ) → last new.history (InTask t v o) ≡ last old.history (InTask t v o))
+      place : (mapped_at old.state.page_tables t v ≡ Some p) × ((o : ℕ) → last at_first new.history (InTask t v o) ≡ last at_first old.history (InTask t v o))
       place = place_on t v p page mapped there (ap is_held_at going)
 
-      by_stood : Stood old.state (event_of what) (reply_of answered) p page.residence → slice_index bytes o ≡ last new.history (InTask t v o)
+      by_stood : Stood old.state (event_of what) (reply_of answered) p page.residence → slice_index bytes o ≡ last at_first new.history (InTask t v o)
       by_stood (InFrame f' e) = going_held page.residence f b number f' going e
       by_stood (ItStays k) = hold p f b t v o k.before k.there (sym k.same ∙ going) place.0 within ∙ sym (place.1 o)
       by_stood (ItFetches k) = coming_going page.residence k.frame k.block k.ticket.0 f b number k.coming going
       by_stood (ItLeaves k) =
           let number_is : k.ticket.0 ≡ number = some_inj (ap ticket_at (sym k.going ∙ going)) in
           absurd (other (ap ticket_given k.answers ∙ ap (λ (x : ℕ). Some x) number_is))
-      by_stood (ItFails k) = going_away page.residence f b number k.block going k.away
-      by_stood (ItGoes k) = going_away page.residence f b number k.block going k.away
+      by_stood (OnBlock direction k) = going_away page.residence f b number k.block going k.away
 
   pending_on : (e : Event) → ((n : ℕ) → number_pending e ≡ Some n → ticket_given (reply_of answered) ≡ Some n → ⊥) → BringsPending old contents e → BringsPending new contents e
   pending_on (event.Arrived ticket) other brought = brought
@@ -352,7 +351,7 @@ module _ (opening : Opening) (past : Past) (contents contents' : List (List ℕ)
 
   fetched_written : IsFetched past contents'
   fetched_written p f b n page there coming =
-      subst (λ (bytes : List ℕ). HoldsLast bytes (fetch_of n past.history))
+      subst (λ (bytes : List ℕ). HoldsLast at_first bytes (fetch_of n past.history))
       (sym (held_other p b page there (ap block_at coming) (λ is. coming_going page.residence f b n going.frame ticket.block ticket.number coming (ap (λ (x : Page). x.residence) is ∙ going.going))))
       (h.fetched p f b n page there coming)
 
@@ -434,16 +433,16 @@ module _ (opening : Opening) (past : Past) (disk disk' : Disk) (h : Holds openin
 -- ---- a turn
 
 module _ (opening : Opening) (old new : Past) (disk disk' : Disk) (h : Holds opening old disk.contents) where
-  asks_faithful : (remembers : Pending) (what : Event) (transition : Transition) → KeepsPending old what → BringsPending old disk.contents what → Asks old remembers what transition new
+  asks_faithful : (remembers : Pending) (what : Event) (transition : Transition) → KeepsPending old what → BringsPending old disk.contents what → Asks first_caller old remembers what transition new
       → TurnsFaithful opening old disk.contents (want.Call remembers what) transition new disk.contents
-  asks_faithful remembers what transition keeps brings asks = by_comes (called_comes old new 0 (event_of what) (reply_of asks.said) (pending_known old what keeps) asks.called)
+  asks_faithful remembers what transition keeps brings asks = by_comes (called_comes old new first_caller (event_of what) (reply_of asks.said) (pending_known old what keeps) asks.called)
     where
       own : IsRefused old (reply_of asks.said) new → Next asks.said transition → BringsAt old disk.contents (left_of transition)
       own still (Handless none fine) = brings_none old disk.contents (left_of transition) none
       own still (Reads access ticket is goes) = subst (λ (t : Transition). BringsAt old disk.contents (left_of t)) (sym goes) tt
       own still (Writes on ticket is goes) = absurd (not_out old new h.live asks.said ticket still is)
 
-      by_comes : Comes old 0 (event_of what) (reply_of asks.said) new → TurnsFaithful opening old disk.contents (want.Call remembers what) transition new disk.contents
+      by_comes : Comes old first_caller (event_of what) (reply_of asks.said) new → TurnsFaithful opening old disk.contents (want.Call remembers what) transition new disk.contents
       by_comes (ByRefusal still) =
           subst (λ (p : Past). TurnsFaithful opening old disk.contents (want.Call remembers what) transition p disk.contents) (sym still.same)
           (record {
@@ -458,7 +457,7 @@ module _ (opening : Opening) (old new : Past) (disk disk' : Disk) (h : Holds ope
   ends_faithful said transition ends =
       record { holds = h; own = subst (λ (t : Transition). BringsAt old disk.contents (left_of t)) (sym ends) tt; others = λ at differ kept brought. brought }
 
-  pub want_faithful : (w : Want) (transition : Transition) → KeepsWanted old w → BringsWanted old disk.contents w → WantTurn old disk w transition new disk' → TurnsFaithful opening old disk.contents w transition new disk'.contents
+  pub want_faithful : (w : Want) (transition : Transition) → KeepsWanted old w → BringsWanted old disk.contents w → WantTurn first_caller old disk w transition new disk' → TurnsFaithful opening old disk.contents w transition new disk'.contents
   want_faithful (want.Call remembers what) transition keeps brings turn =
       subst (λ (d : Disk). TurnsFaithful opening old disk.contents (want.Call remembers what) transition new d.contents) (sym turn.1) (asks_faithful remembers what transition keeps brings turn.0)
   want_faithful (want.Read access ticket) transition keeps brings turn =
@@ -496,7 +495,7 @@ module _ (opening : Opening) where
   faithful_turn : (old new : World) (who : Actor) (now : Stage) (outcome : Outcome) → IsAt old who now → StageTurn old who now outcome new → Faithful opening old → Faithful opening new × FineOutcome outcome
   faithful_turn old new who now outcome at turn h =
       let ticketed = tickets_turn old new who now outcome at turn h.tickets in
-      let turns = want_faithful opening old.past new.past old.disk new.disk h.holds (wants_at old.past now) turn.transition (own_keeps old who now at h.tickets) (own_brings old who now at h) turn.turns in (
+      let turns = want_faithful opening old.past new.past old.disk new.disk h.holds (wants_at old.past now) turn.transition (own_keeps old who now at h.tickets) (own_brings old who now at h) (first_turns old new who now outcome turn h.tickets) in (
         record {
           tickets = ticketed.0;
           holds = turns.holds;
@@ -511,14 +510,14 @@ faithful_first : (config : Config) (disk : Disk) → fits config disk ≡ true �
 faithful_first config disk fit =
     record {
       tickets = tickets_first config disk;
-      holds = record { live = λ t v p e. cc; legal = refl; honest = tt; room = within (and_parts (is_config config) (nat_le config.swap (length disk.contents)) fit).1; stored = λ t v p b o page mapped there stands within. cc; fetched = λ p f b n page there coming. cc };
+      holds = record { live = λ t v p e. cc; legal = refl; honest = tt; room = within (and_parts (is_config config) (nat_le (blocks_of config) (length disk.contents)) fit).1; stored = λ t v p b o page mapped there stands within. cc; fetched = λ p f b n page there coming. cc };
       brings = λ a. tt;
     }
   where
-    within : nat_le config.swap (length disk.contents) ≡ true → config.swap ≤ length disk.contents
+    within : nat_le (blocks_of config) (length disk.contents) ≡ true → blocks_of config ≤ length disk.contents
     within e = grind (arith, nat_tests, e)
 
 pub runs_are_honest : (config : Config) (before : Disk) (steps : List Line) (answers : List Told_by) (end : World) → fits config before ≡ true → Runs (first_world config before) steps answers end
-    → Honest end.past.history
+    → Honest at_first end.past.history
 runs_are_honest config before lines answers end fit runs =
     (runs_keep (Faithful (opening_of config)) (faithful_rest (opening_of config)) (faithful_turn (opening_of config)) (first_world config before) end lines answers runs (faithful_first config before fit)).0.holds.honest

@@ -103,8 +103,8 @@ pages_none g zero = refl
 pages_none g (suc left) = refl
 
 pub wants_alike : (past : Past) (stage : Stage) → Alike (wants_at past stage) (in_hand stage)
-wants_alike past stage.Watch = Ticketless (watch_none past.state.opening.marks (free_frames past.state)) refl
-wants_alike past stage.Balance = Ticketless (balance_none past.state.opening.marks (free_frames past.state)) refl
+wants_alike past stage.Watch = Ticketless (watch_none past.state.opening.watermarks (free_frames past.state)) refl
+wants_alike past stage.Balance = Ticketless (balance_none past.state.opening.watermarks (free_frames past.state)) refl
 wants_alike past others = Same refl
 
 number_alike : (w other : Want) → Alike w other → number_wanted w ≡ number_wanted other
@@ -169,8 +169,8 @@ pages_fine g zero = λ e. cc
 pages_fine g (suc left) = tt
 
 pub wants_fine : (past : Past) (stage : Stage) → FineWant (wants_at past stage)
-wants_fine past stage.Watch = watch_fine past.state.opening.marks (free_frames past.state)
-wants_fine past stage.Balance = balance_fine past.state.opening.marks (free_frames past.state)
+wants_fine past stage.Watch = watch_fine past.state.opening.watermarks (free_frames past.state)
+wants_fine past stage.Balance = balance_fine past.state.opening.watermarks (free_frames past.state)
 wants_fine past (stage.Reclaim g left) = pages_fine g.0 left
 wants_fine past others = tt
 

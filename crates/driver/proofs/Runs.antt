@@ -13,12 +13,13 @@ use Rattle.driver.specs.declared.turn.Activity.{Activity}
 use Rattle.driver.specs.declared.turn.Activity.TheVariants.{Rests, Begun, Does}
 use Rattle.block_store.specs.Device.{Disk}
 use Rattle.machine.specs.declared.config.Config.{Config}
-use Rattle.machine.specs.State.{is_config}
+use Rattle.machine.specs.State.{blocks_of, is_config}
+use Rattle.machine.specs.Call.{Caller}
 use Rattle.driver.specs.declared.desk.Desk.{Desk}
 use Rattle.driver.specs.Tickets.{OwnSeats}
-use Rattle.driver.specs.Desks.{world, swap_of, Asks, IsOn, IsSame}
+use Rattle.driver.specs.Desks.{world, swap_of, AsksFirst, IsOn, IsSame}
 use Rattle.driver.specs.Turns.{judged, ends_refused}
-use Rattle.driver.specs.Schedule.{World, first_world, fits, activity_of, with_activity, outcome_of, left_of, StageTurn, Turn, Goings, is_end, said_at, all_said, Stepped, Runs}
+use Rattle.driver.specs.Schedule.{World, first_world, fits, activity_of, with_activity, outcome_of, left_of, WantTurn, wants_at, StageTurn, Turn, Goings, is_end, said_at, all_said, Stepped, Runs}
 
 pub Goings-more : (old : World) (actor : Actor) (earlier : List Outcome) (mid new : World) (outcome : Outcome)
     → Goings old actor earlier mid → Turn mid actor outcome new → is_end outcome ≡ false → Goings old actor (earlier ++ outcome ∷ []) new
@@ -43,14 +44,15 @@ Runs-more old (first ∷ steps) answers mid new step here h one =
 -- ---- one turn
 
 -- a turn of a command that was taken from its seat
-pub turn_taken : (old : World) (taken : List Seat) (new : World) (who : Actor) (stage : Stage) (outcome : Outcome) → ((what : Activity) → with_activity who what taken ≡ with_activity who what old.seats)
-    → StageTurn (record old { seats = taken }) who stage outcome new → StageTurn old who stage outcome new
-turn_taken old taken new who stage outcome others turn =
+pub turn_taken : (old : World) (caller : Caller) (taken : List Seat) (new : World) (who : Actor) (stage : Stage) (outcome : Outcome) → caller ≡ old.caller → ((what : Activity) → with_activity who what taken ≡ with_activity who what old.seats)
+    → StageTurn (record old { caller = caller; seats = taken }) who stage outcome new → StageTurn old who stage outcome new
+turn_taken old caller taken new who stage outcome same others turn =
     record {
       transition = turn.transition;
-      turns = turn.turns;
+      turns = subst (λ (k : Caller). WantTurn k old.past old.disk (wants_at old.past stage) turn.transition new.past new.disk) same turn.turns;
       shows = turn.shows;
       leaves = turn.leaves ∙ others (left_of turn.transition);
+      same = turn.same ∙ same;
     }
 
 pub turn_does : (old new : World) (who : Actor) (stage : Stage) (outcome : Outcome) → activity_of who old.seats ≡ Does stage → StageTurn old who stage outcome new → Turn old who outcome new
@@ -75,7 +77,7 @@ same-more old mid new h k = record { blocks = k.blocks ∙ h.blocks; limit = k.l
 -- ---- the opening
 
 -- a desk at which nobody has a command can go on with a device that has the swap blocks
-pub opened_on : (desk : Desk) (config : Config) (disk : Disk) → world desk disk ≡ first_world config disk → Asks desk → config.swap ≤ length disk.contents → IsOn desk disk
+pub opened_on : (desk : Desk) (config : Config) (disk : Disk) → world desk disk ≡ first_world config disk → AsksFirst desk → blocks_of config ≤ length disk.contents → IsOn desk disk
 opened_on desk config disk opens asks enough =
     let swap : swap_of desk ≡ config.swap = ap (λ (w : World). w.past.state.opening.swap) opens in
     let seats : desk.seats ≡ [] = ap (λ (w : World). w.seats) opens in
@@ -83,5 +85,5 @@ opened_on desk config disk opens asks enough =
     let own : OwnSeats (swap_of desk) desk.seats = subst Own (sym seats) tt in
     record { asks = asks; own = own; blocks = omega (arith, swap, enough) }
 
-pub fitting : (config : Config) (disk : Disk) → is_config config ≡ true → config.swap ≤ length disk.contents → fits config disk ≡ true
+pub fitting : (config : Config) (disk : Disk) → is_config config ≡ true → blocks_of config ≤ length disk.contents → fits config disk ≡ true
 fitting config disk sized enough = rw sized (search (arith, rules, enough))

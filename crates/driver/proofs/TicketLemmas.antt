@@ -33,7 +33,7 @@ use Rattle.driver.specs.declared.turn.Want.{Want}
 use Rattle.driver.specs.declared.turn.Want.TheVariants as want
 use Rattle.driver.specs.declared.turn.Transition.{Transition}
 use Rattle.driver.specs.declared.turn.Transition.TheVariants.{Goes}
-use Rattle.driver.specs.Turns.{done, wants_pages, wants_balance, wants, ends_with, goes_on, Tried, MadeRoom, MaxSet, Lowered, Reclaimed, Balanced, Made, Ended, WasShown, Closed, Told, Judged, judged, task_judged, shell_judged, daemon_judged, with_group, with_file, with_amount, reads_file, reclaims, writes_file}
+use Rattle.driver.specs.Turns.{done, wants_pages, wants_balance, wants, ends_with, resumes_at, Tried, MadeRoom, MaxSet, Lowered, Reclaimed, Balanced, Made, Ended, WasShown, Closed, Told, Judged, judged, task_judged, shell_judged, daemon_judged, with_group, with_file, with_amount, reads_file, reclaims, writes_file}
 use Rattle.driver.specs.Schedule.{wants_at}
 use Rattle.machine.proofs.SoundLemmas.{legal-fit}
 use Rattle.driver.specs.Tickets.{IsOwn, OwnEvent, OwnReply, OwnStage, OwnTransition}
@@ -93,7 +93,7 @@ module _ (swap : ℕ) (marks : Watermarks) (free : ℕ) where
   wants_own (stage.LeaveFail ticket) own = own
 
 pub wanted_own : (swap : ℕ) (past : Past) (next : Stage) (wanted : Want) → OwnStage swap next → wanted ≡ wants_at past next → OwnWant swap wanted
-wanted_own swap past next wanted own is = subst (λ (w : Want). OwnWant swap w) (sym is) (wants_own swap past.state.opening.marks (free_frames past.state) next own)
+wanted_own swap past next wanted own is = subst (λ (w : Want). OwnWant swap w) (sym is) (wants_own swap past.state.opening.watermarks (free_frames past.state) next own)
 
 -- ---- and goes on with the one that it is given
 
@@ -166,11 +166,11 @@ closed_own swap resumed here (reply.StrangeIn ticket) transition own h = rw h tt
 closed_own swap resumed here (reply.StrangeOut ticket) transition own h = rw h tt
 closed_own swap resumed here said transition own h = absurd h
 
-goes_on_own : (swap : ℕ) (on : Resume) → OwnStage swap (goes_on on)
-goes_on_own swap (resume.Try access) = tt
-goes_on_own swap (resume.Lower g) = tt
-goes_on_own swap (resume.Reclaim g left) = tt
-goes_on_own swap resume.Balance = tt
+resumes_at_own : (swap : ℕ) (on : Resume) → OwnStage swap (resumes_at on)
+resumes_at_own swap (resume.Try access) = tt
+resumes_at_own swap (resume.Lower g) = tt
+resumes_at_own swap (resume.Reclaim g left) = tt
+resumes_at_own swap resume.Balance = tt
 
 pub told_own : (swap : ℕ) (remembers : Pending) (said : Reply) (transition : Transition) → OwnReply swap said → Told remembers said transition → OwnTransition swap transition
 told_own swap (pending.Try access) said transition own h = tried_own swap access said transition own h
@@ -184,7 +184,7 @@ told_own swap pending.Exit said transition own h = ended_own swap said transitio
 told_own swap pending.Show said transition own h = shown_own swap said transition own h
 told_own swap (pending.Arrive access) said transition own h = closed_own swap (Goes (stage.Try access)) tt said transition own h
 told_own swap pending.FetchFail said transition own h = closed_own swap (ends_with word.Io) tt said transition own h
-told_own swap (pending.Leave on) said transition own h = closed_own swap (Goes (goes_on on)) (goes_on_own swap on) said transition own h
+told_own swap (pending.Leave on) said transition own h = closed_own swap (Goes (resumes_at on)) (resumes_at_own swap on) said transition own h
 told_own swap pending.LeaveFail said transition own h = closed_own swap (ends_with word.Io) tt said transition own h
 
 pub told_result_own : (swap : ℕ) (remembers : Pending) (said : Reply) (result : Result Transition AllocError) → OwnReply swap said → IfOk result (λ transition. Told remembers said transition)

@@ -1,5 +1,5 @@
 -- Each ticket in an actor's hand is that of a page in transfer, was given to the run's worker, and is in no other's hand.
-use Rattle.std.proofs.Common.{◌≡◌, inl, inr, ℕ, zero, suc, ◌==◌, ◌&&◌, Bool, true, false, cond, List, [], ◌∷◌, Option, Some, None, eq-eqb, refl, sym, ap, ◌∙◌, subst}
+use Rattle.std.proofs.Common.{◌≡◌, inl, inr, ℕ, zero, suc, ◌==◌, Bool, true, false, cond, List, [], ◌∷◌, Option, Some, None, eq-eqb, refl, sym, ap, ◌∙◌, subst}
 use Rattle.std.specs.Prelude.{◌⊎◌, Result, Ok, Err}
 use Rattle.std.proofs.lemmas.Bool.{or_right}
 use Rattle.machine.specs.declared.config.Config.{Config}
@@ -11,9 +11,10 @@ use Rattle.machine.specs.declared.refusal.Refusal.TheVariants.{Stranger}
 use Rattle.machine.specs.declared.command.Actor.{Actor}
 use Rattle.machine.specs.declared.command.Answer.{Answer}
 use Rattle.machine.specs.Slots.{at, there_and, any_there}
-use Rattle.machine.specs.Pages.{Coming, Going, Page, Pages, page_at, is_number, ticket_at, is_ticket_taken, is_coming_at, is_going_at, is_coming_in, is_going_out}
+use Rattle.machine.specs.declared.record.Direction.TheVariants.{In, Out}
+use Rattle.machine.specs.Pages.{Coming, Going, Page, Pages, page_at, is_number, ticket_at, is_ticket_taken, is_flying_at, is_in_flight}
 use Rattle.machine.specs.History.{ticket_given, taker_or, taker}
-use Rattle.machine.specs.Call.{Past, is_worker, knows_ticket}
+use Rattle.machine.specs.Call.{Past, Caller, is_worker, took, knows_pass}
 use Rattle.machine.proofs.Values.{never_some, unlike}
 use Rattle.machine.proofs.TreeLemmas.{eq_cases}
 use Rattle.block_store.specs.declared.device.Fault.{Fault}
@@ -38,7 +39,7 @@ use Rattle.driver.specs.declared.turn.Activity.{Activity}
 use Rattle.driver.specs.declared.turn.Activity.TheVariants.{Rests, Begun, Does}
 use Rattle.driver.specs.declared.turn.Seat.{Seat}
 use Rattle.driver.specs.Turns.{ReadsIn, WritesOut, after_read, after_write}
-use Rattle.driver.specs.Schedule.{number_of, activity_of, with_activity, World, first_world, Asks, WantTurn, wants_at, StageTurn, outcome_of, left_of}
+use Rattle.driver.specs.Schedule.{number_of, activity_of, with_activity, World, first_caller, first_world, Asks, WantTurn, wants_at, StageTurn, outcome_of, left_of}
 use Rattle.machine.proofs.Effects.{ends, AllLive, Effect, step_effect}
 use Rattle.driver.proofs.Keeps.{activity_of-own, activity_of-other, number_pending, number_wanted, in_hand, Alike, Same, Ticketless, wants_alike, wanted_in_hand, number_at, is_idle, idle_none, Fine, FineOutcome, FineWant, wants_fine, IsAt}
 use Rattle.driver.proofs.CallCases.{IsRefused, IsServed, Comes, ByRefusal, ByEntry, called_comes, Next, Handless, Reads, Writes, told_next}
@@ -82,7 +83,8 @@ KeepsAt past (Begun what) = Unit {0}
 KeepsAt past (Does stage) = KeepsWanted past (in_hand stage)
 
 pub record Tickets (w : World) : Type 0 where
-  pub live : AllLive w.past.state.mappings w.past.state.tasks
+  pub first : w.caller ≡ first_caller
+  pub live : AllLive w.past.state.page_tables w.past.state.tasks
   pub keeps : (a : Actor) → KeepsAt w.past (activity_of a w.seats)
   pub apart : (a b : Actor) (n : ℕ) → number_at (activity_of a w.seats) ≡ Some n → number_at (activity_of b w.seats) ≡ Some n → number_of a ≡ number_of b
 
@@ -155,19 +157,22 @@ flies_taken past n h = page_passes _ past.state.pages h.p h.page h.there (ap (λ
 
 -- ---- what goes on
 
--- from one past to a later one: pages in transfer under these tickets stay, and who took a ticket
-pub record GoesOn (old new : Past) (left : Option ℕ) : Type 0 where
-  pub stays : (p n : ℕ) (page : Page) → page_at old.state.pages p ≡ Some page → ticket_at page.residence ≡ Some n → (left ≡ Some n → ⊥) → page_at new.state.pages p ≡ Some page
+-- from one past to a later one: pages in transfer stand as they did, but for one of this ticket, and who took a ticket is known still
+pub record TicketsGoOn (old new : Past) (left : Option ℕ) : Type 0 where
+  pub stays : (p n : ℕ) (page : Page) → page_at old.state.pages p ≡ Some page → ticket_at page.residence ≡ Some n → (left ≡ Some n → ⊥)
+      → (now : Page) × (page_at new.state.pages p ≡ Some now) × (now.residence ≡ page.residence)
   pub taken : (n : ℕ) → taker n old.history ≡ Some 0 → taker n new.history ≡ Some 0
 
-module _ (old new : Past) (left : Option ℕ) (goes : GoesOn old new left) where
+module _ (old new : Past) (left : Option ℕ) (goes : TicketsGoOn old new left) where
   coming_goes : (ticket : TicketOf) → (left ≡ Some ticket.number → ⊥) → IsComing old ticket → IsComing new ticket
   coming_goes ticket other h =
-      record { p = h.p; page = h.page; frame = h.frame; there = goes.stays h.p ticket.number h.page h.there (ap ticket_at h.coming) other; coming = h.coming; taken = goes.taken ticket.number h.taken }
+      let on = goes.stays h.p ticket.number h.page h.there (ap ticket_at h.coming) other in
+      record { p = h.p; page = on.0; frame = h.frame; there = on.1; coming = on.2 ∙ h.coming; taken = goes.taken ticket.number h.taken }
 
   going_goes : (ticket : TicketOf) → (left ≡ Some ticket.number → ⊥) → IsGoing old ticket → IsGoing new ticket
   going_goes ticket other h =
-      record { p = h.p; page = h.page; frame = h.frame; there = goes.stays h.p ticket.number h.page h.there (ap ticket_at h.going) other; going = h.going; taken = goes.taken ticket.number h.taken }
+      let on = goes.stays h.p ticket.number h.page h.there (ap ticket_at h.going) other in
+      record { p = h.p; page = on.0; frame = h.frame; there = on.1; going = on.2 ∙ h.going; taken = goes.taken ticket.number h.taken }
 
   pending_goes : (what : Event) → ((n : ℕ) → number_pending what ≡ Some n → left ≡ Some n → ⊥) → KeepsPending old what → KeepsPending new what
   pending_goes (event.Arrived ticket) other h = coming_goes ticket (other ticket.number refl) h
@@ -202,49 +207,49 @@ taker_given given n others e = rw e (ap (λ b. cond b (Some 0) others) (eq-eqb n
 
 -- what one turn leaves in the hand of its actor and in those of others
 pub record TurnsWell (old : Past) (want : Want) (transition : Transition) (new : Past) : Type 0 where
-  pub live : AllLive new.state.mappings new.state.tasks
+  pub live : AllLive new.state.page_tables new.state.tasks
   pub own : KeepsAt new (left_of transition)
   pub others : (at : Activity) → ((n : ℕ) → number_at at ≡ Some n → number_wanted want ≡ Some n → ⊥) → KeepsAt old at → KeepsAt new at
   pub number : (n : ℕ) → number_at (left_of transition) ≡ Some n → (number_wanted want ≡ Some n) ⊎ ((at : Activity) → KeepsAt old at → number_at at ≡ Some n → ⊥)
   pub fine : FineOutcome (outcome_of transition)
 
-known_coming : (past : Past) (ticket : TicketOf) → IsComing past ticket → (is_coming_in past.state.pages ticket.number && is_worker 0 (taker ticket.number past.history)) ≡ true
+known_coming : (past : Past) (ticket : TicketOf) → IsComing past ticket → took past.state.pages past.history first_caller In ticket.number ≡ true
 known_coming past ticket h =
-    let flies : is_coming_in past.state.pages ticket.number ≡ true = page_passes _ past.state.pages h.p h.page h.there (ap (is_coming_at ticket.number) h.coming ∙ eq-eqb ticket.number ticket.number refl) in
+    let flies : is_in_flight In past.state.pages ticket.number ≡ true = page_passes _ past.state.pages h.p h.page h.there (ap (is_flying_at In ticket.number) h.coming ∙ eq-eqb ticket.number ticket.number refl) in
     let own : is_worker 0 (taker ticket.number past.history) ≡ true = ap (is_worker 0) h.taken in
     rw (flies, own) refl
 
-known_going : (past : Past) (ticket : TicketOf) → IsGoing past ticket → (is_going_out past.state.pages ticket.number && is_worker 0 (taker ticket.number past.history)) ≡ true
+known_going : (past : Past) (ticket : TicketOf) → IsGoing past ticket → took past.state.pages past.history first_caller Out ticket.number ≡ true
 known_going past ticket h =
-    let flies : is_going_out past.state.pages ticket.number ≡ true = page_passes _ past.state.pages h.p h.page h.there (ap (is_going_at ticket.number) h.going ∙ eq-eqb ticket.number ticket.number refl) in
+    let flies : is_in_flight Out past.state.pages ticket.number ≡ true = page_passes _ past.state.pages h.p h.page h.there (ap (is_flying_at Out ticket.number) h.going ∙ eq-eqb ticket.number ticket.number refl) in
     let own : is_worker 0 (taker ticket.number past.history) ≡ true = ap (is_worker 0) h.taken in
     rw (flies, own) refl
 
 -- the ticket of an ending is known
-pub pending_known : (past : Past) (what : Event) → KeepsPending past what → knows_ticket past.state past.history 0 (event_of what) ≡ true
+pub pending_known : (past : Past) (what : Event) → KeepsPending past what → knows_pass past.state past.history first_caller (event_of what) ≡ true
 pending_known past (event.Arrived ticket) h = known_coming past ticket h
 pending_known past (event.FetchFailed ticket) h = known_coming past ticket h
 pending_known past (event.Left ticket) h = known_going past ticket h
 pending_known past (event.LeaveFailed ticket) h = known_going past ticket h
 pending_known past what h = refl
 
-module _ (old new : Past) (alive : AllLive old.state.mappings old.state.tasks) where
+module _ (old new : Past) (alive : AllLive old.state.page_tables old.state.tasks) where
   -- the past is the same: a turn of the device, or a refusal
   same_turn : (want : Want) (transition : Transition) → new ≡ old → KeepsAt old (left_of transition) → ((n : ℕ) → number_at (left_of transition) ≡ Some n → number_wanted want ≡ Some n) → FineOutcome (outcome_of transition)
       → TurnsWell old want transition new
   same_turn want transition same own number fine =
       record {
-        live = subst (λ (p : Past). AllLive p.state.mappings p.state.tasks) (sym same) alive;
+        live = subst (λ (p : Past). AllLive p.state.page_tables p.state.tasks) (sym same) alive;
         own = subst (λ (p : Past). KeepsAt p (left_of transition)) (sym same) own;
         others = λ at other h. subst (λ (p : Past). KeepsAt p at) (sym same) h;
         number = λ n e. inl (number n e);
         fine = fine;
       }
 
-  effect_of : (what : Plain_event) (answer : Plain_reply) → IsServed old 0 what answer new → Effect old.state what answer new.state
+  effect_of : (what : Plain_event) (answer : Plain_reply) → IsServed old first_caller what answer new → Effect old.state what answer new.state
   effect_of what answer h = step_effect old.state new.state alive what answer h.unrefused h.answers.steps
 
-  goes_of : (what : Plain_event) (answer : Plain_reply) → IsServed old 0 what answer new → GoesOn old new (ends what)
+  goes_of : (what : Plain_event) (answer : Plain_reply) → IsServed old first_caller what answer new → TicketsGoOn old new (ends what)
   goes_of what answer h =
       record {
         stays = (effect_of what answer h).pages.stays;
@@ -270,7 +275,7 @@ module _ (old new : Past) (alive : AllLive old.state.mappings old.state.tasks) w
       refused_inj f = cc
 
   -- the ticket that a reply gave is the turn's new one
-  module _ (remembers : Pending) (what : Event) (answered : Reply) (transition : Transition) (went : IsServed old 0 (event_of what) (reply_of answered) new) where
+  module _ (remembers : Pending) (what : Event) (answered : Reply) (transition : Transition) (went : IsServed old first_caller (event_of what) (reply_of answered) new) where
     on_others : (at : Activity) → ((n : ℕ) → number_at at ≡ Some n → number_pending what ≡ Some n → ⊥) → KeepsAt old at → KeepsAt new at
     on_others at other h = at_goes old new (ends (event_of what)) (goes_of (event_of what) (reply_of answered) went) at other h
 
@@ -317,10 +322,10 @@ module _ (old new : Past) (alive : AllLive old.state.mappings old.state.tasks) w
   still_turn remembers what answered transition still (Reads access ticket is goes) = absurd (not_fetch answered ticket still is)
   still_turn remembers what answered transition still (Writes on ticket is goes) = absurd (not_out answered ticket still is)
 
-  asks_turn : (remembers : Pending) (what : Event) (transition : Transition) → KeepsPending old what → Asks old remembers what transition new → TurnsWell old (want.Call remembers what) transition new
-  asks_turn remembers what transition keeps asks = by_comes (called_comes old new 0 (event_of what) (reply_of asks.said) (pending_known old what keeps) asks.called)
+  asks_turn : (remembers : Pending) (what : Event) (transition : Transition) → KeepsPending old what → Asks first_caller old remembers what transition new → TurnsWell old (want.Call remembers what) transition new
+  asks_turn remembers what transition keeps asks = by_comes (called_comes old new first_caller (event_of what) (reply_of asks.said) (pending_known old what keeps) asks.called)
     where
-      by_comes : Comes old 0 (event_of what) (reply_of asks.said) new → TurnsWell old (want.Call remembers what) transition new
+      by_comes : Comes old first_caller (event_of what) (reply_of asks.said) new → TurnsWell old (want.Call remembers what) transition new
       by_comes (ByRefusal still) = still_turn remembers what asks.said transition still (told_next remembers asks.said transition asks.told (still_known asks.said still))
       by_comes (ByEntry went) = on_turn remembers what asks.said transition went asks.gives (told_next remembers asks.said transition asks.told (went.done Stranger))
 
@@ -366,7 +371,7 @@ module _ (old new : Past) (alive : AllLive old.state.mappings old.state.tasks) w
       (λ n e. never_some (number_at (left_of transition)) (ap (λ (t : Transition). number_at (left_of t)) ends) e)
       (subst (λ (t : Transition). FineOutcome (outcome_of t)) (sym ends) fine)
 
-  pub want_turn : (disk disk' : Disk) (want : Want) (transition : Transition) → FineWant want → KeepsWanted old want → WantTurn old disk want transition new disk' → TurnsWell old want transition new
+  pub want_turn : (disk disk' : Disk) (want : Want) (transition : Transition) → FineWant want → KeepsWanted old want → WantTurn first_caller old disk want transition new disk' → TurnsWell old want transition new
   want_turn disk disk' (want.Call remembers what) transition fine keeps turn = asks_turn remembers what transition keeps turn.0
   want_turn disk disk' (want.Read access ticket) transition fine keeps turn = reads_turn disk disk' access ticket transition keeps turn.1 turn.0
   want_turn disk disk' (want.Write on ticket) transition fine keeps turn = writes_turn disk disk' on ticket transition keeps turn.1 turn.0
@@ -404,6 +409,7 @@ seats_apart who what seats own apart a b n e f =
 pub tickets_rest : (w : World) (who : Actor) (what : Activity) → is_idle what ≡ true → Tickets w → Tickets (record w { seats = with_activity who what w.seats })
 tickets_rest w who what idle h =
     record {
+      first = h.first;
       live = h.live;
       keeps = seats_all (KeepsAt w.past) who what w.seats (at_none w.past what (idle_none what idle)) (λ a differs. h.keeps a);
       apart = seats_apart who what w.seats (λ a n differs e f. never_some (number_at what) (idle_none what idle) e) h.apart;
@@ -425,13 +431,19 @@ others_differ w who now at h a differs n e f = differ at (sym (wanted_in_hand w.
     differ (inl is) g = differs (h.apart a who n e (ap number_at is ∙ g))
     differ (inr none) g = never_some (number_wanted (in_hand now)) none g
 
+-- it is the first caller's turn
+pub first_turns : (old new : World) (who : Actor) (now : Stage) (outcome : Outcome) (turn : StageTurn old who now outcome new) → Tickets old
+    → WantTurn first_caller old.past old.disk (wants_at old.past now) turn.transition new.past new.disk
+first_turns old new who now outcome turn h = subst (λ (caller : Caller). WantTurn caller old.past old.disk (wants_at old.past now) turn.transition new.past new.disk) h.first turn.turns
+
 pub turns_well : (old new : World) (who : Actor) (now : Stage) (outcome : Outcome) → IsAt old who now → (turn : StageTurn old who now outcome new) → Tickets old → TurnsWell old.past (wants_at old.past now) turn.transition new.past
-turns_well old new who now outcome at turn h = want_turn old.past new.past h.live old.disk new.disk (wants_at old.past now) turn.transition (wants_fine old.past now) (own_keeps old who now at h) turn.turns
+turns_well old new who now outcome at turn h = want_turn old.past new.past h.live old.disk new.disk (wants_at old.past now) turn.transition (wants_fine old.past now) (own_keeps old who now at h) (first_turns old new who now outcome turn h)
 
 pub tickets_turn : (old new : World) (who : Actor) (now : Stage) (outcome : Outcome) → IsAt old who now → StageTurn old who now outcome new → Tickets old → Tickets new × FineOutcome outcome
 tickets_turn old new who now outcome at turn h =
     let well = turns_well old new who now outcome at turn h in (
       record {
+        first = turn.same ∙ h.first;
         live = well.live;
         keeps = subst (λ (ss : List Seat). (a : Actor) → KeepsAt new.past (activity_of a ss)) (sym turn.leaves)
             (seats_all (KeepsAt new.past) who (left_of turn.transition) old.seats well.own (λ a differs. well.others (activity_of a old.seats) (others_differ old who now at h a differs) (h.keeps a)));
@@ -448,4 +460,4 @@ tickets_turn old new who now outcome at turn h =
     )
 
 pub tickets_first : (config : Config) (disk : Disk) → Tickets (first_world config disk)
-tickets_first config disk = record { live = λ t v p e. cc; keeps = λ a. tt; apart = λ a b n e f. cc }
+tickets_first config disk = record { first = refl; live = λ t v p e. cc; keeps = λ a. tt; apart = λ a b n e f. cc }

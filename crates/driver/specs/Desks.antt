@@ -6,20 +6,20 @@ use Rattle.driver.specs.Tickets.{OwnSeats}
 use Rattle.driver.specs.declared.desk.Desk.{Desk}
 
 abbrev pub world : Desk → Disk → World
-world desk disk = record { past = desk.book; disk = disk; seats = desk.seats }
+world desk disk = record { past = desk.book; caller = desk.pass; disk = disk; seats = desk.seats }
 
 -- how many swap blocks there are
 abbrev pub swap_of : Desk → ℕ
 swap_of desk = desk.book.state.opening.swap
 
 -- the desk asks with the first pass of its book
-pub record Asks (desk : Desk) : Type 0 where
+pub record AsksFirst (desk : Desk) : Type 0 where
   pub first : desk.pass.worker ≡ 0
   pub given : desk.book.passes ≡ 1
 
 -- the desk can go on with this device: that has the swap blocks, and the tickets in hand name some of them
 pub record IsOn (desk : Desk) (disk : Disk) : Type 0 where
-  pub asks : Asks desk
+  pub asks : AsksFirst desk
   pub own : OwnSeats (swap_of desk) desk.seats
   pub blocks : swap_of desk ≤ length disk.contents
 

@@ -26,9 +26,9 @@ use Rattle.driver.specs.declared.turn.Outcome.TheVariants.{Goes, Kills, Ends}
 use Rattle.driver.specs.declared.turn.Activity.{Activity}
 use Rattle.driver.specs.declared.turn.Activity.TheVariants.{Rests, Begun, Does}
 use Rattle.driver.specs.declared.turn.Seat.{Seat}
-use Rattle.machine.specs.State.{opening_of, is_config, free_frames}
-use Rattle.machine.specs.History.{Honest, Right}
-use Rattle.machine.specs.Call.{Past, first_past, Called}
+use Rattle.machine.specs.State.{opening_of, blocks_of, is_config, free_frames}
+use Rattle.machine.specs.History.{at_first, Honest, Right}
+use Rattle.machine.specs.Call.{Past, first_past, Caller, Called}
 use Rattle.driver.specs.Turns.{wants, Told, ReadsIn, WritesOut, Judged, judged, ends_refused}
 
 -- ---- what the actors are at
@@ -54,15 +54,20 @@ with_activity who what [] = record { actor = who; activity = what } ∷ []
 with_activity who what (seat ∷ seats) =
     if is_of who seat then record { actor = seat.actor; activity = what } ∷ seats else seat ∷ with_activity who what seats
 
--- a book, a device, and what each actor is at
+-- a book and who calls it, a device, and what each actor is at
 pub record World : Type 0 where
   pub past : Past
+  pub caller : Caller
   pub disk : Disk
   pub seats : List Seat
 
--- the opening world: the run asks with one pass, and nobody has a command
+-- the run asks with the first pass
+abbrev pub first_caller : Caller
+first_caller = record { worker = 0 }
+
+-- the opening world: that pass was given out, and nobody has a command
 abbrev pub first_world : Config → Disk → World
-first_world config disk = record { past = record (first_past (opening_of config)) { passes = 1 }; disk = disk; seats = [] }
+first_world config disk = record { past = record (first_past (opening_of config)) { passes = 1 }; caller = first_caller; disk = disk; seats = [] }
 
 -- ---- one turn
 
@@ -76,31 +81,32 @@ left_of (transition.Goes stage) = Does stage
 left_of (transition.Kills t stage) = Does stage
 left_of (transition.Ends said) = Rests
 
--- one event of the book, and what the command makes of its reply
-pub record Asks (old : Past) (remembers : Pending) (what : Event) (transition : Transition) (new : Past) : Type 0 where
+-- the caller asks the book one event; and what the command makes of the reply
+pub record Asks (caller : Caller) (old : Past) (remembers : Pending) (what : Event) (transition : Transition) (new : Past) : Type 0 where
   pub said : Reply
-  pub called : Called old 0 (event_of what) (reply_of said) new
-  pub gives : Gives new 0 said
-  pub keeps : KeepsTicket 0 what said
+  pub called : Called old caller (event_of what) (reply_of said) new
+  pub gives : Gives new caller.worker said
+  pub keeps : KeepsTicket caller.worker what said
   pub told : Told remembers said transition
 
 -- a turn asks the book or the device, and leaves the other as it was; or it asks neither, and the command ends
-abbrev pub WantTurn : Past → Disk → Want → Transition → Past → Disk → Type 0
-WantTurn past disk (want.Call remembers what) transition past' disk' = Asks past remembers what transition past' × (disk' ≡ disk)
-WantTurn past disk (want.Read access ticket) transition past' disk' = ReadsIn disk access ticket transition disk' × (past' ≡ past)
-WantTurn past disk (want.Write on ticket) transition past' disk' = WritesOut disk on ticket transition disk' × (past' ≡ past)
-WantTurn past disk (want.End said) made past' disk' = (made ≡ transition.Ends said) × (past' ≡ past) × (disk' ≡ disk)
+abbrev pub WantTurn : Caller → Past → Disk → Want → Transition → Past → Disk → Type 0
+WantTurn caller past disk (want.Call remembers what) transition past' disk' = Asks caller past remembers what transition past' × (disk' ≡ disk)
+WantTurn caller past disk (want.Read access ticket) transition past' disk' = ReadsIn disk access ticket transition disk' × (past' ≡ past)
+WantTurn caller past disk (want.Write on ticket) transition past' disk' = WritesOut disk on ticket transition disk' × (past' ≡ past)
+WantTurn caller past disk (want.End said) made past' disk' = (made ≡ transition.Ends said) × (past' ≡ past) × (disk' ≡ disk)
 
 -- what it wants as the book stands
 abbrev pub wants_at : Past → Stage → Want
-wants_at past stage = wants past.state.opening.marks (free_frames past.state) stage
+wants_at past stage = wants past.state.opening.watermarks (free_frames past.state) stage
 
 -- a turn of a command that stands there
 pub record StageTurn (old : World) (who : Actor) (stage : Stage) (outcome : Outcome) (new : World) : Type 0 where
   pub transition : Transition
-  pub turns : WantTurn old.past old.disk (wants_at old.past stage) transition new.past new.disk
+  pub turns : WantTurn old.caller old.past old.disk (wants_at old.past stage) transition new.past new.disk
   pub shows : outcome ≡ outcome_of transition
   pub leaves : new.seats ≡ with_activity who (left_of transition) old.seats
+  pub same : new.caller ≡ old.caller
 
 abbrev pub JudgedTurn : World → Actor → Judged → Outcome → World → Type 0
 JudgedTurn old who (Err why) outcome new =
@@ -194,12 +200,12 @@ pub record Schedules (config : Config) (before : Disk) (steps : List Step) (answ
   pub end : World
   pub runs : Runs (first_world config before) steps answers end
   pub device : end.disk ≡ after
-  pub honest : Honest end.past.history
-  pub right : Right end.past.history
+  pub honest : Honest at_first end.past.history
+  pub right : Right at_first end.past.history
 
--- the configuration is within its limits, and the device has its swap blocks
+-- the configuration is within its limits, and the device has the blocks that it asks for
 abbrev pub fits : Config → Disk → Bool
-fits config disk = is_config config && nat_le config.swap (length disk.contents)
+fits config disk = is_config config && nat_le (blocks_of config) (length disk.contents)
 
 -- ---- errors of the device
 

@@ -169,11 +169,11 @@ WasShown (reply.Refused why) transition = transition ≡ ends_refused why
 WasShown said transition = ⊥
 
 -- where a command goes on once a page has left
-abbrev pub goes_on : Resume → Stage
-goes_on (resume.Try access) = stage.Try access
-goes_on (resume.Lower g) = stage.Lower g
-goes_on (resume.Reclaim g left) = stage.Reclaim g left
-goes_on resume.Balance = stage.Balance
+abbrev pub resumes_at : Resume → Stage
+resumes_at (resume.Try access) = stage.Try access
+resumes_at (resume.Lower g) = stage.Lower g
+resumes_at (resume.Reclaim g left) = stage.Reclaim g left
+resumes_at resume.Balance = stage.Balance
 
 -- a transfer has ended, and the command goes on so; or the ticket was none of its own, which never happens
 abbrev pub Closed : Transition → Reply → Transition → Type 0
@@ -194,7 +194,7 @@ Told pending.Exit said transition = Ended said transition
 Told pending.Show said transition = WasShown said transition
 Told (pending.Arrive access) said transition = Closed (Goes (stage.Try access)) said transition
 Told pending.FetchFail said transition = Closed (ends_with word.Io) said transition
-Told (pending.Leave on) said transition = Closed (Goes (goes_on on)) said transition
+Told (pending.Leave on) said transition = Closed (Goes (resumes_at on)) said transition
 Told pending.LeaveFail said transition = Closed (ends_with word.Io) said transition
 
 -- the replies that can come

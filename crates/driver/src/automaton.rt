@@ -4,7 +4,7 @@
 
 ghost use Rattle.std.specs.Prelude.{◌≡◌, true, IfOk, IfErr};
 ghost use Rattle.book.specs.Replies.{IsAccessReply, IsReliefReply, IsReclaimReply, IsOkReply, IsExitReply, IsShownReply, IsInReply, IsOutReply};
-ghost use Rattle.driver.specs.Turns.{access_event, wants_pages, wants_balance, wants_watch, wants, ends_with, ends_refused, byte_answer, goes_on, Tried, MadeRoom, MaxSet, Lowered, Reclaimed, Balanced, Made, Ended, WasShown, Closed, Told, Awaits, AwaitsAll};
+ghost use Rattle.driver.specs.Turns.{access_event, wants_pages, wants_balance, wants_watch, wants, ends_with, ends_refused, byte_answer, resumes_at, Tried, MadeRoom, MaxSet, Lowered, Reclaimed, Balanced, Made, Ended, WasShown, Closed, Told, Awaits, AwaitsAll};
 ghost use Rattle.driver.specs.Tickets.{IsHanded, IsSpendableReply};
 
 use crate::turn::{Access, Pending, Resume, Stage, Transition, Want};
@@ -347,8 +347,8 @@ fn fetch_failed(reply: Reply) -> Transition
 }
 
 /// Where a command goes on once a page has left.
-fn goes_on(resume: Resume) -> Stage
-    ensures { result ≡ goes_on resume }
+fn resumes_at(resume: Resume) -> Stage
+    ensures { result ≡ resumes_at resume }
 {
     match resume {
         Resume::Try(access) => Stage::Try(access),
@@ -361,10 +361,10 @@ fn goes_on(resume: Resume) -> Stage
 fn left(resume: Resume, reply: Reply) -> Transition
     requires comes { IsOutReply reply }
     requires handed { IsHanded reply }
-    ensures { Closed (Transition.Goes (goes_on resume)) reply result }
+    ensures { Closed (Transition.Goes (resumes_at resume)) reply result }
 {
     match reply {
-        Reply::Ok => Transition::Goes(goes_on(resume)),
+        Reply::Ok => Transition::Goes(resumes_at(resume)),
         Reply::StrangeOut(ticket) => strange_out(ticket),
         other => never(other),
     }

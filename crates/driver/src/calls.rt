@@ -19,9 +19,9 @@ pub fn call(book: &mut Book, pass: &mut Pass, event: Event) -> Reply
     requires first { pass.old.worker ≡ 0 }
     requires given { book.old.passes ≡ 1 }
     requires own { OwnEvent book.old.state.opening.swap event }
-    ensures called { Called book.old 0 (event_of event) (reply_of result) book.new }
-    ensures gives { Gives book.new 0 result }
-    ensures keeps { KeepsTicket 0 event result }
+    ensures called { Called book.old pass.old (event_of event) (reply_of result) book.new }
+    ensures gives { Gives book.new pass.old.worker result }
+    ensures keeps { KeepsTicket pass.old.worker event result }
     ensures replies { Replies event result }
     ensures own { OwnReply book.old.state.opening.swap result }
     ensures handed { IsHanded result }

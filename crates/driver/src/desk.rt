@@ -8,7 +8,7 @@ ghost use Rattle.driver.specs.Turns.{AwaitsAll};
 ghost use Rattle.driver.specs.Schedule.{Asks, WantTurn, StageTurn, wants_at, Turn, Advances, Finishes, Begins, Stepped, Runs, activity_of, first_world};
 ghost use Rattle.driver.specs.Tickets.{OwnEvent, OwnStage, OwnTransition, OwnSeats};
 ghost use Rattle.driver.specs.Seats.{place_of, is_under_way};
-ghost use Rattle.driver.specs.Desks.{world, swap_of, IsOn, IsSame};
+ghost use Rattle.driver.specs.Desks.{world, swap_of, AsksFirst, IsOn, IsSame};
 
 use crate::automaton::{ask, told};
 use crate::judge::judge;
@@ -35,8 +35,6 @@ pub struct Desk {
 }
 
 impl Desk {
-    ghost use Rattle.driver.specs.Desks.{Asks as AsksFirst};
-
     /// A desk at which nobody has a command, over a new book. It fails as [`Book::open`] does.
     pub fn open(alloc: Global, config: Config) -> Result<Desk, Refusal>
         ensures opens { IfOk result (λ desk. (disk : Disk) → world desk disk ≡ first_world config disk) }
@@ -64,7 +62,7 @@ impl Desk {
         requires first { AsksFirst self.old }
         requires awaits { AwaitsAll (Want.Call pending event) }
         requires own { OwnEvent (swap_of self.old) event }
-        ensures asks { IfOk result (λ transition. Asks self.old.book pending event transition self.new.book) }
+        ensures asks { IfOk result (λ transition. Asks self.old.pass self.old.book pending event transition self.new.book) }
         ensures own { IfOk result (λ transition. OwnTransition (swap_of self.old) transition) }
         ensures first { AsksFirst self.new }
         ensures opening { self.new.book.state.opening ≡ self.old.book.state.opening }
@@ -91,7 +89,7 @@ impl Desk {
     ) -> Result<Transition, AllocError>
         requires on { IsOn self.old (D.disk device.old) }
         requires own { OwnStage (swap_of self.old) stage }
-        ensures turns { IfOk result (λ transition. WantTurn self.old.book (D.disk device.old) (wants_at self.old.book stage) transition self.new.book (D.disk device.new)) }
+        ensures turns { IfOk result (λ transition. WantTurn self.old.pass self.old.book (D.disk device.old) (wants_at self.old.book stage) transition self.new.book (D.disk device.new)) }
         ensures own { IfOk result (λ transition. OwnTransition (swap_of self.old) transition) }
         ensures first { AsksFirst self.new }
         ensures opening { self.new.book.state.opening ≡ self.old.book.state.opening }

@@ -29,7 +29,7 @@ pub fn run<D: BlockDevice>(
     ensures blocks { length (D.disk device.new).contents ≡ length (D.disk device.old).contents }
     ensures limit { (D.disk device.new).fault_limit ≡ (D.disk device.old).fault_limit }
 {
-    if device.blocks() < config.swap {
+    if device.blocks() < config.blocks() {
         return Err(Refusal::Invalid);
     }
     let mut desk = Desk::open(alloc, config)?;

@@ -6,7 +6,6 @@ use Rattle.std.proofs.lemmas.Bool.Decides.{nat_tests}
 use Rattle.machine.specs.declared.record.Life.{Life}
 use Rattle.machine.specs.declared.record.Life.TheVariants.{Live, Exited, Killed}
 use Rattle.machine.specs.declared.record.Task.{Task}
-use Rattle.machine.specs.declared.record.Mapping.{Mapping}
 use Rattle.machine.specs.declared.record.EventCounts.{EventCounts}
 use Rattle.machine.specs.declared.record.Key.{Key}
 use Rattle.machine.specs.declared.record.Key.TheVariants.{Low, High, Max, Oom, OomKill, OomGroupKill}
@@ -24,7 +23,7 @@ use Rattle.machine.specs.Counts.{limits_at, is_full, over_at, Counted, local, to
 use Rattle.machine.specs.Pages.{Content, Memory, OfFile, Residence, Held, Coming, Going, Away, Page, page_at, in_transfer_at, frame_at, is_some_number, has_frame, is_charged, charged}
 use Rattle.machine.specs.Tasks.{task_at}
 use Rattle.machine.specs.State.{State, usage, over_in, is_frame_free}
-use Rattle.machine.specs.Access.{Meeting, Unmapped, Hits, Transferring, NeedsPage, NeedsCopy, NeedsSwapIn, meets}
+use Rattle.machine.specs.Access.{Meeting, Unmapped, Hits, Transferring, NeedsPage, NeedsCopy, NeedsSwapIn, Dangling, meets}
 use Rattle.machine.specs.Reclaim.{has_takeable, has_transfer, stands, target_of}
 use Rattle.machine.specs.Step.{Only, Takes, LeavesFrom, LeavesBy, ChargeStep, MakesPage, StartsFetch, HitStep, UnmappedStep, MeetStep, LifeStep, TaskStep, new_page, touched}
 use Rattle.machine.proofs.Values.{unlike}
@@ -189,31 +188,32 @@ module _ (before after : State) (a : ℕ) where
   hit_within p frame page (Write b) (reply.Done byte hit) there h = touched_within p frame page b there h.2 (ap (λ (s : State). s.tree) h.3)
   hit_within p frame page op answer there h = absurd h
 
-  makes_within : (t v g : ℕ) (op : Op) (others : List Mapping) (answer : Reply) → over_in before g ≡ None → MakesPage before t v g op others answer after → Within before after a
-  makes_within t v g op others answer none h = placed_within h.page g (new_page g h.frame) refl refl none h.placed (ap (λ (s : State). s.tree) h.state) (ap (λ (s : State). s.limits) h.state)
+  makes_within : (t v g : ℕ) (op : Op) (answer : Reply) → over_in before g ≡ None → MakesPage before t v g op answer after → Within before after a
+  makes_within t v g op answer none h = placed_within h.page g (new_page g h.frame) refl refl none h.placed (ap (λ (s : State). s.tree) h.state) (ap (λ (s : State). s.limits) h.state)
 
   fetch_within : (p g : ℕ) (content : Content) (block : ℕ) (answer : Reply) → over_in before g ≡ None → StartsFetch before p g content block answer after → Within before after a
   fetch_within p g content block answer none h =
       placed_within p g (record { content = content; group = g; dirty = false; residence = Coming h.frame block h.ticket }) refl refl none h.placed (ap (λ (s : State). s.tree) h.state) (ap (λ (s : State). s.limits) h.state)
 
-  meet_within : (t g : ℕ) (place : Place) (op : Op) (answer : Reply) (meeting : Meeting) → meets before t place op ≡ meeting → MeetStep before t g place op meeting answer after → Within before after a
+  meet_within : (t g : ℕ) (place : Place) (op : Op) (answer : Reply) (meeting : Meeting) → meets before t place op ≡ meeting → MeetStep before t g op meeting answer after → Within before after a
   meet_within t g place op answer Unmapped is h = unmapped_within answer h
   meet_within t g place op answer (Hits p page frame) is h = hit_within p frame page op answer (hits_held before t place op p page frame is).0 h
   meet_within t g place op answer Transferring is h = same_within before after a h.1
-  meet_within t g place op answer NeedsPage is h = charge_within g _ answer (λ none made. makes_within t _ g op _ answer none made) h
-  meet_within t g place op answer NeedsCopy is h = charge_within g _ answer (λ none made. makes_within t _ g op _ answer none made) h
+  meet_within t g place op answer (NeedsPage v) is h = charge_within g _ answer (λ none made. makes_within t v g op answer none made) h
+  meet_within t g place op answer (NeedsCopy v) is h = charge_within g _ answer (λ none made. makes_within t v g op answer none made) h
   meet_within t g place op answer (NeedsSwapIn p page block) is h = charge_within page.group _ answer (λ none begun. fetch_within p page.group page.content block answer none begun) h
+  meet_within t g place op answer Dangling is h = absurd h
 
 pub charges_stay_within_max : ChargesStayWithinMax
 unfolding Within
 charges_stay_within_max before after t place op answer a step = by_slot (task_at before.tasks t) step
   where
-    by_life : (task : Task) (ending : Life) → LifeStep before ending (MeetStep before t task.group.0 place op (meets before t place op) answer after) answer after → Within before after a
+    by_life : (task : Task) (ending : Life) → LifeStep before ending (MeetStep before t task.group.0 op (meets before t place op) answer after) answer after → Within before after a
     by_life task Live h = meet_within before after a t task.group.0 place op answer (meets before t place op) refl h
     by_life task Exited h = absurd h
     by_life task Killed h = same_within before after a h.1
 
-    by_slot : (slot : Option Task) → TaskStep before slot (λ task. MeetStep before t task.group.0 place op (meets before t place op) answer after) answer after → Within before after a
+    by_slot : (slot : Option Task) → TaskStep before slot (λ task. MeetStep before t task.group.0 op (meets before t place op) answer after) answer after → Within before after a
     by_slot None h = absurd h
     by_slot (Some task) h = by_life task task.life h
 

@@ -1,5 +1,5 @@
 -- What a schedule does to the history: it stays legal.
-use Rattle.std.proofs.Common.{◌≡◌, inl, inr, ℕ, Bool, true, false, List, [], ◌∷◌, Option, Some, None, refl, sym, subst}
+use Rattle.std.proofs.Common.{◌≡◌, inl, inr, Bool, true, false, List, [], ◌∷◌, Option, Some, None, refl, sym, subst}
 use Rattle.std.specs.Prelude.{◌⊎◌, MatchBool, Ok, Err}
 use Rattle.machine.specs.declared.event.Event.{Event}
 use Rattle.machine.specs.declared.refusal.Refusal.{Refusal}
@@ -22,7 +22,7 @@ use Rattle.driver.specs.declared.turn.Activity.{Activity}
 use Rattle.driver.specs.declared.turn.Activity.TheVariants.{Rests, Begun, Does}
 use Rattle.machine.specs.State.{Opening, opening_of}
 use Rattle.machine.specs.Refusals.{refusal}
-use Rattle.machine.specs.Call.{Past, knows_ticket, Refuses, Served, JudgedBy, Called, is_trace_full}
+use Rattle.machine.specs.Call.{Past, Caller, knows_pass, Refuses, Served, JudgedBy, Called, is_trace_full}
 use Rattle.machine.specs.Legal.{Legal}
 use Rattle.driver.specs.Turns.{Judged, judged}
 use Rattle.driver.specs.Schedule.{World, WantTurn, wants_at, first_world, activity_of, StageTurn, JudgedTurn, ActivityTurn, Goings, EndsIn, RunsOut, Begins, Stepped, Runs}
@@ -38,37 +38,37 @@ module _ (opening : Opening) where
   legal-world : (old new : World) → new ≡ old → IsLegal old.past → IsLegal new.past
   legal-world old new e h = subst (λ (w : World). Legal opening w.past.history w.past.state) (sym e) h
 
-  legal-served : (old new : Past) (worker : ℕ) (what : Event) (answer : Reply) → knows_ticket old.state old.history worker what ≡ true → refusal old.state what ≡ None → is_trace_full old what ≡ false
-      → Served old worker what answer new → IsLegal old → IsLegal new
-  legal-served old new worker what (reply.Refused why) known none room h legal = legal-same old new h.2 legal
-  legal-served old new worker what answer known none room h legal = rw h.history (old.state, legal, record { known = known; unrefused = none; room = room; steps = h.steps })
+  legal-served : (old new : Past) (caller : Caller) (what : Event) (answer : Reply) → knows_pass old.state old.history caller what ≡ true → refusal old.state what ≡ None → is_trace_full old what ≡ false
+      → Served old caller what answer new → IsLegal old → IsLegal new
+  legal-served old new caller what (reply.Refused why) known none room h legal = legal-same old new h.2 legal
+  legal-served old new caller what answer known none room h legal = rw h.history (old.state, legal, record { known = known; unrefused = none; room = room; steps = h.steps })
 
-  legal-called : (old new : Past) (worker : ℕ) (what : Event) (answer : Reply) → Called old worker what answer new → IsLegal old → IsLegal new
-  legal-called old new worker what answer called legal = by_ticket (knows_ticket old.state old.history worker what) refl called
+  legal-called : (old new : Past) (caller : Caller) (what : Event) (answer : Reply) → Called old caller what answer new → IsLegal old → IsLegal new
+  legal-called old new caller what answer called legal = by_ticket (knows_pass old.state old.history caller what) refl called
     where
-      by_room : (full : Bool) → knows_ticket old.state old.history worker what ≡ true → is_trace_full old what ≡ full → refusal old.state what ≡ None
-          → MatchBool full (Refuses old TraceFull answer new) (Served old worker what answer new) → IsLegal new
+      by_room : (full : Bool) → knows_pass old.state old.history caller what ≡ true → is_trace_full old what ≡ full → refusal old.state what ≡ None
+          → MatchBool full (Refuses old TraceFull answer new) (Served old caller what answer new) → IsLegal new
       by_room true known is none h = legal-same old new h.1 legal
-      by_room false known is none h = legal-served old new worker what answer known none is h legal
+      by_room false known is none h = legal-served old new caller what answer known none is h legal
 
-      by_cause : (cause : Option Refusal) → knows_ticket old.state old.history worker what ≡ true → refusal old.state what ≡ cause → JudgedBy old worker what cause answer new → IsLegal new
+      by_cause : (cause : Option Refusal) → knows_pass old.state old.history caller what ≡ true → refusal old.state what ≡ cause → JudgedBy old caller what cause answer new → IsLegal new
       by_cause (Some why) known is h = legal-same old new h.1 legal
       by_cause None known is h = by_room (is_trace_full old what) known refl is h
 
-      by_ticket : (knows : Bool) → knows_ticket old.state old.history worker what ≡ knows
-          → MatchBool knows (JudgedBy old worker what (refusal old.state what) answer new) (Refuses old Stranger answer new) → IsLegal new
+      by_ticket : (knows : Bool) → knows_pass old.state old.history caller what ≡ knows
+          → MatchBool knows (JudgedBy old caller what (refusal old.state what) answer new) (Refuses old Stranger answer new) → IsLegal new
       by_ticket true known h = by_cause (refusal old.state what) known refl h
       by_ticket false known h = legal-same old new h.1 legal
 
   -- a device call leaves the past as it was
-  legal-want : (past past' : Past) (disk disk' : Disk) (wanted : Want) (transition : Transition) → WantTurn past disk wanted transition past' disk' → IsLegal past → IsLegal past'
-  legal-want past past' disk disk' (want.Call remembers what) transition turn legal = legal-called past past' 0 (event_of what) (reply_of turn.0.said) turn.0.called legal
-  legal-want past past' disk disk' (want.Read access ticket) transition turn legal = legal-same past past' turn.1 legal
-  legal-want past past' disk disk' (want.Write on ticket) transition turn legal = legal-same past past' turn.1 legal
-  legal-want past past' disk disk' (want.End said) transition turn legal = legal-same past past' turn.1 legal
+  legal-want : (caller : Caller) (past past' : Past) (disk disk' : Disk) (wanted : Want) (transition : Transition) → WantTurn caller past disk wanted transition past' disk' → IsLegal past → IsLegal past'
+  legal-want caller past past' disk disk' (want.Call remembers what) transition turn legal = legal-called past past' caller (event_of what) (reply_of turn.0.said) turn.0.called legal
+  legal-want caller past past' disk disk' (want.Read access ticket) transition turn legal = legal-same past past' turn.1 legal
+  legal-want caller past past' disk disk' (want.Write on ticket) transition turn legal = legal-same past past' turn.1 legal
+  legal-want caller past past' disk disk' (want.End said) transition turn legal = legal-same past past' turn.1 legal
 
   legal-stage : (old new : World) (who : Actor) (stage : Stage) (outcome : Outcome) → StageTurn old who stage outcome new → IsLegal old.past → IsLegal new.past
-  legal-stage old new who stage outcome turn legal = legal-want old.past new.past old.disk new.disk (wants_at old.past stage) turn.transition turn.turns legal
+  legal-stage old new who stage outcome turn legal = legal-want old.caller old.past new.past old.disk new.disk (wants_at old.past stage) turn.transition turn.turns legal
 
   legal-judged : (old new : World) (who : Actor) (found : Judged) (outcome : Outcome) → JudgedTurn old who found outcome new → IsLegal old.past → IsLegal new.past
   legal-judged old new who (Err why) outcome turn legal = subst (λ (w : World). Legal opening w.past.history w.past.state) (sym turn.1) legal

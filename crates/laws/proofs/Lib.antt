@@ -3,3 +3,4 @@ pub mod LawLemmas
 pub mod ReclaimLemmas
 pub mod RiseLemmas
 pub mod OrderLemmas
+pub mod FlightLemmas

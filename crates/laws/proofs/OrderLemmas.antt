@@ -17,14 +17,13 @@ use Rattle.machine.specs.Slots.{there_and}
 use Rattle.machine.specs.Pages.{Page, Pages, page_at, is_held, is_held_in}
 use Rattle.machine.specs.State.{State}
 use Rattle.machine.specs.Reclaim.{target_of}
-use Rattle.machine.specs.Lists.{Order, TakesNext, is_page_of, ListsHeld, is_fresh, GoesOn, CursorsGoOn}
+use Rattle.machine.specs.Lists.{Order, TakesNext, is_page_of, first_held, ListsHeld, is_fresh, GoesOn, CursorsGoOn}
 use Rattle.machine.specs.Refusals.{refusal}
-use Rattle.machine.specs.Call.{Past, Answers, Served, JudgedBy, Called, knows_ticket, is_trace_full}
+use Rattle.machine.specs.Call.{Past, Caller, Answers, Served, JudgedBy, Called, knows_pass, is_trace_full}
 use Rattle.machine.specs.Step.{new_node}
 use Rattle.machine.proofs.Values.{some_inj, never_some, unlike}
 use Rattle.machine.proofs.TreeLemmas.{eq_cases}
 use Rattle.machine.proofs.SlotLemmas.{one_if}
-use Rattle.machine.proofs.MappingLemmas.{find-passes}
 use Rattle.machine.proofs.CursorLemmas.{cursors-push, cursors-set}
 use Rattle.block_store.specs.Device.{Disk}
 use Rattle.book.specs.Events.{event_of, reply_of}
@@ -118,19 +117,19 @@ listed-on before after held held' goes listed p =
 
 -- ---- one call
 
-served_or : {P : Type 0} (old new : Past) (worker : ℕ) (what : Event) (answer : Reply) → (new ≡ old → P) → (Answers old worker what answer new → P) → Served old worker what answer new → P
-served_or old new worker what (reply.Refused why) same answers h = same h.2
-served_or old new worker what answer same answers h = answers h
+served_or : {P : Type 0} (old new : Past) (caller : Caller) (what : Event) (answer : Reply) → (new ≡ old → P) → (Answers old caller what answer new → P) → Served old caller what answer new → P
+served_or old new caller what (reply.Refused why) same answers h = same h.2
+served_or old new caller what answer same answers h = answers h
 
-called_or : {P : Type 0} (old new : Past) (worker : ℕ) (what : Event) (answer : Reply) → (new ≡ old → P) → (Answers old worker what answer new → P) → Called old worker what answer new → P
-called_or {P} old new worker what answer same answers called = by_test (knows_ticket old.state old.history worker what) (by_cause (refusal old.state what)) (λ h. same h.1) called
+called_or : {P : Type 0} (old new : Past) (caller : Caller) (what : Event) (answer : Reply) → (new ≡ old → P) → (Answers old caller what answer new → P) → Called old caller what answer new → P
+called_or {P} old new caller what answer same answers called = by_test (knows_pass old.state old.history caller what) (by_cause (refusal old.state what)) (λ h. same h.1) called
   where
-    by_cause : (cause : Option Refusal) → JudgedBy old worker what cause answer new → P
+    by_cause : (cause : Option Refusal) → JudgedBy old caller what cause answer new → P
     by_cause (Some why) h = same h.1
-    by_cause None h = by_test (is_trace_full old what) (λ k. same k.1) (served_or old new worker what answer same answers) h
+    by_cause None h = by_test (is_trace_full old what) (λ k. same k.1) (served_or old new caller what answer same answers) h
 
 pub held_pages_go_on : HeldPagesGoOn
-held_pages_go_on old new worker what answer called = called_or old new worker what answer (λ same. inl same) (λ h. inr h.order.0) called
+held_pages_go_on old new caller what answer called = called_or old new caller what answer (λ same. inl same) (λ h. inr h.order.0) called
 
 -- ---- the cursors
 
@@ -148,9 +147,9 @@ pub record IsOrdered (past : Past) : Type 0 where
   pub listed : ListsHeld past.state.pages past.order.held
   pub cursors : length past.order.cursors ≡ length past.state.tree
 
-ordered-called : (old new : Past) (worker : ℕ) (what : Event) (answer : Reply) → Called old worker what answer new → IsOrdered old → IsOrdered new
-ordered-called old new worker what answer called was =
-    called_or old new worker what answer (λ same. subst IsOrdered (sym same) was)
+ordered-called : (old new : Past) (caller : Caller) (what : Event) (answer : Reply) → Called old caller what answer new → IsOrdered old → IsOrdered new
+ordered-called old new caller what answer called was =
+    called_or old new caller what answer (λ same. subst IsOrdered (sym same) was)
     (λ h. record {
       listed = listed-on old.state.pages new.state.pages old.order.held new.order.held h.order.0 was.listed;
       cursors = cursors-on old.state new.state old.order new.order what answer h.order.1 (step_tree old.state what answer new.state h.steps) was.cursors;
@@ -165,16 +164,16 @@ pub record Ordered (w : World) : Type 0 where
 ordered_rest : (w : World) (who : Actor) (what : Activity) → is_idle what ≡ true → Ordered w → Ordered (record w { seats = with_activity who what w.seats })
 ordered_rest w who what idle h = record { tickets = tickets_rest w who what idle h.tickets; order = h.order }
 
-want_ordered : (past past' : Past) (disk disk' : Disk) (wanted : Want) (transition : Transition) → WantTurn past disk wanted transition past' disk' → IsOrdered past → IsOrdered past'
-want_ordered past past' disk disk' (want.Call remembers what) transition turn h = ordered-called past past' 0 (event_of what) (reply_of turn.0.said) turn.0.called h
-want_ordered past past' disk disk' (want.Read access ticket) transition turn h = subst IsOrdered (sym turn.1) h
-want_ordered past past' disk disk' (want.Write on ticket) transition turn h = subst IsOrdered (sym turn.1) h
-want_ordered past past' disk disk' (want.End said) transition turn h = subst IsOrdered (sym turn.1) h
+want_ordered : (caller : Caller) (past past' : Past) (disk disk' : Disk) (wanted : Want) (transition : Transition) → WantTurn caller past disk wanted transition past' disk' → IsOrdered past → IsOrdered past'
+want_ordered caller past past' disk disk' (want.Call remembers what) transition turn h = ordered-called past past' caller (event_of what) (reply_of turn.0.said) turn.0.called h
+want_ordered caller past past' disk disk' (want.Read access ticket) transition turn h = subst IsOrdered (sym turn.1) h
+want_ordered caller past past' disk disk' (want.Write on ticket) transition turn h = subst IsOrdered (sym turn.1) h
+want_ordered caller past past' disk disk' (want.End said) transition turn h = subst IsOrdered (sym turn.1) h
 
 ordered_turn : (old new : World) (who : Actor) (now : Stage) (outcome : Outcome) → IsAt old who now → StageTurn old who now outcome new → Ordered old → Ordered new × FineOutcome outcome
 ordered_turn old new who now outcome at turn h =
     let ticketed = tickets_turn old new who now outcome at turn h.tickets in
-    (record { tickets = ticketed.0; order = want_ordered old.past new.past old.disk new.disk (wants_at old.past now) turn.transition turn.turns h.order }, ticketed.1)
+    (record { tickets = ticketed.0; order = want_ordered old.caller old.past new.past old.disk new.disk (wants_at old.past now) turn.transition turn.turns h.order }, ticketed.1)
 
 ordered_first : (config : Config) (disk : Disk) → Ordered (first_world config disk)
 ordered_first config disk = record { tickets = tickets_first config disk; order = record { listed = λ p. refl; cursors = refl } }
@@ -191,6 +190,15 @@ groups_have_cursors config before lines answers end runs = (runs_ordered config 
 
 -- ---- the page that is taken
 
+-- what is found passes
+find-passes : (test : ℕ → Bool) (xs : List ℕ) (x : ℕ) → find test xs ≡ Some x → test x ≡ true
+find-passes test [] x e = cc
+find-passes test (y ∷ ys) x e =
+    elim (test y) as (λ b. test y ≡ b → cond b (Some y) (find test ys) ≡ Some x → test x ≡ true) [
+      | true ↦ λ is e. ap test (sym (some_inj e)) ∙ is
+      | false ↦ λ is e. find-passes test ys x e
+    ] refl e
+
 -- no refusal takes one
 refused_none : (what : Event) (why : Refusal) → took_for what (reply.Refused why) ≡ None
 refused_none (event.Relieve cause) why = refl
@@ -204,41 +212,41 @@ takes_next old new order order' (event.ReclaimOne g) (reply.Out ticket) target e
 takes_next old new order order' (event.ReclaimOne g) reply.Dropped target e h = subst (λ t. TakesNext old order t new order') (some_inj e) h
 takes_next old new order order' what answer target e h = cc
 
-module _ (old new : Past) (worker : ℕ) (what : Event) (answer : Reply) (target : ℕ) (taken : took_for what answer ≡ Some target) where
+module _ (old new : Past) (caller : Caller) (what : Event) (answer : Reply) (target : ℕ) (taken : took_for what answer ≡ Some target) where
   not_refused : {P : Type 0} (why : Refusal) → answer ≡ reply.Refused why → P
   not_refused why e = never_some (took_for what answer) (ap (took_for what) e ∙ refused_none what why) taken
 
-  served_answers : (said : Reply) → answer ≡ said → Served old worker what said new → Answers old worker what said new
+  served_answers : (said : Reply) → answer ≡ said → Served old caller what said new → Answers old caller what said new
   served_answers (reply.Refused why) e h = not_refused why e
   served_answers said e h = h
 
-  called_answers : Called old worker what answer new → Answers old worker what answer new
-  called_answers called = by_test (knows_ticket old.state old.history worker what) (by_cause (refusal old.state what)) (λ h. not_refused Stranger h.0) called
+  called_answers : Called old caller what answer new → Answers old caller what answer new
+  called_answers called = by_test (knows_pass old.state old.history caller what) (by_cause (refusal old.state what)) (λ h. not_refused Stranger h.0) called
     where
-      by_cause : (cause : Option Refusal) → JudgedBy old worker what cause answer new → Answers old worker what answer new
+      by_cause : (cause : Option Refusal) → JudgedBy old caller what cause answer new → Answers old caller what answer new
       by_cause (Some why) h = not_refused why h.0
       by_cause None h = by_test (is_trace_full old what) (λ k. not_refused TraceFull k.0) (served_answers answer refl) h
 
 leaves_in_order : (old new : Past) (target : ℕ) → TakesUnprotected old.state target new.state → TakesNext old.state old.order target new.state new.order → LeavesInOrder old target new
 leaves_in_order old new target taken next =
-    record { taken = taken; turn = next.next ∙ ap (λ (g : ℕ). Some g) group; cursor = next.moves ∙ ap (λ (g : ℕ). slice_set old.order.cursors target (Some g)) group; oldest = subst (λ (q : ℕ). find (is_page_of old.state.pages taken.page.group) old.order.held ≡ Some q) same (ap (λ (g : ℕ). find (is_page_of old.state.pages g) old.order.held) (sym group) ∙ next.first) }
+    record { taken = taken; turn = next.next ∙ ap (λ (g : ℕ). Some g) group; cursor = next.moves ∙ ap (λ (g : ℕ). slice_set old.order.cursors target (Some g)) group; oldest = subst (λ (q : ℕ). first_held old.state.pages old.order.held taken.page.group ≡ Some q) same (ap (first_held old.state.pages old.order.held) (sym group) ∙ next.takes.first) }
   where
-    same : next.p ≡ taken.p
+    same : next.takes.p ≡ taken.p
     same =
-        elim (eq_cases next.p taken.p) [
+        elim (eq_cases next.takes.p taken.p) [
           | inl e ↦ e
           | inr differs ↦
-              unlike (is_held_in old.state.pages next.p) next.was (ap (there_and is_held) (sym (taken.others next.p differs)) ∙ next.taken)
+              unlike (is_held_in old.state.pages next.takes.p) next.takes.was (ap (there_and is_held) (sym (taken.others next.takes.p differs)) ∙ next.takes.taken)
         ]
 
     group : next.g ≡ taken.page.group
     group =
-        let found : is_page_of old.state.pages next.g next.p ≡ true = find-passes (is_page_of old.state.pages next.g) old.order.held next.p next.first in
+        let found : is_page_of old.state.pages next.g next.takes.p ≡ true = find-passes (is_page_of old.state.pages next.g) old.order.held next.takes.p next.takes.first in
         let here : (taken.page.group == next.g) ≡ true = ap (there_and (λ (page : Page). page.group == next.g)) (sym taken.there ∙ ap (page_at old.state.pages) (sym same)) ∙ found in
         sym (eqb-true taken.page.group next.g here)
 
 pub pages_leave_in_order : PagesLeaveInOrder
-pages_leave_in_order old new worker what answer target took called =
-    let served = called_answers old new worker what answer target took called in
+pages_leave_in_order old new caller what answer target took called =
+    let served = called_answers old new caller what answer target took called in
     leaves_in_order old new target (reclaims_spare_the_protected old.state new.state what answer target took served.steps)
     (takes_next old.state new.state old.order new.order what answer target took served.order.1)

@@ -12,7 +12,7 @@ use Rattle.machine.specs.Tree.{under}
 use Rattle.machine.specs.Amounts.{exceeds}
 use Rattle.machine.specs.Pages.{Content, Memory, OfFile, Residence, Held, Coming, Going, Away, Page, is_held}
 use Rattle.machine.specs.State.{State, usage, effective_min}
-use Rattle.machine.specs.Reclaim.{is_open, has_takeable, has_transfer, stands, target_of}
+use Rattle.machine.specs.Reclaim.{is_unprotected, has_takeable, has_transfer, stands, target_of}
 use Rattle.machine.specs.Step.{Only, Takes, LeavesBy, LeavesFrom, ReclaimStep, ReclaimOneStep, KillStep, RelieveStep, Step}
 use Rattle.machine.proofs.Values.{some_inj, unlike}
 use Rattle.laws.specs.Laws.{took_for, TakesUnprotected, ReclaimsSpareTheProtected, ReclaimsGiveUpLast, ReclaimsKillNobody}
@@ -48,7 +48,7 @@ step_takes before after what answer target e step = cc
 -- ---- the page
 
 module _ (before after : State) (target : ℕ) where
-  open_cases : (g : ℕ) → is_open before target g ≡ true → (g ≡ target) ⊎ (exceeds (usage before g) (effective_min before target g) ≡ true)
+  open_cases : (g : ℕ) → is_unprotected before target g ≡ true → (g ≡ target) ⊎ (exceeds (usage before g) (effective_min before target g) ≡ true)
   open_cases g is = by_same (g == target) refl is
     where
       by_same : (b : Bool) → (g == target) ≡ b → (b || exceeds (usage before g) (effective_min before target g)) ≡ true → (g ≡ target) ⊎ (exceeds (usage before g) (effective_min before target g) ≡ true)
@@ -56,7 +56,7 @@ module _ (before after : State) (target : ℕ) where
       by_same false same e = inr e
 
   module _ (answer : Reply) (h : Takes before target answer after) where
-    takeable : (is_held h.page ≡ true) × (under before.tree target h.page.group ≡ true) × (is_open before target h.page.group ≡ true)
+    takeable : (is_held h.page ≡ true) × (under before.tree target h.page.group ≡ true) × (is_unprotected before target h.page.group ≡ true)
     takeable = let all = and_parts _ _ h.takeable in let three = and_parts _ _ all.0 in let two = and_parts _ _ three.0 in (two.0, two.1, three.1)
 
     leaves_for : (to : Option Page) → Changes before.pages after.pages h.p to → there_and is_held to ≡ false → TakesUnprotected before target after

@@ -12,7 +12,6 @@ use Rattle.machine.specs.declared.reply.Reply.TheVariants as reply
 use Rattle.machine.specs.Slots.{at, there_and, count_there, Changes}
 use Rattle.machine.specs.Tree.{Node, no_node, is_live, under, IsTree}
 use Rattle.machine.specs.Pages.{Residence, Page, Pages, page_at, frame_at, is_some_number, has_frame, is_charged, charged}
-use Rattle.machine.specs.Tasks.{without_task}
 use Rattle.machine.specs.State.{Opening, State, usage}
 use Rattle.machine.specs.Legal.{Legal}
 use Rattle.machine.specs.declared.entry.Entry.{Entry}
@@ -95,19 +94,19 @@ module _ (before after : State) (a : ℕ) where
   did_less : (what : Event) (answer : Reply) → is_access what ≡ false → IsTree before.tree → ((p : ℕ) → IfSome (page_at before.pages p) (λ page. is_live before.tree page.group ≡ true)) → Did before what answer after → Less
   unfolding Less
   did_less what answer other falls groups (Kept limits counted e) = let same : usage after a ≡ usage before a = ap (λ (s : State). usage s a) e in omega (arith, same)
-  did_less what answer other falls groups (Made t p frame mappings access out alive free unused placed e) = unlike (is_access what) access other
+  did_less what answer other falls groups (Made t v p frame access out alive free unused placed shown e) = unlike (is_access what) access other
   did_less what answer other falls groups (Moved p page dirty now counted there placed moves e) =
       let one = one_changes p (Some page) _ (ap (λ (s : State). s.tree) e) there placed in
       let less : one_if (is_some_number (frame_at now) && under before.tree a page.group) ≤ one_if (is_charged before.tree a page) =
       bool_le _ _ (λ is. let both = and_parts (is_some_number (frame_at now)) (under before.tree a page.group) is in rw (framed what answer page now other moves both.0, both.1) refl) in
       omega (arith, one, less)
-  did_less what answer other falls groups (Dropped p counted out gone e) = let one = one_changes p (page_at before.pages p) None (ap (λ (s : State). s.tree) e) refl gone in omega (arith, one)
+  did_less what answer other falls groups (Dropped p page counted out there may_go gone e) = let one = one_changes p (Some page) None (ap (λ (s : State). s.tree) e) there gone in omega (arith, one)
   did_less what answer other falls groups (Ended t ending counted out dead ends) =
       let same = recounted (ap (λ (s : State). s.tree) ends.state) in
       let fewer = count-less (is_charged before.tree a) before.pages after.pages
-      (λ n e. still_passes (without_task before.mappings t) n (is_charged before.tree a) (page_at before.pages n) (sym (ap (there_and (is_charged before.tree a)) (ends.unmaps n)) ∙ e)) in
+      (λ n e. still_passes after.page_tables n (is_charged before.tree a) (page_at before.pages n) (sym (ap (there_and (is_charged before.tree a)) (ends.pages n)) ∙ e)) in
       omega (arith, same, fewer)
-  did_less what answer other falls groups (Spawned t g is sets e) = let same : usage after a ≡ usage before a = ap (λ (s : State). usage s a) e in omega (arith, same)
+  did_less what answer other falls groups (Spawned t g is sets shown e) = let same : usage after a ≡ usage before a = ap (λ (s : State). usage s a) e in omega (arith, same)
   did_less what answer other falls groups (Grown path is out e) = made_less _ _ falls groups e
 
   -- a page has a frame when it begins to be written out, and had one before
@@ -121,15 +120,15 @@ module _ (before after : State) (a : ℕ) where
   did_keep : (what : Event) (answer : Reply) → is_out answer ≡ true → Did before what answer after → Kept_so
   unfolding Kept_so
   did_keep what answer out (Kept limits counted e) = ap (λ (s : State). usage s a) e
-  did_keep what answer out (Made t p frame mappings access other alive free unused placed e) = unlike (is_out answer) out other
+  did_keep what answer out (Made t v p frame access other alive free unused placed shown e) = unlike (is_out answer) out other
   did_keep what answer out (Moved p page dirty now counted there placed moves e) =
       let one = one_changes p (Some page) _ (ap (λ (s : State). s.tree) e) there placed in
       let same : one_if (is_some_number (frame_at now) && under before.tree a page.group) ≡ one_if (is_charged before.tree a page) =
       ap (λ o. one_if (is_some_number o && under before.tree a page.group)) (framed_still what answer page now out moves) in
       omega (arith, one, same)
-  did_keep what answer out (Dropped p counted other gone e) = unlike (is_out answer) out other
+  did_keep what answer out (Dropped p page counted other there may_go gone e) = unlike (is_out answer) out other
   did_keep what answer out (Ended t ending counted other dead ends) = unlike (is_out answer) out other
-  did_keep what answer out (Spawned t g is sets e) = ap (λ (s : State). usage s a) e
+  did_keep what answer out (Spawned t g is sets shown e) = ap (λ (s : State). usage s a) e
   did_keep what answer out (Grown path is other e) = unlike (is_out answer) out other
 
 pub write_outs_stay_charged : WriteOutsStayCharged

@@ -1,5 +1,5 @@
 -- The headline in the words of its users: what holds of every step and of every run.
-use Rattle.std.specs.Prelude.{◌≡◌, ◌≢◌, ◌⊎◌, ℕ, ◌+◌, ◌<◌, ◌≤◌, true, false, List, ◌∷◌, ◌++◌, length, find, Option, Some, None, slice_get, slice_set}
+use Rattle.std.specs.Prelude.{◌≡◌, ◌≢◌, ◌⊎◌, ℕ, ◌+◌, ◌<◌, ◌≤◌, Bool, true, false, List, ◌∷◌, ◌++◌, length, count_by, Option, Some, None, slice_get, slice_set}
 use Rattle.machine.specs.declared.config.Config.{Config}
 use Rattle.machine.specs.declared.entry.Entry.{Entry}
 use Rattle.machine.specs.declared.id.GroupId.{GroupId}
@@ -21,19 +21,19 @@ use Rattle.machine.specs.Slots.{there_and}
 use Rattle.machine.specs.Amounts.{exceeds}
 use Rattle.machine.specs.Counts.{limits_at, local, total}
 use Rattle.machine.specs.Tree.{Node, is_live, under}
-use Rattle.machine.specs.Pages.{Page, page_at, is_anon, is_held, frame_at, block_at, ticket_at, is_in_transfer, is_charged}
-use Rattle.machine.specs.Tasks.{lives, group_of_task}
-use Rattle.machine.specs.State.{Opening, State, usage, effective_min, opening_of}
+use Rattle.machine.specs.Pages.{Page, page_at, is_anon, is_held, frame_at, block_at, ticket_at, is_in_transfer, is_charged, in_transfer}
+use Rattle.machine.specs.Tasks.{lives, group_of_task, mapped_at}
+use Rattle.machine.specs.State.{Opening, State, usage, effective_min, opening_of, blocks_of}
 use Rattle.machine.specs.Reclaim.{is_idle, target_of}
-use Rattle.machine.specs.Lists.{is_page_of, ListsHeld, served, GoesOn}
+use Rattle.machine.specs.Lists.{ListsHeld, served, first_held, GoesOn}
 use Rattle.machine.specs.Victim.{is_candidate}
 use Rattle.machine.specs.Step.{Step}
-use Rattle.machine.specs.Call.{Past, Called}
+use Rattle.machine.specs.Call.{Past, Caller, Called, AreAlike}
 use Rattle.machine.specs.Legal.{Legal}
-use Rattle.machine.specs.History.{Right, IsRight, Honest}
+use Rattle.machine.specs.History.{at_first, Right, IsRight, Honest}
 use Rattle.machine.specs.declared.command.Answer.TheVariants as answer
 use Rattle.machine.specs.declared.command.Word.TheVariants as word
-use Rattle.machine.specs.declared.refusal.Refusal.TheVariants.{Stranger}
+use Rattle.machine.specs.declared.refusal.Refusal.TheVariants.{Stranger, NoMemory}
 use Rattle.block_store.specs.Device.{Disk}
 use Rattle.driver.specs.Schedule.{World, first_world, Runs, fits, errors}
 
@@ -47,7 +47,7 @@ RunsAreLegal =
 abbrev pub RunsAreHonest : Type 0
 RunsAreHonest =
     (config : Config) (before : Disk) (steps : List Line) (answers : List Told_by) (end : World) → fits config before ≡ true → Runs (first_world config before) steps answers end
-    → Honest end.past.history
+    → Honest at_first end.past.history
 
 -- no answer of a run is that a ticket was none of its holder's
 abbrev pub NoStrangers : Type 0
@@ -160,25 +160,25 @@ GroupsHaveCursors =
 -- (Excludes a list whose order is made up anew, and a page that comes to be held before another.)
 abbrev pub HeldPagesGoOn : Type 0
 HeldPagesGoOn =
-    (before after : Past) (worker : ℕ) (what : Event) (answer : Reply) → Called before worker what answer after
+    (before after : Past) (caller : Caller) (what : Event) (answer : Reply) → Called before caller what answer after
     → (after ≡ before) ⊎ GoesOn before.state.pages before.order.held after.state.pages after.order.held
 
 -- a page was taken for the target, and it was its group's turn to give one, and the page the first of its group's in the list of held pages. The target's cursor then names the group
 pub record LeavesInOrder (before : Past) (target : ℕ) (after : Past) : Type 0 where
   pub taken : TakesUnprotected before.state target after.state
   pub turn : served before.state before.order target ≡ Some taken.page.group
-  pub oldest : find (is_page_of before.state.pages taken.page.group) before.order.held ≡ Some taken.p
+  pub oldest : first_held before.state.pages before.order.held taken.page.group ≡ Some taken.p
   pub cursor : after.order.cursors ≡ slice_set before.order.cursors target (Some taken.page.group)
 
 -- so it is with each page that a call takes. (Excludes a newer page that leaves before an older one of its group, and a group that gives pages out of its turn.)
 abbrev pub PagesLeaveInOrder : Type 0
 PagesLeaveInOrder =
-    (before after : Past) (worker : ℕ) (what : Event) (answer : Reply) (target : ℕ) → took_for what answer ≡ Some target → Called before worker what answer after
+    (before after : Past) (caller : Caller) (what : Event) (answer : Reply) (target : ℕ) → took_for what answer ≡ Some target → Called before caller what answer after
     → LeavesInOrder before target after
 
 -- each read in a right history gave the last write before it
 abbrev pub ReadsGiveLastWrites : Type 0
-ReadsGiveLastWrites = (later earlier : List Entry) (entry : Entry) → Right (later ++ entry ∷ earlier) → IsRight earlier entry.event entry.reply
+ReadsGiveLastWrites = (later earlier : List Entry) (entry : Entry) → Right at_first (later ++ entry ∷ earlier) → IsRight at_first earlier entry.event entry.reply
 
 -- in whatever state a legal history ends, no two pages have one frame
 abbrev pub PagesShareNoFrame : Type 0
@@ -186,17 +186,17 @@ PagesShareNoFrame =
     (opening : Opening) (history : List Entry) (s : State) → Legal opening history s
     → (p q f : ℕ) (page other : Page) → page_at s.pages p ≡ Some page → page_at s.pages q ≡ Some other → frame_at page.residence ≡ Some f → frame_at other.residence ≡ Some f → p ≡ q
 
--- no two anonymous pages have one swap block, and each such block is there
+-- no two pages have one block of the device
 abbrev pub PagesShareNoBlock : Type 0
 PagesShareNoBlock =
     (opening : Opening) (history : List Entry) (s : State) → Legal opening history s
-    → (p q b : ℕ) (page other : Page) → page_at s.pages p ≡ Some page → page_at s.pages q ≡ Some other → is_anon page.content ≡ true → is_anon other.content ≡ true
-    → block_at page.residence ≡ Some b → block_at other.residence ≡ Some b → p ≡ q
+    → (p q b : ℕ) (page other : Page) → page_at s.pages p ≡ Some page → page_at s.pages q ≡ Some other → block_at page.residence ≡ Some b → block_at other.residence ≡ Some b → p ≡ q
 
+-- and each block of a page is one of those that the configuration asks of the device
 abbrev pub BlocksAreThere : Type 0
 BlocksAreThere =
-    (opening : Opening) (history : List Entry) (s : State) → Legal opening history s
-    → (p b : ℕ) (page : Page) → page_at s.pages p ≡ Some page → is_anon page.content ≡ true → block_at page.residence ≡ Some b → b < opening.swap
+    (config : Config) (history : List Entry) (s : State) → Legal (opening_of config) history s
+    → (p b : ℕ) (page : Page) → page_at s.pages p ≡ Some page → block_at page.residence ≡ Some b → b < blocks_of config
 
 -- no two pages are in transfer under one ticket
 abbrev pub PagesShareNoTicket : Type 0
@@ -209,6 +209,40 @@ abbrev pub PagesAreMemory : Type 0
 PagesAreMemory =
     (opening : Opening) (history : List Entry) (s : State) → Legal opening history s → (p : ℕ) (page : Page) → page_at s.pages p ≡ Some page → is_anon page.content ≡ true
 
+-- each virtual page that is mapped shows a page that is there
+abbrev pub MappingsShowPages : Type 0
+MappingsShowPages =
+    (opening : Opening) (history : List Entry) (s : State) → Legal opening history s → (t v p : ℕ) → mapped_at s.page_tables t v ≡ Some p → (page : Page) × (page_at s.pages p ≡ Some page)
+
+-- the entries, and those kept for the ends of the transfers in flight, are within the trace's limit. (Excludes an end of a transfer that finds no room.)
+abbrev pub TraceHasRoom : Type 0
+TraceHasRoom = (opening : Opening) (history : List Entry) (s : State) → Legal opening history s → length history + in_transfer s.pages ≤ s.opening.trace_limit
+
+-- a transfer begins with such a reply
+abbrev pub begins_transfer : Reply → Bool
+begins_transfer (reply.Fetch ticket) = true
+begins_transfer (reply.Out ticket) = true
+begins_transfer answer = false
+
+-- and ends with such an event
+abbrev pub ends_transfer : Event → Bool
+ends_transfer (event.Arrived ticket bytes) = true
+ends_transfer (event.FetchFailed ticket) = true
+ends_transfer (event.Left ticket) = true
+ends_transfer (event.LeaveFailed ticket) = true
+ends_transfer what = false
+
+-- how many transfers were begun, and how many ended
+abbrev pub begun : List Entry → ℕ
+begun history = count_by (λ (entry : Entry). begins_transfer entry.reply) history
+
+abbrev pub ended : List Entry → ℕ
+ended history = count_by (λ (entry : Entry). ends_transfer entry.event) history
+
+-- as many transfers are in flight as were begun and have not ended. (Excludes a transfer that ends twice, and one that is lost.)
+abbrev pub TransfersAreBegunLessEnded : Type 0
+TransfersAreBegunLessEnded = (opening : Opening) (history : List Entry) (s : State) → Legal opening history s → in_transfer s.pages + ended history ≡ begun history
+
 -- a page counts as charged while it is being read in and while it is being written out
 abbrev pub TransfersStayCharged : Type 0
 TransfersStayCharged = (tree : List Node) (a : ℕ) (page : Page) → is_in_transfer page ≡ true → is_charged tree a page ≡ under tree a page.group
@@ -218,3 +252,10 @@ abbrev pub GroupsAreThere : Type 0
 GroupsAreThere =
     (opening : Opening) (history : List Entry) (s : State) → Legal opening history s
     → ((p : ℕ) (page : Page) → page_at s.pages p ≡ Some page → is_live s.tree page.group ≡ true) × ((t : ℕ) → lives s.tasks t ≡ true → is_live s.tree (group_of_task s.tasks t) ≡ true)
+
+-- what a call answers is settled by the past, the caller and the event: two answers, neither of them for want of memory, say the same, but for the numbers of new
+-- tickets and for the byte that a read gives, which the history says. (Excludes definitions that leave a reply to whoever carries them out.)
+abbrev pub RepliesAreSettled : Type 0
+RepliesAreSettled =
+    (old new new' : Past) (caller : Caller) (what : Event) (said other : Reply) → Called old caller what said new → Called old caller what other new'
+    → (said ≡ reply.Refused NoMemory → ⊥) → (other ≡ reply.Refused NoMemory → ⊥) → AreAlike what said other

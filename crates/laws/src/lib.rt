@@ -2,7 +2,7 @@
 //! a function that does nothing.
 #![tactic(auto)]
 
-ghost use Rattle.laws.specs.Laws.{RunsAreLegal, RunsAreHonest, NoStrangers, ErrorsAreFailures, CurrentCountsPages, EventsAreThoseCounted, ChargesStayWithinMax, OnlyAccessesCharge, KillsComeLast, ReadsGiveLastWrites, PagesShareNoFrame, PagesShareNoBlock, BlocksAreThere, PagesShareNoTicket, PagesAreMemory, TransfersStayCharged, WriteOutsStayCharged, ReclaimsSpareTheProtected, ReclaimsGiveUpLast, ReclaimsKillNobody, HeldPagesAreListed, GroupsHaveCursors, HeldPagesGoOn, PagesLeaveInOrder, GroupsAreThere};
+ghost use Rattle.laws.specs.Laws.{RunsAreLegal, RunsAreHonest, NoStrangers, ErrorsAreFailures, CurrentCountsPages, EventsAreThoseCounted, ChargesStayWithinMax, OnlyAccessesCharge, KillsComeLast, ReadsGiveLastWrites, PagesShareNoFrame, PagesShareNoBlock, BlocksAreThere, PagesShareNoTicket, PagesAreMemory, MappingsShowPages, TraceHasRoom, TransfersAreBegunLessEnded, TransfersStayCharged, RepliesAreSettled, WriteOutsStayCharged, ReclaimsSpareTheProtected, ReclaimsGiveUpLast, ReclaimsKillNobody, HeldPagesAreListed, GroupsHaveCursors, HeldPagesGoOn, PagesLeaveInOrder, GroupsAreThere};
 
 /// The history of every run leads from the opening to the run's state, one step of the plain machine
 /// an entry.
@@ -117,12 +117,13 @@ pub fn pages_share_no_frame()
     ensures { PagesShareNoFrame }
 {}
 
-/// Whatever state a run's history leads to, no two anonymous pages have one swap block.
+/// Whatever state a run's history leads to, no two pages have one block of the device.
 pub fn pages_share_no_block()
     ensures { PagesShareNoBlock }
 {}
 
-/// Whatever state a run's history leads to, each swap block of a page is one of those that there are.
+/// Whatever state a run's history leads to, each block of a page is one of those that the device has
+/// to have.
 pub fn blocks_are_there()
     ensures { BlocksAreThere }
 {}
@@ -137,7 +138,32 @@ pub fn pages_are_memory()
     ensures { PagesAreMemory }
 {}
 
+/// Whatever state a run's history leads to, each virtual page that is mapped shows a page that is
+/// there.
+pub fn mappings_show_pages()
+    ensures { MappingsShowPages }
+{}
+
+/// Whatever state a run's history leads to, its entries and the transfers in flight are together no
+/// more than the trace's limit. So each transfer has room for the entry of its end.
+pub fn trace_has_room()
+    ensures { TraceHasRoom }
+{}
+
+/// Whatever state a run's history leads to, as many transfers are in flight as its entries began less
+/// those that they ended.
+pub fn transfers_are_begun_less_ended()
+    ensures { TransfersAreBegunLessEnded }
+{}
+
 /// Whatever state a run's history leads to, the group of each page and of each live task is there.
 pub fn groups_are_there()
     ensures { GroupsAreThere }
+{}
+
+/// What a call answers is settled by the past, the caller and the event. Two answers, neither of them for
+/// want of memory, differ at most in the numbers of new tickets and in the byte of a read, which is the
+/// one last written.
+pub fn replies_are_settled()
+    ensures { RepliesAreSettled }
 {}

@@ -1,13 +1,12 @@
 -- What a step did to the state, as one of few cases. Whoever asks what steps leave as it was goes by these.
 use Rattle.std.proofs.Common.{◌≡◌, inl, inr, ℕ, Bool, true, false, List, [], ◌∷◌, ◌++◌, Option, Some, None, refl, sym, ap, ◌∙◌, subst}
-use Rattle.std.specs.Prelude.{◌⊎◌, MatchBool}
+use Rattle.std.specs.Prelude.{MatchBool}
 use Rattle.machine.specs.declared.id.TaskId.{TaskId}
 use Rattle.machine.specs.declared.id.GroupId.{GroupId}
 use Rattle.machine.specs.declared.record.Life.{Life}
 use Rattle.machine.specs.declared.record.Life.TheVariants.{Live, Exited, Killed}
 use Rattle.machine.specs.declared.record.Limits.{Limits}
 use Rattle.machine.specs.declared.record.Task.{Task}
-use Rattle.machine.specs.declared.record.Mapping.{Mapping}
 use Rattle.machine.specs.declared.event.Cause.{Cause}
 use Rattle.machine.specs.declared.event.Op.{Op}
 use Rattle.machine.specs.declared.event.Op.TheVariants.{Read, Write}
@@ -19,12 +18,12 @@ use Rattle.machine.specs.declared.reply.Reply.TheVariants as reply
 use Rattle.machine.specs.Slots.{Changes, there_and}
 use Rattle.machine.specs.Pages.{Content, Memory, OfFile, Residence, Held, Coming, Going, Away, Page, page_at, is_anon, frame_at, block_at, is_frame_taken, is_ticket_taken}
 use Rattle.machine.specs.Counts.{Counted, no_limits}
-use Rattle.machine.specs.Tasks.{SetsTask, task_at, is_live_life, is_live_task, lives, group_of, group_of_task}
+use Rattle.machine.specs.Tasks.{PageTables, Shows, ShowsNothing, SetsTask, task_at, is_live_life, is_live_task, lives, group_of, group_of_task}
 use Rattle.machine.specs.State.{State, over_in, is_frame_free}
-use Rattle.machine.specs.Access.{Meeting, Unmapped, Hits, Transferring, NeedsPage, NeedsCopy, NeedsSwapIn, meets}
+use Rattle.machine.specs.Access.{Meeting, Unmapped, Hits, Transferring, NeedsPage, NeedsCopy, NeedsSwapIn, Dangling, meets}
 use Rattle.machine.specs.Reclaim.{has_takeable, has_transfer, stands, target_of}
 use Rattle.machine.specs.Step.{ChargeStep, IsFreeBlock, MakesPage, StartsFetch, HitStep, UnmappedStep, MeetStep, LifeStep, TaskStep, Takes, StartsLeave, LeavesBy, LeavesFrom, ReclaimStep, KillStep, RelieveStep, EndsTask, EndsTransfer, in_frame, on_block, new_node, new_page, Step}
-use Rattle.machine.proofs.MoveLemmas.{hits_held, swaps_away, in_frame-cases, on_block-cases}
+use Rattle.machine.proofs.MoveLemmas.{MayGo, Settled, hits_held, swaps_away, in_frame-cases, on_block-cases}
 
 -- ---- the cases
 
@@ -58,19 +57,22 @@ pub data Moves (old : State) (what : Event) (answer : Reply) (page : Page) (now 
 pub data Did (old : State) (what : Event) (answer : Reply) (new : State) : Type 0 where
   -- nothing, but for a setting and for what stands counted
   Kept : (limits : List Limits) (counted : List Counted) → new ≡ record old { limits = limits; counted = counted } → Did old what answer new
-  -- an access of a live task made a page, charged to its group
-  Made : (t p frame : ℕ) (mappings : List Mapping) → is_access what ≡ true → is_out answer ≡ false → lives old.tasks t ≡ true → page_at old.pages p ≡ None → is_frame_taken old.pages frame ≡ false
-      → Changes old.pages new.pages p (Some (new_page (group_of_task old.tasks t) frame)) → new ≡ record old { pages = new.pages; mappings = mappings } → Did old what answer new
+  -- an access of a live task made a page, charged to its group, and a virtual page of the task shows it
+  Made : (t v p frame : ℕ) → is_access what ≡ true → is_out answer ≡ false → lives old.tasks t ≡ true → page_at old.pages p ≡ None → is_frame_taken old.pages frame ≡ false
+      → Changes old.pages new.pages p (Some (new_page (group_of_task old.tasks t) frame)) → Shows old.page_tables new.page_tables t v (Some p)
+      → new ≡ record old { pages = new.pages; page_tables = new.page_tables } → Did old what answer new
   -- one page was written to, or stands elsewhere
   Moved : (p : ℕ) (page : Page) (dirty : Bool) (now : Residence) (counted : List Counted) → page_at old.pages p ≡ Some page
       → Changes old.pages new.pages p (Some (record { content = page.content; group = page.group; dirty = dirty; residence = now })) → Moves old what answer page now
       → new ≡ record old { pages = new.pages; counted = counted } → Did old what answer new
-  -- one page is gone
-  Dropped : (p : ℕ) (counted : List Counted) → is_out answer ≡ false → Changes old.pages new.pages p None → new ≡ record old { pages = new.pages; counted = counted } → Did old what answer new
-  -- a task is dead, and its mappings are gone
+  -- one page is gone: it was of a file, or nothing mapped it
+  Dropped : (p : ℕ) (page : Page) (counted : List Counted) → is_out answer ≡ false → page_at old.pages p ≡ Some page → MayGo old.page_tables p page → Changes old.pages new.pages p None
+      → new ≡ record old { pages = new.pages; counted = counted } → Did old what answer new
+  -- a task is dead, and shows nothing
   Ended : (t : ℕ) (life : Life) (counted : List Counted) → is_out answer ≡ false → is_live_life life ≡ false → EndsTask old t life counted new → Did old what answer new
   -- a task more
-  Spawned : (t : TaskId) (g : GroupId) → what ≡ event.Spawn t g → SetsTask old.tasks t.0 g.0 Live new.tasks → new ≡ record old { tasks = new.tasks } → Did old what answer new
+  Spawned : (t : TaskId) (g : GroupId) → what ≡ event.Spawn t g → SetsTask old.tasks t.0 g.0 Live new.tasks → ShowsNothing old.page_tables new.page_tables t.0
+      → new ≡ record old { tasks = new.tasks; page_tables = new.page_tables } → Did old what answer new
   -- a group more
   Grown : (path : List ℕ) → what ≡ event.Mkdir path → is_out answer ≡ false → new ≡ record old { tree = old.tree ++ new_node old.tree path ∷ []; limits = old.limits ++ no_limits ∷ [] } → Did old what answer new
 
@@ -103,21 +105,22 @@ module _ (old new : State) (what : Event) where
     hit p frame page (Write b) (reply.Done byte at) there h = Moved p page _ page.residence old.counted there h.2 (Rests refl) h.3
     hit p frame page op answer there h = absurd h
 
-    makes : (t v : ℕ) (op : Op) (others : List Mapping) (answer : Reply) → lives old.tasks t ≡ true → MakesPage old t v (group_of_task old.tasks t) op others answer new → Did old what answer new
-    makes t v op others answer alive h = Made t h.page h.frame _ access (ap is_out h.answers) alive h.slot_free h.frame_free.unused h.placed h.state
+    makes : (t v : ℕ) (op : Op) (answer : Reply) → lives old.tasks t ≡ true → MakesPage old t v (group_of_task old.tasks t) op answer new → Did old what answer new
+    makes t v op answer alive h = Made t v h.page h.frame access (ap is_out h.answers) alive h.slot_free h.frame_free.unused h.placed h.shown h.state
 
     fetches : (p : ℕ) (page : Page) (block : ℕ) (answer : Reply) → page_at old.pages p ≡ Some page → page.residence ≡ Away block → StartsFetch old p page.group page.content block answer new → Did old what answer new
     fetches p page block answer there away h =
         Moved p page false _ old.counted there h.placed (Comes h.frame block h.ticket access (ap is_out h.answers) away refl h.frame_free.unused h.ticket_free) h.state
 
-    meeting : (t v o : ℕ) (op : Op) (answer : Reply) (met : Meeting) → lives old.tasks t ≡ true → meets old t (Virtual v o) op ≡ met → MeetStep old t (group_of_task old.tasks t) (Virtual v o) op met answer new
+    meeting : (t v o : ℕ) (op : Op) (answer : Reply) (met : Meeting) → lives old.tasks t ≡ true → meets old t (Virtual v o) op ≡ met → MeetStep old t (group_of_task old.tasks t) op met answer new
         → Did old what answer new
     meeting t v o op answer Unmapped alive is h = unmapped answer h
     meeting t v o op answer (Hits p page frame) alive is h = hit p frame page op answer (hits_held old t (Virtual v o) op p page frame is).0 h
     meeting t v o op answer Transferring alive is h = same answer h.1
-    meeting t v o op answer NeedsPage alive is h = charged _ _ answer (makes t v op _ answer alive) h
-    meeting t v o op answer NeedsCopy alive is h = charged _ _ answer (makes t v op _ answer alive) h
+    meeting t v o op answer (NeedsPage w) alive is h = charged _ _ answer (makes t w op answer alive) h
+    meeting t v o op answer (NeedsCopy w) alive is h = charged _ _ answer (makes t w op answer alive) h
     meeting t v o op answer (NeedsSwapIn p page block) alive is h = let found = swaps_away old t v o op p page block is in charged page.group _ answer (fetches p page block answer found.0 found.1) h
+    meeting t v o op answer Dangling alive is h = absurd h
 
   -- the event of a task that has not ended
   of_task : (t : ℕ) (Live_step : Task → Type 0) (answer : Reply) → ((task : Task) → task_at old.tasks t ≡ Some task → lives old.tasks t ≡ true → Live_step task → Did old what answer new)
@@ -143,9 +146,10 @@ module _ (old new : State) (what : Event) where
       → LeavesBy old p page content frame old.counted answer new → Did old what answer new
   leaves_by p frame page Memory answer there held is h = sent p frame h.block page answer there held (λ memory. h.block_free) h.leave
   leaves_by p frame page (OfFile file q) answer there held is h =
-      by_test page.dirty
-      (λ k. sent p frame _ page answer there held (λ memory. absurd (let e : false ≡ true = sym (ap is_anon is) ∙ memory in cc)) k)
-      (λ k. Dropped p old.counted (ap is_out k.answers) k.gone k.state) h
+      by_test page.dirty (λ k. sent p frame _ page answer there held (λ memory. of_file memory) k) (λ k. Dropped p page old.counted (ap is_out k.answers) there (λ memory. of_file memory) k.gone k.state) h
+    where
+      of_file : {P : Type 0} → is_anon page.content ≡ true → P
+      of_file memory = absurd (let e : false ≡ true = sym (ap is_anon is) ∙ memory in cc)
 
   takes : (target : ℕ) (answer : Reply) → Takes old target answer new → Did old what answer new
   takes target answer h = by_residence h.page.residence refl h.leaves
@@ -169,12 +173,12 @@ module _ (old new : State) (what : Event) where
 
   -- ---- ends of transfers
 
-  settles : (from : ℕ → ℕ → Residence) (to : List Mapping → ℕ → Page → ℕ → ℕ → Option Page) (settled : ℕ → ℕ → Residence) (answer : Reply)
-      → ((mappings : List Mapping) (q : ℕ) (page : Page) (frame block : ℕ) → (to mappings q page frame block ≡ None) ⊎ (to mappings q page frame block ≡ Some (record page { residence = settled frame block })))
+  settles : (from : ℕ → ℕ → Residence) (to : PageTables → ℕ → Page → ℕ → ℕ → Option Page) (settled : ℕ → ℕ → Residence) (answer : Reply)
+      → ((tables : PageTables) (q : ℕ) (page : Page) (frame block : ℕ) → Settled tables q page (to tables q page frame block) (record page { residence = settled frame block }))
       → (is_out answer ≡ false → (page : Page) (frame block : ℕ) → page.residence ≡ from frame block → Moves old what answer page (settled frame block)) → EndsTransfer old from to answer new → Did old what answer new
   settles from to settled answer cases moves h =
-      elim (cases old.mappings h.p h.page h.frame h.block) [
-        | inl none ↦ Dropped h.p old.counted (ap is_out h.answers) (subst (Changes old.pages new.pages h.p) none h.placed) h.state
+      elim (cases old.page_tables h.p h.page h.frame h.block) [
+        | inl none ↦ Dropped h.p h.page old.counted (ap is_out h.answers) h.there none.1 (subst (Changes old.pages new.pages h.p) none.0 h.placed) h.state
         | inr some ↦
             Moved h.p h.page h.page.dirty (settled h.frame h.block) old.counted h.there (subst (Changes old.pages new.pages h.p) some h.placed) (moves (ap is_out h.answers) h.page h.frame h.block h.moves) h.state
       ]
@@ -192,14 +196,14 @@ step_did old new (event.Access t (Virtual v o) op) answer h =
     of_task old new (event.Access t (Virtual v o) op) t.0 _ answer
     (λ task known alive k.
     meeting old new (event.Access t (Virtual v o) op) refl t.0 v o op answer (meets old t.0 (Virtual v o) op) alive refl
-    (subst (λ (g : ℕ). MeetStep old t.0 g (Virtual v o) op (meets old t.0 (Virtual v o) op) answer new) (sym (ap group_of known)) k)) h
+    (subst (λ (g : ℕ). MeetStep old t.0 g op (meets old t.0 (Virtual v o) op) answer new) (sym (ap group_of known)) k)) h
 step_did old new (event.Arrived ticket bytes) answer h = lands old new _ _ answer (λ frame block. refl) h
 step_did old new (event.FetchFailed ticket) answer h = lies old new _ _ answer (λ frame block. refl) (λ frame block. refl) h
 step_did old new (event.Left ticket) answer h = lies old new _ _ answer (λ frame block. refl) (λ frame block. refl) h
 step_did old new (event.LeaveFailed ticket) answer h = lands old new _ _ answer (λ frame block. refl) h
 step_did old new (event.Relieve why) answer h = relieves old new _ why answer h
 step_did old new (event.ReclaimOne g) answer h = reclaims old new _ g.0 _ answer (λ n. same old new _ answer n.1) h
-step_did old new (event.Spawn t g) reply.Ok h = Spawned t g refl h.0 h.1
+step_did old new (event.Spawn t g) reply.Ok h = Spawned t g refl h.0 h.1 h.2
 step_did old new (event.Exit t) answer h = of_task old new (event.Exit t) t.0 _ answer (λ task known alive k. Ended t.0 Exited old.counted (ap is_out k.0) refl k.1) h
 step_did old new (event.Mkdir path) reply.Ok h = Grown path refl refl h
 step_did old new (event.Set g what) reply.Ok h = Kept _ old.counted h

@@ -8,3 +8,16 @@ pub mod Effects
 pub mod SoundLemmas
 pub mod OpeningLemmas
 pub mod Did
+pub mod ShownLemmas
+pub mod SettledLemmas
+mod ExampleStates
+mod TreeExamples
+mod AccessExamples
+mod ProtectionExamples
+mod ReclaimExamples
+mod StepExamples
+mod CallExamples
+mod ReliefExamples
+mod LegalExamples
+mod HistoryExamples
+mod ControlExamples

@@ -1,5 +1,5 @@
 -- No call of the book changes what its opening fixed, and none but a mkdir changes which groups there are.
-use Rattle.std.proofs.Common.{◌≡◌, ℕ, Bool, true, false, List, [], ◌∷◌, ◌++◌, Option, Some, None, refl, ap}
+use Rattle.std.proofs.Common.{◌≡◌, Bool, true, false, List, [], ◌∷◌, ◌++◌, Option, Some, None, refl, ap}
 use Rattle.std.specs.Prelude.{MatchBool}
 use Rattle.machine.specs.declared.event.Event.{Event}
 use Rattle.machine.specs.declared.event.Event.TheVariants as event
@@ -13,7 +13,7 @@ use Rattle.machine.specs.Refusals.{refusal}
 use Rattle.machine.specs.Step.{new_node, Step}
 use Rattle.machine.proofs.Values.{unlike}
 use Rattle.machine.proofs.Did.{is_mkdir, Did, Kept, Made, Moved, Dropped, Ended, Spawned, Grown, step_did}
-use Rattle.machine.specs.Call.{Past, Refuses, Served, JudgedBy, Called, knows_ticket, is_trace_full}
+use Rattle.machine.specs.Call.{Past, Caller, Refuses, Served, JudgedBy, Called, knows_pass, is_trace_full}
 
 -- the groups after an event that nothing refuses
 abbrev pub tree_after : State → Event → List Node
@@ -26,20 +26,20 @@ step_opening old what answer new step = by_case (step_did old new what answer st
   where
     by_case : Did old what answer new → new.opening ≡ old.opening
     by_case (Kept limits counted e) = ap (λ (s : State). s.opening) e
-    by_case (Made t p frame mappings access out alive free unused placed e) = ap (λ (s : State). s.opening) e
+    by_case (Made t v p frame access out alive free unused placed shown e) = ap (λ (s : State). s.opening) e
     by_case (Moved p page dirty now counted there placed moves e) = ap (λ (s : State). s.opening) e
-    by_case (Dropped p counted out gone e) = ap (λ (s : State). s.opening) e
+    by_case (Dropped p page counted out there may_go gone e) = ap (λ (s : State). s.opening) e
     by_case (Ended t ending counted out dead ends) = ap (λ (s : State). s.opening) ends.state
-    by_case (Spawned t g is sets e) = ap (λ (s : State). s.opening) e
+    by_case (Spawned t g is sets shown e) = ap (λ (s : State). s.opening) e
     by_case (Grown path is out e) = ap (λ (s : State). s.opening) e
 
 same_tree : (old new : State) (what : Event) (answer : Reply) → is_mkdir what ≡ false → Did old what answer new → new.tree ≡ old.tree
 same_tree old new what answer other (Kept limits counted e) = ap (λ (s : State). s.tree) e
-same_tree old new what answer other (Made t p frame mappings access out alive free unused placed e) = ap (λ (s : State). s.tree) e
+same_tree old new what answer other (Made t v p frame access out alive free unused placed shown e) = ap (λ (s : State). s.tree) e
 same_tree old new what answer other (Moved p page dirty now counted there placed moves e) = ap (λ (s : State). s.tree) e
-same_tree old new what answer other (Dropped p counted out gone e) = ap (λ (s : State). s.tree) e
+same_tree old new what answer other (Dropped p page counted out there may_go gone e) = ap (λ (s : State). s.tree) e
 same_tree old new what answer other (Ended t ending counted out dead ends) = ap (λ (s : State). s.tree) ends.state
-same_tree old new what answer other (Spawned t g is sets e) = ap (λ (s : State). s.tree) e
+same_tree old new what answer other (Spawned t g is sets shown e) = ap (λ (s : State). s.tree) e
 same_tree old new what answer other (Grown path is out e) = unlike (is_mkdir what) (ap is_mkdir is) other
 
 pub step_tree : (old : State) (what : Event) (answer : Reply) (new : State) → Step old what answer new → new.tree ≡ tree_after old what
@@ -47,25 +47,25 @@ step_tree old (event.Mkdir path) reply.Ok new h = ap (λ (s : State). s.tree) h
 step_tree old (event.Mkdir path) answer new h = absurd h
 step_tree old what answer new h = same_tree old new what answer refl (step_did old new what answer h)
 
-module _ (old new : Past) (worker : ℕ) (what : Event) (answer : Reply) where
+module _ (old new : Past) (caller : Caller) (what : Event) (answer : Reply) where
   refused : (why : Refusal) → Refuses old why answer new → new.state.opening ≡ old.state.opening
   refused why h = ap (λ (p : Past). p.state.opening) h.1
 
-pub served : (old new : Past) (worker : ℕ) (what : Event) (answer : Reply) → Served old worker what answer new → new.state.opening ≡ old.state.opening
-served old new worker what (reply.Refused why) h = ap (λ (p : Past). p.state.opening) h.2
-served old new worker what answer h = step_opening old.state what answer new.state h.steps
+pub served : (old new : Past) (caller : Caller) (what : Event) (answer : Reply) → Served old caller what answer new → new.state.opening ≡ old.state.opening
+served old new caller what (reply.Refused why) h = ap (λ (p : Past). p.state.opening) h.2
+served old new caller what answer h = step_opening old.state what answer new.state h.steps
 
-pub called_opening : (old new : Past) (worker : ℕ) (what : Event) (answer : Reply) → Called old worker what answer new → new.state.opening ≡ old.state.opening
-called_opening old new worker what answer called = known (knows_ticket old.state old.history worker what) called
+pub called_opening : (old new : Past) (caller : Caller) (what : Event) (answer : Reply) → Called old caller what answer new → new.state.opening ≡ old.state.opening
+called_opening old new caller what answer called = known (knows_pass old.state old.history caller what) called
   where
-    by_room : (full : Bool) → MatchBool full (Refuses old TraceFull answer new) (Served old worker what answer new) → new.state.opening ≡ old.state.opening
-    by_room true h = refused old new worker what answer TraceFull h
-    by_room false h = served old new worker what answer h
+    by_room : (full : Bool) → MatchBool full (Refuses old TraceFull answer new) (Served old caller what answer new) → new.state.opening ≡ old.state.opening
+    by_room true h = refused old new caller what answer TraceFull h
+    by_room false h = served old new caller what answer h
 
-    by_cause : (cause : Option Refusal) → JudgedBy old worker what cause answer new → new.state.opening ≡ old.state.opening
-    by_cause (Some why) h = refused old new worker what answer why h
+    by_cause : (cause : Option Refusal) → JudgedBy old caller what cause answer new → new.state.opening ≡ old.state.opening
+    by_cause (Some why) h = refused old new caller what answer why h
     by_cause None h = by_room (is_trace_full old what) h
 
-    known : (knows : Bool) → MatchBool knows (JudgedBy old worker what (refusal old.state what) answer new) (Refuses old Stranger answer new) → new.state.opening ≡ old.state.opening
+    known : (knows : Bool) → MatchBool knows (JudgedBy old caller what (refusal old.state what) answer new) (Refuses old Stranger answer new) → new.state.opening ≡ old.state.opening
     known true h = by_cause (refusal old.state what) h
-    known false h = refused old new worker what answer Stranger h
+    known false h = refused old new caller what answer Stranger h

@@ -4,65 +4,90 @@ use Rattle.std.specs.Prelude.{sum_by, take}
 use Rattle.std.proofs.lemmas.List.Sums.{sum_by-cons}
 use Rattle.machine.specs.Slots.{at, Changes, there_and, count_there, any_there}
 
+-- `d` is what is read past a table's end, and adds nothing
+module _ {X : Type 0} (f : X → ℕ) (d : X) (none : f d ≡ 0) where
+  -- tables of which each number adds the same have the same sum, however many numbers that add nothing stand at the end
+  pub sum_by-alike : (xs ys : List X) → ((j : ℕ) → f (get_or ys j d) ≡ f (get_or xs j d)) → sum_by f ys ≡ sum_by f xs
+  sum_by-alike [] [] same = refl
+  sum_by-alike [] (y ∷ ys) same =
+      let more = sum_by-cons f y ys in
+      let here : f y ≡ 0 = same 0 ∙ none in
+      let rest = sum_by-alike [] ys (λ j. same (suc j)) in
+      omega (arith, more, here, rest)
+  sum_by-alike (x ∷ xs) [] same =
+      let more = sum_by-cons f x xs in
+      let here : f x ≡ 0 = sym (same 0) ∙ none in
+      let rest = sum_by-alike xs [] (λ j. same (suc j)) in
+      omega (arith, more, here, rest)
+  sum_by-alike (x ∷ xs) (y ∷ ys) same =
+      let more = sum_by-cons f x xs in
+      let more_y = sum_by-cons f y ys in
+      let here : f y ≡ f x = same 0 in
+      let rest = sum_by-alike xs ys (λ j. same (suc j)) in
+      omega (arith, more, more_y, here, rest)
+
+  -- all numbers but one add the same
+  pub sum_by-but_one : (xs ys : List X) (k : ℕ) → ((j : ℕ) → j ≢ k → f (get_or ys j d) ≡ f (get_or xs j d)) → sum_by f ys + f (get_or xs k d) ≡ sum_by f xs + f (get_or ys k d)
+  sum_by-but_one [] [] k others = refl
+  sum_by-but_one [] (y ∷ ys) zero others =
+      let more = sum_by-cons f y ys in
+      let rest = sum_by-alike [] ys (λ j. others (suc j) (λ e. cc)) in
+      omega (arith, more, none, rest)
+  sum_by-but_one [] (y ∷ ys) (suc k) others =
+      let more = sum_by-cons f y ys in
+      let here : f y ≡ 0 = others 0 (λ e. cc) ∙ none in
+      let rest = sum_by-but_one [] ys k (λ j ne. others (suc j) (λ e. ne (omega (arith, e)))) in
+      omega (arith, more, here, rest)
+  sum_by-but_one (x ∷ xs) [] zero others =
+      let more = sum_by-cons f x xs in
+      let rest = sum_by-alike xs [] (λ j. others (suc j) (λ e. cc)) in
+      omega (arith, more, none, rest)
+  sum_by-but_one (x ∷ xs) [] (suc k) others =
+      let more = sum_by-cons f x xs in
+      let here : f x ≡ 0 = sym (others 0 (λ e. cc)) ∙ none in
+      let rest = sum_by-but_one xs [] k (λ j ne. others (suc j) (λ e. ne (omega (arith, e)))) in
+      omega (arith, more, here, rest)
+  sum_by-but_one (x ∷ xs) (y ∷ ys) zero others =
+      let more = sum_by-cons f x xs in
+      let more_y = sum_by-cons f y ys in
+      let rest = sum_by-alike xs ys (λ j. others (suc j) (λ e. cc)) in
+      omega (arith, more, more_y, rest)
+  sum_by-but_one (x ∷ xs) (y ∷ ys) (suc k) others =
+      let more = sum_by-cons f x xs in
+      let more_y = sum_by-cons f y ys in
+      let here : f y ≡ f x = others 0 (λ e. cc) in
+      let rest = sum_by-but_one xs ys k (λ j ne. others (suc j) (λ e. ne (omega (arith, e)))) in
+      omega (arith, more, more_y, here, rest)
+
+  -- what one number adds is at most the sum
+  pub part-le-sum_by : (xs : List X) (k : ℕ) → f (get_or xs k d) ≤ sum_by f xs
+  part-le-sum_by [] k = omega (arith, none)
+  part-le-sum_by (x ∷ xs) zero = let more = sum_by-cons f x xs in omega (arith, more)
+  part-le-sum_by (x ∷ xs) (suc k) = let more = sum_by-cons f x xs in let rest = part-le-sum_by xs k in omega (arith, more, rest)
+
+  -- and so is what two numbers add
+  pub parts-le-sum_by : (xs : List X) (j k : ℕ) → j ≢ k → f (get_or xs j d) + f (get_or xs k d) ≤ sum_by f xs
+  parts-le-sum_by [] j k other = omega (arith, none)
+  parts-le-sum_by (x ∷ xs) zero zero other = absurd (other refl)
+  parts-le-sum_by (x ∷ xs) zero (suc k) other = let more = sum_by-cons f x xs in let rest = part-le-sum_by xs k in omega (arith, more, rest)
+  parts-le-sum_by (x ∷ xs) (suc j) zero other = let more = sum_by-cons f x xs in let rest = part-le-sum_by xs j in omega (arith, more, rest)
+  parts-le-sum_by (x ∷ xs) (suc j) (suc k) other =
+      let more = sum_by-cons f x xs in
+      let rest = parts-le-sum_by xs j k (λ e. other (ap suc e)) in
+      omega (arith, more, rest)
+
 module _ {X : Type 0} (f : Option X → ℕ) (none : f None ≡ 0) where
   -- slots that read alike have the same sum, however many empty ones stand at the end
   pub sum_by-same_slots : (xs ys : List (Option X)) → ((j : ℕ) → get_or ys j None ≡ get_or xs j None) → sum_by f ys ≡ sum_by f xs
-  sum_by-same_slots [] [] same = refl
-  sum_by-same_slots [] (y ∷ ys) same =
-      let more = sum_by-cons f y ys in
-      let here : f y ≡ 0 = ap f (same 0) ∙ none in
-      let rest = sum_by-same_slots [] ys (λ j. same (suc j)) in
-      omega (arith, more, here, rest)
-  sum_by-same_slots (x ∷ xs) [] same =
-      let more = sum_by-cons f x xs in
-      let here : f x ≡ 0 = ap f (sym (same 0)) ∙ none in
-      let rest = sum_by-same_slots xs [] (λ j. same (suc j)) in
-      omega (arith, more, here, rest)
-  sum_by-same_slots (x ∷ xs) (y ∷ ys) same =
-      let more = sum_by-cons f x xs in
-      let more_y = sum_by-cons f y ys in
-      let here : f y ≡ f x = ap f (same 0) in
-      let rest = sum_by-same_slots xs ys (λ j. same (suc j)) in
-      omega (arith, more, more_y, here, rest)
+  sum_by-same_slots xs ys same = sum_by-alike f None none xs ys (λ j. ap f (same j))
 
   -- only one number changed
   pub sum_by-slots : (xs ys : List (Option X)) (k : ℕ) → ((j : ℕ) → j ≢ k → get_or ys j None ≡ get_or xs j None) → sum_by f ys + f (get_or xs k None) ≡ sum_by f xs + f (get_or ys k None)
-  sum_by-slots [] [] k others = refl
-  sum_by-slots [] (y ∷ ys) zero others =
-      let more = sum_by-cons f y ys in
-      let rest = sum_by-same_slots [] ys (λ j. others (suc j) (λ e. cc)) in
-      omega (arith, more, none, rest)
-  sum_by-slots [] (y ∷ ys) (suc k) others =
-      let more = sum_by-cons f y ys in
-      let here : f y ≡ 0 = ap f (others 0 (λ e. cc)) ∙ none in
-      let rest = sum_by-slots [] ys k (λ j ne. others (suc j) (λ e. ne (omega (arith, e)))) in
-      omega (arith, more, here, rest)
-  sum_by-slots (x ∷ xs) [] zero others =
-      let more = sum_by-cons f x xs in
-      let rest = sum_by-same_slots xs [] (λ j. others (suc j) (λ e. cc)) in
-      omega (arith, more, none, rest)
-  sum_by-slots (x ∷ xs) [] (suc k) others =
-      let more = sum_by-cons f x xs in
-      let here : f x ≡ 0 = ap f (sym (others 0 (λ e. cc))) ∙ none in
-      let rest = sum_by-slots xs [] k (λ j ne. others (suc j) (λ e. ne (omega (arith, e)))) in
-      omega (arith, more, here, rest)
-  sum_by-slots (x ∷ xs) (y ∷ ys) zero others =
-      let more = sum_by-cons f x xs in
-      let more_y = sum_by-cons f y ys in
-      let rest = sum_by-same_slots xs ys (λ j. others (suc j) (λ e. cc)) in
-      omega (arith, more, more_y, rest)
-  sum_by-slots (x ∷ xs) (y ∷ ys) (suc k) others =
-      let more = sum_by-cons f x xs in
-      let more_y = sum_by-cons f y ys in
-      let here : f y ≡ f x = ap f (others 0 (λ e. cc)) in
-      let rest = sum_by-slots xs ys k (λ j ne. others (suc j) (λ e. ne (omega (arith, e)))) in
-      omega (arith, more, more_y, here, rest)
+  sum_by-slots xs ys k others = sum_by-but_one f None none xs ys k (λ j ne. ap f (others j ne))
 
   -- one slot's part is at most the sum
   pub slot-le-sum_by : (xs : List (Option X)) (k : ℕ) → f (get_or xs k None) ≤ sum_by f xs
-  slot-le-sum_by [] k = omega (arith, none)
-  slot-le-sum_by (x ∷ xs) zero = let more = sum_by-cons f x xs in omega (arith, more)
-  slot-le-sum_by (x ∷ xs) (suc k) = let more = sum_by-cons f x xs in let rest = slot-le-sum_by xs k in omega (arith, more, rest)
+  slot-le-sum_by xs k = part-le-sum_by f None none xs k
 
 abbrev pub one_if : Bool → ℕ
 one_if b = cond b 1 0

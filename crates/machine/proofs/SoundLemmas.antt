@@ -12,7 +12,6 @@ use Rattle.machine.specs.declared.entry.Entry.{Entry}
 use Rattle.machine.specs.declared.record.Life.{Life}
 use Rattle.machine.specs.declared.record.Life.TheVariants.{Live}
 use Rattle.machine.specs.declared.record.Task.{Task}
-use Rattle.machine.specs.declared.record.Mapping.{Mapping}
 use Rattle.machine.specs.declared.event.Event.{Event}
 use Rattle.machine.specs.declared.event.Event.TheVariants as event
 use Rattle.machine.specs.declared.refusal.Refusal.TheVariants.{NoEntry, Busy}
@@ -22,7 +21,7 @@ use Rattle.machine.specs.Slots.{at, Changes, there_and, count_there, any_there}
 use Rattle.machine.specs.Tree.{Node, no_node, root, node_at, is_live, is_at_path, find_group, IsBelow, IsTree}
 use Rattle.machine.specs.Pages.{is_anon, in_transfer_at, Residence, Page, Pages, page_at, frame_at, block_at, ticket_at, is_number, has_this_frame, is_frame_taken, is_swap_taken, is_ticket_taken}
 use Rattle.machine.specs.Counts.{Counted}
-use Rattle.machine.specs.Tasks.{Tasks, task_at, is_live_life, is_live_task, lives, group_of, group_of_task, SetsTask, without_task, mappers}
+use Rattle.machine.specs.Tasks.{Tasks, task_at, is_live_life, is_live_task, lives, group_of, group_of_task, SetsTask, PageTables, mappers}
 use Rattle.machine.specs.State.{Opening, State, first_state}
 use Rattle.machine.specs.Refusals.{refusal, first_cause, bars_tasks, number_refusal}
 use Rattle.machine.specs.Step.{still, EndsTask, new_page}
@@ -199,17 +198,17 @@ module _ (swap : ℕ) (pages pages' : Pages) (tasks : Tasks) (tree : List Node) 
 
 -- ---- tasks and groups
 
-pub still_passes : (mappings : List Mapping) (p : ℕ) (test : Page → Bool) (slot : Option Page) → there_and test (still mappings p slot) ≡ true → there_and test slot ≡ true
-still_passes mappings p test None e = e
-still_passes mappings p test (Some page) e = by_test (is_anon page.content && ((mappers mappings p == 0) && not (in_transfer_at page.residence))) e
+pub still_passes : (tables : PageTables) (p : ℕ) (test : Page → Bool) (slot : Option Page) → there_and test (still tables p slot) ≡ true → there_and test slot ≡ true
+still_passes tables p test None e = e
+still_passes tables p test (Some page) e = by_test (is_anon page.content && ((mappers tables p == 0) && not (in_transfer_at page.residence))) e
   where
     by_test : (b : Bool) → there_and test (cond b None (Some page)) ≡ true → test page ≡ true
     by_test true h = cc
     by_test false h = h
 
-still_some : (P : Page → Type 0) (mappings : List Mapping) (p : ℕ) (slot : Option Page) → IfSome slot P → IfSome (still mappings p slot) P
-still_some P mappings p None h = h
-still_some P mappings p (Some page) h = by_test (is_anon page.content && ((mappers mappings p == 0) && not (in_transfer_at page.residence)))
+still_some : (P : Page → Type 0) (tables : PageTables) (p : ℕ) (slot : Option Page) → IfSome slot P → IfSome (still tables p slot) P
+still_some P tables p None h = h
+still_some P tables p (Some page) h = by_test (is_anon page.content && ((mappers tables p == 0) && not (in_transfer_at page.residence)))
   where
     by_test : (b : Bool) → IfSome (cond b None (Some page)) P
     by_test true = tt
@@ -223,7 +222,7 @@ sound-ended swap old new t ended counted dead ends sound =
       frames = once-fewer has_this_frame old.pages new.pages sound.frames (λ k. passed (has_this_frame k));
       blocks = once-fewer has_this_block old.pages new.pages sound.blocks (λ k. passed (has_this_block k));
       tickets = once-fewer has_this_ticket old.pages new.pages sound.tickets (λ k. passed (has_this_ticket k));
-      fits = λ p. slot_is _ (page_at new.pages p) _ (ends.unmaps p) (still_some _ (without_task old.mappings t) p (page_at old.pages p) (sound.fits p));
+      fits = λ p. slot_is _ (page_at new.pages p) _ (ends.pages p) (still_some _ new.page_tables p (page_at old.pages p) (sound.fits p));
       homes = λ u alive.
           elim (eq_cases u t) [
             | inl same ↦ absurd (let not_live : lives new.tasks u ≡ false = ap (λ (x : ℕ). lives new.tasks x) same ∙ ap (there_and is_live_task) ends.ends.changed ∙ dead in unlike (lives new.tasks u) alive not_live)
@@ -233,7 +232,7 @@ sound-ended swap old new t ended counted dead ends sound =
     }
   where
     passed : (test : Page → Bool) (n : ℕ) → there_and test (at new.pages n) ≡ true → there_and test (at old.pages n) ≡ true
-    passed test n e = still_passes (without_task old.mappings t) n test (page_at old.pages n) (sym (ap (there_and test) (ends.unmaps n)) ∙ e)
+    passed test n e = still_passes new.page_tables n test (page_at old.pages n) (sym (ap (there_and test) (ends.pages n)) ∙ e)
 
 -- a task begins in a group that is there
 sound-spawned : (swap : ℕ) (pages : Pages) (tasks tasks' : Tasks) (tree : List Node) (t g : ℕ) → is_live tree g ≡ true → SetsTask tasks t g Live tasks' → IsSound swap pages tasks tree → IsSound swap pages tasks' tree
@@ -286,7 +285,7 @@ sound-grown swap pages tasks tree x below sound =
 
 module _ (opening : Opening) (old new : State) (sound : sound_in opening old) where
   -- with new pages and counts, and the tasks and the groups as they were
-  pages_sound : {counted : List Counted} {mappings : List Mapping} → new ≡ record old { pages = new.pages; counted = counted; mappings = mappings } → IsSound opening.swap new.pages old.tasks old.tree → sound_in opening new
+  pages_sound : {counted : List Counted} {tables : PageTables} → new ≡ record old { pages = new.pages; counted = counted; page_tables = tables } → IsSound opening.swap new.pages old.tasks old.tree → sound_in opening new
   pages_sound e h = subst (sound_in opening) (sym e) (sound.0, h)
 
   swap_is : (b : ℕ) → b < old.opening.swap → b < opening.swap
@@ -335,12 +334,12 @@ module _ (opening : Opening) (old new : State) (sound : sound_in opening old) wh
 
   did_sound : (what : Event) (answer : Reply) → refusal old what ≡ None → Did old what answer new → sound_in opening new
   did_sound what answer none (Kept limits counted e) = subst (sound_in opening) (sym e) (sound.0, sound.1)
-  did_sound what answer none (Made t p frame mappings access out alive free unused placed e) =
+  did_sound what answer none (Made t v p frame access out alive free unused placed shown e) =
       pages_sound e (sound-placed opening.swap old.pages new.pages old.tasks old.tree p sound.1 (group_of_task old.tasks t) frame (sound.1.homes t alive) unused placed)
   did_sound what answer none (Moved p page dirty now counted there placed moves e) = pages_sound e (moved_sound what answer p page dirty now there placed moves)
-  did_sound what answer none (Dropped p counted out gone e) = pages_sound e (sound-gone opening.swap old.pages new.pages old.tasks old.tree p sound.1 gone)
+  did_sound what answer none (Dropped p page counted out there may_go gone e) = pages_sound e (sound-gone opening.swap old.pages new.pages old.tasks old.tree p sound.1 gone)
   did_sound what answer none (Ended t ending counted out dead ends) = subst (sound_in opening) (sym ends.state) (sound.0, sound-ended opening.swap old new t ending counted dead ends sound.1)
-  did_sound what answer none (Spawned t g is sets e) =
+  did_sound what answer none (Spawned t g is sets shown e) =
       subst (sound_in opening) (sym e) (sound.0, sound-spawned opening.swap old.pages old.tasks new.tasks old.tree t.0 g.0 (spawn_live t.0 g.0 (sym (ap (refusal old) is) ∙ none)) sets sound.1)
   did_sound what answer none (Grown path is out e) =
       subst (sound_in opening) (sym e) (sound.0, sound-grown opening.swap old.pages old.tasks old.tree _ (found_below old.tree (parent_path path)) sound.1)

@@ -1,12 +1,11 @@
 -- What an access meets (mm/memory.c: handle_mm_fault).
-use Rattle.std.specs.Prelude.{ℕ, ◌&&◌, nat_lt, Bool, true, false, if◌then◌else◌, List, Option, Some, None}
+use Rattle.std.specs.Prelude.{ℕ, ◌&&◌, nat_lt, Bool, true, false, if◌then◌else◌, Option, Some, None}
 use Rattle.machine.specs.declared.event.Place.{Place}
 use Rattle.machine.specs.declared.event.Place.TheVariants.{Virtual}
 use Rattle.machine.specs.declared.event.Op.{Op}
 use Rattle.machine.specs.declared.event.Op.TheVariants.{Read, Write}
-use Rattle.machine.specs.declared.record.Mapping.{Mapping}
 use Rattle.machine.specs.Pages.{Residence, Held, Coming, Going, Away, Page, page_at}
-use Rattle.machine.specs.Tasks.{mapped_at, mappers}
+use Rattle.machine.specs.Tasks.{PageTables, mapped_at, mappers}
 use Rattle.machine.specs.State.{Opening, State}
 
 -- bytes in a page, and virtual pages of a task
@@ -28,43 +27,44 @@ pub data Meeting : Type 0 where
   Hits : ℕ → Page → ℕ → Meeting
   -- a page that is being read in or written out
   Transferring : Meeting
-  -- a write where nothing is mapped: a page of zeros has to be made
-  NeedsPage : Meeting
-  -- a write to a page that others map too: a copy has to be made
-  NeedsCopy : Meeting
+  -- a write where nothing is mapped: a page of zeros has to be made for the virtual page
+  NeedsPage : ℕ → Meeting
+  -- a write to a page that others map too: a copy has to be made for the virtual page
+  NeedsCopy : ℕ → Meeting
   -- a page on its swap block: its number, the page, the block
   NeedsSwapIn : ℕ → Page → ℕ → Meeting
+  -- a mapping of a page that is not there. No legal state has one, and no step answers it
+  Dangling : Meeting
 
 -- a write in place would change what the others see. (Excludes a shared page written in place.)
-abbrev pub is_shared_write : List Mapping → ℕ → Op → Bool
-is_shared_write mappings p Read = false
-is_shared_write mappings p (Write b) = nat_lt 1 (mappers mappings p)
+abbrev pub is_shared_write : PageTables → ℕ → Op → Bool
+is_shared_write tables p Read = false
+is_shared_write tables p (Write b) = nat_lt 1 (mappers tables p)
 
-abbrev pub meets_residence : State → ℕ → Page → Residence → Op → Meeting
-meets_residence s p page (Held frame) op = if is_shared_write s.mappings p op then NeedsCopy else Hits p page frame
-meets_residence s p page (Coming frame block ticket) op = Transferring
-meets_residence s p page (Going frame block ticket) op = Transferring
-meets_residence s p page (Away block) op = NeedsSwapIn p page block
+abbrev pub meets_residence : State → ℕ → ℕ → Page → Residence → Op → Meeting
+meets_residence s v p page (Held frame) op = if is_shared_write s.page_tables p op then NeedsCopy v else Hits p page frame
+meets_residence s v p page (Coming frame block ticket) op = Transferring
+meets_residence s v p page (Going frame block ticket) op = Transferring
+meets_residence s v p page (Away block) op = NeedsSwapIn p page block
 
--- a mapping always shows a page that is there, so that None is never met
-abbrev pub meets_slot : State → ℕ → Option Page → Op → Meeting
-meets_slot s p None op = Unmapped
-meets_slot s p (Some page) op = meets_residence s p page page.residence op
+abbrev pub meets_slot : State → ℕ → ℕ → Option Page → Op → Meeting
+meets_slot s v p None op = Dangling
+meets_slot s v p (Some page) op = meets_residence s v p page page.residence op
 
-abbrev pub meets_mapped : State → Option ℕ → Op → Meeting
-meets_mapped s None Read = Unmapped
-meets_mapped s None (Write b) = NeedsPage
-meets_mapped s (Some p) op = meets_slot s p (page_at s.pages p) op
+abbrev pub meets_mapped : State → ℕ → Option ℕ → Op → Meeting
+meets_mapped s v None Read = Unmapped
+meets_mapped s v None (Write b) = NeedsPage v
+meets_mapped s v (Some p) op = meets_slot s v p (page_at s.pages p) op
 
 -- what an access of a live task meets
 abbrev pub meets : State → ℕ → Place → Op → Meeting
-meets s t (Virtual v offset) op = meets_mapped s (mapped_at s.mappings t v) op
+meets s t (Virtual v offset) op = meets_mapped s v (mapped_at s.page_tables t v) op
 
 -- the group that an access would charge: the page's own for a swap-in, else the accessor's; None where it needs no charge
 abbrev pub charges : Meeting → ℕ → Option ℕ
 charges (NeedsSwapIn p page block) own = Some page.group
-charges NeedsPage own = Some own
-charges NeedsCopy own = Some own
+charges (NeedsPage v) own = Some own
+charges (NeedsCopy v) own = Some own
 charges meeting own = None
 
 -- it would begin a transfer

@@ -1,10 +1,13 @@
 -- One call of the book: a ticket that is not the caller's, a cause to refuse, no room in the trace, want of memory, or a step.
-use Rattle.std.specs.Prelude.{is_none, ◌≡◌, ℕ, ◌+◌, ◌==◌, ◌&&◌, nat_lt, Bool, true, false, MatchBool, if◌then◌else◌, List, [], ◌∷◌, length, Option, Some, None}
+use Rattle.std.specs.Prelude.{is_none, ◌≡◌, ℕ, ◌+◌, ◌==◌, ◌&&◌, nat_lt, Bool, true, false, MatchBool, if◌then◌else◌, List, [], ◌∷◌, ◌++◌, length, Option, Some, None}
 use Rattle.machine.specs.declared.record.Life.{Life}
 use Rattle.machine.specs.declared.record.Life.TheVariants.{Live, Exited, Killed}
 use Rattle.machine.specs.declared.record.Task.{Task}
+use Rattle.machine.specs.declared.record.Direction.{Direction}
+use Rattle.machine.specs.declared.record.Direction.TheVariants.{In, Out}
 use Rattle.machine.specs.declared.event.Place.{Place}
 use Rattle.machine.specs.declared.event.Op.{Op}
+use Rattle.machine.specs.declared.event.Op.TheVariants.{Read}
 use Rattle.machine.specs.declared.event.Event.{Event}
 use Rattle.machine.specs.declared.event.Event.TheVariants as event
 use Rattle.machine.specs.declared.reply.Reply.{Reply}
@@ -12,7 +15,7 @@ use Rattle.machine.specs.declared.reply.Reply.TheVariants as reply
 use Rattle.machine.specs.declared.refusal.Refusal.{Refusal}
 use Rattle.machine.specs.declared.refusal.Refusal.TheVariants.{Stranger, TraceFull, NoMemory}
 use Rattle.machine.specs.declared.entry.Entry.{Entry}
-use Rattle.machine.specs.Pages.{is_coming_in, is_going_out, in_transfer}
+use Rattle.machine.specs.Pages.{Pages, is_in_flight, in_transfer}
 use Rattle.machine.specs.Tasks.{task_at}
 use Rattle.machine.specs.State.{Opening, State, first_state, over_in, is_frame_free}
 use Rattle.machine.specs.Access.{Meeting, meets, charges, is_fetch}
@@ -32,19 +35,27 @@ pub record Past : Type 0 where
 abbrev pub first_past : Opening → Past
 first_past opening = record { state = first_state opening; history = []; order = first_order; passes = 0 }
 
--- ---- strangers
+-- ---- the caller, and strangers
+
+-- who calls: the worker whose pass it is
+pub record Caller : Type 0 where
+  pub worker : ℕ
 
 abbrev pub is_worker : ℕ → Option ℕ → Bool
 is_worker worker None = false
 is_worker worker (Some taken_by) = taken_by == worker
 
--- the ticket of an ending is in flight, in its direction, and the caller took it. All other events have no ticket
-abbrev pub knows_ticket : State → List Entry → ℕ → Event → Bool
-knows_ticket s history worker (event.Arrived ticket bytes) = is_coming_in s.pages ticket.0 && is_worker worker (taker ticket.0 history)
-knows_ticket s history worker (event.FetchFailed ticket) = is_coming_in s.pages ticket.0 && is_worker worker (taker ticket.0 history)
-knows_ticket s history worker (event.Left ticket) = is_going_out s.pages ticket.0 && is_worker worker (taker ticket.0 history)
-knows_ticket s history worker (event.LeaveFailed ticket) = is_going_out s.pages ticket.0 && is_worker worker (taker ticket.0 history)
-knows_ticket s history worker what = true
+-- a transfer in this direction is in flight under the ticket, and the caller took it
+abbrev pub took : Pages → List Entry → Caller → Direction → ℕ → Bool
+took pages history caller direction ticket = is_in_flight direction pages ticket && is_worker caller.worker (taker ticket history)
+
+-- the caller may ask this with its pass: the ticket of an ending is one that it took. An event without a ticket may be asked by each
+abbrev pub knows_pass : State → List Entry → Caller → Event → Bool
+knows_pass s history caller (event.Arrived ticket bytes) = took s.pages history caller In ticket.0
+knows_pass s history caller (event.FetchFailed ticket) = took s.pages history caller In ticket.0
+knows_pass s history caller (event.Left ticket) = took s.pages history caller Out ticket.0
+knows_pass s history caller (event.LeaveFailed ticket) = took s.pages history caller Out ticket.0
+knows_pass s history caller what = true
 
 -- ---- what an access will be
 
@@ -53,37 +64,28 @@ abbrev pub is_granted : State → Option ℕ → Bool
 is_granted s None = false
 is_granted s (Some g) = is_none (over_in s g) && is_frame_free s
 
--- it makes a page, or begins to read one in
-abbrev pub meeting_grows : State → ℕ → Meeting → Bool
-meeting_grows s g meeting = is_granted s (charges meeting g)
+-- it begins to read a page in
+abbrev pub meeting_fetches : State → ℕ → Meeting → Bool
+meeting_fetches s g meeting = is_fetch meeting && is_granted s (charges meeting g)
 
-abbrev pub life_grows : State → ℕ → Place → Op → Task → Life → Bool
-life_grows s t place op task Live = meeting_grows s task.group.0 (meets s t place op)
-life_grows s t place op task Exited = false
-life_grows s t place op task Killed = false
+abbrev pub life_fetches : State → ℕ → Place → Op → Task → Life → Bool
+life_fetches s t place op task Live = meeting_fetches s task.group.0 (meets s t place op)
+life_fetches s t place op task Exited = false
+life_fetches s t place op task Killed = false
 
-abbrev pub task_grows : State → ℕ → Option Task → Place → Op → Bool
-task_grows s t None place op = false
-task_grows s t (Some task) place op = life_grows s t place op task task.life
+abbrev pub task_fetches : State → ℕ → Place → Op → Option Task → Bool
+task_fetches s t place op None = false
+task_fetches s t place op (Some task) = life_fetches s t place op task task.life
+
+abbrev pub fetches : State → ℕ → Place → Op → Bool
+fetches s t place op = task_fetches s t place op (task_at s.tasks t)
 
 -- ---- room in the trace
 
--- a transfer begins with an entry and keeps one for its end, which so needs none more. An access begins one where its charge is granted
-abbrev pub meeting_need : State → ℕ → Meeting → ℕ
-meeting_need s g meeting = if is_fetch meeting && meeting_grows s g meeting then 2 else 1
-
-abbrev pub life_need : State → ℕ → Place → Op → Task → Life → ℕ
-life_need s t place op task Live = meeting_need s task.group.0 (meets s t place op)
-life_need s t place op task Exited = 1
-life_need s t place op task Killed = 1
-
-abbrev pub task_need : State → ℕ → Option Task → Place → Op → ℕ
-task_need s t None place op = 1
-task_need s t (Some task) place op = life_need s t place op task task.life
-
--- how many entries the reply needs, by what it will be: known before a page is chosen and before memory is asked for
+-- how many entries the reply needs, by what it will be: known before a page is chosen and before memory is asked for. A transfer begins with an entry and
+-- keeps one for its end, which so needs none more
 abbrev pub need : State → Event → ℕ
-need s (event.Access t place op) = task_need s t.0 (task_at s.tasks t.0) place op
+need s (event.Access t place op) = if fetches s t.0 place op then 2 else 1
 need s (event.Relieve cause) = if stands s cause && has_takeable s (target_of cause) then 2 else 1
 need s (event.ReclaimOne g) = if has_takeable s g.0 then 2 else 1
 need s (event.Arrived ticket bytes) = 0
@@ -94,46 +96,65 @@ need s what = 1
 
 -- the entries, those kept for the ends of transfers, and the need pass the limit. (Excludes a machine that answers TraceFull while there is room.)
 abbrev pub is_full_for : State → List Entry → Event → Bool
-is_full_for s history what = nat_lt s.opening.limit (length history + in_transfer s.pages + need s what)
+is_full_for s history what = nat_lt s.opening.trace_limit (length history + in_transfer s.pages + need s what)
 
 abbrev pub is_trace_full : Past → Event → Bool
 is_trace_full past what = is_full_for past.state past.history what
 
 -- ---- memory
 
--- the event makes something, and so may want memory: a group, a task, or an access whose charge is granted. Nothing else may answer NoMemory;
--- that these get memory where there is some is not said here
+-- the event makes something, and so may want memory: a group, a task with its page table, or what the bytes of a read-in arrive in. Nothing else may
+-- answer NoMemory; that these get memory where there is some is not said here
 abbrev pub grows : State → Event → Bool
-grows s (event.Access t place op) = task_grows s t.0 (task_at s.tasks t.0) place op
+grows s (event.Access t place op) = fetches s t.0 place op
 grows s (event.Spawn t g) = true
 grows s (event.Mkdir path) = true
 grows s what = false
 
 -- ---- the call
 
-abbrev pub entry_of : ℕ → List Entry → Event → Reply → Entry
-entry_of worker history what answer = record { worker = record { 0 = worker }; count = length (entries_by worker history) + 1; event = what; reply = answer }
+abbrev pub entry_of : Caller → List Entry → Event → Reply → Entry
+entry_of caller history what answer =
+    record { worker = record { 0 = caller.worker }; count = length (entries_by caller.worker history) + 1; event = what; reply = answer }
 
--- a step, the page in order where one is taken, and exactly one entry more. Which byte a read gives is not the step's to say: IsRight stands beside it
-pub record Answers (old : Past) (worker : ℕ) (what : Event) (answer : Reply) (new : Past) : Type 0 where
+-- the entries that an event and its reply make: one
+abbrev pub entries_of : Caller → List Entry → Event → Reply → List Entry
+entries_of caller history what answer = entry_of caller history what answer ∷ []
+
+-- a step, the page in order where one is taken, and the entries that it makes. Which byte a read gives is not the step's to say: IsRight stands beside it
+pub record Answers (old : Past) (caller : Caller) (what : Event) (answer : Reply) (new : Past) : Type 0 where
   pub steps : Step old.state what answer new.state
   pub order : Orders old.state old.order what answer new.state new.order
-  pub history : new.history ≡ entry_of worker old.history what answer ∷ old.history
+  pub history : new.history ≡ entries_of caller old.history what answer ++ old.history
   pub passes : new.passes ≡ old.passes
 
 -- a refusal leaves all as it was
 abbrev pub Refuses : Past → Refusal → Reply → Past → Type 0
 Refuses old why answer new = (answer ≡ reply.Refused why) × (new ≡ old)
 
-abbrev pub Served : Past → ℕ → Event → Reply → Past → Type 0
-Served old worker what (reply.Refused why) new = (why ≡ NoMemory) × (grows old.state what ≡ true) × (new ≡ old)
-Served old worker what answer new = Answers old worker what answer new
+abbrev pub Served : Past → Caller → Event → Reply → Past → Type 0
+Served old caller what (reply.Refused why) new = (why ≡ NoMemory) × (grows old.state what ≡ true) × (new ≡ old)
+Served old caller what answer new = Answers old caller what answer new
 
-abbrev pub JudgedBy : Past → ℕ → Event → Option Refusal → Reply → Past → Type 0
-JudgedBy old worker what (Some why) answer new = Refuses old why answer new
-JudgedBy old worker what None answer new = MatchBool (is_trace_full old what) (Refuses old TraceFull answer new) (Served old worker what answer new)
+abbrev pub JudgedBy : Past → Caller → Event → Option Refusal → Reply → Past → Type 0
+JudgedBy old caller what (Some why) answer new = Refuses old why answer new
+JudgedBy old caller what None answer new = MatchBool (is_trace_full old what) (Refuses old TraceFull answer new) (Served old caller what answer new)
 
--- a ticket that is not the caller's comes first, then the causes in order, then the trace's room, then memory
-abbrev pub Called : Past → ℕ → Event → Reply → Past → Type 0
-Called old worker what answer new =
-    MatchBool (knows_ticket old.state old.history worker what) (JudgedBy old worker what (refusal old.state what) answer new) (Refuses old Stranger answer new)
+-- a stranger comes first, then the causes in order, then the trace's room, then memory
+abbrev pub Called : Past → Caller → Event → Reply → Past → Type 0
+Called old caller what answer new =
+    MatchBool (knows_pass old.state old.history caller what) (JudgedBy old caller what (refusal old.state what) answer new) (Refuses old Stranger answer new)
+
+-- ---- replies that are alike
+
+-- the same byte, but at a read, whose byte the history says (IsRight)
+abbrev pub AreBytesAlike : Event → ℕ → ℕ → Type 0
+AreBytesAlike (event.Access t place Read) byte byte' = Unit {0}
+AreBytesAlike what byte byte' = byte ≡ byte'
+
+-- replies to one event that say the same, but for the numbers of new tickets and for the byte that a read gives
+abbrev pub AreAlike : Event → Reply → Reply → Type 0
+AreAlike what (reply.Done byte hit) (reply.Done byte' hit') = AreBytesAlike what byte byte' × (hit ≡ hit')
+AreAlike what (reply.Fetch ticket) (reply.Fetch ticket') = Unit {0}
+AreAlike what (reply.Out ticket) (reply.Out ticket') = Unit {0}
+AreAlike what answer answer' = answer ≡ answer'

@@ -51,21 +51,25 @@ abbrev pub follow : Says → (Spot → ℕ) → Spot → ℕ
 follow (Byte b) before spot = b
 follow Nothing before spot = before spot
 
--- the byte last written; memory begins as zeros
-abbrev pub last : List Entry → Spot → ℕ
-last [] spot = 0
-last (entry ∷ earlier) spot = follow (says entry.event entry.reply spot) (last earlier) spot
+-- what bytes are at first: memory begins as zeros
+abbrev pub at_first : Spot → ℕ
+at_first (InTask t v offset) = 0
+
+-- the byte last written, or what it was at first
+abbrev pub last : (Spot → ℕ) → List Entry → Spot → ℕ
+last first [] spot = first spot
+last first (entry ∷ earlier) spot = follow (says entry.event entry.reply spot) (last first earlier) spot
 
 -- ---- right and honest
 
 -- a read gave the byte last written before it
-abbrev pub IsRight : List Entry → Event → Reply → Type 0
-IsRight earlier (event.Access t place Read) (reply.Done byte hit) = byte ≡ last earlier (spot_of t.0 place)
-IsRight earlier what answer = Unit {0}
+abbrev pub IsRight : (Spot → ℕ) → List Entry → Event → Reply → Type 0
+IsRight first earlier (event.Access t place Read) (reply.Done byte hit) = byte ≡ last first earlier (spot_of t.0 place)
+IsRight first earlier what answer = Unit {0}
 
-abbrev pub Right : List Entry → Type 0
-Right [] = Unit {0}
-Right (entry ∷ earlier) = Right earlier × IsRight earlier entry.event entry.reply
+abbrev pub Right : (Spot → ℕ) → List Entry → Type 0
+Right first [] = Unit {0}
+Right first (entry ∷ earlier) = Right first earlier × IsRight first earlier entry.event entry.reply
 
 -- where a read-in began: the byte that was accessed, and the entries before
 pub record Fetched : Type 0 where
@@ -82,19 +86,19 @@ abbrev pub fetch_of : ℕ → List Entry → Option Fetched
 fetch_of ticket [] = None
 fetch_of ticket (entry ∷ earlier) = fetched_by ticket entry.event entry.reply earlier (fetch_of ticket earlier)
 
-abbrev pub HoldsLast : List ℕ → Option Fetched → Type 0
-HoldsLast bytes None = ⊥
-HoldsLast bytes (Some fetch) = (o : ℕ) → o < page_size → slice_index bytes o ≡ last fetch.earlier (at_offset o fetch.spot)
+abbrev pub HoldsLast : (Spot → ℕ) → List ℕ → Option Fetched → Type 0
+HoldsLast first bytes None = ⊥
+HoldsLast first bytes (Some fetch) = (o : ℕ) → o < page_size → slice_index bytes o ≡ last first fetch.earlier (at_offset o fetch.spot)
 
 -- what arrived is what was last written when the read-in began; nobody writes to a page in transfer
-abbrev pub IsHonest : List Entry → Event → Type 0
-IsHonest earlier (event.Arrived ticket bytes) = HoldsLast bytes (fetch_of ticket.0 earlier)
-IsHonest earlier what = Unit {0}
+abbrev pub IsHonest : (Spot → ℕ) → List Entry → Event → Type 0
+IsHonest first earlier (event.Arrived ticket bytes) = HoldsLast first bytes (fetch_of ticket.0 earlier)
+IsHonest first earlier what = Unit {0}
 
 -- every arrival brought what was last written: the device kept its promise
-abbrev pub Honest : List Entry → Type 0
-Honest [] = Unit {0}
-Honest (entry ∷ earlier) = Honest earlier × IsHonest earlier entry.event
+abbrev pub Honest : (Spot → ℕ) → List Entry → Type 0
+Honest first [] = Unit {0}
+Honest first (entry ∷ earlier) = Honest first earlier × IsHonest first earlier entry.event
 
 -- ---- who took a ticket
 

@@ -36,19 +36,26 @@ served s order target = served_by s.tree (gives s target) target (cursor_at orde
 abbrev pub is_page_of : Pages → ℕ → ℕ → Bool
 is_page_of pages g p = there_and (λ page. page.group == g) (page_at pages p)
 
+-- of a group's held pages the first that came to be held, counted from the last time
+abbrev pub first_held : Pages → List ℕ → ℕ → Option ℕ
+first_held pages held g = find (is_page_of pages g) held
+
 -- each page that is in a frame and in no transfer is in the list once, and no other page is
 abbrev pub ListsHeld : Pages → List ℕ → Type 0
 ListsHeld pages held = (p : ℕ) → count_by (λ q. q == p) held ≡ (if is_held_in pages p then 1 else 0)
 
--- a page that was held is held no more: of the group that is served the one that has been in its frame for longest. The target's cursor then names the group.
--- (Excludes one cursor for all targets, and a newer page that leaves before an older one.)
-pub record TakesNext (old : State) (order : Order) (target : ℕ) (new : State) (order' : Order) : Type 0 where
-  pub g : ℕ
+-- of a group's pages the first that came to be held is held no more. (Excludes a newer page that leaves before an older one.)
+pub record TakesFirst (old : State) (order : Order) (g : ℕ) (new : State) : Type 0 where
   pub p : ℕ
-  pub next : served old order target ≡ Some g
-  pub first : find (is_page_of old.pages g) order.held ≡ Some p
+  pub first : first_held old.pages order.held g ≡ Some p
   pub was : is_held_in old.pages p ≡ true
   pub taken : is_held_in new.pages p ≡ false
+
+-- a page of the group that is served is taken, and the target's cursor names the group. (Excludes one cursor for all targets.)
+pub record TakesNext (old : State) (order : Order) (target : ℕ) (new : State) (order' : Order) : Type 0 where
+  pub g : ℕ
+  pub next : served old order target ≡ Some g
+  pub takes : TakesFirst old order g new
   pub moves : order'.cursors ≡ slice_set order.cursors target (Some g)
 
 -- ---- how the order goes on

@@ -1,5 +1,7 @@
 -- Pages and where they stand (kernel: mm/memcontrol.c, mm/swap_state.c, mm/vmscan.c).
 use Rattle.std.specs.Prelude.{ℕ, ◌+◌, ◌==◌, ◌&&◌, Bool, true, false, List, sum, take, Option, Some, None}
+use Rattle.machine.specs.declared.record.Direction.{Direction}
+use Rattle.machine.specs.declared.record.Direction.TheVariants.{In, Out}
 use Rattle.machine.specs.Slots.{at, there_and, count_there, any_there}
 use Rattle.machine.specs.Tree.{Node, under}
 
@@ -117,21 +119,15 @@ is_swap_taken pages b = any_there (λ page. is_anon page.content && is_number (b
 abbrev pub is_ticket_taken : Pages → ℕ → Bool
 is_ticket_taken pages n = any_there (λ page. is_number (ticket_at page.residence) n) pages
 
--- the page is being read in under this ticket, or written out
-abbrev pub is_coming_at : ℕ → Residence → Bool
-is_coming_at n (Coming frame block ticket) = ticket == n
-is_coming_at n residence = false
+-- the page is in transfer in this direction under this ticket
+abbrev pub is_flying_at : Direction → ℕ → Residence → Bool
+is_flying_at In n (Coming frame block ticket) = ticket == n
+is_flying_at Out n (Going frame block ticket) = ticket == n
+is_flying_at direction n residence = false
 
-abbrev pub is_going_at : ℕ → Residence → Bool
-is_going_at n (Going frame block ticket) = ticket == n
-is_going_at n residence = false
-
--- the ticket is in flight, in that direction
-abbrev pub is_coming_in : Pages → ℕ → Bool
-is_coming_in pages n = any_there (λ page. is_coming_at n page.residence) pages
-
-abbrev pub is_going_out : Pages → ℕ → Bool
-is_going_out pages n = any_there (λ page. is_going_at n page.residence) pages
+-- a transfer in this direction is in flight under the ticket
+abbrev pub is_in_flight : Direction → Pages → ℕ → Bool
+is_in_flight direction pages n = any_there (λ page. is_flying_at direction n page.residence) pages
 
 -- the home block of a file's page: home blocks follow the swap blocks, in the files' order
 abbrev pub home_block : ℕ → List ℕ → ℕ → ℕ → ℕ

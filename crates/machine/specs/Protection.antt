@@ -3,7 +3,8 @@
 --   2. A child of the target has its setting as it stands.
 --   3. Below that, a group asks for what it uses, at most its setting.
 --   4. Where the children of one parent ask for more than the parent's effective value, each has its part of that value in proportion to what it asks.
---   5. With recursive protection, what the children leave of the parent's value goes to them in proportion to what they use beyond what they ask.
+--   5. With recursive protection, a child has on top of that its part of what the children leave of the parent's value: what it uses beyond what it asks, out of
+--      what the parent uses beyond what its children ask. What the parent uses in no live child has its part too, which then goes to nobody.
 -- `setting` is the memory.min of a group; for memory.low the same words take the low.
 use Rattle.std.specs.Prelude.{ℕ, ◌+◌, ◌-◌, ◌*◌, ◌/◌, ◌==◌, ◌&&◌, ◌||◌, nat_lt, Bool, true, false, if◌then◌else◌, List, [], ◌∷◌, sum_by}
 use Rattle.machine.specs.declared.amount.Amount.{Amount}
@@ -14,12 +15,12 @@ use Rattle.machine.specs.declared.record.Limits.{Limits}
 use Rattle.machine.specs.Counts.{limits_at}
 
 -- what a group asks for: its use, at most its setting
-abbrev pub asked : (ℕ → Amount) → (ℕ → ℕ) → ℕ → ℕ
-asked setting usage g = at_most (usage g) (setting g)
+abbrev pub min_usage : (ℕ → Amount) → (ℕ → ℕ) → ℕ → ℕ
+min_usage setting usage g = at_most (usage g) (setting g)
 
 -- what the live children of a group ask for together
-abbrev pub asked_below : List Node → (ℕ → Amount) → (ℕ → ℕ) → ℕ → ℕ
-asked_below tree setting usage p = sum_by (asked setting usage) (children tree p)
+abbrev pub children_min_usage : List Node → (ℕ → Amount) → (ℕ → ℕ) → ℕ → ℕ
+children_min_usage tree setting usage p = sum_by (min_usage setting usage) (children tree p)
 
 -- rule 5: what comes on top of the asked part, where the parent's value and its use are more than what its children ask, and the group uses more than it asks
 abbrev pub with_rest : Amount → ℕ → ℕ → ℕ → ℕ → Amount
@@ -44,7 +45,7 @@ unfoldable pub effective_along : Bool → List Node → (ℕ → Amount) → (�
 effective_along recursive tree setting usage [] = Pages 0
 effective_along recursive tree setting usage (g ∷ []) = setting g
 effective_along recursive tree setting usage (g ∷ p ∷ above) =
-    below_parent recursive (effective_along recursive tree setting usage (p ∷ above)) (asked_below tree setting usage p) (usage p) (usage g) (asked setting usage g)
+    below_parent recursive (effective_along recursive tree setting usage (p ∷ above)) (children_min_usage tree setting usage p) (usage p) (usage g) (min_usage setting usage g)
 
 -- the effective value of a group for a reclaim of the target
 abbrev pub effective : Bool → List Node → (ℕ → Amount) → (ℕ → ℕ) → ℕ → ℕ → Amount
@@ -54,6 +55,6 @@ abbrev pub min_of : List Limits → ℕ → Amount
 min_of limits g = (limits_at limits g).min
 
 -- a reclaim of the target may take from the group: from itself always, and from a group below it while that uses more than its effective value.
--- (Excludes counting the target's own min, and finding nothing.)
-abbrev pub opens : Bool → List Node → List Limits → (ℕ → ℕ) → ℕ → ℕ → Bool
-opens recursive tree limits usage target g = (g == target) || exceeds (usage g) (effective recursive tree (min_of limits) usage target g)
+-- (Excludes counting the target's own min.)
+abbrev pub is_unprotected_in : Bool → List Node → List Limits → (ℕ → ℕ) → ℕ → ℕ → Bool
+is_unprotected_in recursive tree limits usage target g = (g == target) || exceeds (usage g) (effective recursive tree (min_of limits) usage target g)

@@ -7,16 +7,16 @@ use Rattle.machine.specs.Tree.{is_live, under}
 use Rattle.machine.specs.Amounts.{exceeds}
 use Rattle.machine.specs.Pages.{Page, is_anon, is_held, is_in_transfer}
 use Rattle.machine.specs.Counts.{limits_at}
-use Rattle.machine.specs.Protection.{opens}
+use Rattle.machine.specs.Protection.{is_unprotected_in}
 use Rattle.machine.specs.State.{State, usage, is_frame_free, is_swap_free}
 
 -- the target itself is never protected from its own reclaim, and a group below it up to its effective min
-abbrev pub is_open : State → ℕ → ℕ → Bool
-is_open s target g = opens s.opening.recursive s.tree s.limits (usage s) target g
+abbrev pub is_unprotected : State → ℕ → ℕ → Bool
+is_unprotected s target g = is_unprotected_in s.opening.recursive s.tree s.limits (usage s) target g
 
 -- the page may be taken for the target: it is held, in an unprotected group under the target, and it is a file page or has a swap block to go to
 abbrev pub is_takeable : State → ℕ → Page → Bool
-is_takeable s target page = is_held page && under s.tree target page.group && is_open s target page.group && (not (is_anon page.content) || is_swap_free s)
+is_takeable s target page = is_held page && under s.tree target page.group && is_unprotected s target page.group && (not (is_anon page.content) || is_swap_free s)
 
 abbrev pub has_takeable : State → ℕ → Bool
 has_takeable s target = any_there (is_takeable s target) s.pages

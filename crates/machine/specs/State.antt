@@ -1,12 +1,11 @@
 -- The state of the plain machine: what the opening fixed, and its tables. Nothing in it is counted, linked or kept twice.
 use Rattle.std.specs.Prelude.{ℕ, ◌-◌, ◌&&◌, nat_lt, nat_le, Bool, false, List, [], ◌∷◌, Option}
 use Rattle.machine.specs.declared.amount.Amount.{Amount}
-use Rattle.machine.specs.declared.record.Mapping.{Mapping}
 use Rattle.machine.specs.declared.config.Config.{Config}
 use Rattle.machine.specs.declared.config.Watermarks.{Watermarks}
 use Rattle.machine.specs.Tree.{Node, root}
 use Rattle.machine.specs.Pages.{Pages, charged, used_frames, used_swap}
-use Rattle.machine.specs.Tasks.{Tasks}
+use Rattle.machine.specs.Tasks.{Tasks, PageTables}
 use Rattle.machine.specs.declared.record.Limits.{Limits}
 use Rattle.machine.specs.Counts.{no_limits, Counted, over}
 use Rattle.machine.specs.Protection.{effective, min_of}
@@ -16,37 +15,41 @@ pub record Opening : Type 0 where
   pub frames : ℕ
   pub swap : ℕ
   pub files : List ℕ
-  pub marks : Watermarks
-  pub limit : ℕ
+  pub watermarks : Watermarks
+  pub trace_limit : ℕ
   pub recursive : Bool
 
 -- the opening that a configuration asks for
 abbrev pub opening_of : Config → Opening
-opening_of config = record { frames = config.frames; swap = config.swap; files = []; marks = config.marks; limit = config.trace; recursive = false }
+opening_of config = record { frames = config.frames; swap = config.swap; files = []; watermarks = config.watermarks; trace_limit = config.trace; recursive = false }
 
 -- the low mark is at most the high one, and that at most the frames
-abbrev pub are_marks : Watermarks → ℕ → Bool
-are_marks marks frames = nat_le marks.low marks.high && nat_le marks.high frames
+abbrev pub are_watermarks : Watermarks → ℕ → Bool
+are_watermarks watermarks frames = nat_le watermarks.low watermarks.high && nat_le watermarks.high frames
+
+-- how many blocks the device has to have: the swap blocks, which come first
+abbrev pub blocks_of : Config → ℕ
+blocks_of config = config.swap
 
 -- within the limits: 1 to 65,536 frames, at most 65,536 swap blocks, marks in order, and a trace of 1 to 1,048,576 entries
 abbrev pub is_config : Config → Bool
 is_config config =
     (nat_le 1 config.frames && nat_le config.frames 65536)
-    && (nat_le config.swap 65536 && (are_marks config.marks config.frames && (nat_le 1 config.trace && nat_le config.trace 1048576)))
+    && (nat_le config.swap 65536 && (are_watermarks config.watermarks config.frames && (nat_le 1 config.trace && nat_le config.trace 1048576)))
 
--- the groups, their settings, the pages, the tasks, what the tasks' virtual pages show, and the events that were counted
+-- the groups, their settings, the pages, the tasks and their page tables, and the events that were counted
 pub record State : Type 0 where
   pub opening : Opening
   pub tree : List Node
   pub limits : List Limits
   pub pages : Pages
   pub tasks : Tasks
-  pub mappings : List Mapping
+  pub page_tables : PageTables
   pub counted : List Counted
 
 -- the root alone
 abbrev pub first_state : Opening → State
-first_state opening = record { opening = opening; tree = root ∷ []; limits = no_limits ∷ []; pages = []; tasks = []; mappings = []; counted = [] }
+first_state opening = record { opening = opening; tree = root ∷ []; limits = no_limits ∷ []; pages = []; tasks = []; page_tables = []; counted = [] }
 
 -- how many pages with a frame are at or under a group
 abbrev pub usage : State → ℕ → ℕ

@@ -1,14 +1,12 @@
 -- What an event that is not refused may answer, and the state after it. By cases on the event, then on the state, then on the reply.
--- Free are only: which takeable page is taken, and which free frame, swap block, page number and ticket number is used.
+-- Free are only: which takeable page is taken, and which free frame, swap block, page number and ticket number is used; and the byte that a read gives,
+-- which the history says (IsRight). With those given, nothing else is free.
 use Rattle.std.specs.Prelude.{◌≡◌, ℕ, ◌<◌, ◌==◌, ◌&&◌, ◌||◌, not, Bool, true, false, MatchBool, if◌then◌else◌, List, [], ◌∷◌, ◌++◌, slice_set, Option, Some, None}
 use Rattle.machine.specs.declared.record.Key.{Key}
 use Rattle.machine.specs.declared.record.Key.TheVariants as key
 use Rattle.machine.specs.declared.record.Life.{Life}
 use Rattle.machine.specs.declared.record.Life.TheVariants.{Live, Exited, Killed}
 use Rattle.machine.specs.declared.record.Task.{Task}
-use Rattle.machine.specs.declared.record.Mapping.{Mapping}
-use Rattle.machine.specs.declared.event.Place.{Place}
-use Rattle.machine.specs.declared.event.Place.TheVariants.{Virtual}
 use Rattle.machine.specs.declared.event.Op.{Op}
 use Rattle.machine.specs.declared.event.Op.TheVariants.{Read, Write}
 use Rattle.machine.specs.declared.event.Cause.{Cause}
@@ -28,9 +26,9 @@ use Rattle.machine.specs.Tree.{Node, find_group}
 use Rattle.machine.specs.Pages.{Content, Memory, OfFile, Residence, Held, Coming, Going, Away, Page, is_anon, in_transfer_at, page_at, home_block, is_frame_taken, is_swap_taken, is_ticket_taken}
 use Rattle.machine.specs.declared.record.Limits.{Limits}
 use Rattle.machine.specs.Counts.{no_limits, limits_at, Counted, local, total, counts_by}
-use Rattle.machine.specs.Tasks.{task_at, SetsTask, group_of_task, mapping, mappers, without_task, without_place}
+use Rattle.machine.specs.Tasks.{PageTables, task_at, SetsTask, group_of_task, mappers, Shows, ShowsNothing}
 use Rattle.machine.specs.State.{State, usage, over_in, is_frame_free, effective_min}
-use Rattle.machine.specs.Access.{Meeting, Unmapped, Hits, Transferring, NeedsPage, NeedsCopy, NeedsSwapIn, meets}
+use Rattle.machine.specs.Access.{Meeting, Unmapped, Hits, Transferring, NeedsPage, NeedsCopy, NeedsSwapIn, Dangling, meets}
 use Rattle.machine.specs.Reclaim.{is_takeable, has_takeable, has_transfer, stands, target_of}
 use Rattle.machine.specs.Victim.{IsVictim}
 
@@ -70,15 +68,16 @@ written (Write b) = b
 abbrev pub new_page : ℕ → ℕ → Page
 new_page g frame = record { content = Memory; group = g; dirty = false; residence = Held frame }
 
--- a new page stands at a virtual page of a task, charged to the task's group: zeros, or a copy, with the byte written. What the place showed before goes on without it
-pub record MakesPage (old : State) (t v g : ℕ) (op : Op) (others : List Mapping) (answer : Reply) (new : State) : Type 0 where
+-- a virtual page of a task shows a new page, charged to the task's group: zeros, or a copy of what it showed, with the byte written
+pub record MakesPage (old : State) (t v g : ℕ) (op : Op) (answer : Reply) (new : State) : Type 0 where
   pub page : ℕ
   pub frame : ℕ
   pub slot_free : page_at old.pages page ≡ None
   pub frame_free : IsFreeFrame old frame
   pub placed : Changes old.pages new.pages page (Some (new_page g frame))
+  pub shown : Shows old.page_tables new.page_tables t v (Some page)
   pub answers : answer ≡ reply.Done (written op) None
-  pub state : new ≡ record old { pages = new.pages; mappings = others ++ mapping t v page ∷ [] }
+  pub state : new ≡ record old { pages = new.pages; page_tables = new.page_tables }
 
 -- a transfer begins: the page comes from the block into a free frame
 pub record StartsFetch (old : State) (p g : ℕ) (content : Content) (block : ℕ) (answer : Reply) (new : State) : Type 0 where
@@ -108,18 +107,15 @@ abbrev pub UnmappedStep : State → Reply → State → Type 0
 UnmappedStep old (reply.Done byte hit) new = (hit ≡ None) × (new ≡ old)
 UnmappedStep old answer new = ⊥
 
--- the virtual page of a place
-abbrev pub virtual_page : Place → ℕ
-virtual_page (Virtual v offset) = v
-
-abbrev pub MeetStep : State → ℕ → ℕ → Place → Op → Meeting → Reply → State → Type 0
-MeetStep old t g place op Unmapped answer new = UnmappedStep old answer new
-MeetStep old t g place op (Hits p page frame) answer new = HitStep old p page frame op answer new
-MeetStep old t g place op Transferring answer new = Only old reply.Busy answer new
-MeetStep old t g place op NeedsPage answer new = Charges old g (MakesPage old t (virtual_page place) g op old.mappings answer new) answer new
-MeetStep old t g place op NeedsCopy answer new =
-    Charges old g (MakesPage old t (virtual_page place) g op (without_place old.mappings t (virtual_page place)) answer new) answer new
-MeetStep old t g place op (NeedsSwapIn p page block) answer new = Charges old page.group (StartsFetch old p page.group page.content block answer new) answer new
+-- (Excludes an answer to an access through a mapping of a page that is not there.)
+abbrev pub MeetStep : State → ℕ → ℕ → Op → Meeting → Reply → State → Type 0
+MeetStep old t g op Unmapped answer new = UnmappedStep old answer new
+MeetStep old t g op (Hits p page frame) answer new = HitStep old p page frame op answer new
+MeetStep old t g op Transferring answer new = Only old reply.Busy answer new
+MeetStep old t g op (NeedsPage v) answer new = Charges old g (MakesPage old t v g op answer new) answer new
+MeetStep old t g op (NeedsCopy v) answer new = Charges old g (MakesPage old t v g op answer new) answer new
+MeetStep old t g op (NeedsSwapIn p page block) answer new = Charges old page.group (StartsFetch old p page.group page.content block answer new) answer new
+MeetStep old t g op Dangling answer new = ⊥
 
 -- an event of a task: a killed one is told so
 abbrev pub LifeStep : State → Life → Type 0 → Reply → State → Type 0
@@ -181,19 +177,17 @@ ReclaimOneStep old target answer new = ReclaimStep old target (Only old reply.No
 
 -- ---- ends of tasks
 
--- a page after mappings went: an anonymous one that nothing maps is gone, unless it is in transfer, whose end decides
-abbrev pub still : List Mapping → ℕ → Option Page → Option Page
-still mappings p None = None
-still mappings p (Some page) = if is_anon page.content && ((mappers mappings p == 0) && not (in_transfer_at page.residence)) then None else Some page
+-- a page with these page tables: an anonymous one that nothing maps is gone, unless it is in transfer, whose end decides
+abbrev pub still : PageTables → ℕ → Option Page → Option Page
+still tables p None = None
+still tables p (Some page) = if is_anon page.content && ((mappers tables p == 0) && not (in_transfer_at page.residence)) then None else Some page
 
-abbrev pub Unmaps : State → List Mapping → State → Type 0
-Unmaps old mappings new = (p : ℕ) → page_at new.pages p ≡ still mappings p (page_at old.pages p)
-
--- the task ends, and its mappings go. `counted` is what stands counted then
+-- the task ends: its page table shows nothing any more, and the pages that nothing maps go. `counted` is what stands counted then
 pub record EndsTask (old : State) (t : ℕ) (life : Life) (counted : List Counted) (new : State) : Type 0 where
-  pub unmaps : Unmaps old (without_task old.mappings t) new
+  pub shown : ShowsNothing old.page_tables new.page_tables t
+  pub pages : (p : ℕ) → page_at new.pages p ≡ still new.page_tables p (page_at old.pages p)
   pub ends : SetsTask old.tasks t (group_of_task old.tasks t) life new.tasks
-  pub state : new ≡ record old { pages = new.pages; tasks = new.tasks; mappings = without_task old.mappings t; counted = counted }
+  pub state : new ≡ record old { pages = new.pages; tasks = new.tasks; page_tables = new.page_tables; counted = counted }
 
 -- a task ends by itself, and nothing is counted for it
 abbrev pub Exits : State → ℕ → Reply → State → Type 0
@@ -202,10 +196,10 @@ Exits old t answer new = (answer ≡ reply.Ok) × EndsTask old t Exited old.coun
 -- nothing can be reclaimed under the limit: its worst task is killed, or there is none. (Excludes a kill at the first refused charge: Takes and Wait come before.)
 abbrev pub KillStep : State → ℕ → Reply → State → Type 0
 KillStep old limit (reply.KilledTask t) new =
-    IsVictim old.tree old.tasks old.mappings limit (Some t.0)
+    IsVictim old.tree old.tasks old.page_tables limit (Some t.0)
     × EndsTask old t.0 Killed (old.counted ++ (count_of limit key.Oom ∷ count_of (group_of_task old.tasks t.0) key.OomKill ∷ [])) new
 KillStep old limit reply.NoVictim new =
-    IsVictim old.tree old.tasks old.mappings limit None × (new ≡ record old { counted = old.counted ++ count_of limit key.Oom ∷ [] })
+    IsVictim old.tree old.tasks old.page_tables limit None × (new ≡ record old { counted = old.counted ++ count_of limit key.Oom ∷ [] })
 KillStep old limit answer new = ⊥
 
 abbrev pub RelieveStep : State → Cause → Reply → State → Type 0
@@ -215,30 +209,30 @@ RelieveStep old cause answer new =
 -- ---- ends of transfers
 
 -- an anonymous page that nothing maps is gone; any other stands there
-abbrev pub or_gone : List Mapping → ℕ → Page → Option Page
-or_gone mappings p page = if is_anon page.content && (mappers mappings p == 0) then None else Some page
+abbrev pub or_gone : PageTables → ℕ → Page → Option Page
+or_gone tables p page = if is_anon page.content && (mappers tables p == 0) then None else Some page
 
 -- the page stands in its frame, and is what it was
-abbrev pub in_frame : List Mapping → ℕ → Page → ℕ → ℕ → Option Page
-in_frame mappings p page frame block = or_gone mappings p (record page { residence = Held frame })
+abbrev pub in_frame : PageTables → ℕ → Page → ℕ → ℕ → Option Page
+in_frame tables p page frame block = or_gone tables p (record page { residence = Held frame })
 
 -- the page stands on its block alone. A file's page has no record then
-abbrev pub on_block_of : Content → List Mapping → ℕ → Page → ℕ → Option Page
-on_block_of Memory mappings p page block = or_gone mappings p (record page { residence = Away block })
-on_block_of (OfFile file q) mappings p page block = None
+abbrev pub on_block_of : Content → PageTables → ℕ → Page → ℕ → Option Page
+on_block_of Memory tables p page block = or_gone tables p (record page { residence = Away block })
+on_block_of (OfFile file q) tables p page block = None
 
-abbrev pub on_block : List Mapping → ℕ → Page → ℕ → ℕ → Option Page
-on_block mappings p page frame block = on_block_of page.content mappings p page block
+abbrev pub on_block : PageTables → ℕ → Page → ℕ → ℕ → Option Page
+on_block tables p page frame block = on_block_of page.content tables p page block
 
 -- the transfer of one page ends, and this is what the page comes to. (Excludes a page that is on its block after a failed write-out.)
-pub record EndsTransfer (old : State) (from : ℕ → ℕ → Residence) (to : List Mapping → ℕ → Page → ℕ → ℕ → Option Page) (answer : Reply) (new : State) : Type 0 where
+pub record EndsTransfer (old : State) (from : ℕ → ℕ → Residence) (to : PageTables → ℕ → Page → ℕ → ℕ → Option Page) (answer : Reply) (new : State) : Type 0 where
   pub p : ℕ
   pub page : Page
   pub frame : ℕ
   pub block : ℕ
   pub there : page_at old.pages p ≡ Some page
   pub moves : page.residence ≡ from frame block
-  pub placed : Changes old.pages new.pages p (to old.mappings p page frame block)
+  pub placed : Changes old.pages new.pages p (to old.page_tables p page frame block)
   pub answers : answer ≡ reply.Ok
   pub state : new ≡ record old { pages = new.pages }
 
@@ -265,14 +259,15 @@ shown_of s (query.Protection target g) = shown.Amount (effective_min s target.0 
 
 abbrev pub Step : State → Event → Reply → State → Type 0
 Step old (event.Access t place op) answer new =
-    TaskStep old (task_at old.tasks t.0) (λ task. MeetStep old t.0 task.group.0 place op (meets old t.0 place op) answer new) answer new
+    TaskStep old (task_at old.tasks t.0) (λ task. MeetStep old t.0 task.group.0 op (meets old t.0 place op) answer new) answer new
 Step old (event.Arrived ticket bytes) answer new = EndsTransfer old (λ frame block. Coming frame block ticket.0) in_frame answer new
 Step old (event.FetchFailed ticket) answer new = EndsTransfer old (λ frame block. Coming frame block ticket.0) on_block answer new
 Step old (event.Left ticket) answer new = EndsTransfer old (λ frame block. Going frame block ticket.0) on_block answer new
 Step old (event.LeaveFailed ticket) answer new = EndsTransfer old (λ frame block. Going frame block ticket.0) in_frame answer new
 Step old (event.Relieve cause) answer new = RelieveStep old cause answer new
 Step old (event.ReclaimOne g) answer new = ReclaimOneStep old g.0 answer new
-Step old (event.Spawn t g) reply.Ok new = SetsTask old.tasks t.0 g.0 Live new.tasks × (new ≡ record old { tasks = new.tasks })
+Step old (event.Spawn t g) reply.Ok new =
+    SetsTask old.tasks t.0 g.0 Live new.tasks × ShowsNothing old.page_tables new.page_tables t.0 × (new ≡ record old { tasks = new.tasks; page_tables = new.page_tables })
 Step old (event.Exit t) answer new = TaskStep old (task_at old.tasks t.0) (λ task. Exits old t.0 answer new) answer new
 Step old (event.Mkdir path) reply.Ok new = new ≡ record old { tree = old.tree ++ new_node old.tree path ∷ []; limits = old.limits ++ no_limits ∷ [] }
 Step old (event.Set g what) reply.Ok new = new ≡ record old { limits = slice_set old.limits g.0 (with_setting (limits_at old.limits g.0) what) }

@@ -1,9 +1,9 @@
--- Tasks, and what their virtual pages show (mm/memory.c: page tables).
-use Rattle.std.specs.Prelude.{ℕ, ◌==◌, ◌&&◌, not, Bool, true, false, List, filter, find, count_by, Option, Some, None, option_map}
+-- Tasks, and the pages that their virtual pages show (kernel: mm/memory.c).
+use Rattle.std.specs.Prelude.{◌≡◌, ◌≢◌, ℕ, ◌==◌, ◌&&◌, Bool, true, false, List, [], sum_by, slice_index_or, Option, Some, None, option_map}
 use Rattle.machine.specs.declared.record.Life.{Life}
 use Rattle.machine.specs.declared.record.Life.TheVariants.{Live, Exited, Killed}
 use Rattle.machine.specs.declared.record.Task.{Task}
-use Rattle.machine.specs.declared.record.Mapping.{Mapping}
+use Rattle.machine.specs.declared.id.PageId.{PageId}
 use Rattle.machine.specs.Slots.{at, Changes, there_and, count_there, any_there}
 
 -- the tasks by number. Ended ones stay, so that no number comes twice
@@ -50,32 +50,45 @@ group_of_task tasks t = group_of (task_at tasks t)
 abbrev pub SetsTask : Tasks → ℕ → ℕ → Life → Tasks → Type 0
 SetsTask old t g life new = Changes old new t (Some (task_of g life))
 
-abbrev pub is_of : ℕ → Mapping → Bool
-is_of t mapping = mapping.task.0 == t
+-- a task's page table: by virtual page the page that it shows, or nothing (kernel: struct mm_struct, its page table entries)
+abbrev pub PageTable : Type 0
+PageTable = List (Option PageId)
 
-abbrev pub is_at : ℕ → ℕ → Mapping → Bool
-is_at t v mapping = (mapping.task.0 == t) && (mapping.at == v)
+-- the page tables by task number
+abbrev pub PageTables : Type 0
+PageTables = List PageTable
 
-abbrev pub is_to : ℕ → Mapping → Bool
-is_to p mapping = mapping.page.0 == p
+-- the page table of a task. A number that has none shows nothing
+abbrev pub table_of : PageTables → ℕ → PageTable
+table_of tables t = slice_index_or tables t []
+
+abbrev pub number_of_page : PageId → ℕ
+number_of_page page = page.0
 
 -- the page that a virtual page of a task shows
-abbrev pub mapped_at : List Mapping → ℕ → ℕ → Option ℕ
-mapped_at mappings t v = option_map (λ mapping. mapping.page.0) (find (is_at t v) mappings)
+abbrev pub mapped_at : PageTables → ℕ → ℕ → Option ℕ
+mapped_at tables t v = option_map number_of_page (at (table_of tables t) v)
 
--- how many mappings a task has, and how many show a page
-abbrev pub size_of : List Mapping → ℕ → ℕ
-size_of mappings t = count_by (is_of t) mappings
+abbrev pub is_page : ℕ → PageId → Bool
+is_page p page = page.0 == p
 
-abbrev pub mappers : List Mapping → ℕ → ℕ
-mappers mappings p = count_by (is_to p) mappings
+-- how many virtual pages of a task show a page (kernel: the resident set size, with the pages in swap)
+abbrev pub size_of : PageTables → ℕ → ℕ
+size_of tables t = count_there (λ page. true) (table_of tables t)
 
-abbrev pub mapping : ℕ → ℕ → ℕ → Mapping
-mapping t v p = record { task = record { 0 = t }; at = v; page = record { 0 = p } }
+-- how many virtual pages of a table, and of all, show this page (kernel: the page's mapcount)
+abbrev pub mappers_in : ℕ → PageTable → ℕ
+mappers_in p table = count_there (is_page p) table
 
--- the mappings without those of a task, and without that of one virtual page
-abbrev pub without_task : List Mapping → ℕ → List Mapping
-without_task mappings t = filter (λ m. not (is_of t m)) mappings
+abbrev pub mappers : PageTables → ℕ → ℕ
+mappers tables p = sum_by (mappers_in p) tables
 
-abbrev pub without_place : List Mapping → ℕ → ℕ → List Mapping
-without_place mappings t v = filter (λ m. not (is_at t v m)) mappings
+-- one virtual page of a task shows this from now on, and every other what it showed
+pub record Shows (old new : PageTables) (t v : ℕ) (to : Option ℕ) : Type 0 where
+  pub changed : mapped_at new t v ≡ to
+  pub others : (u w : ℕ) → ((t == u) && (v == w)) ≡ false → mapped_at new u w ≡ mapped_at old u w
+
+-- a task's virtual pages show nothing from now on, and those of every other what they showed
+pub record ShowsNothing (old new : PageTables) (t : ℕ) : Type 0 where
+  pub none : (v : ℕ) → mapped_at new t v ≡ None
+  pub others : (u w : ℕ) → u ≢ t → mapped_at new u w ≡ mapped_at old u w

@@ -1,7 +1,7 @@
 //! What the opening of a run fixes.
 
 ghost use Rattle.std.specs.Prelude.{◌≡◌};
-ghost use Rattle.machine.specs.State.{are_marks, is_config};
+ghost use Rattle.machine.specs.State.{are_watermarks, blocks_of, is_config};
 
 use crate::limit::{MOST_ENTRIES, MOST_FRAMES, MOST_SWAP};
 
@@ -18,7 +18,7 @@ pub struct Watermarks {
 impl Watermarks {
     /// Whether the low mark is at most the high one, and that at most the frames.
     pub fn are_in_order(self, frames: u32) -> bool
-        ensures { result ≡ are_marks self frames }
+        ensures { result ≡ are_watermarks self frames }
     {
         self.low <= self.high && self.high <= frames
     }
@@ -32,7 +32,7 @@ pub struct Config {
     /// Swap blocks, at most 65,536. The device has them as its first.
     pub swap: u32,
     /// The daemon's marks.
-    pub marks: Watermarks,
+    pub watermarks: Watermarks,
     /// The trace's limit, 1 to 1,048,576 entries.
     pub trace: u32,
 }
@@ -44,7 +44,14 @@ impl Config {
     {
         (1 <= self.frames && self.frames <= MOST_FRAMES)
             && self.swap <= MOST_SWAP
-            && self.marks.are_in_order(self.frames)
+            && self.watermarks.are_in_order(self.frames)
             && (1 <= self.trace && self.trace <= MOST_ENTRIES)
+    }
+
+    /// How many blocks the device has to have.
+    pub fn blocks(self) -> u32
+        ensures { result ≡ blocks_of self }
+    {
+        self.swap
     }
 }

@@ -13,9 +13,10 @@ impl GroupId {
 #[derive(Clone, Copy, Debug, PartialEq, Eq)]
 pub struct TaskId(pub u32);
 
-/// A page, by its slot in the table of pages.
+/// A page. No more pages are there at once than there are frames and swap blocks, and their numbers are
+/// below that; a number is used again once its page is gone.
 #[derive(Clone, Copy, Debug, PartialEq, Eq)]
-pub struct PageId(pub usize);
+pub struct PageId(pub u32);
 
 /// A page frame: 4,096 bytes of memory (kernel: a page frame number).
 #[derive(Clone, Copy, Debug, PartialEq, Eq)]

@@ -1,7 +1,7 @@
 //! Plain records that the machine and the code share.
 
 use crate::amount::Amount;
-use crate::id::{GroupId, PageId, TaskId};
+use crate::id::GroupId;
 
 /// Whether a task still runs.
 #[derive(Clone, Copy, Debug, PartialEq, Eq)]
@@ -21,13 +21,13 @@ pub struct Task {
     pub life: Life,
 }
 
-/// A virtual page of a task shows a page (kernel: a page table entry).
+/// Which way a page in transfer goes.
 #[derive(Clone, Copy, Debug, PartialEq, Eq)]
-pub struct Mapping {
-    pub task: TaskId,
-    /// The virtual page's number.
-    pub at: u32,
-    pub page: PageId,
+pub enum Direction {
+    /// It is being read in.
+    In,
+    /// It is being written out.
+    Out,
 }
 
 /// What is counted in `memory.events`.

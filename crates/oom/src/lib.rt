@@ -41,10 +41,10 @@ struct Candidate {
 /// The live task at or under the limit with the most mappings, the least number of several
 /// (kernel: select_bad_process).
 ///
-/// It looks at each task number once. A live task costs a walk up the tree from its group, and only
-/// a candidate costs one over all mappings, to count its own. A task that has ended costs neither.
+/// It looks at each task number once. A live task costs a walk up the tree from its group. How many
+/// mappings a task has is kept with its page table.
 pub fn victim(tree: &Tree, spaces: &Spaces, limit: GroupId) -> Option<TaskId>
-    ensures { IsVictim tree.now spaces.now.tasks spaces.now.mappings limit.0 (option_map (λ t. t.0) result) }
+    ensures { IsVictim tree.now spaces.now.tasks spaces.now.page_tables limit.0 (option_map (λ t. t.0) result) }
 {
     let mut worst = None;
     for task in 0..spaces.slots() as u32 {
@@ -61,8 +61,8 @@ fn worst_with(
     worst: Option<Candidate>,
     task: TaskId,
 ) -> Option<Candidate>
-    requires { IsWorstBelow tree.now spaces.now.tasks spaces.now.mappings limit.0 task.0 worst }
-    ensures { IsWorstBelow tree.now spaces.now.tasks spaces.now.mappings limit.0 (task.0 + 1) result }
+    requires { IsWorstBelow tree.now spaces.now.tasks spaces.now.page_tables limit.0 task.0 worst }
+    ensures { IsWorstBelow tree.now spaces.now.tasks spaces.now.page_tables limit.0 (task.0 + 1) result }
 {
     if !is_candidate(tree, spaces, limit, task) {
         return worst;

@@ -9,7 +9,7 @@ use Rattle.machine.specs.declared.amount.Amount.TheVariants.{Max, Pages}
 use Rattle.machine.specs.declared.record.Limits.{Limits}
 use Rattle.machine.specs.Amounts.{at_most}
 use Rattle.machine.specs.Counts.{no_limits}
-use Rattle.machine.specs.Protection.{asked, asked_below, min_of}
+use Rattle.machine.specs.Protection.{min_usage, children_min_usage, min_of}
 use Rattle.machine.specs.Tree.{Node, node_at, is_child, IsTree, rank, share, under}
 use Rattle.machine.proofs.TreeLemmas.{eq_cases, share-None, share-beyond, share-own, share-step, parent_above, rank-parent}
 use Rattle.group_tree.specs.Walk.{children_from}
@@ -169,33 +169,33 @@ at_most-le count Max = omega arith
 at_most-le count (Pages n) = omega arith
 
 -- what the children of a group ask for together is at most what the group counts
-pub asked_below-le : (s : Counts) (setting : ℕ → Amount) (charges : List ℕ) → IsTree s.tree → Counted s charges → (p : ℕ) → p < length s.tree → asked_below s.tree setting (usage_of s) p ≤ usage_of s p
-asked_below-le s setting charges is counted p lt =
+pub children_min_usage-le : (s : Counts) (setting : ℕ → Amount) (charges : List ℕ) → IsTree s.tree → Counted s charges → (p : ℕ) → p < length s.tree → children_min_usage s.tree setting (usage_of s) p ≤ usage_of s p
+children_min_usage-le s setting charges is counted p lt =
     let less =
-    sum-le s.tree p (asked setting (usage_of s)) (λ c. count_by (λ x. under s.tree c x) charges) 0
+    sum-le s.tree p (min_usage setting (usage_of s)) (λ c. count_by (λ x. under s.tree c x) charges) 0
     (λ c from within child. let some = at_most-le (usage_of s c) (setting c) in let count = counted.counts c within in omega (arith, some, count)) in
     let all = count-children s.tree is p charges in
     let here = counted.counts p lt in
-    let children = ap (sum_by (asked setting (usage_of s))) (children-from s.tree p) in
+    let children = ap (sum_by (min_usage setting (usage_of s))) (children-from s.tree p) in
     omega (arith, less, all, here, children)
 
 -- what agrees at each group that is there asks for as much
-pub asked_below-same : (tree : List Node) (setting : ℕ → Amount) (f h : ℕ → ℕ) → ((a : ℕ) → a < length tree → f a ≡ h a) → (p : ℕ) → asked_below tree setting f p ≡ asked_below tree setting h p
-asked_below-same tree setting f h same p =
-    let least : (c : ℕ) → c < length tree → asked setting f c ≡ asked setting h c = λ c lt. ap (λ n. at_most n (setting c)) (same c lt) in
-    let less = sum-le tree p (asked setting f) (asked setting h) 0 (λ c from within child. let e = least c within in omega (arith, e)) in
-    let more = sum-le tree p (asked setting h) (asked setting f) 0 (λ c from within child. let e = least c within in omega (arith, e)) in
-    let left = ap (sum_by (asked setting f)) (children-from tree p) in
-    let right = ap (sum_by (asked setting h)) (children-from tree p) in
+pub children_min_usage-same : (tree : List Node) (setting : ℕ → Amount) (f h : ℕ → ℕ) → ((a : ℕ) → a < length tree → f a ≡ h a) → (p : ℕ) → children_min_usage tree setting f p ≡ children_min_usage tree setting h p
+children_min_usage-same tree setting f h same p =
+    let least : (c : ℕ) → c < length tree → min_usage setting f c ≡ min_usage setting h c = λ c lt. ap (λ n. at_most n (setting c)) (same c lt) in
+    let less = sum-le tree p (min_usage setting f) (min_usage setting h) 0 (λ c from within child. let e = least c within in omega (arith, e)) in
+    let more = sum-le tree p (min_usage setting h) (min_usage setting f) 0 (λ c from within child. let e = least c within in omega (arith, e)) in
+    let left = ap (sum_by (min_usage setting f)) (children-from tree p) in
+    let right = ap (sum_by (min_usage setting h)) (children-from tree p) in
     omega (arith, less, more, left, right)
 
 -- the sum has the terms of the children that are numbered below k
 abbrev pub IsSummed : Counts → ℕ → ℕ → ℕ → Type 0
-IsSummed s p k sum = sum + sum_from s.tree p (asked (min_of s.limits) (usage_of s)) k ≡ asked_below s.tree (min_of s.limits) (usage_of s) p
+IsSummed s p k sum = sum + sum_from s.tree p (min_usage (min_of s.limits) (usage_of s)) k ≡ children_min_usage s.tree (min_of s.limits) (usage_of s) p
 
 module _ (s : Counts) (p : ℕ) where
   pub IsSummed-start : IsSummed s p 0 0
-  IsSummed-start = let children = ap (sum_by (asked (min_of s.limits) (usage_of s))) (children-from s.tree p) in omega (arith, children)
+  IsSummed-start = let children = ap (sum_by (min_usage (min_of s.limits) (usage_of s))) (children-from s.tree p) in omega (arith, children)
 
   -- the term of the next child, as it is read from the tables
   pub IsSummed-child : (usage : List ℕ) (limits : Limits) (k sum n : ℕ) → IsCounters s → usage ≡ s.usage → k < length usage → is_child p (node_at s.tree k) ≡ true
@@ -204,8 +204,8 @@ module _ (s : Counts) (p : ℕ) where
       let len = ap length same in
       let limits_len = held.limits_length in
       let usage_len = held.usage_length in
-      let step = sum_from-child s.tree p (asked (min_of s.limits) (usage_of s)) k (omega (arith, len, usage_len, lt)) child in
-      let term : n ≡ asked (min_of s.limits) (usage_of s) k =
+      let step = sum_from-child s.tree p (min_usage (min_of s.limits) (usage_of s)) k (omega (arith, len, usage_len, lt)) child in
+      let term : n ≡ min_usage (min_of s.limits) (usage_of s) k =
       is ∙ ap (λ u. at_most (get_or u k 0) limits.min) same ∙ ap (λ l. at_most (get_or s.usage k 0) l.min) (read ∙ get_or_default s.limits k limits no_limits (omega (arith, len, limits_len, usage_len, lt))) in
       omega (arith, step, term, summed)
 
@@ -213,18 +213,18 @@ module _ (s : Counts) (p : ℕ) where
   IsSummed-other usage k sum held same lt other summed =
       let len = ap length same in
       let usage_len = held.usage_length in
-      let step = sum_from-other s.tree p (asked (min_of s.limits) (usage_of s)) k (omega (arith, len, usage_len, lt)) other in
+      let step = sum_from-other s.tree p (min_usage (min_of s.limits) (usage_of s)) k (omega (arith, len, usage_len, lt)) other in
       omega (arith, step, summed)
 
-  pub IsSummed-end : (usage : List ℕ) (k sum : ℕ) → IsCounters s → usage ≡ s.usage → length usage ≤ k → IsSummed s p k sum → sum ≡ asked_below s.tree (min_of s.limits) (usage_of s) p
+  pub IsSummed-end : (usage : List ℕ) (k sum : ℕ) → IsCounters s → usage ≡ s.usage → length usage ≤ k → IsSummed s p k sum → sum ≡ children_min_usage s.tree (min_of s.limits) (usage_of s) p
   IsSummed-end usage k sum held same end summed =
       let len = ap length same in
       let usage_len = held.usage_length in
-      let none = sum_from-end s.tree p (asked (min_of s.limits) (usage_of s)) k (omega (arith, len, usage_len, end)) in
+      let none = sum_from-end s.tree p (min_usage (min_of s.limits) (usage_of s)) k (omega (arith, len, usage_len, end)) in
       omega (arith, none, summed)
 
   -- no such sum is more than the group's count
   pub IsSummed-le : (k sum : ℕ) → IsCounters s → IsTree s.tree → p < length s.tree → IsSummed s p k sum → sum ≤ usage_of s p
   IsSummed-le k sum held is lt summed =
-      let most = asked_below-le s (min_of s.limits) held.charges is held.counted p lt in
+      let most = children_min_usage-le s (min_of s.limits) held.charges is held.counted p lt in
       omega (arith, most, summed)

@@ -1,7 +1,7 @@
 //! The counters of all groups.
 
 ghost use Rattle.std.specs.Prelude.{◌≡◌, ◌+◌, ◌<◌, ◌≤◌, ◌++◌, ◌∷◌, ℕ, List, [], length, slice_index, slice_set, Some, None, true, false, option_map, IfOk, OnOk, IfErr, OnErr, IsOk, IsSome};
-ghost use Rattle.machine.specs.Protection.{asked, asked_below, min_of};
+ghost use Rattle.machine.specs.Protection.{min_usage, children_min_usage, min_of};
 ghost use Rattle.machine.specs.Counts.{no_limits, limits_at, over_at};
 ghost use Rattle.machine.specs.Tree.{IsTree, IsAbove, node_at, is_live, has_children, share};
 ghost use Rattle.group_tree.specs.Lineages.{bare, IsLineage};
@@ -179,7 +179,7 @@ impl Counters {
     /// `min_usage` of a `struct page_counter`).
     pub fn min_usage(&self, group: GroupId) -> u64
         requires live { is_live self.now.tree group.0 ≡ true }
-        ensures { result ≡ asked (min_of self.now.limits) (usage_of self.now) group.0 }
+        ensures { result ≡ min_usage (min_of self.now.limits) (usage_of self.now) group.0 }
     {
         self.min(group).at_most(self.usage(group))
     }
@@ -188,7 +188,7 @@ impl Counters {
     /// `children_min_usage` of a `struct page_counter`).
     pub fn children_min_usage(&self, group: GroupId) -> u64
         requires live { is_live self.now.tree group.0 ≡ true }
-        ensures { result ≡ asked_below self.now.tree (min_of self.now.limits) (usage_of self.now) group.0 }
+        ensures { result ≡ children_min_usage self.now.tree (min_of self.now.limits) (usage_of self.now) group.0 }
     {
         self.lineage.is_lineage();
         let usage = self.usage.as_slice();

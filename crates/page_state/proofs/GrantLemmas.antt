@@ -9,14 +9,14 @@ use Rattle.group_tree.specs.Lineages.{IsLineage}
 use Rattle.group_tree.proofs.LineageLemmas.{live-within}
 use Rattle.frames.specs.Pool.{PoolOf}
 use Rattle.page_counter.specs.Counts.{Counts, usage_of, over_in}
-use Rattle.pages.specs.PageTable.{Stands}
+use Rattle.pages.specs.PagesOf.{Stands, pages_there, AreInFlight}
 use Rattle.page_state.specs.declared.holdings.Holdings.TheInside.{Inside}
 use Rattle.page_state.specs.Room.{TakesRoom}
 use Rattle.page_state.specs.Holdings.{over_of, IsGranted}
 use Rattle.page_state.specs.Owned.{holdings_of, IsHolding, IsCounted}
 use Rattle.page_state.proofs.BalanceLemmas.{taken-in}
 use Rattle.page_state.proofs.CountLemmas.{root-small, over-counted}
-use Rattle.page_state.proofs.HoldingLemmas.{used-split, going-least}
+use Rattle.page_state.proofs.HoldingLemmas.{there-owned, used-split, going-least}
 
 -- the group of a page is there
 pub stands-live : (c : Counts) (pages : Pages) (p g : ℕ) (r : Residence) → Stands pages p g r → IsCounted c pages → is_live c.tree g ≡ true
@@ -34,6 +34,15 @@ module _ (h : Inside) (is : IsHolding h) where
       let moving_room = is.moving_room in
       let tickets = is.tickets in
       (omega arith, omega arith, omega arith)
+
+  -- and a number is free for one
+  pub number-free : AreInFlight h.pages.pages h.pages.flights → 0 < length h.pool.free → pages_there h.pages.pages < h.pages.numbers
+  number-free in_flight some =
+      let owned = there-owned h.pages.pages in_flight.memory in
+      let frames = is.kept.frames.all in
+      let blocks = is.kept.blocks.all in
+      let numbers = is.numbers in
+      omega (arith, owned, frames, blocks, numbers, some)
 
   -- a page in a frame may come to be in transfer
   pub room-held : (p g f : ℕ) → Stands h.pages.pages p g (Held f) → (length h.moving.numbers < h.moving.room) × (0 < h.pages.tickets) × (0 < h.pool.spares)

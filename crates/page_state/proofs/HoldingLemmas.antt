@@ -1,6 +1,6 @@
--- The parts of the holdings go on to agree after one place in the table of pages changed.
+-- The parts of the holdings go on to agree after one page changed.
 use Rattle.std.proofs.Common.{◌≡◌, ◌≢◌, inl, inr, ℕ, zero, suc, ◌+◌, ◌<◌, ◌≤◌, ◌==◌, ◌&&◌, Bool, true, false, cond, List, [], ◌∷◌, ◌++◌, length, Option, Some, None, eq-eqb, refl, sym, ap, ◌∙◌, subst, arith}
-use Rattle.std.specs.Prelude.{min, IfSome, option_map, option_to_list}
+use Rattle.std.specs.Prelude.{IfSome, option_map, option_to_list}
 use Rattle.std.proofs.lemmas.Bool.{cases_Bool}
 use Rattle.std.proofs.lemmas.Bool.Decides.{eqb_tells}
 use Rattle.std.specs.List.{All}
@@ -10,18 +10,17 @@ use Rattle.std.proofs.lemmas.List.Sums.{sum_by-cons}
 use Rattle.machine.specs.declared.id.GroupId.{GroupId}
 use Rattle.machine.specs.declared.id.PageId.{PageId}
 use Rattle.machine.specs.Lists.{is_page_of}
-use Rattle.machine.specs.declared.record.Limits.{Limits}
 use Rattle.machine.specs.Slots.{at, Changes, there_and, count_there, any_there}
-use Rattle.machine.specs.Tree.{Node}
-use Rattle.machine.specs.Pages.{Residence, Held, Coming, Going, Away, Page, Pages, page_at, is_some_number, frame_at, block_at, ticket_at, is_number, is_held_at, in_transfer_at, has_frame, has_this_frame, has_swap, is_held, is_held_in, is_in_transfer, in_transfer, used_frames, is_ticket_taken}
+use Rattle.machine.specs.Pages.{Residence, Held, Coming, Going, Away, Page, Pages, page_at, is_some_number, frame_at, block_at, ticket_at, is_number, is_held_at, in_transfer_at, has_frame, has_this_frame, has_swap, is_held, is_held_in, is_in_transfer, in_transfer, used_frames, used_swap, is_ticket_taken}
 use Rattle.machine.proofs.SlotLemmas.{one_if, any_there-none, count_there-none}
 use Rattle.frames.specs.Pool.{PoolOf, free_count}
 use Rattle.block_store.specs.Slots.{SlotsOf, slot_count}
-use Rattle.page_counter.specs.Counts.{Counts}
+use Rattle.page_counter.specs.Counts.{Counts, SameGroups}
+use Rattle.pages.proofs.TableLemmas.{any-some}
 use Rattle.pages.specs.declared.flight.Flight.{Flight}
 use Rattle.pages.specs.declared.owned_page.OwnedPage.{OwnedPage}
 use Rattle.pages.specs.Records.{page_of}
-use Rattle.pages.specs.PageTable.{anon_page, Stands, is_under_ticket, AreInFlight}
+use Rattle.pages.specs.PagesOf.{pages_there, anon_page, Stands, is_under_ticket, AreInFlight}
 use Rattle.page_state.specs.declared.holdings.Holdings.TheInside.{Inside}
 use Rattle.page_state.specs.Queue.{QueueOf, HeldRoom, queue_of, numbers_of, page_count}
 use Rattle.page_state.specs.Holdings.{with_order}
@@ -146,19 +145,25 @@ block-out c pool slots pages p g r b stood is kept =
 
 -- ---- the holdings
 
--- one place changes, and each part with it
+-- what stays where a page changes
+pub record Stays (h h' : Inside) : Type 0 where
+  pub groups : SameGroups h.counters h'.counters
+  pub frames : h'.pool.frames ≡ h.pool.frames
+  pub blocks : h'.slots.blocks ≡ h.slots.blocks
+  pub numbers : h'.pages.numbers ≡ h.pages.numbers
+  pub held_room : h'.held.room ≡ h.held.room
+  pub moving_room : h'.moving.room ≡ h.moving.room
+
+-- one page changes, and each part with it
 pub record Moves (h h' : Inside) (p : ℕ) (from to : Option Page) : Type 0 where
   pub stood : page_at h.pages.pages p ≡ from
   pub changes : Changes h.pages.pages h'.pages.pages p to
   pub kept : AreKept h'.counters h'.pool h'.slots h'.pages.pages
-  pub frames : h'.pool.frames ≡ h.pool.frames
-  pub groups : h'.counters.tree ≡ h.counters.tree
+  pub stays : Stays h h'
   pub held : Relists is_held h.held.numbers h'.held.numbers p from to
   pub moving : Relists is_in_transfer h.moving.numbers h'.moving.numbers p from to
   pub held_groups : AreGrouped (queue_of h'.held) h'.pages.pages
   pub moving_groups : AreGrouped h'.moving h'.pages.pages
-  pub held_room : h'.held.room ≡ h.held.room
-  pub moving_room : h'.moving.room ≡ h.moving.room
   pub spares : h'.pool.spares + one_if (there_and is_going to) ≡ h.pool.spares + one_if (there_and is_going from)
   pub tickets : h'.pages.tickets + one_if (there_and is_in_transfer to) ≡ h.pages.tickets + one_if (there_and is_in_transfer from)
 
@@ -166,7 +171,9 @@ pub holding-step : (h h' : Inside) (p : ℕ) (from to : Option Page) → Moves h
 holding-step h h' p from to moves is =
     let going = changed-count is_going h.pages.pages h'.pages.pages p from to moves.stood moves.changes in
     let moving = changed-count is_in_transfer h.pages.pages h'.pages.pages p from to moves.stood moves.changes in
-    let frames = moves.frames in
+    let frames = moves.stays.frames in
+    let blocks = moves.stays.blocks in
+    let numbers = moves.stays.numbers in
     record {
       kept = moves.kept;
       few = (let few = is.few in omega (arith, few, frames));
@@ -174,9 +181,10 @@ holding-step h h' p from to moves is =
       moving = listed-step is_in_transfer h.moving.numbers h'.moving.numbers h.pages.pages h'.pages.pages p from to moves.stood moves.changes moves.moving is.moving;
       held_groups = moves.held_groups;
       moving_groups = moves.moving_groups;
-      held_room = (let room = ap (λ (r : HeldRoom). r.pages) moves.held_room in let fit = is.held_room in omega (arith, room, fit, frames));
-      held_counts = ap (λ (r : HeldRoom). r.groups) moves.held_room ∙ is.held_counts ∙ sym (ap length moves.groups);
-      moving_room = (let room = moves.moving_room in let fit = is.moving_room in omega (arith, room, fit, frames));
+      held_room = (let room = ap (λ (r : HeldRoom). r.pages) moves.stays.held_room in let fit = is.held_room in omega (arith, room, fit, frames));
+      held_counts = ap (λ (r : HeldRoom). r.groups) moves.stays.held_room ∙ is.held_counts ∙ sym (ap length moves.stays.groups.tree);
+      moving_room = (let room = moves.stays.moving_room in let fit = is.moving_room in omega (arith, room, fit, frames));
+      numbers = (let fit = is.numbers in omega (arith, fit, frames, blocks, numbers));
       spares = (let k = moves.spares in let before = is.spares in omega (arith, k, before, going, frames));
       tickets = (let k = moves.tickets in let before = is.tickets in omega (arith, k, before, moving, frames));
     }
@@ -226,6 +234,27 @@ going-least (slot ∷ pages) =
 pub not-going : (slot : Option Page) → there_and is_in_transfer slot ≡ false → one_if (there_and is_going slot) ≡ 0
 not-going slot settled = let less = going_slot slot in let none : one_if (there_and is_in_transfer slot) ≡ 0 = ap one_if settled in omega (arith, less, none)
 
+owned_at : (r : Residence) → 1 ≤ one_if (is_some_number (frame_at r)) + one_if (is_some_number (block_at r))
+owned_at (Held f) = omega arith
+owned_at (Coming f b n) = omega arith
+owned_at (Going f b n) = omega arith
+owned_at (Away b) = omega arith
+
+owned_slot : (slot : Option Page) → IfSome slot (λ page. page ≡ anon_page page.group page.residence) → one_if (there_and (λ page. true) slot) ≤ one_if (there_and has_frame slot) + one_if (there_and has_swap slot)
+owned_slot None memory = omega arith
+owned_slot (Some page) memory = subst (λ page. 1 ≤ one_if (has_frame page) + one_if (has_swap page)) (sym memory) (owned_at page.residence)
+
+-- each page has a frame or a swap block
+pub there-owned : (pages : Pages) → ((p : ℕ) → IfSome (page_at pages p) (λ page. page ≡ anon_page page.group page.residence)) → pages_there pages ≤ used_frames pages + used_swap pages
+there-owned [] memory = omega arith
+there-owned (slot ∷ pages) memory =
+    let there = sum_by-cons (λ (slot : Option Page). one_if (there_and (λ page. true) slot)) slot pages in
+    let used = sum_by-cons (λ (slot : Option Page). one_if (there_and has_frame slot)) slot pages in
+    let cut = sum_by-cons (λ (slot : Option Page). one_if (there_and has_swap slot)) slot pages in
+    let here = owned_slot slot (memory 0) in
+    let rest = there-owned pages (λ p. memory (suc p)) in
+    omega (arith, there, used, cut, here, rest)
+
 -- ---- where a page stands
 
 some_stands : (slot : Option Page) → IfSome slot (λ page. page ≡ anon_page page.group page.residence) → there_and is_held slot ≡ true → (g f : ℕ) × (slot ≡ Some (anon_page g (Held f)))
@@ -255,15 +284,8 @@ ticket-free pages flights n is free = any_there-none (λ page. is_number (ticket
 
 -- ---- views
 
-pub same-view : (h h' : Inside) → h'.counters.tree ≡ h.counters.tree → h'.counters.limits ≡ h.counters.limits → h'.counters.room ≡ h.counters.room → h'.pool.frames ≡ h.pool.frames → h'.slots.blocks ≡ h.slots.blocks → h'.held.room ≡ h.held.room
-    → holdings_of h' ≡ with_order (holdings_of h) (holdings_of h').stored (holdings_of h').held
-same-view h h' tree limits room frames blocks held =
-    ap (λ (t : List Node). record (holdings_of h') { kin = t }) tree
-    ∙ ap (λ (l : List Limits). record (holdings_of h') { kin = h.counters.tree; limits = l }) limits
-    ∙ ap (λ (n : ℕ). record (holdings_of h') { kin = h.counters.tree; limits = h.counters.limits; frames = n }) frames
-    ∙ ap (λ (n : ℕ). record (holdings_of h') { kin = h.counters.tree; limits = h.counters.limits; frames = h.pool.frames; swap = n }) blocks
-    ∙ ap (λ (n : ℕ). record (holdings_of h') { kin = h.counters.tree; limits = h.counters.limits; frames = h.pool.frames; swap = h.slots.blocks; room = min n h'.held.room.more }) room
-    ∙ ap (λ (r : HeldRoom). record (holdings_of h') { kin = h.counters.tree; limits = h.counters.limits; frames = h.pool.frames; swap = h.slots.blocks; room = min h.counters.room r.more }) held
+pub same-view : (h h' : Inside) → Stays h h' → holdings_of h' ≡ with_order (holdings_of h) (holdings_of h').stored (holdings_of h').held
+same-view h h' stays = rw (stays.groups.tree, stays.groups.limits, stays.groups.room, stays.frames, stays.blocks, stays.numbers, stays.held_room) refl
 
 -- ---- what pages own, one after the other
 
@@ -301,6 +323,7 @@ holding-counted h d n m counted sized is =
       held_room = is.held_room;
       moving_room = is.moving_room;
       held_counts = sized;
+      numbers = is.numbers;
       spares = is.spares;
       tickets = is.tickets;
     }
@@ -321,18 +344,9 @@ any-listed test more xs pages listed none = any_there-none (λ page. test page &
     fails : (p : ℕ) → there_and (λ page. test page && more page) (at pages p) ≡ false
     fails p = both (at pages p) (λ one. none p (let k = listed.once p in omega (arith, k, one)))
 
-pub any-at : (test : Page → Bool) (pages : Pages) (p : ℕ) → there_and test (page_at pages p) ≡ true → any_there test pages ≡ true
-any-at test [] p e = cc
-any-at test (slot ∷ pages) zero e = rw e
-any-at test (slot ∷ pages) (suc p) e =
-    elim (cases_Bool (there_and test slot)) [
-      | inl so ↦ rw so
-      | inr not_so ↦ rw not_so (any-at test pages p e)
-    ]
-
 pub listed-any : (test more : Page → Bool) (xs : List ℕ) (pages : Pages) (p : ℕ) → AreListed test xs pages → 1 ≤ page_count xs p → there_and more (page_at pages p) ≡ true → any_there (λ page. test page && more page) pages ≡ true
 listed-any test more xs pages p listed some passes =
-    any-at (λ page. test page && more page) pages p (both (page_at pages p) (let k = listed.once p in omega (arith, k, some)) passes)
+    any-some (λ page. test page && more page) pages p (both (page_at pages p) (let k = listed.once p in omega (arith, k, some)) passes)
   where
     both : (slot : Option Page) → 1 ≤ one_if (there_and test slot) → there_and more slot ≡ true → there_and (λ page. test page && more page) slot ≡ true
     both None one passes = passes

@@ -12,7 +12,7 @@ use Rattle.machine.specs.Step.{new_node}
 use Rattle.machine.proofs.CursorLemmas.{cursors-push}
 use Rattle.group_tree.specs.Kin.{AreKin}
 use Rattle.group_tree.specs.Lineages.{bare, IsLineage}
-use Rattle.events.specs.Tallies.{Tallies}
+use Rattle.memory_events.specs.Tallies.{Tallies}
 use Rattle.reclaim.specs.Cursors.{CursorsOf}
 use Rattle.spaces.specs.Space.{Space}
 use Rattle.page_state.specs.declared.joined.State.TheInside.{Inside}
@@ -27,10 +27,10 @@ use Rattle.page_state.proofs.OrderLemmas.{goes-on-listed, goes-on-still}
 
 -- pages changed, and what shows them with them; the cursors of as many groups, and no group
 pub joined-pages : (s : Inside) → IsJoined s → (h : HoldingsOf) (cursors : CursorsOf) (spaces : Space) → h ≡ with_order s.holdings h.stored h.held
-    → AreMapped h.stored.pages spaces.tasks spaces.mappings → ((t : ℕ) → lives spaces.tasks t ≡ true → is_live s.tree (group_of_task spaces.tasks t) ≡ true)
+    → AreMapped h.stored.pages spaces.page_tables → spaces.numbers ≡ s.spaces.numbers → ((t : ℕ) → lives spaces.tasks t ≡ true → is_live s.tree (group_of_task spaces.tasks t) ≡ true)
     → GoesOn s.holdings.stored.pages s.holdings.held h.stored.pages h.held → length cursors.cursors ≡ length s.cursors.cursors
     → IsJoined (record s { holdings = h; cursors = cursors; spaces = spaces })
-joined-pages s is h cursors spaces same mapped homes goes numbered =
+joined-pages s is h cursors spaces same mapped numbers homes goes numbered =
     record {
       sized = is.sized;
       frames = ap (λ (h : HoldingsOf). h.frames) same ∙ is.frames;
@@ -38,25 +38,44 @@ joined-pages s is h cursors spaces same mapped homes goes numbered =
       held_kin = subst (λ (k : List Node). AreKin k s.tree) (sym (ap (λ (h : HoldingsOf). h.kin) same)) is.held_kin;
       counted_kin = is.counted_kin;
       mapped = mapped;
+      numbers = numbers ∙ is.numbers ∙ sym (ap (λ (h : HoldingsOf). h.numbers) same);
       homes = homes;
       listed = goes-on-listed _ _ _ _ goes;
       cursors = numbered ∙ is.cursors;
+    }
+
+-- tasks began or ended, and what they map is what was mapped
+pub joined-tasks : (s : Inside) → IsJoined s → (spaces : Space) → AreMapped s.holdings.stored.pages spaces.page_tables → spaces.numbers ≡ s.spaces.numbers
+    → ((t : ℕ) → lives spaces.tasks t ≡ true → is_live s.tree (group_of_task spaces.tasks t) ≡ true) → IsJoined (record s { spaces = spaces })
+joined-tasks s is spaces mapped numbers homes =
+    record {
+      sized = is.sized;
+      frames = is.frames;
+      swap = is.swap;
+      held_kin = is.held_kin;
+      counted_kin = is.counted_kin;
+      mapped = mapped;
+      numbers = numbers ∙ is.numbers;
+      homes = homes;
+      listed = is.listed;
+      cursors = is.cursors;
     }
 
 -- a group more, below one that is there
 pub joined-group : (s : Inside) → IsJoined s → (path : List ℕ) (parent : ℕ) → find_group s.tree (parent_path path) ≡ Some parent
     → (tree : List Node) (h : HoldingsOf) (cursors : CursorsOf) (events : Tallies) → tree ≡ s.tree ++ new_node s.tree path ∷ []
     → h.kin ≡ s.holdings.kin ++ bare (Some parent) ∷ [] → events.tree ≡ s.events.tree ++ bare (Some parent) ∷ []
-    → h.stored ≡ s.holdings.stored → h.held ≡ s.holdings.held → h.frames ≡ s.holdings.frames → h.swap ≡ s.holdings.swap
+    → h.stored ≡ s.holdings.stored → h.held ≡ s.holdings.held → h.frames ≡ s.holdings.frames → h.swap ≡ s.holdings.swap → h.numbers ≡ s.holdings.numbers
     → cursors.cursors ≡ s.cursors.cursors ++ None ∷ [] → IsJoined (record s { tree = tree; holdings = h; cursors = cursors; events = events })
-joined-group s is path parent found tree h cursors events more kin counted stored held frames swap numbered =
+joined-group s is path parent found tree h cursors events more kin counted stored held frames swap numbers numbered =
     record {
       sized = is.sized;
       frames = frames ∙ is.frames;
       swap = swap ∙ is.swap;
+      numbers = is.numbers ∙ sym numbers;
       held_kin = rw (kin, more) (kin-push s.holdings.kin s.tree parent (new_node s.tree path) is.held_kin found refl);
       counted_kin = rw (counted, more) (kin-push s.events.tree s.tree parent (new_node s.tree path) is.counted_kin found refl);
-      mapped = subst (λ (ps : Pages). AreMapped ps s.spaces.tasks s.spaces.mappings) (sym (ap (λ (st : Stored). st.pages) stored)) is.mapped;
+      mapped = subst (λ (ps : Pages). AreMapped ps s.spaces.page_tables) (sym (ap (λ (st : Stored). st.pages) stored)) is.mapped;
       homes = λ t alive. rw more (live-push s.tree (new_node s.tree path) (group_of_task s.spaces.tasks t) (is.homes t alive));
       listed = goes-on-listed _ _ _ _ (goes-on-still _ _ _ _ is.listed (ap (λ (st : Stored). st.pages) stored) held);
       cursors = rw more (cursors-push s.tree (new_node s.tree path) s.cursors.cursors cursors.cursors is.cursors numbered);

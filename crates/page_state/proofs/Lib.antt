@@ -16,4 +16,5 @@ pub mod DropLemmas
 pub mod MappedLemmas
 pub mod JoinLemmas
 pub mod EndingLemmas
+pub mod UnmapLemmas
 pub mod TakeLemmas

@@ -14,7 +14,7 @@ use Rattle.machine.specs.Amounts.{exceeds}
 use Rattle.machine.specs.Slots.{there_and, any_there}
 use Rattle.machine.specs.Tree.{Node, IsTree, is_live, under}
 use Rattle.machine.specs.Pages.{Page, Pages, page_at, is_anon, is_held, is_held_in, charged, used_swap}
-use Rattle.machine.specs.Protection.{effective, min_of, opens}
+use Rattle.machine.specs.Protection.{effective, min_of, is_unprotected_in}
 use Rattle.machine.specs.Order.{asking_order, served_by, cursor_at}
 use Rattle.machine.specs.Lists.{is_page_of}
 use Rattle.machine.proofs.SlotLemmas.{any_there-none, count_there-none}
@@ -24,8 +24,8 @@ use Rattle.group_tree.specs.Kin.{AreKin}
 use Rattle.group_tree.proofs.LineageLemmas.{live-within}
 use Rattle.page_counter.specs.Counts.{usage_of}
 use Rattle.protection.proofs.CallerLemmas.{effective-same}
-use Rattle.pages.specs.PageTable.{anon_page}
-use Rattle.reclaim.specs.Pass.{AreHeld, is_open, oldest_of, gives, GivesNone}
+use Rattle.pages.specs.PagesOf.{anon_page}
+use Rattle.reclaim.specs.Pass.{AreHeld, is_unprotected, oldest_of, gives, GivesNone}
 use Rattle.reclaim.proofs.PassLemmas.{found-passes, counted-found, asked-order}
 use Rattle.page_state.specs.declared.holdings.Holdings.TheInside.{Inside}
 use Rattle.page_state.specs.Queue.{QueueOf, numbers_of, page_count, queue_of}
@@ -34,7 +34,8 @@ use Rattle.page_state.specs.Owned.{holdings_of, AreGrouped, AreListed, IsHolding
 use Rattle.page_state.proofs.OrderLemmas.{some_is}
 use Rattle.page_state.proofs.KinLemmas.{kin-charged}
 use Rattle.page_state.proofs.QueueLemmas.{count-at, at-counted, any_counts, counts_any}
-use Rattle.page_state.proofs.HoldingLemmas.{any-listed, listed-any, any-at}
+use Rattle.pages.proofs.TableLemmas.{any-some}
+use Rattle.page_state.proofs.HoldingLemmas.{any-listed, listed-any}
 
 -- ---- tests over lists
 
@@ -141,7 +142,7 @@ module _ (h : Inside) (is : IsHolding h) (tree : List Node) (are : AreKin h.coun
         → effective false tree (min_of h.counters.limits) (usage_of h.counters) target g ≡ effective false tree (min_of h.counters.limits) (charged tree h.pages.pages) target g
     effective-charged g live differs below = effective-same tree order target false (min_of h.counters.limits) (usage_of h.counters) (charged tree h.pages.pages) usages g (live-within tree g live) differs below
 
-    open-same : (g : ℕ) → is_live tree g ≡ true → under tree target g ≡ true → opens false tree h.counters.limits (charged tree h.pages.pages) target g ≡ is_open tree h.counters target g
+    open-same : (g : ℕ) → is_live tree g ≡ true → under tree target g ≡ true → is_unprotected_in false tree h.counters.limits (charged tree h.pages.pages) target g ≡ is_unprotected tree h.counters target g
     open-same g live below =
         elim (eq_cases g target) [
           | inl same ↦
@@ -158,7 +159,7 @@ module _ (h : Inside) (is : IsHolding h) (tree : List Node) (are : AreKin h.coun
 
       -- the page stands in a frame, and its group is open to the target
       abbrev is_taken : Page → Bool
-      is_taken page = is_held page && (under tree target page.group && is_open tree h.counters target page.group)
+      is_taken page = is_held page && (under tree target page.group && is_unprotected tree h.counters target page.group)
 
       takes-slot : (p : ℕ) → there_and (takes (holdings_of h) tree target) (page_at h.pages.pages p) ≡ (free && there_and is_taken (page_at h.pages.pages p))
       takes-slot p = by_slot (page_at h.pages.pages p) (memory p) (live_at p)
@@ -178,16 +179,16 @@ module _ (h : Inside) (is : IsHolding h) (tree : List Node) (are : AreKin h.coun
           by_slot None anon live = sym (and_right free false refl)
           by_slot (Some page) anon live =
               let swaps : (not (is_anon page.content) || free) ≡ free = ap (λ (x : Page). not (is_anon x.content) || free) anon in
-              ap (λ b. ((is_held page && under tree target page.group) && opens false tree h.counters.limits (charged tree h.pages.pages) target page.group) && b) swaps
-              ∙ shuffle (is_held page) (under tree target page.group) (opens false tree h.counters.limits (charged tree h.pages.pages) target page.group) (is_open tree h.counters target page.group) free (open-same page.group live)
+              ap (λ b. ((is_held page && under tree target page.group) && is_unprotected_in false tree h.counters.limits (charged tree h.pages.pages) target page.group) && b) swaps
+              ∙ shuffle (is_held page) (under tree target page.group) (is_unprotected_in false tree h.counters.limits (charged tree h.pages.pages) target page.group) (is_unprotected tree h.counters target page.group) free (open-same page.group live)
 
       -- a group below the target gives one, by the table and by the queue
       gives-same : (counts : List ℕ) → AreHeld counts h.held.entries → (g : ℕ) → is_live tree g ≡ true → under tree target g ≡ true → gives_of (holdings_of h) tree target g ≡ gives tree h.counters counts free target g
       gives-same counts counted g live below =
-          any_both (λ page. is_held page && (page.group == g)) (λ page. (page.group == g) && takes (holdings_of h) tree target page) (free && is_open tree h.counters target g) h.pages.pages
+          any_both (λ page. is_held page && (page.group == g)) (λ page. (page.group == g) && takes (holdings_of h) tree target page) (free && is_unprotected tree h.counters target g) h.pages.pages
           (λ p. by_slot (page_at h.pages.pages p) (takes-slot p))
-          ∙ regroup free (is_open tree h.counters target g) (any_there (λ page. is_held page && (page.group == g)) h.pages.pages)
-          ∙ ap (λ b. free && (is_open tree h.counters target g && b))
+          ∙ regroup free (is_unprotected tree h.counters target g) (any_there (λ page. is_held page && (page.group == g)) h.pages.pages)
+          ∙ ap (λ b. free && (is_unprotected tree h.counters target g && b))
           (sym (any-entries is_held (λ x. x == g) (queue_of h.held) h.pages.pages is.held is.held_groups) ∙ any-counted (λ (entry : GroupId × PageId). entry.0.0 == g) h.held.entries ∙ sym (ap (nat_lt 0) (counted g)))
         where
           regroup : (a b c : Bool) → ((a && b) && c) ≡ (a && (b && c))
@@ -203,16 +204,16 @@ module _ (h : Inside) (is : IsHolding h) (tree : List Node) (are : AreKin h.coun
           own_bits t false o b e = absurd cc
 
           by_test : (page : Page) (e : Bool) → (page.group == g) ≡ e → takes (holdings_of h) tree target page ≡ (free && is_taken page)
-              → (e && takes (holdings_of h) tree target page) ≡ ((free && is_open tree h.counters target g) && (is_held page && e))
+              → (e && takes (holdings_of h) tree target page) ≡ ((free && is_unprotected tree h.counters target g) && (is_held page && e))
           by_test page true own is_so =
               let same : page.group ≡ g = grind (arith, nat_tests, own) in
-              is_so ∙ ap (λ x. free && (is_held page && (under tree target x && is_open tree h.counters target x))) same
-              ∙ own_bits (is_held page) (under tree target g) (is_open tree h.counters target g) free below
-          by_test page false own is_so = sym (ap (λ b. (free && is_open tree h.counters target g) && b) (and_right (is_held page) false refl) ∙ and_right (free && is_open tree h.counters target g) false refl)
+              is_so ∙ ap (λ x. free && (is_held page && (under tree target x && is_unprotected tree h.counters target x))) same
+              ∙ own_bits (is_held page) (under tree target g) (is_unprotected tree h.counters target g) free below
+          by_test page false own is_so = sym (ap (λ b. (free && is_unprotected tree h.counters target g) && b) (and_right (is_held page) false refl) ∙ and_right (free && is_unprotected tree h.counters target g) false refl)
 
           by_slot : (slot : Option Page) → there_and (takes (holdings_of h) tree target) slot ≡ (free && there_and is_taken slot)
-              → there_and (λ page. (page.group == g) && takes (holdings_of h) tree target page) slot ≡ ((free && is_open tree h.counters target g) && there_and (λ page. is_held page && (page.group == g)) slot)
-          by_slot None is_so = sym (and_right (free && is_open tree h.counters target g) false refl)
+              → there_and (λ page. (page.group == g) && takes (holdings_of h) tree target page) slot ≡ ((free && is_unprotected tree h.counters target g) && there_and (λ page. is_held page && (page.group == g)) slot)
+          by_slot None is_so = sym (and_right (free && is_unprotected tree h.counters target g) false refl)
           by_slot (Some page) is_so = by_test page (page.group == g) refl is_so
 
       module _ (groups : IsGroupTree tree) (live : is_live tree target ≡ true) (counts : List ℕ) (counted : AreHeld counts h.held.entries) (last : Option ℕ) (group : Option GroupId)
@@ -239,7 +240,7 @@ module _ (h : Inside) (is : IsHolding h) (tree : List Node) (are : AreKin h.coun
             fails p page there alive passes =
                 let below = (and_parts (is_held page) (under tree target page.group) (and_parts (is_held page && under tree target page.group) _ (and_parts _ _ passes).0).0).1 in
                 let own : (page.group == page.group) ≡ true = grind (arith, nat_tests) in
-                let given = any-at (λ (x : Page). (x.group == page.group) && takes (holdings_of h) tree target x) h.pages.pages p
+                let given = any-some (λ (x : Page). (x.group == page.group) && takes (holdings_of h) tree target x) h.pages.pages p
                 (ap (there_and (λ (x : Page). (x.group == page.group) && takes (holdings_of h) tree target x)) there ∙ and_from (page.group == page.group) (takes (holdings_of h) tree target page) own passes) in
                 let told = sym (gives-same counts counted page.group alive below) ∙ given in
                 let wrong : true ≡ false = sym told ∙ none page.group alive below in
@@ -297,7 +298,7 @@ module _ (h : Inside) (is : IsHolding h) (memory : (p : ℕ) → IfSome (page_at
   -- what a page that may be taken says of its group
   record MayGive (tree : List Node) : Type 0 where
     pub below : under tree target g ≡ true
-    pub opened : opens false tree h.counters.limits (charged tree h.pages.pages) target g ≡ true
+    pub opened : is_unprotected_in false tree h.counters.limits (charged tree h.pages.pages) target g ≡ true
     pub room : nat_lt (used_swap h.pages.pages) h.slots.blocks ≡ true
 
   abbrev gives_page : List Node → Page → Bool
@@ -324,7 +325,7 @@ module _ (h : Inside) (is : IsHolding h) (memory : (p : ℕ) → IfSome (page_at
           let opened = and_parts (is_held page && under tree target page.group) _ swaps.0 in
           record {
             below = ap (under tree target) (sym same) ∙ (and_parts (is_held page) _ opened.0).1;
-            opened = ap (opens false tree h.counters.limits (charged tree h.pages.pages) target) (sym same) ∙ opened.1;
+            opened = ap (is_unprotected_in false tree h.counters.limits (charged tree h.pages.pages) target) (sym same) ∙ opened.1;
             room = sym (ap (λ (x : Page). not (is_anon x.content) || nat_lt (used_swap h.pages.pages) h.slots.blocks) anon) ∙ swaps.1;
           }
 
@@ -367,7 +368,7 @@ module _ (h : Inside) (is : IsHolding h) (memory : (p : ℕ) → IfSome (page_at
           let same : page.group ≡ g = grind (arith, nat_tests, own) in
           let swaps = ap (λ (x : Page). not (is_anon x.content) || nat_lt (used_swap h.pages.pages) h.slots.blocks) anon ∙ may.room in
           and_from _ (not (is_anon page.content) || nat_lt (used_swap h.pages.pages) h.slots.blocks)
-          (and_from (is_held page && under tree target page.group) (opens false tree h.counters.limits (charged tree h.pages.pages) target page.group)
+          (and_from (is_held page && under tree target page.group) (is_unprotected_in false tree h.counters.limits (charged tree h.pages.pages) target page.group)
           (and_from (is_held page) (under tree target page.group) held (ap (under tree target) same ∙ may.below))
-          (ap (opens false tree h.counters.limits (charged tree h.pages.pages) target) same ∙ may.opened))
+          (ap (is_unprotected_in false tree h.counters.limits (charged tree h.pages.pages) target) same ∙ may.opened))
           swaps

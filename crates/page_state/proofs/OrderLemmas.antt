@@ -1,5 +1,5 @@
 -- The held pages go on in their order, over one change and over several.
-use Rattle.std.proofs.Common.{◌≡◌, ◌≢◌, inl, inr, ℕ, ◌≤◌, ◌==◌, ◌&&◌, ◌||◌, not, Bool, true, false, cond, List, [], ◌∷◌, ◌++◌, length, get_or, append-nil, Option, None, eq-eqb, ne_eqb, refl, sym, ap, ◌∙◌, subst, arith}
+use Rattle.std.proofs.Common.{◌≡◌, ◌≢◌, inl, inr, ℕ, ◌≤◌, ◌==◌, ◌&&◌, ◌||◌, not, Bool, true, false, cond, List, [], ◌∷◌, ◌++◌, length, get_or, append-nil, Option, eq-eqb, ne_eqb, refl, sym, ap, ◌∙◌, subst, arith}
 use Rattle.std.specs.List.{All, filter, list_any}
 use Rattle.std.proofs.lemmas.Bool.{and_parts, and_right}
 use Rattle.std.proofs.lemmas.Bool.Decides.{nat_tests}
@@ -10,8 +10,9 @@ use Rattle.machine.specs.Pages.{Page, Pages, page_at, is_held, is_held_in}
 use Rattle.machine.specs.Lists.{ListsHeld, GoesOn}
 use Rattle.machine.proofs.TreeLemmas.{eq_cases}
 use Rattle.page_state.specs.States.{StateOf}
-use Rattle.page_state.specs.Holdings.{Stored}
-use Rattle.page_state.specs.Drops.{DropsPages}
+use Rattle.machine.specs.Tasks.{PageTables}
+use Rattle.machine.specs.Step.{still}
+use Rattle.page_state.proofs.MappedLemmas.{still-less}
 use Rattle.page_state.specs.Owned.{as_number}
 use Rattle.page_state.proofs.QueueLemmas.{number-at}
 
@@ -206,14 +207,6 @@ goes-on-held before after xs ys on =
     let q : ℕ = get_or on.fresh k d in
     (and_parts (is_held_in after q) (not (is_held_in before q)) (sym (on.which q) ∙ list_any_at (λ n. n == q) on.fresh k d lt (eq-eqb q q refl))).0))
 
--- where pages went, no page came to be held
-pub dropped-less : (old new : Stored) (gone : ℕ → Bool) → DropsPages old new gone → (p : ℕ) → is_held_in new.pages p ≡ true → is_held_in old.pages p ≡ true
-dropped-less old new gone drops p held = by_gone (gone p) (page_at old.pages p) (sym (ap (there_and is_held) (drops.pages p)) ∙ held)
-  where
-    by_gone : (b : Bool) (slot : Option Page) → there_and is_held (cond b None slot) ≡ true → there_and is_held slot ≡ true
-    by_gone true slot e = absurd cc
-    by_gone false slot e = e
-
 -- each page in the order is held
 abbrev pub InOrder : StateOf → Type 0
 InOrder c = filter (is_held_in c.tables.pages) c.order.held ≡ c.order.held
@@ -233,17 +226,13 @@ goes-on-still before after xs ys listed same_pages same_list =
     (record { fresh = []; few = omega arith; which = λ p. never (is_held_in before p); list = sym (append-nil (filter (is_held_in before) xs) ∙ listed) })
 
 -- the second change lets go of one page at most
-pub goes-on-let_go : (before between after : Pages) (xs ys zs : List ℕ) (p : ℕ) (gone : Bool) → GoesOn before xs between ys → Changes between after p (cond gone None (page_at between p)) → GoesOn between ys after zs
+pub goes-on-let_go : (before between after : Pages) (xs ys zs : List ℕ) (p : ℕ) (tables : PageTables) → GoesOn before xs between ys → Changes between after p (still tables p (page_at between p)) → GoesOn between ys after zs
     → GoesOn before xs after zs
-goes-on-let_go before between after xs ys zs p gone first changes second = goes-on-then before between after xs ys zs first second fewer
+goes-on-let_go before between after xs ys zs p tables first changes second = goes-on-then before between after xs ys zs first second fewer
   where
-    at_most : (b : Bool) (slot : Option Page) → there_and is_held (cond b None slot) ≡ true → there_and is_held slot ≡ true
-    at_most true slot e = absurd (cc)
-    at_most false slot e = e
-
     fewer : (q : ℕ) → is_held_in after q ≡ true → is_held_in between q ≡ true
     fewer q e =
         elim (eq_cases q p) [
-          | inl same ↦ ap (is_held_in between) same ∙ at_most gone (page_at between p) (sym (ap (there_and is_held) changes.changed) ∙ sym (ap (is_held_in after) same) ∙ e)
+          | inl same ↦ ap (is_held_in between) same ∙ still-less tables p is_held (page_at between p) (sym (ap (there_and is_held) changes.changed) ∙ sym (ap (is_held_in after) same) ∙ e)
           | inr other ↦ sym (ap (there_and is_held) (changes.others q other)) ∙ e
         ]

@@ -7,7 +7,7 @@ use Rattle.block_store.specs.Slots.{SlotsOf, slot_count}
 use Rattle.page_counter.specs.Counts.{Counts, IsOut}
 use Rattle.pages.specs.declared.owned_page.OwnedPage.{OwnedPage}
 use Rattle.pages.specs.Records.{page_of}
-use Rattle.pages.specs.PageTable.{Stands, anon_page}
+use Rattle.pages.specs.PagesOf.{Stands, anon_page}
 use Rattle.page_state.specs.Owned.{Leaves}
 use Rattle.page_state.proofs.CountLemmas.{page-out}
 use Rattle.page_state.proofs.HoldingLemmas.{frame-out, block-out}

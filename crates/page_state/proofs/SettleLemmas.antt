@@ -1,9 +1,9 @@
 -- Transfers end: a page is in its frame, or on its block alone.
-use Rattle.std.proofs.Common.{◌≡◌, ◌≢◌, ℕ, ◌+◌, ◌<◌, ◌==◌, ◌&&◌, true, false, length, Option, Some, None, eq-eqb, refl, sym, ap, subst, arith}
+use Rattle.std.proofs.Common.{◌≡◌, ◌≢◌, ℕ, ◌+◌, ◌<◌, ◌==◌, ◌&&◌, true, false, List, length, Option, Some, eq-eqb, refl, sym, ap, ◌∙◌, subst, arith}
 use Rattle.machine.specs.declared.id.GroupId.{GroupId}
 use Rattle.machine.specs.declared.id.PageId.{PageId}
 use Rattle.machine.specs.Slots.{Changes}
-use Rattle.machine.specs.Tree.{under, IsTree}
+use Rattle.machine.specs.Tree.{is_live, under, IsTree}
 use Rattle.machine.specs.Pages.{Held, Away, Page, Pages, frame_at, block_at, is_number, is_some_number, is_held_at, in_transfer_at, is_held, is_in_transfer}
 use Rattle.machine.proofs.SlotLemmas.{one_if}
 use Rattle.frames.specs.Pool.{PoolOf, free_count}
@@ -11,10 +11,10 @@ use Rattle.block_store.specs.Slots.{SlotsOf, slot_count}
 use Rattle.page_counter.specs.Counts.{Counts, Charges, SameGroups, IsOut}
 use Rattle.pages.specs.declared.end.End.{End}
 use Rattle.pages.specs.declared.end.End.TheVariants.{InFrame, OnBlock}
-use Rattle.pages.specs.declared.flight.Direction.{Direction}
-use Rattle.pages.specs.declared.flight.Direction.TheVariants.{In, Out}
-use Rattle.pages.specs.PageTable.{Stands, anon_page, byte_in, moving}
-use Rattle.pages.specs.Transfers.{residence_after}
+use Rattle.machine.specs.declared.record.Direction.{Direction}
+use Rattle.machine.specs.declared.record.Direction.TheVariants.{In, Out}
+use Rattle.pages.specs.PagesOf.{Stands, anon_page, byte_in, moving}
+use Rattle.pages.specs.Transfers.{residence_after, Ends}
 use Rattle.page_state.specs.declared.holdings.Holdings.TheInside.{Inside}
 use Rattle.page_state.specs.Queue.{HeldOf, queue_of}
 use Rattle.page_state.specs.Relists.{JoinsAtEnd, LeavesQueue}
@@ -23,9 +23,9 @@ use Rattle.page_state.specs.Holdings.{Settles, StayInOrder}
 use Rattle.page_state.specs.Owned.{holdings_of, is_leaving_at, AreKept, AreGrouped, IsHolding}
 use Rattle.page_state.proofs.CountLemmas.{uncharge-usage, page-out}
 use Rattle.page_state.proofs.EntryLemmas.{grouped-same, grouped-in, grouped-out}
-use Rattle.page_state.proofs.HoldingLemmas.{Relists, kept-step, frame-out, block-out, holding-step, relists-same, relists-in, relists-out, not-going, same-view}
+use Rattle.page_state.proofs.HoldingLemmas.{Relists, Stays, kept-step, frame-out, block-out, holding-step, relists-same, relists-in, relists-out, not-going, same-view}
 use Rattle.page_state.proofs.OrderLemmas.{listed-held, goes-on-at, goes-on-in}
-use Rattle.page_state.proofs.GrantLemmas.{stands-live}
+use Rattle.page_state.proofs.GrantLemmas.{stands-live, room-moving, group-counted}
 
 -- a page in transfer has a frame and a block, and is not held
 pub moving-is : (d : Direction) (f b n : ℕ)
@@ -100,10 +100,10 @@ pub record Lands (h h' : Inside) (p g f b n : ℕ) (d : Direction) (end : End) (
   pub stood : Stands h.pages.pages p g (moving d f b n)
   pub same : entry.1.0 ≡ p
   pub owned : entry.0.0 ≡ g
-  pub placed : Changes h.pages.pages h'.pages.pages p (Some (anon_page g (residence_after end f b)))
-  pub unlisted : Changes h.pages.flights h'.pages.flights n None
-  pub tickets : h'.pages.tickets ≡ h.pages.tickets + 1
-  pub bytes : (q o : ℕ) → q ≢ p → byte_in h'.pages.bytes q o ≡ byte_in h.pages.bytes q o
+  -- the bytes as the transfer ends
+  pub filled : List (Option (List ℕ))
+  pub others : (q o : ℕ) → q ≢ p → byte_in filled q o ≡ byte_in h.pages.bytes q o
+  pub ended : Ends (record (h.pages) { bytes = filled }) h'.pages p g f b n end
   pub kept : AreKept h'.counters h'.pool h'.slots h'.pages.pages
   pub groups : SameGroups h.counters h'.counters
   pub frames : h'.pool.frames ≡ h.pool.frames
@@ -111,6 +111,13 @@ pub record Lands (h h' : Inside) (p g f b n : ℕ) (d : Direction) (end : End) (
   pub blocks : h'.slots.blocks ≡ h.slots.blocks
   pub held : JoinsAtEnd end h.held h'.held entry
   pub moving : LeavesQueue h.moving h'.moving entry.1.0
+
+-- the page that is settled may be held again, in its group
+pub relist-fits : (h : Inside) → IsHolding h → (d : Direction) (p g f b n x : ℕ) → Stands h.pages.pages p g (moving d f b n) → x ≡ g → (length h.held.numbers < h.held.room.pages) × (x < h.held.room.groups)
+relist-fits h is d p g f b n x stood same = (
+  room-moving h is p g (moving d f b n) stood (moving-is d f b n).2,
+  group-counted h is x (subst (λ y. is_live h.counters.tree y ≡ true) (sym same) (stands-live h.counters h.pages.pages p g (moving d f b n) stood is.kept.counted)),
+)
 
 -- where a page is after its transfer it is in none
 still : (end : End) (f b : ℕ) → in_transfer_at (residence_after end f b) ≡ false
@@ -128,37 +135,37 @@ module _ (h h' : Inside) (is : IsHolding h) (p g f b n : ℕ) (d : Direction) (e
   held-lands : (end : End) → Lands h h' p g f b n d end entry → Relists is_held h.held.numbers h'.held.numbers p from (to end) × AreGrouped (queue_of h'.held) h'.pages.pages × (h'.held.room ≡ h.held.room)
   held-lands InFrame lands = (
     relists-in is_held h.held.numbers h'.held.numbers entry.1.0 p from (to InFrame) lands.same (moving-is d f b n).3 refl lands.held.counts lands.held.more,
-    grouped-in (queue_of h.held) h.pages.pages h'.pages.pages p from (to InFrame) lands.stood lands.placed is.held_groups (queue_of h'.held) entry lands.held.entries lands.held.numbers lands.same (eq-eqb g entry.0.0 (sym lands.owned)) (λ x listed own. own),
+    grouped-in (queue_of h.held) h.pages.pages h'.pages.pages p from (to InFrame) lands.stood lands.ended.placed is.held_groups (queue_of h'.held) entry lands.held.entries lands.held.numbers lands.same (eq-eqb g entry.0.0 (sym lands.owned)) (λ x listed own. own),
     lands.held.room,
   )
   held-lands OnBlock lands =
       subst (λ (queue : HeldOf). Relists is_held h.held.numbers queue.numbers p from (to OnBlock) × AreGrouped (queue_of queue) h'.pages.pages × (queue.room ≡ h.held.room)) (sym lands.held) (
         relists-same is_held h.held.numbers p from (to OnBlock) (moving-is d f b n).3,
-        grouped-same (queue_of h.held) h.pages.pages h'.pages.pages p from (to OnBlock) lands.stood lands.placed is.held_groups (λ x listed own. own),
+        grouped-same (queue_of h.held) h.pages.pages h'.pages.pages p from (to OnBlock) lands.stood lands.ended.placed is.held_groups (λ x listed own. own),
         refl,
       )
+
+  stays-landed : (end : End) → Lands h h' p g f b n d end entry → Stays h h'
+  stays-landed end lands = record { groups = lands.groups; frames = lands.frames; blocks = lands.blocks; numbers = lands.ended.numbers; held_room = (held-lands end lands).2; moving_room = lands.moving.room }
 
   pub holding-lands : (end : End) → Lands h h' p g f b n d end entry → IsHolding h'
   holding-lands end lands =
       let held = held-lands end lands in
       let spares = lands.spares in
-      let tickets = lands.tickets in
+      let tickets = lands.ended.more in
       let going = not-going (to end) (still end f b) in
       let none = ap one_if (still end f b) in
       let moved = ap one_if (moving-is d f b n).2 in
       holding-step h h' p from (to end)
       (record {
         stood = lands.stood;
-        changes = lands.placed;
+        changes = lands.ended.placed;
         kept = lands.kept;
-        frames = lands.frames;
-        groups = lands.groups.tree;
+        stays = stays-landed end lands;
         held = held.0;
         moving = relists-out is_in_transfer h.moving.numbers h'.moving.numbers h.pages.pages entry.1.0 p from (to end) lands.same lands.stood (still end f b) is.moving lands.moving.counts lands.moving.fewer;
         held_groups = held.1;
-        moving_groups = grouped-out h.moving h.pages.pages h'.pages.pages p from (to end) lands.stood lands.placed is.moving_groups h'.moving entry.1.0 lands.moving.entries lands.moving.numbers lands.same;
-        held_room = held.2;
-        moving_room = lands.moving.room;
+        moving_groups = grouped-out h.moving h.pages.pages h'.pages.pages p from (to end) lands.stood lands.ended.placed is.moving_groups h'.moving entry.1.0 lands.moving.entries lands.moving.numbers lands.same;
         spares = omega (arith, spares, going);
         tickets = omega (arith, tickets, none, moved);
       })
@@ -166,18 +173,18 @@ module _ (h h' : Inside) (is : IsHolding h) (p g f b n : ℕ) (d : Direction) (e
 
   order-lands : (end : End) → Lands h h' p g f b n d end entry → StayInOrder (holdings_of h) (holdings_of h')
   order-lands InFrame lands =
-      goes-on-in h.pages.pages h'.pages.pages h.held.numbers (listed-held h.held.numbers h.pages.pages is.held.once) p from (to InFrame) lands.stood lands.placed h'.held.numbers entry.1.0 lands.held.numbers lands.same
+      goes-on-in h.pages.pages h'.pages.pages h.held.numbers (listed-held h.held.numbers h.pages.pages is.held.once) p from (to InFrame) lands.stood lands.ended.placed h'.held.numbers entry.1.0 lands.held.numbers lands.same
       (moving-is d f b n).3 refl
   order-lands OnBlock lands =
       subst (λ (queue : HeldOf). StayInOrder (holdings_of h) (record (holdings_of h') { held = queue.numbers })) (sym lands.held)
-      (goes-on-at h.pages.pages h'.pages.pages h.held.numbers (listed-held h.held.numbers h.pages.pages is.held.once) p from (to OnBlock) lands.stood lands.placed (sym (moving-is d f b n).3))
+      (goes-on-at h.pages.pages h'.pages.pages h.held.numbers (listed-held h.held.numbers h.pages.pages is.held.once) p from (to OnBlock) lands.stood lands.ended.placed (sym (moving-is d f b n).3))
 
   pub lands-settles : (end : End) → Lands h h' p g f b n d end entry → Settles (holdings_of h) (holdings_of h') p g n (residence_after end f b)
   lands-settles end lands =
       record {
-        placed = lands.placed;
-        unlisted = lands.unlisted;
-        bytes = lands.bytes;
+        placed = lands.ended.placed;
+        unlisted = lands.ended.unlisted;
+        bytes = λ q o other. lands.ended.others q o other ∙ lands.others q o other;
         order = order-lands end lands;
-        others = same-view h h' lands.groups.tree lands.groups.limits lands.groups.room lands.frames lands.blocks (held-lands end lands).2;
+        others = same-view h h' (stays-landed end lands);
       }

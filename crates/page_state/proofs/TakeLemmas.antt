@@ -3,19 +3,18 @@ use Rattle.std.proofs.Common.{◌≡◌, ℕ, ◌<◌, ◌==◌, ◌&&◌, ◌||
 use Rattle.std.specs.Prelude.{nat_lt, IfSome}
 use Rattle.std.proofs.lemmas.Bool.Decides.{nat_tests}
 use Rattle.machine.specs.declared.config.Config.{Config}
-use Rattle.machine.specs.declared.record.Mapping.{Mapping}
 use Rattle.machine.specs.Slots.{there_and, any_there}
 use Rattle.machine.specs.Tree.{Node, under}
 use Rattle.machine.specs.Pages.{Residence, Held, Coming, Going, Away, Page, page_at, is_anon, is_held, is_held_in, charged, used_swap}
-use Rattle.machine.specs.Tasks.{Tasks}
-use Rattle.machine.specs.Protection.{opens}
+use Rattle.machine.specs.Tasks.{Tasks, PageTables}
+use Rattle.machine.specs.Protection.{is_unprotected_in}
 use Rattle.machine.specs.Order.{served_by, cursor_at}
 use Rattle.machine.specs.State.{State, opening_of, is_swap_free}
-use Rattle.machine.specs.Reclaim.{is_open, is_takeable, has_takeable}
+use Rattle.machine.specs.Reclaim.{is_unprotected, is_takeable, has_takeable}
 use Rattle.machine.specs.Lists.{TakesNext, served}
 use Rattle.machine.proofs.Values.{unlike}
 use Rattle.pages.specs.declared.flight.Flight.{Flight}
-use Rattle.pages.specs.PageTable.{anon_page, Stands, AreInFlight}
+use Rattle.pages.specs.PagesOf.{anon_page, Stands, AreInFlight}
 use Rattle.page_state.specs.Holdings.{HoldingsOf, takes, gives_of, IsTurn, IsNext}
 use Rattle.page_state.proofs.TransferLemmas.{stands-so}
 
@@ -31,7 +30,7 @@ module _ (s : State) (target p : ℕ) (flights : List (Option Flight)) (are : Ar
       held_first false b c d e = absurd (cc)
 
       held_of : (page : Page) → is_takeable s target page ≡ true → is_held page ≡ true
-      held_of page e = held_first (is_held page) (under s.tree target page.group) (is_open s target page.group) (not (is_anon page.content) || is_swap_free s) e
+      held_of page e = held_first (is_held page) (under s.tree target page.group) (is_unprotected s target page.group) (not (is_anon page.content) || is_swap_free s) e
 
       by_residence : (page : Page) (r : Residence) → page.residence ≡ r → Stands s.pages p page.group page.residence → is_takeable s target (anon_page page.group page.residence) ≡ true
           → (g : ℕ) × (f : ℕ) × Stands s.pages p g (Held f) × (is_takeable s target (anon_page g (Held f)) ≡ true)
@@ -50,54 +49,51 @@ module _ (s : State) (target p : ℕ) (flights : List (Option Flight)) (are : Ar
 -- ---- the holdings
 
 -- the machine's tables, without the events counted
-abbrev pub tables_of : Config → List Node → HoldingsOf → Tasks → List Mapping → State
-tables_of config tree h tasks mappings =
-    record { opening = opening_of config; tree = tree; limits = h.limits; pages = h.stored.pages; tasks = tasks; mappings = mappings; counted = [] }
+abbrev pub tables_of : Config → List Node → HoldingsOf → Tasks → PageTables → State
+tables_of config tree h tasks page_tables =
+    record { opening = opening_of config; tree = tree; limits = h.limits; pages = h.stored.pages; tasks = tasks; page_tables = page_tables; counted = [] }
 
-module _ (config : Config) (tree : List Node) (h : HoldingsOf) (tasks : Tasks) (mappings : List Mapping) (swap : h.swap ≡ config.swap) (target : ℕ) where
-  takes-alike : takes h tree target ≡ is_takeable (tables_of config tree h tasks mappings) target
+module _ (config : Config) (tree : List Node) (h : HoldingsOf) (tasks : Tasks) (page_tables : PageTables) (swap : h.swap ≡ config.swap) (target : ℕ) where
+  takes-alike : takes h tree target ≡ is_takeable (tables_of config tree h tasks page_tables) target
   takes-alike =
-      ap {B = Page → Bool} (λ (n : ℕ) (page : Page). is_held page && under tree target page.group && opens false tree h.limits (charged tree h.stored.pages) target page.group
+      ap {B = Page → Bool} (λ (n : ℕ) (page : Page). is_held page && under tree target page.group && is_unprotected_in false tree h.limits (charged tree h.stored.pages) target page.group
       && (not (is_anon page.content) || nat_lt (used_swap h.stored.pages) n)) swap
 
-  pub takeable-alike : any_there (takes h tree target) h.stored.pages ≡ has_takeable (tables_of config tree h tasks mappings) target
+  pub takeable-alike : any_there (takes h tree target) h.stored.pages ≡ has_takeable (tables_of config tree h tasks page_tables) target
   takeable-alike = ap (λ (test : Page → Bool). any_there test h.stored.pages) takes-alike
 
-  gives-alike : (cursors : List (Option ℕ)) → served_by tree (gives_of h tree target) target (cursor_at cursors target) ≡ served (tables_of config tree h tasks mappings) (record { held = h.held; cursors = cursors }) target
+  gives-alike : (cursors : List (Option ℕ)) → served_by tree (gives_of h tree target) target (cursor_at cursors target) ≡ served (tables_of config tree h tasks page_tables) (record { held = h.held; cursors = cursors }) target
   gives-alike cursors = ap (λ (test : Page → Bool). served_by tree (λ g. any_there (λ page. (page.group == g) && test page) h.stored.pages) target (cursor_at cursors target)) takes-alike
 
   -- the group whose turn it is, is the one that is served
-  pub turn-served : (cursors : List (Option ℕ)) (g : ℕ) → IsTurn h tree cursors target g → served (tables_of config tree h tasks mappings) (record { held = h.held; cursors = cursors }) target ≡ Some g
+  pub turn-served : (cursors : List (Option ℕ)) (g : ℕ) → IsTurn h tree cursors target g → served (tables_of config tree h tasks page_tables) (record { held = h.held; cursors = cursors }) target ≡ Some g
   turn-served cursors g turn = sym (gives-alike cursors) ∙ turn
 
-  pub served-turn : (cursors : List (Option ℕ)) (g : ℕ) → served (tables_of config tree h tasks mappings) (record { held = h.held; cursors = cursors }) target ≡ Some g → IsTurn h tree cursors target g
+  pub served-turn : (cursors : List (Option ℕ)) (g : ℕ) → served (tables_of config tree h tasks page_tables) (record { held = h.held; cursors = cursors }) target ≡ Some g → IsTurn h tree cursors target g
   served-turn cursors g serves = gives-alike cursors ∙ serves
 
   -- the page that is next, once it was taken
   pub takes-next : (cursors cursors' : List (Option ℕ)) (p : ℕ) → IsNext h tree cursors target p cursors' → (new : State) (held' : List ℕ) → is_held_in h.stored.pages p ≡ true → is_held_in new.pages p ≡ false
-      → TakesNext (tables_of config tree h tasks mappings) (record { held = h.held; cursors = cursors }) target new (record { held = held'; cursors = cursors' })
+      → TakesNext (tables_of config tree h tasks page_tables) (record { held = h.held; cursors = cursors }) target new (record { held = held'; cursors = cursors' })
   takes-next cursors cursors' p is new held' was taken =
       record {
         g = is.g;
-        p = p;
         next = sym (gives-alike cursors) ∙ is.next;
-        first = is.first;
-        was = was;
-        taken = taken;
+        takes = record { p = p; first = is.first; was = was; taken = taken };
         moves = is.moves;
       }
 
   -- where it stands
   pub taken-page : (p : ℕ) (flights : List (Option Flight)) → AreInFlight h.stored.pages flights → there_and (takes h tree target) (page_at h.stored.pages p) ≡ true
-      → (g : ℕ) × (f : ℕ) × Stands h.stored.pages p g (Held f) × (is_takeable (tables_of config tree h tasks mappings) target (anon_page g (Held f)) ≡ true)
-  taken-page p flights are e = taken-stands (tables_of config tree h tasks mappings) target p flights are (sym (ap (λ (test : Page → Bool). there_and test (page_at h.stored.pages p)) takes-alike) ∙ e)
+      → (g : ℕ) × (f : ℕ) × Stands h.stored.pages p g (Held f) × (is_takeable (tables_of config tree h tasks page_tables) target (anon_page g (Held f)) ≡ true)
+  taken-page p flights are e = taken-stands (tables_of config tree h tasks page_tables) target p flights are (sym (ap (λ (test : Page → Bool). there_and test (page_at h.stored.pages p)) takes-alike) ∙ e)
 
   -- and a swap block is free
-  pub taken-swap : (g f : ℕ) → is_takeable (tables_of config tree h tasks mappings) target (anon_page g (Held f)) ≡ true → used_swap h.stored.pages < h.swap
+  pub taken-swap : (g f : ℕ) → is_takeable (tables_of config tree h tasks page_tables) target (anon_page g (Held f)) ≡ true → used_swap h.stored.pages < h.swap
   taken-swap g f e =
-      let s = tables_of config tree h tasks mappings in
+      let s = tables_of config tree h tasks page_tables in
       let page = anon_page g (Held f) in
-      let free : nat_lt (used_swap h.stored.pages) config.swap ≡ true = last (is_held page) (under s.tree target page.group) (is_open s target page.group) (not (is_anon page.content) || is_swap_free s) e in
+      let free : nat_lt (used_swap h.stored.pages) config.swap ≡ true = last (is_held page) (under s.tree target page.group) (is_unprotected s target page.group) (not (is_anon page.content) || is_swap_free s) e in
       let fewer : used_swap h.stored.pages < config.swap = grind (arith, nat_tests, free) in
       subst (λ n. used_swap h.stored.pages < n) (sym swap) fewer
     where

@@ -6,7 +6,7 @@ use Rattle.machine.specs.Tree.{Node, under}
 use Rattle.machine.specs.Counts.{Counted, is_key, total, counts_by}
 use Rattle.group_tree.specs.Lineages.{IsLineage}
 use Rattle.group_tree.proofs.LineageLemmas.{live-within}
-use Rattle.events.specs.Tallies.{Tallies, Tells}
+use Rattle.memory_events.specs.Tallies.{Tallies, Tells}
 use Rattle.page_state.specs.States.{AreFew, without_room}
 use Rattle.group_tree.specs.Kin.{AreKin}
 use Rattle.page_state.proofs.KinLemmas.{kin-total}

@@ -1,34 +1,17 @@
 -- Pages in transfer: which they are, by their tickets, and how many.
-use Rattle.std.proofs.Common.{◌≡◌, ℕ, zero, suc, ◌+◌, ◌||◌, Bool, true, false, List, [], ◌∷◌, Option, Some, None, eqb-true, eq-eqb, ne_eqb, refl, sym, ap, subst, ◌∙◌, arith}
+use Rattle.std.proofs.Common.{◌≡◌, ℕ, suc, ◌+◌, ◌||◌, Bool, true, false, List, [], ◌∷◌, Option, Some, None, eqb-true, eq-eqb, ne_eqb, refl, sym, ap, subst, ◌∙◌}
 use Rattle.std.specs.Prelude.{IfSome}
-use Rattle.std.proofs.lemmas.Bool.{or_right}
-use Rattle.std.proofs.lemmas.List.Sums.{sum_by-cons}
-use Rattle.machine.specs.Slots.{at, Changes, there_and, count_there, any_there}
-use Rattle.machine.specs.Pages.{Residence, Held, Coming, Going, Away, Page, Pages, page_at, is_number, ticket_at, is_in_transfer, in_transfer, is_ticket_taken, is_coming_at, is_going_at, is_coming_in, is_going_out}
+use Rattle.machine.specs.declared.record.Direction.{Direction}
+use Rattle.machine.specs.declared.record.Direction.TheVariants.{In, Out}
+use Rattle.machine.specs.Slots.{at, Changes, there_and, any_there}
+use Rattle.machine.specs.Pages.{Residence, Coming, Going, Page, Pages, page_at, is_number, ticket_at, is_in_transfer, in_transfer, is_ticket_taken, is_flying_at, is_in_flight}
 use Rattle.machine.proofs.Values.{unlike}
-use Rattle.machine.proofs.SlotLemmas.{one_if, count_there-changes, count_there-none}
+use Rattle.machine.proofs.SlotLemmas.{one_if, sum_by-alike, count_there-changes}
+pub use Rattle.pages.proofs.TableLemmas.{any-some}
 use Rattle.pages.specs.declared.flight.Flight.{Flight}
-use Rattle.pages.specs.PageTable.{anon_page, Stands, is_under_ticket, is_moving_in, AreInFlight}
+use Rattle.pages.specs.PagesOf.{anon_page, moving, Stands, is_under_ticket, is_moving_in, AreInFlight}
 
 module _ {T : Type 0} (test : T → Bool) where
-  -- tables that test alike at each number have as many that pass
-  pub count_there-alike : (xs ys : List (Option T)) → ((n : ℕ) → there_and test (at ys n) ≡ there_and test (at xs n)) → count_there test ys ≡ count_there test xs
-  count_there-alike [] [] same = refl
-  count_there-alike [] (y ∷ ys) same = count_there-none test (y ∷ ys) same
-  count_there-alike (x ∷ xs) [] same = sym (count_there-none test (x ∷ xs) (λ n. sym (same n)))
-  count_there-alike (x ∷ xs) (y ∷ ys) same =
-      let f : Option T → ℕ = λ slot. one_if (there_and test slot) in
-      let more = sum_by-cons f x xs in
-      let more_y = sum_by-cons f y ys in
-      let here : f y ≡ f x = ap one_if (same 0) in
-      let rest = count_there-alike xs ys (λ n. same (suc n)) in
-      omega (arith, more, more_y, here, rest)
-
-  pub any-some : (xs : List (Option T)) (n : ℕ) → there_and test (at xs n) ≡ true → any_there test xs ≡ true
-  any-some [] n e = cc
-  any-some (x ∷ xs) zero e = ap (λ b. b || any_there test xs) e
-  any-some (x ∷ xs) (suc n) e = or_right (there_and test x) (any_there test xs) (any-some xs n e)
-
   -- what passes somewhere does so at a number
   pub any-where : (xs : List (Option T)) → any_there test xs ≡ true → (n : ℕ) × (there_and test (at xs n) ≡ true)
   any-where [] e = cc
@@ -55,36 +38,22 @@ module _ (pages : Pages) (flights : List (Option Flight)) (are : AreInFlight pag
   pub stands-so : (p : ℕ) (page : Page) → page_at pages p ≡ Some page → Stands pages p page.group page.residence
   stands-so p page is = is ∙ ap Some (subst (λ (slot : Option Page). IfSome slot (λ page. page ≡ anon_page page.group page.residence)) is (are.memory p))
 
-  -- the page that is being read in under a ticket, with its frame and its block
-  pub coming-stands : (n : ℕ) → is_coming_in pages n ≡ true → (p : ℕ) × (g : ℕ) × (f : ℕ) × (b : ℕ) × Stands pages p g (Coming f b n)
-  coming-stands n e =
-      let found = any-where (λ (page : Page). is_coming_at n page.residence) pages e in
+  -- the page that is in transfer in a direction under a ticket, with its frame and its block
+  pub flying-stands : (d : Direction) (n : ℕ) → is_in_flight d pages n ≡ true → (p : ℕ) × (g : ℕ) × (f : ℕ) × (b : ℕ) × Stands pages p g (moving d f b n)
+  flying-stands d n e =
+      let found = any-where (λ (page : Page). is_flying_at d n page.residence) pages e in
       by_slot found.0 (page_at pages found.0) refl found.1
     where
-      by_residence : (p : ℕ) (page : Page) (r : Residence) → page.residence ≡ r → Stands pages p page.group page.residence → is_coming_at n r ≡ true → (p : ℕ) × (g : ℕ) × (f : ℕ) × (b : ℕ) × Stands pages p g (Coming f b n)
-      by_residence p page (Held f) is stands hit = cc
-      by_residence p page (Coming f b m) is stands hit = (p, page.group, f, b, stands ∙ ap (λ (r : Residence). Some (anon_page page.group r)) is ∙ ap (λ (m : ℕ). Some (anon_page page.group (Coming f b m))) (eqb-true m n hit))
-      by_residence p page (Going f b m) is stands hit = cc
-      by_residence p page (Away b) is stands hit = cc
+      by_residence : (d : Direction) (r : Residence) → is_flying_at d n r ≡ true → (f : ℕ) × (b : ℕ) × (r ≡ moving d f b n)
+      by_residence In (Coming f b m) hit = (f, b, ap (Coming f b) (eqb-true m n hit))
+      by_residence Out (Going f b m) hit = (f, b, ap (Going f b) (eqb-true m n hit))
+      by_residence d r hit = absurd (cc)
 
-      by_slot : (p : ℕ) (slot : Option Page) → page_at pages p ≡ slot → there_and (λ (page : Page). is_coming_at n page.residence) slot ≡ true → (p : ℕ) × (g : ℕ) × (f : ℕ) × (b : ℕ) × Stands pages p g (Coming f b n)
+      by_slot : (p : ℕ) (slot : Option Page) → page_at pages p ≡ slot → there_and (λ (page : Page). is_flying_at d n page.residence) slot ≡ true → (p : ℕ) × (g : ℕ) × (f : ℕ) × (b : ℕ) × Stands pages p g (moving d f b n)
       by_slot p None is hit = cc
-      by_slot p (Some page) is hit = by_residence p page page.residence refl (stands-so p page is) hit
-
-  pub going-stands : (n : ℕ) → is_going_out pages n ≡ true → (p : ℕ) × (g : ℕ) × (f : ℕ) × (b : ℕ) × Stands pages p g (Going f b n)
-  going-stands n e =
-      let found = any-where (λ (page : Page). is_going_at n page.residence) pages e in
-      by_slot found.0 (page_at pages found.0) refl found.1
-    where
-      by_residence : (p : ℕ) (page : Page) (r : Residence) → page.residence ≡ r → Stands pages p page.group page.residence → is_going_at n r ≡ true → (p : ℕ) × (g : ℕ) × (f : ℕ) × (b : ℕ) × Stands pages p g (Going f b n)
-      by_residence p page (Held f) is stands hit = cc
-      by_residence p page (Coming f b m) is stands hit = cc
-      by_residence p page (Going f b m) is stands hit = (p, page.group, f, b, stands ∙ ap (λ (r : Residence). Some (anon_page page.group r)) is ∙ ap (λ (m : ℕ). Some (anon_page page.group (Going f b m))) (eqb-true m n hit))
-      by_residence p page (Away b) is stands hit = cc
-
-      by_slot : (p : ℕ) (slot : Option Page) → page_at pages p ≡ slot → there_and (λ (page : Page). is_going_at n page.residence) slot ≡ true → (p : ℕ) × (g : ℕ) × (f : ℕ) × (b : ℕ) × Stands pages p g (Going f b n)
-      by_slot p None is hit = cc
-      by_slot p (Some page) is hit = by_residence p page page.residence refl (stands-so p page is) hit
+      by_slot p (Some page) is hit =
+          let at = by_residence d page.residence hit in
+          (p, page.group, at.0, at.1, stands-so p page is ∙ ap (λ (r : Residence). Some (anon_page page.group r)) at.2)
 
 -- ---- how many
 
@@ -94,4 +63,4 @@ pub in_transfer-changes : (old new : Pages) (p : ℕ) (to : Option Page) → Cha
 in_transfer-changes old new p to changes = count_there-changes is_in_transfer old new p to changes
 
 pub in_transfer-alike : (old new : Pages) → ((q : ℕ) → is_moving_in new q ≡ is_moving_in old q) → in_transfer new ≡ in_transfer old
-in_transfer-alike old new same = count_there-alike is_in_transfer old new same
+in_transfer-alike old new same = sum_by-alike (λ slot. one_if (there_and is_in_transfer slot)) None refl old new (λ q. ap one_if (same q))

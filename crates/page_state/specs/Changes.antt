@@ -1,27 +1,27 @@
 -- How the joined parts change: one record for each change, which is one of the machine's tables in all parts at once.
-use Rattle.std.specs.Prelude.{◌≡◌, ◌≢◌, ℕ, ◌<◌, ◌==◌, ◌&&◌, if◌then◌else◌, false, true, List, [], ◌∷◌, ◌++◌, slice_index, slice_set, Some, None}
+use Rattle.std.specs.Prelude.{◌≡◌, ◌≢◌, ℕ, ◌<◌, ◌≤◌, ◌==◌, ◌&&◌, if◌then◌else◌, false, true, List, [], ◌∷◌, ◌++◌, slice_index, slice_set, is_some, Some, None}
 use Rattle.machine.specs.declared.record.Key.{Key}
 use Rattle.machine.specs.declared.record.Life.{Life}
+use Rattle.machine.specs.declared.record.Life.TheVariants.{Live}
 use Rattle.machine.specs.declared.record.Limits.{Limits}
 use Rattle.machine.specs.Slots.{Changes}
 use Rattle.machine.specs.Tree.{is_live}
-use Rattle.machine.specs.Pages.{Residence, Held, Coming, Going, page_at, is_ticket_taken, in_transfer}
+use Rattle.machine.specs.Pages.{Residence, Held, Coming, Going, page_at, is_ticket_taken}
 use Rattle.machine.specs.Counts.{Counted, no_limits}
-use Rattle.machine.specs.Tasks.{SetsTask, group_of_task, mapped_at, mapping, without_task}
+use Rattle.machine.specs.Tasks.{SetsTask, group_of_task, mapped_at, Shows, ShowsNothing}
 use Rattle.machine.specs.State.{State, over_in, is_frame_free}
 use Rattle.machine.specs.Access.{page_size}
 use Rattle.machine.specs.Reclaim.{is_takeable}
 use Rattle.machine.specs.Lists.{GoesOn, TakesNext}
-use Rattle.machine.specs.Step.{IsFreeFrame, IsFreeBlock, Unmaps, count_of, new_node, new_page}
-use Rattle.pages.specs.PageTable.{byte_in, anon_page, flight, Stands}
-use Rattle.pages.specs.declared.flight.Direction.TheVariants.{In, Out}
+use Rattle.machine.specs.Step.{IsFreeFrame, IsFreeBlock, still, or_gone, count_of, new_node, new_page}
+use Rattle.pages.specs.PagesOf.{byte_in, anon_page, flight, Stands}
+use Rattle.machine.specs.declared.record.Direction.TheVariants.{In, Out}
 use Rattle.pages.specs.Tickets.{TicketOf}
 use Rattle.pages.specs.Transfers.{given_ticket}
-use Rattle.events.specs.Tallies.{Tells}
+use Rattle.memory_events.specs.Tallies.{Tells}
 use Rattle.page_state.specs.declared.room.NoRoom.{NoRoom}
 use Rattle.page_state.specs.declared.room.NoRoom.TheVariants as lacks
-use Rattle.page_state.specs.States.{StateOf, byte_shown}
-use Rattle.page_state.specs.Mapped.{ended}
+use Rattle.page_state.specs.States.{StateOf}
 
 -- ---- room
 
@@ -55,7 +55,8 @@ pub record MakesPage (old new : StateOf) (t v g o byte : ℕ) : Type 0 where
   pub frame_free : IsFreeFrame old.tables frame
   pub number_free : page_at old.tables.pages page ≡ None
   pub placed : Changes old.tables.pages new.tables.pages page (Some (new_page g frame))
-  pub tables : new.tables ≡ record old.tables { pages = new.tables.pages; mappings = old.tables.mappings ++ mapping t v page ∷ [] }
+  pub shown : Shows old.tables.page_tables new.tables.page_tables t v (Some page)
+  pub tables : new.tables ≡ record old.tables { pages = new.tables.pages; page_tables = new.tables.page_tables }
   pub bytes : (q k : ℕ) → byte_in new.bytes q k ≡ (if q == page then (if o == k then byte else 0) else byte_in old.bytes q k)
   pub flights : new.flights ≡ old.flights
   pub held : KeepsOrder old new
@@ -105,7 +106,7 @@ pub record BeginsWriteOut (old new : StateOf) (target worker entry : ℕ) (ticke
 
 -- the transfer of a page of g under ticket n ends: the page is there, or gone where nothing maps it
 pub record EndsTransfer (old new : StateOf) (p g n : ℕ) (to : Residence) : Type 0 where
-  pub placed : Changes old.tables.pages new.tables.pages p (ended old.tables.mappings p g to)
+  pub placed : Changes old.tables.pages new.tables.pages p (or_gone old.tables.page_tables p (anon_page g to))
   pub tables : new.tables ≡ record old.tables { pages = new.tables.pages }
   pub unlisted : Changes old.flights new.flights n None
   pub others : (q k : ℕ) → q ≢ p → byte_in new.bytes q k ≡ byte_in old.bytes q k
@@ -115,31 +116,46 @@ pub record EndsTransfer (old new : StateOf) (p g n : ℕ) (to : Residence) : Typ
 
 -- ---- tasks
 
--- a task of the group begins
-pub record StartsTask (old new : StateOf) (t g : ℕ) (life : Life) : Type 0 where
-  pub starts : SetsTask old.tables.tasks t g life new.tables.tasks
-  pub tables : new.tables ≡ record old.tables { tasks = new.tables.tasks }
+-- a task of the group begins, and shows nothing
+pub record StartsTask (old new : StateOf) (t g : ℕ) : Type 0 where
+  pub starts : SetsTask old.tables.tasks t g Live new.tables.tasks
+  pub none : (v : ℕ) → mapped_at new.tables.page_tables t v ≡ None
+  pub same : (u v : ℕ) → mapped_at new.tables.page_tables u v ≡ mapped_at old.tables.page_tables u v
+  pub tables : new.tables ≡ record old.tables { tasks = new.tables.tasks; page_tables = new.tables.page_tables }
   pub order : new.order ≡ old.order
   pub bytes : new.bytes ≡ old.bytes
   pub flights : new.flights ≡ old.flights
   pub tallies : new.tallies ≡ old.tallies
 
--- what a task's end leaves to the others
-pub record LeavesOthers (old new : StateOf) (t : ℕ) : Type 0 where
-  pub tables : new.tables ≡ record old.tables { pages = new.tables.pages; tasks = new.tables.tasks; mappings = without_task old.tables.mappings t }
-  pub pages : (u v q : ℕ) → u ≢ t → mapped_at old.tables.mappings u v ≡ Some q → page_at new.tables.pages q ≡ page_at old.tables.pages q
-  pub bytes : (u v k : ℕ) → u ≢ t → byte_shown new.bytes (mapped_at old.tables.mappings u v) k ≡ byte_shown old.bytes (mapped_at old.tables.mappings u v) k
-  pub moving : in_transfer new.tables.pages ≡ in_transfer old.tables.pages
+-- pages that nothing maps any more are gone, unless they are in transfer, and the others are as they were
+pub record DropsPages (old new : StateOf) : Type 0 where
+  pub pages : (p : ℕ) → page_at new.tables.pages p ≡ still new.tables.page_tables p (page_at old.tables.pages p)
+  pub bytes : (p k : ℕ) → is_some (page_at new.tables.pages p) ≡ true → byte_in new.bytes p k ≡ byte_in old.bytes p k
   pub flights : new.flights ≡ old.flights
   pub held : KeepsOrder old new
   pub cursors : new.order.cursors ≡ old.order.cursors
-
--- a task ends so: its mappings go, and their pages that are in no transfer
-pub record EndsTask (old new : StateOf) (t : ℕ) (life : Life) : Type 0 where
-  pub unmaps : Unmaps old.tables (without_task old.tables.mappings t) new.tables
-  pub ends : SetsTask old.tables.tasks t (group_of_task old.tables.tasks t) life new.tables.tasks
-  pub leaves : LeavesOthers old new t
   pub tallies : new.tallies ≡ old.tallies
+
+-- a virtual page of a task shows nothing any more
+pub record Unmaps (old new : StateOf) (t v : ℕ) : Type 0 where
+  pub shown : Shows old.tables.page_tables new.tables.page_tables t v None
+  pub drops : DropsPages old new
+  pub tables : new.tables ≡ record old.tables { pages = new.tables.pages; page_tables = new.tables.page_tables }
+
+-- the virtual pages of a task below this one show nothing any more
+pub record UnmapsBelow (old new : StateOf) (t n : ℕ) : Type 0 where
+  pub below : (v : ℕ) → v < n → mapped_at new.tables.page_tables t v ≡ None
+  pub above : (v : ℕ) → n ≤ v → mapped_at new.tables.page_tables t v ≡ mapped_at old.tables.page_tables t v
+  pub others : (u v : ℕ) → u ≢ t → mapped_at new.tables.page_tables u v ≡ mapped_at old.tables.page_tables u v
+  pub drops : DropsPages old new
+  pub tables : new.tables ≡ record old.tables { pages = new.tables.pages; page_tables = new.tables.page_tables }
+
+-- a task ends so: its virtual pages show nothing any more
+pub record EndsTask (old new : StateOf) (t : ℕ) (life : Life) : Type 0 where
+  pub shown : ShowsNothing old.tables.page_tables new.tables.page_tables t
+  pub ends : SetsTask old.tables.tasks t (group_of_task old.tables.tasks t) life new.tables.tasks
+  pub drops : DropsPages old new
+  pub tables : new.tables ≡ record old.tables { pages = new.tables.pages; tasks = new.tables.tasks; page_tables = new.tables.page_tables }
 
 -- ---- groups
 

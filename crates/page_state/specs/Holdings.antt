@@ -1,19 +1,19 @@
 -- What contracts see of the holdings, and how they change.
-use Rattle.std.specs.Prelude.{◌≡◌, ◌≢◌, ℕ, ◌<◌, ◌==◌, ◌&&◌, ◌||◌, not, nat_lt, Bool, true, false, if◌then◌else◌, List, find, Option, Some, None, slice_index, slice_set}
+use Rattle.std.specs.Prelude.{◌≡◌, ◌≢◌, ℕ, ◌<◌, ◌==◌, ◌&&◌, ◌||◌, not, nat_lt, Bool, true, false, if◌then◌else◌, List, Option, Some, None, slice_index, slice_set}
 use Rattle.machine.specs.declared.record.Limits.{Limits}
 use Rattle.machine.specs.Slots.{Changes, there_and, any_there}
 use Rattle.machine.specs.Tree.{Node, under}
 use Rattle.machine.specs.Pages.{Page, Pages, Residence, Coming, Going, page_at, is_anon, is_held, is_frame_taken, is_swap_taken, is_ticket_taken, charged, used_frames, used_swap}
-use Rattle.machine.specs.Protection.{opens}
+use Rattle.machine.specs.Protection.{is_unprotected_in}
 use Rattle.machine.specs.Order.{served_by, cursor_at}
-use Rattle.machine.specs.Lists.{GoesOn, is_page_of}
+use Rattle.machine.specs.Lists.{GoesOn, first_held}
 use Rattle.machine.specs.Counts.{over}
 use Rattle.machine.specs.Access.{page_size}
 use Rattle.machine.specs.Step.{new_page}
 use Rattle.pages.specs.Tickets.{TicketOf}
 use Rattle.pages.specs.Transfers.{given_ticket}
-use Rattle.pages.specs.PageTable.{byte_in, anon_page, flight}
-use Rattle.pages.specs.declared.flight.Direction.TheVariants.{In, Out}
+use Rattle.pages.specs.PagesOf.{byte_in, anon_page, flight}
+use Rattle.machine.specs.declared.record.Direction.TheVariants.{In, Out}
 use Rattle.pages.specs.declared.flight.Flight.{Flight}
 use Rattle.page_state.specs.declared.room.NoRoom.{NoRoom}
 use Rattle.page_state.specs.declared.room.NoRoom.TheVariants as lacks
@@ -25,7 +25,7 @@ pub record Stored : Type 0 where
   pub flights : List (Option Flight)
 
 -- the groups without their paths, their limits, the pages, those in frames and in no transfer in the order in which they came there, how many frames and
--- swap blocks there are, and for how many groups more there is memory
+-- swap blocks and page numbers there are, and for how many groups more there is memory
 pub record HoldingsOf : Type 0 where
   pub kin : List Node
   pub limits : List Limits
@@ -33,6 +33,7 @@ pub record HoldingsOf : Type 0 where
   pub held : List ℕ
   pub frames : ℕ
   pub swap : ℕ
+  pub numbers : ℕ
   pub room : ℕ
 
 -- with other pages, and all else as it was
@@ -120,7 +121,7 @@ pub record DropsPage (old new : HoldingsOf) (p : ℕ) : Type 0 where
 -- the page may be taken for the target
 abbrev pub takes : HoldingsOf → List Node → ℕ → Page → Bool
 takes h tree target page =
-    is_held page && under tree target page.group && opens false tree h.limits (charged tree h.stored.pages) target page.group
+    is_held page && under tree target page.group && is_unprotected_in false tree h.limits (charged tree h.stored.pages) target page.group
     && (not (is_anon page.content) || nat_lt (used_swap h.stored.pages) h.swap)
 
 -- a page of the group may
@@ -135,6 +136,6 @@ IsTurn h tree cursors target g = served_by tree (gives_of h tree target) target 
 pub record IsNext (h : HoldingsOf) (tree : List Node) (cursors : List (Option ℕ)) (target p : ℕ) (cursors' : List (Option ℕ)) : Type 0 where
   pub g : ℕ
   pub next : served_by tree (gives_of h tree target) target (cursor_at cursors target) ≡ Some g
-  pub first : find (is_page_of h.stored.pages g) h.held ≡ Some p
+  pub first : first_held h.stored.pages h.held g ≡ Some p
   pub takeable : there_and (takes h tree target) (page_at h.stored.pages p) ≡ true
   pub moves : cursors' ≡ slice_set cursors target (Some g)

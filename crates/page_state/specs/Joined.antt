@@ -19,7 +19,7 @@ joined_of s =
         limits = s.holdings.limits;
         pages = s.holdings.stored.pages;
         tasks = s.spaces.tasks;
-        mappings = s.spaces.mappings;
+        page_tables = s.spaces.page_tables;
         counted = [];
       };
       order = record { held = s.holdings.held; cursors = s.cursors.cursors };
@@ -34,7 +34,9 @@ pub record IsJoined (s : Inside) : Type 0 where
   pub swap : s.holdings.swap ≡ s.config.swap
   pub held_kin : AreKin s.holdings.kin s.tree
   pub counted_kin : AreKin s.events.tree s.tree
-  pub mapped : AreMapped s.holdings.stored.pages s.spaces.tasks s.spaces.mappings
+  pub mapped : AreMapped s.holdings.stored.pages s.spaces.page_tables
+  -- each page has its count of mappers
+  pub numbers : s.spaces.numbers ≡ s.holdings.numbers
   -- the group of a live task is there
   pub homes : (t : ℕ) → lives s.spaces.tasks t ≡ true → is_live s.tree (group_of_task s.spaces.tasks t) ≡ true
   -- each page in the order is held

@@ -23,6 +23,7 @@ holdings_of h =
       held = h.held.numbers;
       frames = h.pool.frames;
       swap = h.slots.blocks;
+      numbers = h.pages.numbers;
       room = min h.counters.room h.held.room.more;
     }
 
@@ -81,6 +82,8 @@ pub record IsHolding (h : Inside) : Type 0 where
   pub held_counts : h.held.room.groups ≡ length h.counters.tree
   -- a page that is being written out has a spare
   pub spares : h.pool.spares + count_there is_going h.pages.pages ≡ h.pool.frames
+  -- each page has a frame or a swap block, and may have a number
+  pub numbers : h.pool.frames + h.slots.blocks ≤ h.pages.numbers
   -- each frame may come to be in transfer
   pub tickets : h.pool.frames ≤ h.pages.tickets + in_transfer h.pages.pages
 

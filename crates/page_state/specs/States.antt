@@ -4,9 +4,9 @@ use Rattle.machine.specs.declared.record.Key.{Key}
 use Rattle.machine.specs.Tasks.{mapped_at}
 use Rattle.machine.specs.State.{State}
 use Rattle.machine.specs.Lists.{Order}
-use Rattle.pages.specs.PageTable.{byte_in}
+use Rattle.pages.specs.PagesOf.{byte_in}
 use Rattle.pages.specs.declared.flight.Flight.{Flight}
-use Rattle.events.specs.Tallies.{Tallies, total_of}
+use Rattle.memory_events.specs.Tallies.{Tallies, total_of}
 
 -- the tables, without the events counted so far, which a history tells; the order in which pages are taken; by page number the bytes; how often events
 -- were counted; and by ticket number the transfers in flight
@@ -32,4 +32,4 @@ byte_shown bytes (Some p) o = byte_in bytes p o
 
 -- the byte at a task's place
 abbrev pub byte_at : StateOf → ℕ → ℕ → ℕ → ℕ
-byte_at s t v o = byte_shown s.bytes (mapped_at s.tables.mappings t v) o
+byte_at s t v o = byte_shown s.bytes (mapped_at s.tables.page_tables t v) o

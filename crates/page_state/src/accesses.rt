@@ -1,12 +1,12 @@
 //! Pages that are made, read in and written.
 
-ghost use Rattle.std.specs.Prelude.{◌≡◌, ℕ, ◌<◌, Some, None, true, is_some, IfOk, IfErr, OnOk, OnErr};
+ghost use Rattle.std.specs.Prelude.{◌≡◌, ℕ, ◌<◌, Some, None, true, IfOk, IfErr, OnOk, OnErr};
 ghost use Rattle.machine.specs.Tree.{is_live};
 ghost use Rattle.machine.specs.Pages as residence;
 ghost use Rattle.machine.specs.Pages.{is_held_in};
-ghost use Rattle.machine.specs.Tasks.{task_at, mapped_at};
-ghost use Rattle.machine.specs.Access.{page_size};
-ghost use Rattle.pages.specs.PageTable.{Stands};
+ghost use Rattle.machine.specs.Tasks.{lives, mapped_at};
+ghost use Rattle.machine.specs.Access.{page_size, task_pages};
+ghost use Rattle.pages.specs.PagesOf.{Stands};
 ghost use Rattle.page_state.specs.Changes.{HasRoom, LacksRoom, MakesPage, WritesByte, BeginsReadIn};
 
 use crate::joined::State;
@@ -28,28 +28,18 @@ impl State {
     }
 
     /// A page of zeros but for one byte, for a virtual page of a task that shows nothing. It is charged to
-    /// the group, which has room for it. `AllocError` where memory is refused, and then nothing changes.
-    pub fn hold(
-        &mut self,
-        task: TaskId,
-        at: u32,
-        group: GroupId,
-        offset: u32,
-        byte: u8,
-    ) -> Result<(), AllocError>
-        requires known { is_some (task_at self.old.tables.tasks task.0) ≡ true }
-        requires unmapped { mapped_at self.old.tables.mappings task.0 at ≡ None }
+    /// the group, which has room for it. Takes no memory.
+    pub fn hold(&mut self, task: TaskId, at: u32, group: GroupId, offset: u32, byte: u8)
+        requires alive { lives self.old.tables.tasks task.0 ≡ true }
+        requires inside { at < task_pages }
+        requires unmapped { mapped_at self.old.tables.page_tables task.0 at ≡ None }
         requires live { is_live self.old.tables.tree group.0 ≡ true }
         requires room { HasRoom self.old.tables group.0 }
         requires within { offset < page_size }
-        ensures makes { OnOk result (MakesPage self.old self.new task.0 at group.0 offset byte) }
-        ensures err { OnErr result (self.new ≡ self.old) }
+        ensures { MakesPage self.old self.new task.0 at group.0 offset byte }
     {
-        let page = self
-            .holdings
-            .hold(&mut self.spaces, group, offset as usize, byte)?;
+        let page = self.holdings.hold(group, offset as usize, byte);
         self.spaces.map(task, at, page);
-        Ok(())
     }
 
     /// Changes a byte of a page in a frame.

@@ -7,7 +7,7 @@ ghost use Rattle.machine.specs.Tree.{is_live, under, find_group};
 ghost use Rattle.machine.specs.Counts.{Counted, is_key, limits_at, counts_by, total, local};
 ghost use Rattle.machine.specs.State.{usage, effective_min};
 ghost use Rattle.machine.specs.Refusals.{mkdir_refusal, bars_children};
-ghost use Rattle.events.specs.Tallies.{Tells, total_of};
+ghost use Rattle.memory_events.specs.Tallies.{Tells, total_of};
 ghost use Rattle.page_state.specs.Changes.{CountsEvent, AddsGroup, sets_limits};
 
 use crate::joined::State;

@@ -1,6 +1,6 @@
 //! The pages, with the frames, the charges and the swap slots that they own.
 
-ghost use Rattle.std.specs.Prelude.{◌≡◌, ◌≢◌, ℕ, ◌+◌, ◌<◌, ◌==◌, ◌&&◌, ◌++◌, ◌∷◌, [], true, false, None, Some, IsSome, IfSome, IfOk, IfErr, OnOk, OnErr, nat_lt, length, not, is_none, slice_set, slice_index, List, if◌then◌else◌};
+ghost use Rattle.std.specs.Prelude.{◌≡◌, ◌≢◌, ℕ, ◌+◌, ◌<◌, ◌≤◌, ◌==◌, ◌&&◌, ◌++◌, ◌∷◌, [], true, false, None, Some, IsSome, IfSome, IfOk, IfErr, OnOk, OnErr, nat_lt, length, not, is_none, slice_set, slice_index, List, if◌then◌else◌};
 ghost use Rattle.machine.specs.Slots.{any_there};
 ghost use Rattle.machine.specs.Tree.{Node, is_live, under};
 ghost use Rattle.machine.specs.Lists.{ListsHeld};
@@ -11,7 +11,7 @@ ghost use Rattle.machine.specs.Protection.{effective, min_of};
 ghost use Rattle.machine.specs.Access.{page_size};
 ghost use Rattle.group_tree.specs.Kin.{AreKin};
 ghost use Rattle.group_tree.specs.Lineages.{bare, IsLineage};
-ghost use Rattle.pages.specs.PageTable.{byte_in, Stands, is_moving_in, AreInFlight};
+ghost use Rattle.pages.specs.PagesOf.{byte_in, Stands, is_moving_in, AreInFlight};
 ghost use Rattle.pages.specs.Transfers.{residence_after};
 ghost use Rattle.page_state.specs.Holdings.{with_stored, IsGranted, Lacks, AddsPage, BeginsIn, BeginsOut, Settles, DropsPage, takes, IsTurn, IsNext};
 
@@ -30,7 +30,6 @@ use page_counter::Counters;
 use pages::{End, InTicket, OutTicket, Pages};
 use protection::effective;
 use reclaim::Cursors;
-use spaces::Spaces;
 use std::alloc::{AllocError, Global};
 use std::marker::Model;
 
@@ -61,8 +60,10 @@ impl Model for Holdings {
 }
 
 impl Holdings {
-    /// No page, all frames and all swap slots free, and the root alone, without a limit.
+    /// No page, all frames and all swap slots free, and the root alone, without a limit. There are as many
+    /// page numbers as frames and slots, or more.
     pub fn open(alloc: Global, frames: u32, swap: u32) -> Result<Holdings, AllocError>
+        requires { frames + swap ≤ u32.MAX }
         ensures kin { IfOk result (λ h. h.kin ≡ bare None ∷ []) }
         ensures limits { IfOk result (λ h. h.limits ≡ no_limits ∷ []) }
         ensures stored { IfOk result (λ h. h.stored ≡ record { pages = []; bytes = []; flights = [] }) }
@@ -78,7 +79,7 @@ impl Holdings {
             slots.close();
             return Err(AllocError);
         };
-        let Ok(pages) = Pages::new(alloc, frames) else {
+        let Ok(pages) = Pages::new(alloc, frames + swap, frames) else {
             pool.close();
             slots.close();
             return Err(AllocError);
@@ -91,6 +92,13 @@ impl Holdings {
             held,
             moving,
         })
+    }
+
+    /// How many page numbers there are. Each page has one that is below this.
+    pub fn numbers(&self) -> u32
+        ensures { result ≡ self.now.numbers }
+    {
+        self.pages.numbers()
     }
 
     /// The pages, to be read.
@@ -221,6 +229,7 @@ impl Holdings {
         ensures held { self.new.held ≡ self.old.held }
         ensures frames { self.new.frames ≡ self.old.frames }
         ensures swap { self.new.swap ≡ self.old.swap }
+        ensures numbers { self.new.numbers ≡ self.old.numbers }
     {
         self.counters.add_reserved(group, parent);
         self.held.add_group();
@@ -255,30 +264,21 @@ impl Holdings {
         Ok(())
     }
 
-    /// A page of the group: zeros, but for one byte. There is room for it. The memory to map it is asked
-    /// for too. Where memory is wanting, nothing changes.
-    pub fn hold(
-        &mut self,
-        spaces: &mut Spaces,
-        group: GroupId,
-        offset: usize,
-        byte: u8,
-    ) -> Result<PageId, AllocError>
+    /// A page of the group: zeros, but for one byte. There is room for it. Takes no memory: where a frame is
+    /// free, so is a number, since each page has a frame or a swap slot.
+    pub fn hold(&mut self, group: GroupId, offset: usize, byte: u8) -> PageId
         requires live { is_live self.old.kin group.0 ≡ true }
         requires granted { IsGranted self.old group.0 }
         requires within { offset < page_size }
-        ensures adds { IfOk result (λ page. AddsPage self.old self.new page.0 group.0 offset byte) }
-        ensures err { OnErr result (self.new ≡ self.old) }
-        ensures tasks { spaces.new.tasks ≡ spaces.old.tasks }
-        ensures mappings { spaces.new.mappings ≡ spaces.old.mappings }
-        ensures room { OnOk result (0 < spaces.new.room) }
+        ensures adds { AddsPage self.old self.new result.0 group.0 offset byte }
+        ensures inside { result.0 < self.old.numbers }
     {
         self.counters.are_counted();
-        reserve_page(&mut self.pages, spaces)?;
+        self.pages.are_in_flight();
         let (frame, charge) = take_room(&mut self.counters, &mut self.pool, group);
         let page = self.pages.hold(frame, charge, offset, byte);
         self.held.push(group, page);
-        Ok(page)
+        page
     }
 
     /// Begins to read in a page that is on its block. There is room for it. The memory of the bytes that
@@ -414,19 +414,6 @@ impl Holdings {
         pool.close();
         slots.close();
     }
-}
-
-/// Asks for the memory of one page more, and of its mapping.
-fn reserve_page(pages: &mut Pages, spaces: &mut Spaces) -> Result<(), AllocError>
-    ensures pages { pages.new ≡ record pages.old { room = pages.new.room } }
-    ensures tasks { spaces.new.tasks ≡ spaces.old.tasks }
-    ensures mappings { spaces.new.mappings ≡ spaces.old.mappings }
-    ensures page_room { OnOk result (0 < pages.new.room) }
-    ensures mapping_room { OnOk result (0 < spaces.new.room) }
-{
-    pages.reserve()?;
-    spaces.reserve()?;
-    Ok(())
 }
 
 /// The memory of a page's bytes that will arrive: zeros until then.

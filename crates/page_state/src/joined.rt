@@ -1,21 +1,22 @@
 //! The joined parts, and what of them is read.
 
-ghost use Rattle.std.specs.Prelude.{◌≡◌, ℕ, ◌+◌, ◌≤◌, [], true, IfSome, IfOk, length};
+ghost use Rattle.std.specs.Prelude.{◌≡◌, ℕ, ◌+◌, ◌<◌, ◌≤◌, [], true, Some, IfSome, IfOk, length};
 ghost use Rattle.machine.specs.Tree.{is_live};
 ghost use Rattle.machine.specs.State.{first_state, opening_of, is_config};
 ghost use Rattle.machine.specs.Pages.{page_at, used_frames, in_transfer};
-ghost use Rattle.machine.specs.Tasks.{lives, group_of_task};
+ghost use Rattle.machine.specs.Tasks.{lives, group_of_task, mapped_at};
+ghost use Rattle.machine.specs.Access.{task_pages};
 ghost use Rattle.machine.specs.Lists.{first_order, ListsHeld};
 ghost use Rattle.group_tree.specs.Lineages.{IsLineage};
-ghost use Rattle.events.specs.Tallies.{Tells};
-ghost use Rattle.pages.specs.PageTable.{AreInFlight};
+ghost use Rattle.memory_events.specs.Tallies.{Tells};
+ghost use Rattle.pages.specs.PagesOf.{AreInFlight};
 ghost use Rattle.page_state.specs.States.{byte_at};
 ghost use Rattle.page_state.specs.Mapped.{AreMapped};
 
 use crate::holdings::Holdings;
-use events::Events;
 use group_tree::Tree;
 use machine::config::{Config, Watermarks};
+use memory_events::Events;
 use pages::Pages;
 use reclaim::Cursors;
 use spaces::Spaces;
@@ -60,13 +61,17 @@ impl State {
         let events = Events::new(alloc)?;
         let cursors = Cursors::new(alloc)?;
         let holdings = Holdings::open(alloc, config.frames, config.swap)?;
+        let Ok(spaces) = Spaces::new(alloc, holdings.numbers()) else {
+            holdings.close();
+            return Err(AllocError);
+        };
         Ok(State {
             config,
             tree,
             holdings,
             cursors,
             events,
-            spaces: Spaces::new(alloc),
+            spaces,
         })
     }
 
@@ -106,14 +111,14 @@ impl State {
 
     /// The daemon's marks.
     pub fn watermarks(&self) -> Watermarks
-        ensures { result ≡ self.now.tables.opening.marks }
+        ensures { result ≡ self.now.tables.opening.watermarks }
     {
-        self.config.marks
+        self.config.watermarks
     }
 
     /// The trace's limit, in entries.
     pub fn limit(&self) -> usize
-        ensures { result ≡ self.now.tables.opening.limit }
+        ensures { result ≡ self.now.tables.opening.trace_limit }
     {
         self.config.trace as usize
     }
@@ -121,7 +126,7 @@ impl State {
     /// The tasks, and what their virtual pages show.
     pub fn spaces(&self) -> &Spaces
         ensures tasks { result.now.tasks ≡ self.now.tables.tasks }
-        ensures mappings { result.now.mappings ≡ self.now.tables.mappings }
+        ensures page_tables { result.now.page_tables ≡ self.now.tables.page_tables }
     {
         &self.spaces
     }
@@ -137,20 +142,23 @@ impl State {
 
     /// Nothing is done: what holds of all joined parts. What the opening fixed is within its limits; the
     /// groups whose events are counted hang together; the root is there, and so is the group of each live
-    /// task and of each page; the pages that are mapped are there, and the transfers in flight are those of the pages in
+    /// task and of each page; the pages that are mapped are there, live tasks map them, and the transfers in flight are those of the pages in
     /// transfer; the order has the held pages, each once, and each group has its cursor.
     pub fn is_joined(&self)
-        ensures limit { self.now.tables.opening.limit ≤ 1048576 }
+        ensures limit { self.now.tables.opening.trace_limit ≤ 1048576 }
         ensures lineage { IsLineage self.now.tallies.tree }
         ensures root { is_live self.now.tables.tree 0 ≡ true }
         ensures homes { (t : ℕ) → lives self.now.tables.tasks t ≡ true → is_live self.now.tables.tree (group_of_task self.now.tables.tasks t) ≡ true }
         ensures groups { (p : ℕ) → IfSome (page_at self.now.tables.pages p) (λ page. is_live self.now.tables.tree page.group ≡ true) }
-        ensures mapped { AreMapped self.now.tables.pages self.now.tables.tasks self.now.tables.mappings }
+        ensures mapped { AreMapped self.now.tables.pages self.now.tables.page_tables }
+        ensures owners { (t v p : ℕ) → mapped_at self.now.tables.page_tables t v ≡ Some p → lives self.now.tables.tasks t ≡ true }
+        ensures inside { (t v p : ℕ) → mapped_at self.now.tables.page_tables t v ≡ Some p → v < task_pages }
         ensures flights { AreInFlight self.now.tables.pages self.now.flights }
         ensures listed { ListsHeld self.now.tables.pages self.now.order.held }
         ensures cursors { length self.now.order.cursors ≡ length self.now.tables.tree }
     {
         self.events.are_told();
         self.holdings.are_counted();
+        self.spaces.owners();
     }
 }

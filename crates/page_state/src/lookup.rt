@@ -1,10 +1,10 @@
-//! Pages that are looked for in the table of pages.
+//! Pages that are looked for among all.
 
 ghost use Rattle.std.specs.Prelude.{◌≡◌, ℕ};
 ghost use Rattle.std.specs.List.{list_any};
 ghost use Rattle.machine.specs.Tree.{under};
 ghost use Rattle.machine.specs.Pages.{Residence};
-ghost use Rattle.pages.specs.PageTable.{Stands};
+ghost use Rattle.pages.specs.PagesOf.{Stands};
 
 use group_tree::Tree;
 use machine::id::{GroupId, PageId};

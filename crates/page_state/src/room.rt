@@ -23,7 +23,7 @@ pub enum NoRoom {
 /// Charges a page to the group, and takes a frame for it. There is room for both.
 pub fn take_room(counters: &mut Counters, pool: &mut Pool, group: GroupId) -> (Frame, Charge)
     requires live { is_live counters.old.tree group.0 ≡ true }
-    requires few { usage_of counters.old 0 < 18446744073709551615 }
+    requires few { usage_of counters.old 0 < u64.MAX }
     requires under { over_in counters.old group.0 ≡ None }
     requires free { 0 < length pool.old.free }
     ensures { TakesRoom counters.old counters.new pool.old pool.new group.0 result.0.number result.1 }

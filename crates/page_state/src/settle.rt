@@ -3,8 +3,8 @@
 ghost use Rattle.std.specs.Prelude.{◌≡◌, ◌≢◌, ℕ, ◌<◌, length, slice_index};
 ghost use Rattle.machine.specs.Pages as residence;
 ghost use Rattle.page_counter.specs.Counts.{SameGroups};
-ghost use Rattle.pages.specs.declared.flight.Direction.{Direction};
-ghost use Rattle.pages.specs.PageTable.{Stands, byte_in, moving};
+ghost use Rattle.machine.specs.declared.record.Direction.{Direction};
+ghost use Rattle.pages.specs.PagesOf.{Stands, byte_in, moving};
 ghost use Rattle.pages.specs.Transfers.{Ends};
 ghost use Rattle.page_state.specs.Owned.{AreKept};
 ghost use Rattle.page_state.specs.Relists.{JoinsAtEnd, LeavesQueue};

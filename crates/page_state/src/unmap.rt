@@ -1,20 +1,53 @@
-//! Pages that go since nothing maps them any more, with what they own. A page in transfer stays until
-//! its end.
+//! Virtual pages that show nothing any more, and the pages that go since nothing maps them any more, with
+//! what they own. A page in transfer stays until its end.
 
-ghost use Rattle.std.specs.Prelude.{◌≡◌, ℕ, ◌&&◌, ◌≤◌, not, IsSome, true, false};
+ghost use Rattle.std.specs.Prelude.{◌≡◌, IsSome};
 ghost use Rattle.machine.specs.Pages.{page_at};
-ghost use Rattle.machine.specs.Tasks.{is_of, mappers};
-ghost use Rattle.pages.specs.PageTable.{is_moving_in};
-ghost use Rattle.page_state.specs.Mapped.{is_there};
-ghost use Rattle.page_state.specs.Holdings.{with_order, StayInOrder};
-ghost use Rattle.page_state.specs.Drops.{shows_to, DropsPages, DropsUnmapped};
-ghost use Rattle.page_state.specs.Drops.{is_let_go, is_transfer};
+ghost use Rattle.machine.specs.Access.{task_pages};
+ghost use Rattle.pages.specs.PagesOf.{is_moving_in};
+ghost use Rattle.page_state.specs.Changes.{Unmaps, UnmapsBelow};
+ghost use Rattle.page_state.specs.Drops.{DropsUnmapped, is_transfer};
 
 use crate::holdings::Holdings;
+use crate::joined::State;
 use machine::id::{PageId, TaskId};
-use machine::record::Mapping;
+use machine::limit::TASK_PAGES;
 use pages::Residence;
 use spaces::Spaces;
+
+impl State {
+    /// A virtual page of a task shows nothing from now on, and the page that it showed goes where nothing
+    /// else maps it (kernel: zap_pte_range). Takes no memory.
+    pub(crate) fn unmap(&mut self, task: TaskId, at: u32)
+        ensures { Unmaps self.old self.new task.0 at }
+    {
+        self.holdings.are_counted();
+        if let Some(page) = self.spaces.unmap(task, at) {
+            drop_unmapped(&mut self.holdings, &self.spaces, page);
+        }
+    }
+
+    /// No virtual page of the task shows anything from now on. Takes no memory.
+    pub(crate) fn unmap_all(&mut self, task: TaskId)
+        ensures { UnmapsBelow self.old self.new task.0 task_pages }
+    {
+        self.is_joined();
+        for at in 0..TASK_PAGES {
+            self.unmap(task, at);
+        }
+    }
+}
+
+/// Lets the page go where nothing maps it, unless it is in transfer. Takes no memory.
+pub fn drop_unmapped(holdings: &mut Holdings, spaces: &Spaces, page: PageId)
+    requires { IsSome (page_at holdings.old.stored.pages page.0) }
+    ensures { DropsUnmapped holdings.old holdings.new spaces.now.page_tables page.0 }
+{
+    holdings.are_counted();
+    if spaces.mappers(page) == 0 && !is_moving(holdings, page) {
+        holdings.drop_page(page);
+    }
+}
 
 /// Whether the page is in transfer.
 fn is_moving(holdings: &Holdings, page: PageId) -> bool
@@ -32,46 +65,5 @@ fn is_transfer(residence: Residence) -> bool
     match residence {
         Residence::Coming | Residence::Going => true,
         Residence::Held(_) | Residence::Away(_) => false,
-    }
-}
-
-/// Lets the page of the mapping go, if the mapping is the task's and the page is in no transfer.
-fn drop_shown(holdings: &mut Holdings, mapping: &Mapping, task: TaskId)
-    requires there { is_of task.0 mapping.now ≡ true → IsSome (page_at holdings.old.stored.pages mapping.now.page.0) }
-    ensures drops { DropsPages holdings.old.stored holdings.new.stored (λ q. shows_to task.0 q mapping.now && not (is_moving_in holdings.old.stored.pages q)) }
-    ensures flights { holdings.new.stored.flights ≡ holdings.old.stored.flights }
-    ensures order { StayInOrder holdings.old holdings.new }
-    ensures others { holdings.new ≡ with_order holdings.old holdings.new.stored holdings.new.held }
-{
-    holdings.are_counted();
-    if mapping.task.0 == task.0 && !is_moving(holdings, mapping.page) {
-        holdings.drop_page(mapping.page);
-    }
-}
-
-/// Lets all pages of the task go that are in no transfer, each of which is mapped once. Takes no
-/// memory.
-pub fn drop_pages(holdings: &mut Holdings, mappings: &[Mapping], task: TaskId)
-    requires { (p : ℕ) → mappers mappings.now p ≤ is_there (page_at holdings.old.stored.pages p) }
-    ensures drops { DropsPages holdings.old.stored holdings.new.stored (is_let_go task.0 mappings.now holdings.old.stored.pages) }
-    ensures flights { holdings.new.stored.flights ≡ holdings.old.stored.flights }
-    ensures order { StayInOrder holdings.old holdings.new }
-    ensures others { holdings.new ≡ with_order holdings.old holdings.new.stored holdings.new.held }
-{
-    holdings.are_counted();
-    for mapping in mappings {
-        drop_shown(holdings, mapping, task);
-    }
-}
-
-/// Lets the page go, which is in no transfer any more, if nothing maps it. Takes no memory.
-pub fn drop_unmapped(holdings: &mut Holdings, spaces: &Spaces, page: PageId)
-    requires there { IsSome (page_at holdings.old.stored.pages page.0) }
-    requires settled { is_moving_in holdings.old.stored.pages page.0 ≡ false }
-    ensures { DropsUnmapped holdings.old holdings.new spaces.now.mappings page.0 }
-{
-    holdings.are_counted();
-    if spaces.mappers(page) == 0 {
-        holdings.drop_page(page);
     }
 }

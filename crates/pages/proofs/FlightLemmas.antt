@@ -3,14 +3,14 @@ use Rattle.std.proofs.Common.{◌≡◌, ◌≢◌, ℕ, Bool, true, false, List
 use Rattle.std.specs.Prelude.{option_map, IfSome, IsSome}
 use Rattle.std.proofs.lemmas.Bool.{false_from_ne_true}
 use Rattle.std.proofs.lemmas.Bool.Decides.{eqb_tells}
-use Rattle.machine.specs.Slots.{at, there_and, any_there, Changes}
-use Rattle.machine.specs.Pages.{Page, Pages, Residence, Held, Coming, Going, Away, page_at, is_number, ticket_at, in_transfer_at, is_in_transfer, is_coming_at, is_going_at}
-use Rattle.pages.specs.declared.flight.Direction.{Direction}
-use Rattle.pages.specs.declared.flight.Direction.TheVariants.{In, Out}
+use Rattle.machine.specs.Slots.{at, there_and, Changes}
+use Rattle.machine.specs.Pages.{Page, Pages, Residence, Held, Coming, Going, Away, page_at, is_number, ticket_at, in_transfer_at, is_in_transfer, is_flying_at, is_in_flight}
+use Rattle.machine.specs.declared.record.Direction.{Direction}
+use Rattle.machine.specs.declared.record.Direction.TheVariants.{In, Out}
 use Rattle.pages.specs.declared.flight.Flight.{Flight}
 use Rattle.pages.specs.declared.owned_page.OwnedPage.{OwnedPage}
 use Rattle.pages.specs.declared.owned_page.OwnedPage.TheVariants as owned_page
-use Rattle.pages.specs.PageTable.{anon_page, moving, flight, is_direction, is_flight_to, IsInTransfer, AreInFlight}
+use Rattle.pages.specs.PagesOf.{anon_page, moving, flight, is_direction, is_flight_to, IsInTransfer, AreInFlight}
 use Rattle.pages.specs.Records.{page_of}
 use Rattle.pages.proofs.TableLemmas.{at-map, any-none, any-only}
 
@@ -155,37 +155,32 @@ module _ (old new : Pages) (p : ℕ) (to : Option Page) (placed : Changes old ne
 
 -- ---- which way a ticket's page goes
 
--- in transfer under this ticket, in this direction
-abbrev is_moving_at : Direction → ℕ → Residence → Bool
-is_moving_at In n residence = is_coming_at n residence
-is_moving_at Out n residence = is_going_at n residence
+flying-ticket : (d : Direction) (n : ℕ) (residence : Residence) → is_flying_at d n residence ≡ true → is_number (ticket_at residence) n ≡ true
+flying-ticket In n (Coming frame block ticket) is = is
+flying-ticket Out n (Going frame block ticket) is = is
+flying-ticket d n residence is = absurd (cc)
 
-moving-ticket : (d : Direction) (n : ℕ) (residence : Residence) → is_moving_at d n residence ≡ true → is_number (ticket_at residence) n ≡ true
-moving-ticket In n (Coming frame block ticket) is = is
-moving-ticket Out n (Going frame block ticket) is = is
-moving-ticket d n residence is = absurd (cc)
-
-moving-tells : (wanted d : Direction) (frame block n : ℕ) → is_moving_at wanted n (moving d frame block n) ≡ is_direction wanted d
-moving-tells In In frame block n = grind arith
-moving-tells Out Out frame block n = grind arith
-moving-tells In Out frame block n = refl
-moving-tells Out In frame block n = refl
+flying-tells : (wanted d : Direction) (frame block n : ℕ) → is_flying_at wanted n (moving d frame block n) ≡ is_direction wanted d
+flying-tells In In frame block n = grind arith
+flying-tells Out Out frame block n = grind arith
+flying-tells In Out frame block n = refl
+flying-tells Out In frame block n = refl
 
 module _ (pages : Pages) (flights : List (Option Flight)) (is : AreInFlight pages flights) (n : ℕ) where
   -- a page is in transfer under the ticket in a direction exactly where the ticket's flight is one in it
-  pub flies : (d : Direction) → any_there (λ page. is_moving_at d n page.residence) pages ≡ is_flight_to d (at flights n)
+  pub flies : (d : Direction) → is_in_flight d pages n ≡ is_flight_to d (at flights n)
   flies d = by_flight (at flights n) refl
     where
-      under-test : (slot : Option Page) → there_and (λ page. is_moving_at d n page.residence) slot ≡ true → under slot n ≡ true
+      under-test : (slot : Option Page) → there_and (λ page. is_flying_at d n page.residence) slot ≡ true → under slot n ≡ true
       under-test None is = absurd (cc)
-      under-test (Some page) is = moving-ticket d n page.residence is
+      under-test (Some page) is = flying-ticket d n page.residence is
 
-      listed : (q : ℕ) → there_and (λ page. is_moving_at d n page.residence) (at pages q) ≡ true → page_number (at flights n) ≡ Some q
+      listed : (q : ℕ) → there_and (λ page. is_flying_at d n page.residence) (at pages q) ≡ true → page_number (at flights n) ≡ Some q
       listed q hit = is.listed q n (under-test (page_at pages q) hit)
 
-      by_flight : (slot : Option Flight) → at flights n ≡ slot → any_there (λ page. is_moving_at d n page.residence) pages ≡ is_flight_to d slot
-      by_flight None e = any-none (λ page. is_moving_at d n page.residence) pages (λ q. false_from_ne_true _ (λ hit. let two = sym (ap page_number e) ∙ listed q hit in cc))
+      by_flight : (slot : Option Flight) → at flights n ≡ slot → is_in_flight d pages n ≡ is_flight_to d slot
+      by_flight None e = any-none (λ page. is_flying_at d n page.residence) pages (λ q. false_from_ne_true _ (λ hit. let two = sym (ap page_number e) ∙ listed q hit in cc))
       by_flight (Some f) e =
           let it : IsInTransfer pages n f = subst (λ slot. IfSome slot (IsInTransfer pages n)) e (is.known n) in
-          any-only (λ page. is_moving_at d n page.residence) pages f.page.0 (λ q hit. let two = sym (ap page_number e) ∙ listed q hit in cc)
-          ∙ ap (there_and (λ page. is_moving_at d n page.residence)) it.stands ∙ moving-tells d f.direction it.frame it.block n
+          any-only (λ page. is_flying_at d n page.residence) pages f.page.0 (λ q hit. let two = sym (ap page_number e) ∙ listed q hit in cc)
+          ∙ ap (there_and (λ page. is_flying_at d n page.residence)) it.stands ∙ flying-tells d f.direction it.frame it.block n

@@ -1,13 +1,15 @@
--- Look-ups in the tables that places make, after a change at one number.
+-- Look-ups of pages by their numbers, after a change at one number.
 use Rattle.std.proofs.Common.{◌≡◌, ◌≢◌, ◌<◌, ℕ, zero, suc, ◌==◌, ◌&&◌, ◌||◌, Bool, true, false, cond, if◌then◌else◌, List, [], ◌∷◌, length, map, get_or, set, Option, Some, None, is_some, refl, sym, ap, ◌∙◌, inl, inr, arith}
 use Rattle.std.specs.Prelude.{option_map, slice_index, IsSome}
+use Rattle.std.proofs.Math.ListN.{get_or-map}
 use Rattle.std.proofs.lemmas.Bool.{or_right, false_from_ne_true}
 use Rattle.std.proofs.lemmas.Bool.Decides.{eqb_tells}
 use Rattle.std.proofs.lemmas.List.{get_or-set_same, get_or-set_other, get_or_past}
-use Rattle.slab.specs.Slab.{Slab, get, Updates}
-use Rattle.machine.specs.Slots.{at, Changes, there_and, any_there}
-use Rattle.machine.proofs.SlotLemmas.{count_there-none, any_there-none}
-use Rattle.pages.specs.PageTable.{byte_of, byte_in}
+use Rattle.std.proofs.lemmas.List.Sums.{sum-map}
+use Rattle.slab.specs.Slab.{Slab, get, slab_len, Updates}
+use Rattle.machine.specs.Slots.{at, Changes, there_and, count_there, any_there}
+use Rattle.machine.proofs.SlotLemmas.{one_if, sum_by-alike, count_there-none, any_there-none}
+use Rattle.pages.specs.PagesOf.{byte_of, byte_in}
 use Rattle.pages.specs.Records.{WritesByte}
 
 module _ {A : Type 0} where
@@ -31,9 +33,7 @@ module _ {A : Type 0} where
 
 module _ {A B : Type 0} (f : A → B) where
   pub at-map : (slots : List (Option A)) (k : ℕ) → get_or (map (option_map f) slots) k None ≡ option_map f (get_or slots k None)
-  at-map [] k = refl
-  at-map (slot ∷ slots) zero = refl
-  at-map (slot ∷ slots) (suc k) = at-map slots k
+  at-map slots k = get_or-map (option_map f) slots k None
 
   -- a change of what is there, for the table
   pub Changes-map : (old new : List (Option A)) (k : ℕ) (to : Option A) → Changes old new k to → Changes (map (option_map f) old) (map (option_map f) new) k (option_map f to)
@@ -77,6 +77,21 @@ module _ {T A : Type 0} where
         | inl here ↦ ap is_some (ap (get later) here.1 ∙ updates.changed) ∙ same ∙ sym (ap is_some (ap (at new) here.1 ∙ changes.changed))
         | inr apart ↦ ap is_some (updates.others n apart.1) ∙ taken n ∙ sym (ap is_some (changes.others n apart.1))
       ]
+
+there-some : {A B : Type 0} (f : A → B) (slot : Option A) → there_and (λ (b : B). true) (option_map f slot) ≡ is_some slot
+there-some f None = refl
+there-some f (Some a) = refl
+
+-- as many numbers are taken as there are pages
+pub taken-there : {T A B : Type 0} (f : A → B) (numbers : Slab T) (owned : List (Option A)) → ((n : ℕ) → is_some (get numbers n) ≡ is_some (at owned n)) → slab_len numbers ≡ count_there (λ (b : B). true) (map (option_map f) owned)
+taken-there {T} {A} {B} f numbers owned taken =
+    let made = map (option_map f) owned in
+    let taken_one : Option T → ℕ = λ slot. one_if (is_some slot) in
+    let there_one : Option B → ℕ = λ slot. one_if (there_and (λ b. true) slot) in
+    sym (sum-map taken_one numbers.slots)
+    ∙ sum_by-alike (λ (n : ℕ). n) 0 refl (map there_one made) (map taken_one numbers.slots)
+    (λ n. get_or-map taken_one numbers.slots n None ∙ ap one_if (taken n ∙ sym (there-some f (at owned n)) ∙ ap (there_and (λ b. true)) (sym (at-map f owned n))) ∙ sym (get_or-map there_one made n None))
+    ∙ sum-map there_one made
 
 none_of : {A B : Type 0} (number : Option A) (slot : Option B) → is_some number ≡ is_some slot → number ≡ None → slot ≡ None
 none_of number None same free = refl

@@ -1,8 +1,7 @@
--- Tables of pages after the change of what one page owns, as transfers begin and end.
-use Rattle.std.proofs.Common.{◌≡◌, ◌≢◌, ℕ, ◌+◌, ◌<◌, ◌≤◌, ◌==◌, true, cond, List, length, map, set, Option, Some, None, is_some, refl, sym, ap, ◌∙◌, subst, inl, inr, arith}
+-- Pages after the change of what one of them owns, as transfers begin and end.
+use Rattle.std.proofs.Common.{◌≡◌, ◌≢◌, ℕ, ◌+◌, ◌<◌, ◌==◌, true, cond, List, length, map, set, Option, Some, None, is_some, refl, sym, ap, ◌∙◌, subst, inl, inr, arith}
 use Rattle.std.specs.Prelude.{option_map, IfSome, IsSome, slice_index}
 use Rattle.std.proofs.lemmas.Bool.Decides.{eqb_tells}
-use Rattle.std.proofs.lemmas.List.{length-set}
 use Rattle.slab.specs.Slab.{Slab, get, slab_len, HasRoomFor}
 use Rattle.machine.specs.Slots.{at, there_and, Changes}
 use Rattle.machine.specs.Pages.{Page, Pages, Residence, page_at, is_held, in_transfer_at, frame_at, block_at}
@@ -10,13 +9,13 @@ use Rattle.machine.specs.declared.id.PageId.{PageId}
 use Rattle.pages.specs.declared.end.End.{End}
 use Rattle.pages.specs.declared.end.End.TheVariants.{InFrame, OnBlock}
 use Rattle.pages.specs.declared.end.Freed.{Freed}
-use Rattle.pages.specs.declared.flight.Direction.{Direction}
-use Rattle.pages.specs.declared.flight.Direction.TheVariants.{In, Out}
+use Rattle.machine.specs.declared.record.Direction.{Direction}
+use Rattle.machine.specs.declared.record.Direction.TheVariants.{In, Out}
 use Rattle.pages.specs.declared.flight.Flight.{Flight}
 use Rattle.pages.specs.declared.owned_page.OwnedPage.{OwnedPage}
-use Rattle.pages.specs.PageTable.{anon_page, moving, flight, byte_of, byte_in, Stands, is_under_ticket, IsInTransfer, AreInFlight}
+use Rattle.pages.specs.PagesOf.{anon_page, moving, flight, byte_of, byte_in, Stands, is_under_ticket, IsInTransfer, AreInFlight}
 use Rattle.pages.specs.Transfers.{Starts, Ends, residence_after, IsFreed, given_ticket}
-use Rattle.pages.specs.Records.{page_of, bytes_of, table_of, IsTable}
+use Rattle.pages.specs.Records.{page_of, bytes_of, view_of, ArePages}
 use Rattle.pages.proofs.TableLemmas.{at-map, is_some-map, map-set, place_within, Changes-map, Changes-set, Changes-twice, byte_in-changes}
 use Rattle.pages.proofs.FlightLemmas.{under, under-moving, IsSettled, IsSettled-is, AreMemory-owned, AreInFlight-begun, AreInFlight-ended}
 
@@ -32,6 +31,10 @@ pub owned-stands : (owned : List (Option OwnedPage)) (p g : ℕ) (residence : Re
 owned-stands owned p g residence k was stands =
     let is = sym (ap (option_map page_of) was) ∙ sym (at-map page_of owned p) ∙ stands in
     cc
+
+moving-transfer : (d : Direction) (f b n : ℕ) → in_transfer_at (moving d f b n) ≡ true
+moving-transfer In f b n = refl
+moving-transfer Out f b n = refl
 
 -- the flight of a ticket
 module _ (owned : List (Option OwnedPage)) (flights : List (Option Flight)) (n : ℕ) (page : PageId) (in_flight : AreInFlight (pages_of owned) flights) (known : option_map (λ (f : Flight). f.page) (at flights n) ≡ Some page) where
@@ -61,6 +64,10 @@ module _ (owned : List (Option OwnedPage)) (flights : List (Option Flight)) (n :
 
   pub flight-stands : (d : Direction) (p g f b : ℕ) → Stands (pages_of owned) p g (moving d f b n) → Stands (pages_of owned) page.0 g (moving d f b n)
   flight-stands d p g f b stands = subst (λ q. Stands (pages_of owned) q g (moving d f b n)) (sym (flight-page d p g f b stands)) stands
+
+  -- what it owns is that of a page in transfer
+  pub flight-moves : (d : Direction) (p g f b : ℕ) → Stands (pages_of owned) p g (moving d f b n) → (k : OwnedPage) → at owned page.0 ≡ Some k → in_transfer_at (page_of k).residence ≡ true
+  flight-moves d p g f b stands k was = ap (λ page. in_transfer_at page.residence) (owned-stands owned page.0 g _ k was (flight-stands d p g f b stands)) ∙ moving-transfer d f b n
 
 -- a ticket that a page is in transfer under is in flight
 pub flight-listed : (owned : List (Option OwnedPage)) (flights : Slab Flight) (d : Direction) (p g f b n : ℕ) → AreInFlight (pages_of owned) flights.slots → Stands (pages_of owned) p g (moving d f b n) → IsSome (get flights n)
@@ -134,10 +141,6 @@ settled-after : (end : End) (page : Page) (g f b : ℕ) → page ≡ anon_page g
 settled-after InFrame page g f b is = IsSettled-is (Some page) _ (ap Some is) (λ n. refl)
 settled-after OnBlock page g f b is = IsSettled-is (Some page) _ (ap Some is) (λ n. refl)
 
-moving-transfer : (d : Direction) (f b n : ℕ) → in_transfer_at (moving d f b n) ≡ true
-moving-transfer In f b n = refl
-moving-transfer Out f b n = refl
-
 moving-frame : (d : Direction) (f b n : ℕ) → frame_at (moving d f b n) ≡ Some f
 moving-frame In f b n = refl
 moving-frame Out f b n = refl
@@ -147,39 +150,40 @@ moving-block In f b n = refl
 moving-block Out f b n = refl
 
 -- the steps of an ending: the transfer is unlisted, and what its page owns is exchanged
-pub record Landing {T : Type 0} (numbers : Slab T) (old between new : List (Option OwnedPage)) (flights later : Slab Flight) (n : ℕ) (number : PageId) (from to : OwnedPage) (charge frame block : ℕ) (end : End) : Type 0 where
-  pub table : IsTable numbers old flights
+pub record Landing {T : Type 0} (numbers : Slab T) (old between new : List (Option OwnedPage)) (places room : ℕ) (flights later : Slab Flight) (n : ℕ) (number : PageId) (from to : OwnedPage) (charge frame block : ℕ) (end : End) : Type 0 where
+  pub are : ArePages numbers old places flights
   pub page : option_map (λ (f : Flight). f.page) (at flights.slots n) ≡ Some number
   pub unlisted : Changes flights.slots later.slots n None
   pub len : slab_len later + 1 ≡ slab_len flights
   pub fits : HasRoomFor later 1
   pub capacity : later.capacity ≡ flights.capacity
   pub exchanges : Exchanges old between new number.0 from to
-  pub within : length new ≤ numbers.capacity
+  pub same_places : room ≡ places
   pub own_charge : (page_of from).group ≡ charge
   pub own_frame : frame_at (page_of from).residence ≡ Some frame
   pub own_block : block_at (page_of from).residence ≡ Some block
   pub after : page_of to ≡ anon_page charge (residence_after end frame block)
   pub kept : end ≡ InFrame → bytes_of to ≡ bytes_of from
 
-module _ {T : Type 0} {numbers : Slab T} {old between new : List (Option OwnedPage)} {flights later : Slab Flight} {n : ℕ} {number : PageId} {from to : OwnedPage} {charge frame block : ℕ} {end : End} (landing : Landing numbers old between new flights later n number from to charge frame block end) where
-  pub Landing-table : IsTable numbers new later
-  Landing-table =
-      let is = landing.table in
+module _ {T : Type 0} {numbers : Slab T} {old between new : List (Option OwnedPage)} {places room : ℕ} {flights later : Slab Flight} {n : ℕ} {number : PageId} {from to : OwnedPage} {charge frame block : ℕ} {end : End} (landing : Landing numbers old between new places room flights later n number from to charge frame block end) where
+  pub Landing-are : ArePages numbers new room later
+  Landing-are =
+      let is = landing.are in
       record {
         taken = exchanged-taken old between new number.0 from to landing.exchanges numbers is.taken;
-        within = landing.within;
+        within = rw landing.same_places is.within;
         in_flight = AreInFlight-ended (pages_of old) (pages_of new) number.0 (Some (page_of to)) (Changes-map page_of old new number.0 (Some to) (exchanged old between new number.0 from to landing.exchanges)) flights.slots later.slots n is.in_flight (flight-under old flights.slots n number is.in_flight landing.page) landing.unlisted (settled-after end (page_of to) charge frame block landing.after) (AreMemory-owned new);
+        few = is.few;
         countable = (let few = is.countable in let same = landing.capacity in omega (arith, few, same));
       }
 
   module _ (d : Direction) (p g f b : ℕ) (stands : Stands (pages_of old) p g (moving d f b n)) where
     -- the page of the ticket is the one that is in transfer under it
     Landing-page : number.0 ≡ p
-    Landing-page = flight-page old flights.slots n number landing.table.in_flight landing.page d p g f b stands
+    Landing-page = flight-page old flights.slots n number landing.are.in_flight landing.page d p g f b stands
 
     from_is : page_of from ≡ anon_page g (moving d f b n)
-    from_is = owned-stands old number.0 g _ from landing.exchanges.was (flight-stands old flights.slots n number landing.table.in_flight landing.page d p g f b stands)
+    from_is = owned-stands old number.0 g _ from landing.exchanges.was (flight-stands old flights.slots n number landing.are.in_flight landing.page d p g f b stands)
 
     pub Landing-charge : charge ≡ g
     Landing-charge = part-charge from g _ from_is charge landing.own_charge
@@ -190,14 +194,14 @@ module _ {T : Type 0} {numbers : Slab T} {old between new : List (Option OwnedPa
     pub Landing-block : block ≡ b
     Landing-block = part-slot from g _ from_is block b landing.own_block (moving-block d f b n)
 
-    pub Landing-ends : (places room : ℕ) → room ≡ places → Ends (table_of numbers old places flights) (table_of numbers new room later) p g f b n end
-    Landing-ends places room same_room =
+    pub Landing-ends : Ends (view_of numbers old flights) (view_of numbers new later) p g f b n end
+    Landing-ends =
         let is = landing.after ∙ anon_page-same charge g _ _ Landing-charge (ap (λ x. residence_after end x block) Landing-frame ∙ ap (λ x. residence_after end f x) Landing-block) in
         record {
           placed = exchanged-page old between new number.0 from to landing.exchanges p g _ Landing-page is;
           unlisted = landing.unlisted;
           more = (let len = landing.len in let fits = landing.fits in let capacity = landing.capacity in omega (arith, len, fits, capacity));
-          room = rw same_room refl;
+          numbers = refl;
           bytes = λ in_frame. exchanged-byte-kept old between new number.0 from to landing.exchanges (landing.kept in_frame);
           others = λ k o apart. exchanged-byte-apart old between new number.0 from to landing.exchanges k o (λ same. apart (same ∙ Landing-page));
         }
@@ -206,38 +210,39 @@ module _ {T : Type 0} {numbers : Slab T} {old between new : List (Option OwnedPa
     Landing-freed freed is = subst (λ x. IsFreed x f b end freed) Landing-charge (subst (λ x. IsFreed charge x b end freed) Landing-frame (subst (λ x. IsFreed charge frame x end freed) Landing-block is))
 
 -- the steps of a beginning: the transfer is listed under a free ticket, and what its page owns is exchanged
-pub record Takeoff {T : Type 0} (numbers : Slab T) (old between new : List (Option OwnedPage)) (flights later : Slab Flight) (n p worker : ℕ) (direction : Direction) (g frame block : ℕ) (from to : OwnedPage) : Type 0 where
-  pub table : IsTable numbers old flights
+pub record Takeoff {T : Type 0} (numbers : Slab T) (old between new : List (Option OwnedPage)) (places room : ℕ) (flights later : Slab Flight) (n p worker : ℕ) (direction : Direction) (g frame block : ℕ) (from to : OwnedPage) : Type 0 where
+  pub are : ArePages numbers old places flights
   pub free : at flights.slots n ≡ None
   pub listed : Changes flights.slots later.slots n (Some (flight p worker direction))
   pub len : slab_len later ≡ slab_len flights + 1
   pub fits : HasRoomFor flights 1
   pub capacity : later.capacity ≡ flights.capacity
   pub exchanges : Exchanges old between new p from to
-  pub within : length new ≤ numbers.capacity
+  pub same_places : room ≡ places
   pub settled : IsSettled (Some (page_of from))
   pub moves : page_of to ≡ anon_page g (moving direction frame block n)
 
-module _ {T : Type 0} {numbers : Slab T} {old between new : List (Option OwnedPage)} {flights later : Slab Flight} {n p worker : ℕ} {direction : Direction} {g frame block : ℕ} {from to : OwnedPage} (takeoff : Takeoff numbers old between new flights later n p worker direction g frame block from to) where
-  pub Takeoff-table : IsTable numbers new later
-  Takeoff-table =
-      let is = takeoff.table in
+module _ {T : Type 0} {numbers : Slab T} {old between new : List (Option OwnedPage)} {places room : ℕ} {flights later : Slab Flight} {n p worker : ℕ} {direction : Direction} {g frame block : ℕ} {from to : OwnedPage} (takeoff : Takeoff numbers old between new places room flights later n p worker direction g frame block from to) where
+  pub Takeoff-are : ArePages numbers new room later
+  Takeoff-are =
+      let is = takeoff.are in
       let settled = IsSettled-is (page_at (pages_of old) p) (Some (page_of from)) (at-map page_of old p ∙ ap (option_map page_of) takeoff.exchanges.was) takeoff.settled in
       record {
         taken = exchanged-taken old between new p from to takeoff.exchanges numbers is.taken;
-        within = takeoff.within;
+        within = rw takeoff.same_places is.within;
         in_flight = AreInFlight-begun (pages_of old) (pages_of new) p (Some (page_of to)) (Changes-map page_of old new p (Some to) (exchanged old between new p from to takeoff.exchanges)) flights.slots later.slots n worker direction g frame block (ap Some takeoff.moves) is.in_flight settled takeoff.free takeoff.listed (AreMemory-owned new);
+        few = is.few;
         countable = (let few = is.countable in let same = takeoff.capacity in omega (arith, few, same));
       }
 
-  pub Takeoff-starts : (places room : ℕ) → room ≡ places → (h f b entry : ℕ) (bytes : List ℕ) → page_of to ≡ anon_page h (moving direction f b n) → Starts (table_of numbers old places flights) (table_of numbers new room later) p h direction f b worker entry (given_ticket n worker entry b bytes)
-  Takeoff-starts places room same_room h f b entry bytes is = record {
+  pub Takeoff-starts : (h f b entry : ℕ) (bytes : List ℕ) → page_of to ≡ anon_page h (moving direction f b n) → Starts (view_of numbers old flights) (view_of numbers new later) p h direction f b worker entry (given_ticket n worker entry b bytes)
+  Takeoff-starts h f b entry bytes is = record {
     free = takeoff.free;
     listed = takeoff.listed;
     placed = exchanged-page old between new p from to takeoff.exchanges p h _ refl is;
     given = refl;
     fewer = (let len = takeoff.len in let fits = takeoff.fits in let capacity = takeoff.capacity in omega (arith, len, fits, capacity));
-    room = rw same_room refl;
+    numbers = refl;
   }
 
   pub Takeoff-apart : (q o : ℕ) → q ≢ p → byte_in (map (option_map bytes_of) new) q o ≡ byte_in (map (option_map bytes_of) old) q o
@@ -249,7 +254,7 @@ module _ {T : Type 0} {numbers : Slab T} {old between new : List (Option OwnedPa
   pub Takeoff-holds : (bytes : List ℕ) → bytes ≡ bytes_of from → (o : ℕ) → slice_index bytes o ≡ byte_in (map (option_map bytes_of) old) p o
   Takeoff-holds bytes copied o = ap (λ b. slice_index b o) copied ∙ sym (own-byte old between new p from to takeoff.exchanges o)
 
--- bytes of one page are written in its place: the table shows the same pages
+-- bytes of one page are written in its place: the pages are the same
 pub record Rewrites (owned : List (Option OwnedPage)) (p : ℕ) (before after : Option OwnedPage) : Type 0 where
   pub within : p < length owned
   pub was : before ≡ at owned p
@@ -259,16 +264,17 @@ module _ {T : Type 0} (numbers : Slab T) (flights : Slab Flight) (owned : List (
   same_pages : pages_of (set owned p after) ≡ pages_of owned
   same_pages = map-set page_of owned p after (rewrites.page ∙ ap (option_map page_of) rewrites.was)
 
-  pub Rewrites-table : IsTable numbers owned flights → IsTable numbers (set owned p after) flights
-  Rewrites-table is = record {
+  pub Rewrites-are : (places : ℕ) → ArePages numbers owned places flights → ArePages numbers (set owned p after) places flights
+  Rewrites-are places is = record {
     taken = λ n. is.taken n ∙ sym (sym (is_some-map page_of (at (set owned p after) n)) ∙ ap is_some (sym (at-map page_of (set owned p after) n) ∙ ap (λ pages. page_at pages n) same_pages ∙ at-map page_of owned n) ∙ is_some-map page_of (at owned n));
-    within = rw (length-set owned p after) is.within;
+    within = is.within;
     in_flight = subst (λ pages. AreInFlight pages flights.slots) (sym same_pages) is.in_flight;
+    few = is.few;
     countable = is.countable;
   }
 
-  pub Rewrites-others : (places : ℕ) → table_of numbers (set owned p after) places flights ≡ record (table_of numbers owned places flights) { bytes = map (option_map bytes_of) (set owned p after) }
-  Rewrites-others places = ap (λ pages. record (table_of numbers (set owned p after) places flights) { pages = pages }) same_pages
+  pub Rewrites-others : view_of numbers (set owned p after) flights ≡ record (view_of numbers owned flights) { bytes = map (option_map bytes_of) (set owned p after) }
+  Rewrites-others = ap (λ pages. record (view_of numbers (set owned p after) flights) { pages = pages }) same_pages
 
   pub Rewrites-bytes : Changes (map (option_map bytes_of) owned) (map (option_map bytes_of) (set owned p after)) p (option_map bytes_of after)
   Rewrites-bytes = Changes-map bytes_of _ _ p after (Changes-set owned p after rewrites.within)

@@ -1,4 +1,4 @@
 pub mod Tickets
-pub mod PageTable
+pub mod PagesOf
 pub mod Transfers
 pub mod Records

@@ -1,12 +1,12 @@
--- What a contract sees of a table of pages, by what it is made of: the numbers that pages have, what the pages own, and the transfers in flight.
-use Rattle.std.specs.Prelude.{◌≡◌, ◌≢◌, ℕ, ◌-◌, ◌<◌, ◌≤◌, leb, List, [], Option, length, map, option_map, is_some, if◌then◌else◌}
+-- What a contract sees of pages, by what they are made of: the numbers that pages have, what the pages own, and the transfers in flight.
+use Rattle.std.specs.Prelude.{◌≡◌, ◌≢◌, ℕ, ◌-◌, ◌<◌, ◌≤◌, List, [], Option, map, option_map, is_some}
 use Rattle.slab.specs.Slab.{Slab, get, slab_len}
 use Rattle.machine.specs.Slots.{at}
 use Rattle.machine.specs.Pages.{Held, Coming, Going, Away, Page}
 use Rattle.pages.specs.declared.flight.Flight.{Flight}
 use Rattle.pages.specs.declared.owned_page.OwnedPage.{OwnedPage}
 use Rattle.pages.specs.declared.owned_page.OwnedPage.TheVariants as owned_page
-use Rattle.pages.specs.PageTable.{PageTable, anon_page, byte_of, AreInFlight}
+use Rattle.pages.specs.PagesOf.{PagesOf, anon_page, byte_of, AreInFlight}
 
 -- the page that owns these
 abbrev pub page_of : OwnedPage → Page
@@ -27,24 +27,21 @@ pub record WritesByte (old new : Option (List ℕ)) (offset byte : ℕ) : Type 0
   pub others : (o : ℕ) → o ≢ offset → byte_of new o ≡ byte_of old o
 
 module _ {T : Type 0} where
-  -- how many numbers can be given out with no memory asked for, where each has a place
-  abbrev pub room_of : Slab T → ℕ → ℕ
-  room_of numbers places = if leb numbers.capacity places then numbers.capacity - slab_len numbers else 0
-
-  -- the numbers, what the pages own, how many places there is memory for, and the transfers
-  abbrev pub table_of : Slab T → List (Option OwnedPage) → ℕ → Slab Flight → PageTable
-  table_of numbers owned places transfers = record {
+  -- the numbers, what the pages own, and the transfers
+  abbrev pub view_of : Slab T → List (Option OwnedPage) → Slab Flight → PagesOf
+  view_of numbers owned transfers = record {
     pages = map (option_map page_of) owned;
     bytes = map (option_map bytes_of) owned;
-    room = room_of numbers places;
+    numbers = numbers.capacity;
     flights = transfers.slots;
     tickets = transfers.capacity - slab_len transfers;
   }
 
-  -- a number is taken exactly where a page owns something at its place, and no place is beyond the numbers;
-  -- the transfers are those of the pages that are in transfer, and the number of each fits 32 bits
-  pub record IsTable (numbers : Slab T) (owned : List (Option OwnedPage)) (transfers : Slab Flight) : Type 0 where
+  -- a number is taken exactly where a page owns something at its place, and there is memory for the place of each number;
+  -- the transfers are those of the pages that are in transfer; and the number of each page and of each transfer fits 32 bits
+  pub record ArePages (numbers : Slab T) (owned : List (Option OwnedPage)) (places : ℕ) (transfers : Slab Flight) : Type 0 where
     pub taken : (n : ℕ) → is_some (get numbers n) ≡ is_some (at owned n)
-    pub within : length owned ≤ numbers.capacity
+    pub within : numbers.capacity ≤ places
     pub in_flight : AreInFlight (map (option_map page_of) owned) transfers.slots
+    pub few : numbers.capacity < 4294967296
     pub countable : transfers.capacity < 4294967296

@@ -1,15 +1,7 @@
 //! Transfers in flight.
 
 use machine::id::{PageId, WorkerId};
-
-/// Which way a page in transfer goes.
-#[derive(Clone, Copy, Debug, PartialEq, Eq)]
-pub enum Direction {
-    /// It is being read in.
-    In,
-    /// It is being written out.
-    Out,
-}
+use machine::record::Direction;
 
 /// A transfer in flight, by its ticket.
 #[derive(Clone, Copy, Debug, PartialEq, Eq)]

@@ -7,17 +7,16 @@
 
 ghost use Rattle.std.specs.Prelude.{◌≡◌, ℕ, ◌+◌, ◌<◌, ◌≤◌, ◌==◌, ◌&&◌, [], Some, None, OnOk, IsOk, IfOk, IfSome, slice_index, true, false, map, option_map, if◌then◌else◌};
 ghost use Rattle.machine.specs.Slots.{at, Changes};
-ghost use Rattle.machine.specs.Pages.{Residence as PageResidence, Held, Coming, Away, page_at, is_held_in, is_coming_in, is_going_out};
+ghost use Rattle.machine.specs.Pages.{Residence as PageResidence, Held, Coming, Away, page_at, is_held_in, is_in_flight};
 ghost use Rattle.machine.specs.Access.{page_size};
 ghost use Rattle.machine.specs.Step.{new_page};
-ghost use Rattle.pages.specs.PageTable.{byte_in, anon_page, Stands, residence_of, moving, is_moving_in, is_flight_to, IsInTransfer, AreInFlight};
+ghost use Rattle.pages.specs.PagesOf.{pages_there, byte_in, anon_page, Stands, residence_of, moving, is_moving_in, is_flight_to, IsInTransfer, AreInFlight};
 ghost use Rattle.pages.specs.Transfers.{StartsIn, StartsOut, Ends, IsFreed};
-ghost use Rattle.pages.specs.declared.flight.Direction.{Direction};
-ghost use Rattle.pages.specs.declared.flight.Direction.TheVariants as direction;
+ghost use Rattle.machine.specs.declared.record.Direction.{Direction};
 ghost use Rattle.pages.specs.Records.{page_of};
 
 pub use end::{End, Freed};
-pub use flight::{Direction, Flight};
+pub use flight::Flight;
 pub use owned_page::OwnedPage;
 pub use residence::Residence;
 pub use ticket::{Carries, InTicket, OutTicket, Ticket};
@@ -32,90 +31,83 @@ mod ticket;
 use block_store::Slot;
 use frames::{FRAME_BYTES, Frame, Spare};
 use machine::id::{GroupId, PageId, TicketId, WorkerId};
+use machine::record::Direction;
 use page_counter::Charge;
 use slab::Slab;
 use std::alloc::{AllocError, Global};
 use std::marker::Model;
 use table::{
-    divide, fill_at, group_of, into_away, into_held, into_moving, list, owned_at, page_under,
-    place, read_at, residence_of, set_zeros_but, take_at, unlist, write_at,
+    divide, fill_at, group_of, into_away, into_held, into_moving, list, open_numbers, owned_at,
+    page_under, place, read_at, residence_of, set_zeros_but, take_at, unlist, write_at,
 };
 
 /// The pages by their numbers, and the transfers in flight by theirs. It must be spent, by
 /// [`Pages::into_owned`].
 #[must_use]
 pub struct Pages {
-    // The numbers that pages have.
+    // The numbers that pages have, and those that are free.
     numbers: Slab<()>,
     // What each page owns, by its number.
     owned: Vec<Option<OwnedPage>>,
-    // The transfers, by their tickets' numbers. Their room came from `new`.
+    // The transfers, by their tickets' numbers.
     flights: Slab<Flight>,
 }
 
 impl Model for Pages {
-    ghost use Rattle.pages.specs.PageTable.{PageTable};
+    ghost use Rattle.pages.specs.PagesOf.{PagesOf};
 
-    ghost Value = { PageTable };
+    ghost Value = { PagesOf };
 
     ghost use Rattle.std.specs.Prelude.{vec_capacity};
-    ghost use Rattle.pages.specs.Records.{table_of, IsTable};
+    ghost use Rattle.pages.specs.Records.{view_of, ArePages};
 
-    ghost view = { λ s. table_of s.numbers s.owned.items (vec_capacity s.owned) s.flights };
+    ghost view = { λ s. view_of s.numbers s.owned.items s.flights };
 
-    ghost invariant = { λ s. IsTable s.numbers s.owned.items s.flights };
+    ghost invariant = { λ s. ArePages s.numbers s.owned.items (vec_capacity s.owned) s.flights };
 }
 
 impl Pages {
-    /// No page, and memory for so many transfers in flight at once. `AllocError` where there is none.
-    pub fn new(alloc: Global, transfers: u32) -> Result<Self, AllocError>
+    /// No page, and memory for so many pages, and for so many transfers in flight at once. `AllocError`
+    /// where there is none.
+    pub fn new(alloc: Global, numbers: u32, transfers: u32) -> Result<Self, AllocError>
         ensures pages { IfOk result (λ t. t.pages ≡ []) }
         ensures bytes { IfOk result (λ t. t.bytes ≡ []) }
         ensures flights { IfOk result (λ t. t.flights ≡ []) }
+        ensures numbers { IfOk result (λ t. numbers ≤ t.numbers) }
         ensures tickets { IfOk result (λ t. transfers ≤ t.tickets) }
     {
-        let flights = Slab::with_capacity(alloc, transfers as usize)?;
-        // There may be room for more than was asked for, but not past the tickets' numbers.
-        if u32::try_from(flights.capacity()).is_err() {
-            return Err(AllocError);
-        }
+        let numbers = open_numbers(alloc, numbers)?;
+        let flights = open_numbers(alloc, transfers)?;
+        let owned = Vec::with_capacity(alloc, numbers.capacity())?;
         Ok(Pages {
-            numbers: Slab::new(alloc),
-            owned: Vec::new(alloc),
+            numbers,
+            owned,
             flights,
         })
     }
 
-    /// Asks for the memory of one page more. `AllocError` where there is none; the pages are the same
-    /// either way.
-    pub fn reserve(&mut self) -> Result<(), AllocError>
-        ensures room { OnOk result (0 < self.new.room) }
-        ensures others { self.new ≡ record self.old { room = self.new.room } }
-        ensures succeeds { 0 < self.old.room → IsOk result }
-        ensures kept { self.old.room ≤ self.new.room }
+    /// How many page numbers there are. Each page has one that is below this.
+    pub fn numbers(&self) -> u32
+        ensures { result ≡ self.now.numbers }
     {
-        self.numbers.reserve(1)?;
-        let more = self.numbers.capacity() - self.owned.len();
-        self.owned.reserve(more)
+        self.numbers.capacity() as u32
     }
 
-    /// A new page in the frame: zeros, but for one byte. Its memory was asked for by `reserve`. Takes no
-    /// memory.
+    /// A new page in the frame: zeros, but for one byte. A number is free for it. Takes no memory.
     pub fn hold(&mut self, mut frame: Frame, charge: Charge, offset: usize, byte: u8) -> PageId
-        requires room { 0 < self.old.room }
+        requires room { pages_there self.old.pages < self.old.numbers }
         requires within { offset < page_size }
+        ensures within { result.0 < self.old.numbers }
         ensures free { page_at self.old.pages result.0 ≡ None }
         ensures placed { Changes self.old.pages self.new.pages result.0 (Some (new_page charge frame.number)) }
         ensures bytes { (q o : ℕ) → byte_in self.new.bytes q o
             ≡ (if q == result.0 then (if offset == o then byte else 0) else byte_in self.old.bytes q o) }
-        ensures fewer { self.old.room ≡ self.new.room + 1 }
-        ensures flights { self.new.flights ≡ self.old.flights }
-        ensures tickets { self.new.tickets ≡ self.old.tickets }
+        ensures others { self.new ≡ record self.old { pages = self.new.pages; bytes = self.new.bytes } }
     {
         set_zeros_but(&mut frame, offset, byte);
-        let key = self.numbers.insert_reserved(());
-        place(&mut self.owned, key, OwnedPage::Held { frame, charge });
-        PageId(key)
+        let page = PageId(self.numbers.insert_reserved(()) as u32);
+        place(&mut self.owned, page, OwnedPage::Held { frame, charge });
+        page
     }
 
     /// The group that the page belongs to, if the page is there.
@@ -123,7 +115,7 @@ impl Pages {
         ensures group { option_map (λ g. g.0) result ≡ option_map (λ page. page.group) (page_at self.now.pages page.0) }
         ensures memory { IfSome (page_at self.now.pages page.0) (λ page. page ≡ anon_page page.group page.residence) }
     {
-        match owned_at(&self.owned, page.0) {
+        match owned_at(&self.owned, page) {
             Some(owned) => Some(group_of(owned)),
             None => None,
         }
@@ -134,7 +126,7 @@ impl Pages {
         ensures residence { result ≡ option_map (λ page. residence_of page.residence) (page_at self.now.pages page.0) }
         ensures memory { IfSome (page_at self.now.pages page.0) (λ page. page ≡ anon_page page.group page.residence) }
     {
-        match owned_at(&self.owned, page.0) {
+        match owned_at(&self.owned, page) {
             Some(owned) => Some(residence_of(owned)),
             None => None,
         }
@@ -146,7 +138,7 @@ impl Pages {
         requires within { offset < page_size }
         ensures { result ≡ byte_in self.now.bytes page.0 offset }
     {
-        match owned_at(&self.owned, page.0) {
+        match owned_at(&self.owned, page) {
             Some(owned) => read_at(owned, offset),
             None => unreachable!(),
         }
@@ -160,11 +152,11 @@ impl Pages {
             ≡ (if (q == page.0) && (offset == o) then byte else byte_in self.old.bytes q o) }
         ensures others { self.new ≡ record self.old { bytes = self.new.bytes } }
     {
-        write_at(&mut self.owned[page.0], offset, byte);
+        write_at(&mut self.owned[page.0 as usize], offset, byte);
     }
 
     /// A page on its block is from now on being read into the frame. Whoever has the ticket reads the
-    /// block. Takes no memory: the buffer is the caller's, and that of the ticket came from `new`.
+    /// block. Takes no memory: the buffer is the caller's.
     pub fn start_in(
         &mut self,
         page: PageId,
@@ -178,7 +170,7 @@ impl Pages {
         requires room { 0 < self.old.tickets }
         ensures { (block : ℕ) → Stands self.old.pages page.0 charge (Away block) → StartsIn self.old self.new page.0 charge frame.number block worker.0 entry result }
     {
-        let slot = into_away(take_at(&mut self.owned, page.0));
+        let slot = into_away(take_at(&mut self.owned, page));
         let block = slot.block();
         let ticket = list(
             &mut self.flights,
@@ -194,7 +186,7 @@ impl Pages {
             slot,
             ticket,
         };
-        place(&mut self.owned, page.0, coming);
+        place(&mut self.owned, page, coming);
         InTicket::new(ticket, worker, entry, block, buffer)
     }
 
@@ -212,7 +204,7 @@ impl Pages {
         requires room { 0 < self.old.tickets }
         ensures { (g f : ℕ) → Stands self.old.pages page.0 g (Held f) → StartsOut self.old self.new page.0 g f slot worker.0 entry result }
     {
-        let (frame, charge) = into_held(take_at(&mut self.owned, page.0));
+        let (frame, charge) = into_held(take_at(&mut self.owned, page));
         spare.fill(frame.bytes());
         let block = slot.block();
         let ticket = list(
@@ -229,7 +221,7 @@ impl Pages {
             slot,
             ticket,
         };
-        place(&mut self.owned, page.0, going);
+        place(&mut self.owned, page, going);
         OutTicket::new(ticket, worker, entry, block, spare)
     }
 
@@ -237,8 +229,7 @@ impl Pages {
     pub fn flight(&self, ticket: TicketId) -> Option<Flight>
         ensures flight { result ≡ at self.now.flights ticket.0 }
         ensures moves { IfSome result (λ flight. IsInTransfer self.now.pages ticket.0 flight) }
-        ensures coming { is_coming_in self.now.pages ticket.0 ≡ is_flight_to direction.In result }
-        ensures going { is_going_out self.now.pages ticket.0 ≡ is_flight_to direction.Out result }
+        ensures flying { (d : Direction) → is_in_flight d self.now.pages ticket.0 ≡ is_flight_to d result }
     {
         self.flights.get(ticket.0 as usize).copied()
     }
@@ -251,7 +242,7 @@ impl Pages {
         ensures others { self.new ≡ record self.old { bytes = self.new.bytes } }
     {
         let page = page_under(&self.flights, ticket.number());
-        fill_at(&mut self.owned[page.0], ticket.read());
+        fill_at(&mut self.owned[page.0 as usize], ticket.read());
     }
 
     /// The transfer has ended, and its ticket with it: the page is in its frame or on its block. Hands
@@ -263,9 +254,9 @@ impl Pages {
         ensures carried { B.bytes result.1 ≡ ticket.bytes }
     {
         let page = unlist(&mut self.flights, ticket.number());
-        let (frame, charge, slot) = into_moving(take_at(&mut self.owned, page.0));
+        let (frame, charge, slot) = into_moving(take_at(&mut self.owned, page));
         let (owned, freed) = divide(frame, charge, slot, end);
-        place(&mut self.owned, page.0, owned);
+        place(&mut self.owned, page, owned);
         (freed, ticket.into_carried())
     }
 
@@ -276,22 +267,20 @@ impl Pages {
         ensures gone { Changes self.old.pages self.new.pages page.0 None }
         ensures bytes { (q o : ℕ) → byte_in self.new.bytes q o ≡ (if q == page.0 then 0 else byte_in self.old.bytes q o) }
         ensures owned { page_at self.old.pages page.0 ≡ Some (page_of result) }
-        ensures room { self.old.room ≤ self.new.room }
-        ensures flights { self.new.flights ≡ self.old.flights }
-        ensures tickets { self.new.tickets ≡ self.old.tickets }
+        ensures others { self.new ≡ record self.old { pages = self.new.pages; bytes = self.new.bytes } }
     {
-        self.numbers.remove(page.0);
-        take_at(&mut self.owned, page.0)
+        self.numbers.remove(page.0 as usize);
+        take_at(&mut self.owned, page)
     }
 
-    /// Nothing is done: what holds of every table of pages.
+    /// Nothing is done: what holds of all pages.
     pub fn are_in_flight(&self)
         ensures { AreInFlight self.now.pages self.now.flights }
     {
         let _ = &self.flights;
     }
 
-    /// Spends the table: what the pages own, by page number.
+    /// Spends the pages: what they own, by page number.
     pub fn into_owned(self) -> Vec<Option<OwnedPage>>
         ensures { map (option_map page_of) result.items ≡ self.pages }
     {

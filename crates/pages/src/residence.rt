@@ -1,5 +1,3 @@
-//! Where a page is.
-
 use machine::id::FrameId;
 
 /// Where a page is.

@@ -1,12 +1,12 @@
-//! The places of a table of pages, and the numbers of its transfers.
+//! The places of pages by their numbers, and the numbers of pages and of transfers.
 
-ghost use Rattle.std.specs.Prelude.{◌≡◌, ℕ, ◌+◌, ◌<◌, ◌≤◌, ◌==◌, Some, None, true, IsSome, option_map, option_copied, slice_index, vec_len, vec_capacity, if◌then◌else◌};
+ghost use Rattle.std.specs.Prelude.{◌≡◌, ℕ, ◌+◌, ◌<◌, ◌≤◌, ◌==◌, [], Some, None, true, IsSome, IfOk, option_map, option_copied, slice_index, vec_len, vec_capacity, if◌then◌else◌};
 ghost use Rattle.slab.specs.Slab.{slab_len, HasRoomFor, ContainsKey};
 ghost use Rattle.machine.specs.Slots.{at, there_and, Changes};
 ghost use Rattle.machine.specs.Pages.{Coming, in_transfer_at, is_held, is_held_at, frame_at, block_at};
 ghost use Rattle.machine.specs.Access.{page_size};
-ghost use Rattle.pages.specs.PageTable as table;
-ghost use Rattle.pages.specs.PageTable.{anon_page};
+ghost use Rattle.pages.specs.PagesOf as pages;
+ghost use Rattle.pages.specs.PagesOf.{anon_page};
 ghost use Rattle.pages.specs.Transfers.{residence_after, IsFreed};
 ghost use Rattle.pages.specs.declared.end.End.TheVariants as end_of;
 ghost use Rattle.pages.specs.Records.{page_of, bytes_of, WritesByte};
@@ -20,13 +20,14 @@ use frames::{FRAME_BYTES, Frame};
 use machine::id::{GroupId, PageId, TicketId};
 use page_counter::Charge;
 use slab::Slab;
+use std::alloc::{AllocError, Global};
 use std::mem;
 
-/// What the page of a number owns, if the page is there.
-pub(crate) fn owned_at(slots: &[Option<OwnedPage>], number: usize) -> Option<&OwnedPage>
-    ensures { option_copied result ≡ at slots.now number }
+/// What a page owns, if it is there.
+pub(crate) fn owned_at(slots: &[Option<OwnedPage>], page: PageId) -> Option<&OwnedPage>
+    ensures { option_copied result ≡ at slots.now page.0 }
 {
-    match slots.get(number) {
+    match slots.get(page.0 as usize) {
         Some(Some(owned)) => Some(owned),
         _ => None,
     }
@@ -46,7 +47,7 @@ pub(crate) fn group_of(owned: &OwnedPage) -> GroupId
 
 /// Where the page is.
 pub(crate) fn residence_of(owned: &OwnedPage) -> Residence
-    ensures { result ≡ table.residence_of (page_of owned.now).residence }
+    ensures { result ≡ pages.residence_of (page_of owned.now).residence }
 {
     match owned {
         OwnedPage::Held { frame, .. } => Residence::Held(frame.number()),
@@ -104,26 +105,24 @@ pub(crate) fn set_zeros_but(frame: &mut Frame, offset: usize, byte: u8)
     frame.write(offset, byte);
 }
 
-/// Takes out what the page of a number owns.
-pub(crate) fn take_at(slots: &mut Vec<Option<OwnedPage>>, number: usize) -> OwnedPage
-    requires { IsSome (at slots.old.items number) }
-    ensures owned { at slots.old.items number ≡ Some result }
-    ensures gone { Changes slots.old.items slots.new.items number None }
-    ensures len { vec_len slots.new ≡ vec_len slots.old }
-    ensures within { number < vec_len slots.new }
+/// Takes out what a page owns.
+pub(crate) fn take_at(slots: &mut Vec<Option<OwnedPage>>, page: PageId) -> OwnedPage
+    requires { IsSome (at slots.old.items page.0) }
+    ensures owned { at slots.old.items page.0 ≡ Some result }
+    ensures gone { Changes slots.old.items slots.new.items page.0 None }
     ensures capacity { vec_capacity slots.new ≡ vec_capacity slots.old }
 {
-    slots[number].take().unwrap()
+    slots[page.0 as usize].take().unwrap()
 }
 
 /// Puts what a page owns at its number, where nothing is.
-pub(crate) fn place(slots: &mut Vec<Option<OwnedPage>>, number: usize, owned: OwnedPage)
-    requires vacant { at slots.old.items number ≡ None }
-    requires room { number < vec_capacity slots.old }
-    ensures placed { Changes slots.old.items slots.new.items number (Some owned) }
-    ensures len { (most : ℕ) → vec_len slots.old ≤ most → number < most → vec_len slots.new ≤ most }
+pub(crate) fn place(slots: &mut Vec<Option<OwnedPage>>, page: PageId, owned: OwnedPage)
+    requires vacant { at slots.old.items page.0 ≡ None }
+    requires room { page.0 < vec_capacity slots.old }
+    ensures placed { Changes slots.old.items slots.new.items page.0 (Some owned) }
     ensures capacity { vec_capacity slots.new ≡ vec_capacity slots.old }
 {
+    let number = page.0 as usize;
     reach(slots, number);
     match mem::replace(&mut slots[number], Some(owned)) {
         None => {}
@@ -136,7 +135,6 @@ fn reach(slots: &mut Vec<Option<OwnedPage>>, number: usize)
     requires { number < vec_capacity slots.old }
     ensures same { (n : ℕ) → at slots.new.items n ≡ at slots.old.items n }
     ensures within { number < vec_len slots.new }
-    ensures len { (most : ℕ) → vec_len slots.old ≤ most → number < most → vec_len slots.new ≤ most }
     ensures capacity { vec_capacity slots.new ≡ vec_capacity slots.old }
 {
     while slots.len() <= number {
@@ -208,10 +206,23 @@ pub(crate) fn into_away(owned: OwnedPage) -> Slot
     }
 }
 
+/// Memory for so many numbers, or for more, but not past 32 bits. `AllocError` where there is none.
+pub(crate) fn open_numbers<T: Drop>(alloc: Global, least: u32) -> Result<Slab<T>, AllocError>
+    ensures empty { IfOk result (λ s. s.slots ≡ []) }
+    ensures least { IfOk result (λ s. least ≤ s.capacity) }
+    ensures countable { IfOk result (λ s. s.capacity ≤ u32.MAX) }
+{
+    let slab = Slab::with_capacity(alloc, least as usize)?;
+    if u32::try_from(slab.capacity()).is_err() {
+        return Err(AllocError);
+    }
+    Ok(slab)
+}
+
 /// A transfer more is in flight. Its ticket's number was free.
 pub(crate) fn list(flights: &mut Slab<Flight>, flight: Flight) -> TicketId
     requires room { HasRoomFor flights.old 1 }
-    requires countable { flights.old.capacity < 4294967296 }
+    requires countable { flights.old.capacity ≤ u32.MAX }
     ensures free { at flights.old.slots result.0 ≡ None }
     ensures listed { Changes flights.old.slots flights.new.slots result.0 (Some flight) }
     ensures len { slab_len flights.new ≡ slab_len flights.old + 1 }

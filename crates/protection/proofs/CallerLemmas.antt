@@ -5,7 +5,7 @@ use Rattle.machine.specs.Amounts.{at_most}
 use Rattle.machine.specs.Protection.{below_parent, effective}
 use Rattle.machine.specs.Tree.{Node, node_at, IsTree, under}
 use Rattle.machine.proofs.TreeLemmas.{eq_cases}
-use Rattle.page_counter.proofs.ChildLemmas.{asked_below-same}
+use Rattle.page_counter.proofs.ChildLemmas.{children_min_usage-same}
 use Rattle.protection.proofs.EffectiveLemmas.{effective-child, effective-step, has_parent, under-parent}
 
 same_below : (recursive : Bool) {e k : Amount} {s t a b u v n m : ℕ} → e ≡ k → s ≡ t → a ≡ b → u ≡ v → n ≡ m → below_parent recursive e s a u n ≡ below_parent recursive k t b v m
@@ -25,7 +25,7 @@ module _ (tree : List Node) (is : IsTree tree) (target : ℕ) (recursive : Bool)
             (let falls = is.falls g p parent in
             let above = same_at n p (omega arith) (omega arith) more (under-parent tree is target g p differs parent below) (node_at tree p).parent refl in
             effective-step tree is target recursive setting f g p differs parent more
-            ∙ same_below recursive above (asked_below-same tree setting f h same p) (same p (omega arith)) (same g within) (ap (λ n. at_most n (setting g)) (same g within))
+            ∙ same_below recursive above (children_min_usage-same tree setting f h same p) (same p (omega arith)) (same g within) (ap (λ n. at_most n (setting g)) (same g within))
             ∙ sym (effective-step tree is target recursive setting h g p differs parent more))
       ]
 

@@ -3,7 +3,7 @@ use Rattle.std.proofs.Common.{◌≡◌, ◌≢◌, ℕ, ◌==◌, Bool, true, f
 use Rattle.std.specs.Prelude.{take_while}
 use Rattle.std.proofs.lemmas.List.Sums.{take_while-cons}
 use Rattle.machine.specs.declared.amount.Amount.{Amount}
-use Rattle.machine.specs.Protection.{asked, asked_below, below_parent, effective_along, effective}
+use Rattle.machine.specs.Protection.{min_usage, children_min_usage, below_parent, effective_along, effective}
 use Rattle.machine.specs.Tree.{Node, node_at, IsTree, chain, chain_below, under, under_at}
 use Rattle.machine.proofs.TreeLemmas.{chain-step, under_at-None, under_at-step}
 
@@ -37,11 +37,11 @@ module _ (tree : List Node) (is : IsTree tree) (target : ℕ) where
 
     -- rules 3 to 5: a group below that
     pub effective-step : (g p : ℕ) → target ≢ g → (node_at tree g).parent ≡ Some p → target ≢ p
-        → effective recursive tree setting usage target g ≡ below_parent recursive (effective recursive tree setting usage target p) (asked_below tree setting usage p) (usage p) (usage g) (asked setting usage g)
+        → effective recursive tree setting usage target g ≡ below_parent recursive (effective recursive tree setting usage target p) (children_min_usage tree setting usage p) (usage p) (usage g) (min_usage setting usage g)
     unfolding effective_along
     effective-step g p differs parent more =
         ap (effective_along recursive tree setting usage) (chain_below-step g p differs parent ∙ ap (λ rest. g ∷ rest) (chain_below-more p more))
-        ∙ ap (λ e. below_parent recursive e (asked_below tree setting usage p) (usage p) (usage g) (asked setting usage g)) (ap (effective_along recursive tree setting usage) (sym (chain_below-more p more)))
+        ∙ ap (λ e. below_parent recursive e (children_min_usage tree setting usage p) (usage p) (usage g) (min_usage setting usage g)) (ap (effective_along recursive tree setting usage) (sym (chain_below-more p more)))
 
   above_is : (g : ℕ) → target ≢ g → under tree target g ≡ true → under_at tree target (node_at tree g).parent ≡ true
   above_is g differs h =

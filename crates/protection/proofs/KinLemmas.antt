@@ -4,7 +4,7 @@ use Rattle.std.specs.Prelude.{sum_by}
 use Rattle.std.specs.List.{enumerate_from}
 use Rattle.std.proofs.lemmas.List.Elements.{filter_agree}
 use Rattle.machine.specs.declared.amount.Amount.{Amount}
-use Rattle.machine.specs.Protection.{asked, asked_below}
+use Rattle.machine.specs.Protection.{min_usage, children_min_usage}
 use Rattle.machine.specs.Tree.{Node, node_at, is_child, is_parent, numbers, children}
 use Rattle.group_tree.specs.Kin.{AreKin}
 
@@ -24,5 +24,5 @@ module _ (kin tree : List Node) (are : AreKin kin tree) where
       ∙ ap (filter (λ g. is_child p (node_at tree g))) (same_numbers 0 kin tree are.len)
 
   -- and their children ask for as much
-  pub asked_below-kin : (setting : ℕ → Amount) (usage : ℕ → ℕ) (p : ℕ) → asked_below kin setting usage p ≡ asked_below tree setting usage p
-  asked_below-kin setting usage p = ap (sum_by (asked setting usage)) (children-kin p)
+  pub children_min_usage-kin : (setting : ℕ → Amount) (usage : ℕ → ℕ) (p : ℕ) → children_min_usage kin setting usage p ≡ children_min_usage tree setting usage p
+  children_min_usage-kin setting usage p = ap (sum_by (min_usage setting usage)) (children-kin p)

@@ -24,7 +24,7 @@
 #![tactic(auto)]
 
 ghost use Rattle.std.specs.Prelude.{◌≡◌, ◌≢◌, not, true, false};
-ghost use Rattle.machine.specs.Protection.{part_of, effective, min_of, opens};
+ghost use Rattle.machine.specs.Protection.{part_of, effective, min_of, is_unprotected_in};
 ghost use Rattle.machine.specs.Tree.{is_live, under};
 ghost use Rattle.group_tree.specs.Kin.{AreKin};
 ghost use Rattle.page_counter.specs.Counts.{usage_of};
@@ -76,7 +76,7 @@ pub fn is_protected(tree: &Tree, counters: &Counters, target: GroupId, group: Gr
     requires kin { AreKin counters.now.tree tree.now }
     requires live { is_live tree.now group.0 ≡ true }
     requires under { under tree.now target.0 group.0 ≡ true }
-    ensures { result ≡ not (opens false tree.now counters.now.limits (usage_of counters.now) target.0 group.0) }
+    ensures { result ≡ not (is_unprotected_in false tree.now counters.now.limits (usage_of counters.now) target.0 group.0) }
 {
     if group == target {
         return false;

@@ -17,7 +17,7 @@ use Rattle.group_tree.specs.Groups.{IsGroupTree}
 use Rattle.group_tree.specs.Tables.{number}
 use Rattle.group_tree.proofs.PreorderLemmas.{preorder-has}
 use Rattle.page_counter.specs.Counts.{Counts}
-use Rattle.reclaim.specs.Pass.{Held, AreHeld, is_open, oldest_of, gives, IsGiver, GivesNone}
+use Rattle.reclaim.specs.Pass.{Held, AreHeld, is_unprotected, oldest_of, gives, IsGiver, GivesNone}
 use Rattle.reclaim.specs.Walk.{is_at, behind, up_to, AreAsked}
 use Rattle.reclaim.proofs.WalkLemmas.{up_to-none, parts}
 
@@ -181,7 +181,7 @@ around test (g ∷ gs) last =
 module _ (tree : List Node) (counts : Counts) (held : List ℕ) (swap_free : Bool) (target : ℕ) where
   -- without room in swap no group gives a page
   full : swap_free ≡ false → (g : ℕ) → gives tree counts held swap_free target g ≡ false
-  full e g = ap (λ b. b && (is_open tree counts target g && nat_lt 0 (slice_index held g))) e
+  full e g = ap (λ b. b && (is_unprotected tree counts target g && nat_lt 0 (slice_index held g))) e
 
   pub none-served : (last : Option ℕ) → swap_free ≡ false → None ≡ served_by tree (gives tree counts held swap_free target) target last
   none-served last e = sym (find-nothing (gives tree counts held swap_free target) (asking_order tree target last) (full e))

@@ -2,11 +2,11 @@
 use Rattle.std.specs.Prelude.{◌≡◌, ℕ, ◌==◌, ◌&&◌, nat_lt, Bool, true, false, List, Option, find, count_by, slice_index}
 use Rattle.machine.specs.declared.id.GroupId.{GroupId}
 use Rattle.machine.specs.declared.id.PageId.{PageId}
-use Rattle.machine.specs.Protection.{opens}
+use Rattle.machine.specs.Protection.{is_unprotected_in}
 use Rattle.machine.specs.Tree.{Node, is_live, under}
 use Rattle.page_counter.specs.Counts.{Counts, usage_of}
 
--- the pages in frames, each after its group, and the one that has been there for longest first
+-- the held pages, each after its group, in the order in which they came to be held
 abbrev pub Held : Type 0
 Held = List (GroupId × PageId)
 
@@ -15,16 +15,16 @@ abbrev pub AreHeld : List ℕ → Held → Type 0
 AreHeld held pages = (g : ℕ) → slice_index held g ≡ count_by (λ pair. pair.0.0 == g) pages
 
 -- a reclaim of the target may take from the group
-abbrev pub is_open : List Node → Counts → ℕ → ℕ → Bool
-is_open tree counts target g = opens false tree counts.limits (usage_of counts) target g
+abbrev pub is_unprotected : List Node → Counts → ℕ → ℕ → Bool
+is_unprotected tree counts target g = is_unprotected_in false tree counts.limits (usage_of counts) target g
 
--- the page of the group that has been in its frame for longest
+-- of the group's pages the first that came to be held
 abbrev pub oldest_of : Held → ℕ → Option (GroupId × PageId)
 oldest_of pages g = find (λ pair. pair.0.0 == g) pages
 
 -- the group has a page to give: the target may take from it, and a page of its own is in a frame. It has none where no block in swap is free, since all pages are anonymous
 abbrev pub gives : List Node → Counts → List ℕ → Bool → ℕ → ℕ → Bool
-gives tree counts held swap_free target g = swap_free && (is_open tree counts target g && nat_lt 0 (slice_index held g))
+gives tree counts held swap_free target g = swap_free && (is_unprotected tree counts target g && nat_lt 0 (slice_index held g))
 
 -- the group is at or below the target, and has a page to give
 pub record IsGiver (tree : List Node) (counts : Counts) (held : List ℕ) (swap_free : Bool) (target g : ℕ) : Type 0 where

@@ -121,11 +121,11 @@ impl Cursors {
         served(tree, counters, held, target, last)
     }
 
-    /// The page that the group gives to a reclaim of the target: the one that has been in its frame
-    /// for longest. The target's cursor goes to the group. It takes no memory.
+    /// The page that the group gives to a reclaim of the target: the first that came to be held, counted
+    /// from the last time. The target's cursor goes to the group. It takes no memory.
     ///
-    /// `held` has the pages in frames, each after its group, and the one that has been there for
-    /// longest first. The group has one there.
+    /// `held` has the held pages, each after its group, in the order in which they came to be held. The
+    /// group has one there.
     pub fn serve(&mut self, held: &[(GroupId, PageId)], target: GroupId, group: GroupId) -> PageId
         requires cursor { target.0 < length self.old.cursors }
         requires held { IsSome (oldest_of held.now group.0) }

@@ -9,7 +9,7 @@
 //!    Where none was served yet, or where that group is no more, the pass begins at the target.
 //! 3. A group is passed over while it is protected from a reclaim of the target, and where it has
 //!    no page in a frame.
-//! 4. Of the group that is served, the page is the one that has been in its frame for longest.
+//! 4. Of the group that is served, the page is the first that came to be held, counted from the last time.
 //! 5. A page can only be taken where it has somewhere to go. All pages are anonymous, so with no
 //!    block free in swap no group has any to give.
 //! 6. Which group is served is told by counts, and nothing changes. Its page is chosen, and the

@@ -87,7 +87,7 @@ fn has_page(tree: &Tree, counters: &Counters, held: &[u32], target: GroupId, gro
     held[group.0 as usize] > 0 && !is_protected(tree, counters, target, group)
 }
 
-/// The page of the group that has been in its frame for longest, of a group that has one.
+/// Of a group that has held pages the first that came to be held, counted from the last time.
 pub fn oldest_of(held: &[(GroupId, PageId)], group: GroupId) -> PageId
     requires { IsSome (oldest_of held.now group.0) }
     ensures { oldest_of held.now group.0 ≡ Some (group, result) }

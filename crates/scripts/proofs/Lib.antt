@@ -5,3 +5,4 @@ pub mod HeaderLemmas
 pub mod TellLemmas
 pub mod LimitLemmas
 pub mod FirstFrames
+mod Examples

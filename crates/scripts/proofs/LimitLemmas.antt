@@ -6,7 +6,7 @@ use Rattle.std.specs.Str.{is_utf8}
 use Rattle.std.proofs.lemmas.Bool.{and_parts, or_right}
 use Rattle.std.proofs.lemmas.Bool.Decides.{nat_tests}
 use Rattle.std.proofs.lemmas.List.Folds.{list_any-append}
-use Rattle.machine.specs.State.{are_marks, is_config}
+use Rattle.machine.specs.State.{are_watermarks, is_config}
 use Rattle.scripts.specs.declared.meaning.Item.{Item}
 use Rattle.scripts.specs.declared.meaning.Item.TheVariants as item
 use Rattle.scripts.specs.declared.forms.Word.{Word}
@@ -35,7 +35,7 @@ pub record Fits (ls left : List (List ℕ)) (k : Known) : Type 0 where
   pub around : k.around.frames ≡ header_frames ls
   pub frames : is_within 1 65536 (Some k.config.frames) ≡ true
   pub swap : nat_le k.config.swap 65536 ≡ true
-  pub marks : are_marks k.config.marks (header_frames ls) ≡ true
+  pub marks : are_watermarks k.config.watermarks (header_frames ls) ≡ true
   pub trace : is_within 1 1048576 (Some k.config.trace) ≡ true
   pub asked : Asked ls left k.config.frames k.around.commands k.around.given
 
@@ -89,7 +89,7 @@ step ls left more k l (item.Marks n) e m (u, t) f =
       around = f.around;
       frames = f.frames;
       swap = f.swap;
-      marks = ap (are_marks n) (sym f.around) ∙ t.2;
+      marks = ap (are_watermarks n) (sym f.around) ∙ t.2;
       trace = f.trace;
       asked = other ls left more k.config.frames k.around.commands false k.around.given (word.Watermarks ∷ []) (ap frames_line e ∙ frames_line-other l more (u, t.0, t.1)) f.asked;
     }
@@ -148,5 +148,5 @@ at_end ls n b given (inr (inr p)) = p.0 ∙ sym (ap frames_asked p.1)
 pub fits_end : (ls : List (List ℕ)) (k : Known) → Fits ls [] k → is_config k.config ≡ true
 fits_end ls k f =
     let e : k.config.frames ≡ header_frames ls = at_end ls k.config.frames k.around.commands k.around.given f.asked in
-    let marks : are_marks k.config.marks k.config.frames ≡ true = ap (are_marks k.config.marks) e ∙ f.marks in
+    let marks : are_watermarks k.config.watermarks k.config.frames ≡ true = ap (are_watermarks k.config.watermarks) e ∙ f.marks in
     rw (f.frames, f.swap, marks, f.trace) refl

@@ -7,7 +7,7 @@ use Rattle.std.specs.Str.{is_utf8, bytes_eq}
 use Rattle.std.proofs.lemmas.Slice.Eq.{bytes_eq-Decides}
 use Rattle.std.proofs.lemmas.Bool.{and_parts}
 use Rattle.machine.specs.Numbers.{is_numeral, number_below}
-use Rattle.machine.specs.State.{are_marks}
+use Rattle.machine.specs.State.{are_watermarks}
 use Rattle.machine.specs.declared.command.Actor.TheVariants as actor
 use Rattle.scripts.specs.declared.fault.Cause.{Cause}
 use Rattle.scripts.specs.declared.fault.Cause.TheVariants.{NotText}
@@ -114,7 +114,7 @@ abbrev pub Tells : Around → Bool → Bool → Option Cause → Item → Type 0
 Tells a goes frames own (item.Frames n) =
     (goes ≡ true) × (frames ≡ true) × (own ≡ None) × (is_within 1 65536 (Some n) ≡ true) × (a.commands ≡ false) × (list_any (same_word word.Frames) a.given ≡ false)
 Tells a goes frames own (item.Swap n) = (goes ≡ true) × (frames ≡ false) × (is_within 0 65536 (Some n) ≡ true)
-Tells a goes frames own (item.Marks m) = (goes ≡ true) × (frames ≡ false) × (are_marks m a.frames ≡ true)
+Tells a goes frames own (item.Marks m) = (goes ≡ true) × (frames ≡ false) × (are_watermarks m a.frames ≡ true)
 Tells a goes frames own (item.Trace n) = (goes ≡ true) × (frames ≡ false) × (is_within 1 1048576 (Some n) ≡ true)
 Tells a goes frames own (item.Fails what n) = (goes ≡ true) × (frames ≡ false)
 Tells a goes frames own item.Nothing = (goes ≡ true) × (frames ≡ false)
@@ -183,7 +183,7 @@ by_word a word.Frames ws t h =
     let again : list_any (same_word word.Frames) a.given ≡ false = f.again in
     (refl, refl, rw (late, again) at h, size 1 65536 ws f.short f.numbers, late, again)
 by_word a word.Swap ws t h = let f = fine a manner.Whole None word.Swap ws h in (refl, refl, size 0 65536 ws f.short f.numbers)
-by_word a word.Watermarks ws t h = let f = fine a manner.Whole None word.Watermarks ws h in (refl, refl, not_false (are_marks (marks_of (at ws 0) (at ws 1)) a.frames) f.marks)
+by_word a word.Watermarks ws t h = let f = fine a manner.Whole None word.Watermarks ws h in (refl, refl, not_false (are_watermarks (marks_of (at ws 0) (at ws 1)) a.frames) f.marks)
 by_word a word.Trace ws t h = let f = fine a manner.Whole None word.Trace ws h in (refl, refl, size 1 1048576 ws f.short f.numbers)
 by_word a word.Fault ws t h = (refl, refl)
 by_word a word.Begin ws t h = absurd cc

@@ -5,7 +5,7 @@ use Rattle.std.specs.Str.{is_utf8}
 use denote.Ref.{Bor}
 use Rattle.machine.specs.Names.{is_path}
 use Rattle.machine.specs.Numbers.{is_numeral, number_below}
-use Rattle.machine.specs.State.{are_marks}
+use Rattle.machine.specs.State.{are_watermarks}
 use Rattle.scripts.specs.declared.fault.Cause.{Cause}
 use Rattle.scripts.specs.declared.fault.Cause.TheVariants.{NotText, UnknownWord, MissingArgument, ExtraArgument, BadNumber, BadName, HeaderAfterCommands, HeaderTwice}
 use Rattle.scripts.specs.declared.forms.Word.{Word}
@@ -64,7 +64,7 @@ all_fit fits kinds words = list_all (λ p. fits p.0 p.1) (zip kinds words)
 
 -- the daemon's marks, if the line gives them, are in order and within the frames
 abbrev pub marks_fit : ℕ → Word → List (List ℕ) → Bool
-marks_fit frames w arguments = not (same_word w word.Watermarks) || are_marks (marks_of (at arguments 0) (at arguments 1)) frames
+marks_fit frames w arguments = not (same_word w word.Watermarks) || are_watermarks (marks_of (at arguments 0) (at arguments 1)) frames
 
 -- the cause of the first test that holds
 abbrev pub first_of : List (Bool × Cause) → Option Cause

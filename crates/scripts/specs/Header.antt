@@ -18,12 +18,12 @@ use Rattle.scripts.specs.Faults.{fault}
 
 -- what holds where the header says nothing
 abbrev pub default_config : Config
-default_config = record { frames = 64; swap = 0; marks = record { low = 0; high = 0 }; trace = 65536 }
+default_config = record { frames = 64; swap = 0; watermarks = record { low = 0; high = 0 }; trace = 65536 }
 
 abbrev pub config_after : Config → Item → Config
 config_after c (item.Frames n) = record c { frames = n }
 config_after c (item.Swap n) = record c { swap = n }
-config_after c (item.Marks m) = record c { marks = m }
+config_after c (item.Marks m) = record c { watermarks = m }
 config_after c (item.Trace n) = record c { trace = n }
 config_after c item.Nothing = c
 config_after c (item.Fails what n) = c

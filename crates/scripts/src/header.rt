@@ -19,7 +19,7 @@ use std::alloc::{AllocError, Global};
 pub const DEFAULT_CONFIG: Config = Config {
     frames: 64,
     swap: 0,
-    marks: Watermarks { low: 0, high: 0 },
+    watermarks: Watermarks { low: 0, high: 0 },
     trace: 65_536,
 };
 

@@ -104,7 +104,7 @@ impl Reading {
             }
             Item::Marks(marks) => {
                 self.context.given.push(Word::Watermarks)?;
-                self.script.config.marks = marks;
+                self.script.config.watermarks = marks;
             }
             Item::Trace(trace) => {
                 self.context.given.push(Word::Trace)?;

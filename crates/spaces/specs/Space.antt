@@ -1,10 +1,9 @@
 -- What a contract sees of `Spaces`.
-use Rattle.std.specs.Prelude.{ℕ, List}
-use Rattle.machine.specs.declared.record.Mapping.{Mapping}
-use Rattle.machine.specs.Tasks.{Tasks}
+use Rattle.std.specs.Prelude.{ℕ}
+use Rattle.machine.specs.Tasks.{Tasks, PageTables}
 
--- the tasks, what their virtual pages show, and for how many mappings more there is memory
+-- the tasks, their page tables, and how many page numbers there are: each is below it
 pub record Space : Type 0 where
   pub tasks : Tasks
-  pub mappings : List Mapping
-  pub room : ℕ
+  pub page_tables : PageTables
+  pub numbers : ℕ

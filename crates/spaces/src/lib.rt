@@ -1,54 +1,68 @@
 //! Tasks, and the pages that their virtual pages show.
 //!
-//! A task is known by its number, also after it ended, so that no number is given twice. Mappings are kept in one list,
-//! oldest first. What ends a task takes no memory; what adds a mapping asks for its memory before.
+//! A task is known by its number, also after it ended, so that no number is given twice. Each live
+//! task has a page table, whose memory it takes as it starts and gives back as it ends. How many
+//! tasks live, and how many virtual pages show a page, is kept beside, so that neither is a walk over
+//! the tasks.
 #![tactic(auto)]
 
-ghost use Rattle.std.specs.Prelude.{◌≡◌, ◌+◌, ◌<◌, ◌≤◌, [], ◌∷◌, ◌++◌, None, IsOk, IsSome, OnOk, OnErr, length, vec_capacity, vec_len, find, option_copied, option_map};
-ghost use Rattle.machine.specs.Slots.{there_and};
-ghost use Rattle.machine.specs.Tasks.{task_at, live_tasks, is_live_task, is_live_in, has_tasks, group_of_task, is_live_life, SetsTask, is_at, mapped_at, size_of, mappers, mapping, without_task};
+ghost use Rattle.std.specs.Prelude.{◌≡◌, ◌≢◌, ℕ, ◌+◌, ◌<◌, ◌≤◌, [], true, false, Some, None, IfOk, OnOk, OnErr, length, max, vec_capacity, vec_len, option_map};
+ghost use Rattle.machine.specs.Access.{task_pages};
+ghost use Rattle.machine.specs.Slots.{Changes, there_and};
+ghost use Rattle.machine.specs.Tasks.{task_at, lives, is_live_in, has_tasks, group_of_task, is_live_life, SetsTask, table_of, mapped_at, size_of, mappers, Shows, ShowsNothing};
 ghost use Rattle.machine.specs.Refusals.{number_refusal};
 
+mod page_table;
+
+use crate::page_table::PageTable;
 use machine::id::{GroupId, PageId, TaskId};
 use machine::limit::{LAST_TASK, MOST_TASKS};
-use machine::record::{Life, Mapping, Task};
+use machine::record::{Life, Task};
 use machine::refusal::Refusal;
 use std::alloc::{AllocError, Global};
 use std::marker::Model;
 
-/// The tasks by their numbers, and what the virtual pages of the live ones show (kernel: each task's `mm_struct` with
-/// its page tables).
+/// The tasks by their numbers, and what the virtual pages of the live ones show (kernel: each task's
+/// `mm_struct`, and `_mapcount` of a `struct page`).
 #[derive(Drop)]
 pub struct Spaces {
     tasks: Vec<Option<Task>>,
-    mappings: Vec<Mapping>,
+    /// How many tasks live.
+    live: usize,
+    /// By task number the page table.
+    tables: Vec<PageTable>,
+    /// By page number how many virtual pages show the page.
+    mappers: Vec<u32>,
 }
 
 impl Model for Spaces {
-    ghost use Rattle.std.specs.Prelude.{◌-◌, ◌≤◌, vec_len, vec_capacity};
     ghost use Rattle.spaces.specs.Space.{Space};
 
     ghost Value = { Space };
 
-    ghost view = { λ s. record {
-      tasks = s.tasks.items;
-      mappings = s.mappings.items;
-      room = vec_capacity s.mappings - vec_len s.mappings;
-    } };
+    ghost use Rattle.spaces.specs.Tables.{space_of, AreSpaces};
 
-    ghost invariant = { λ s. vec_len s.tasks ≤ 65536 };
+    ghost view = { space_of };
+
+    ghost invariant = { λ s. AreSpaces s.tasks.items s.tables.items s.live s.mappers.items };
 }
 
 impl Spaces {
-    /// No task and no mapping.
-    pub fn new(alloc: Global) -> Self
-        ensures tasks { result.tasks ≡ [] }
-        ensures mappings { result.mappings ≡ [] }
+    /// No task, and so many page numbers, of which none is shown. `AllocError` where there is no
+    /// memory for their counts.
+    pub fn new(alloc: Global, numbers: u32) -> Result<Self, AllocError>
+        ensures tasks { IfOk result (λ s. s.tasks ≡ []) }
+        ensures page_tables { IfOk result (λ s. s.page_tables ≡ []) }
+        ensures numbers { IfOk result (λ s. s.numbers ≡ numbers) }
     {
-        Spaces {
+        let mut mappers = Vec::new(alloc);
+        mappers.resize(numbers as usize, 0)?;
+        Ok(Spaces {
             tasks: Vec::new(alloc),
-            mappings: Vec::new(alloc),
-        }
+            live: 0,
+            tables: Vec::new(alloc),
+            mappers,
+        })
     }
 
     /// The task of this number, if there ever was one.
@@ -61,8 +75,8 @@ impl Spaces {
         }
     }
 
-    /// Why no new task can have this number: `Invalid` outside 1 to 65,535, `NumberUsed` for a number that was given
-    /// before, `NoSpace` where 1,024 tasks live.
+    /// Why no new task can have this number: `Invalid` outside 1 to 65,535, `NumberUsed` for a number
+    /// that was given before, `NoSpace` where 1,024 tasks live.
     pub fn number_refusal(&self, task: TaskId) -> Option<Refusal>
         ensures { result ≡ number_refusal self.now.tasks task.0 }
     {
@@ -72,13 +86,13 @@ impl Spaces {
         if self.task(task).is_some() {
             return Some(Refusal::NumberUsed);
         }
-        if count_live(&self.tasks) >= MOST_TASKS {
+        if self.live >= MOST_TASKS {
             return Some(Refusal::NoSpace);
         }
         None
     }
 
-    /// Whether a live task is of the group.
+    /// Whether a live task is of the group. It looks at each task number.
     pub fn has_tasks(&self, group: GroupId) -> bool
         ensures { result ≡ has_tasks self.now.tasks group.0 }
     {
@@ -93,92 +107,110 @@ impl Spaces {
         self.tasks.len()
     }
 
-    /// Starts a task of the group. Where memory is wanting, nothing changes.
+    /// Starts a task of the group, with a page table of its own (kernel: `copy_process`, `mm_alloc`).
+    /// Where memory is wanting, nothing changes.
     pub fn spawn(&mut self, task: TaskId, group: GroupId) -> Result<(), AllocError>
         requires { number_refusal self.old.tasks task.0 ≡ None }
         ensures starts { OnOk result (SetsTask self.old.tasks task.0 group.0 Life.Live self.new.tasks) }
-        ensures mappings { self.new.mappings ≡ self.old.mappings }
-        ensures room { self.new.room ≡ self.old.room }
-        ensures err { OnErr result (self.new.tasks ≡ self.old.tasks) }
+        ensures shown { OnOk result (ShowsNothing self.old.page_tables self.new.page_tables task.0) }
+        ensures same { OnOk result ((u v : ℕ) → mapped_at self.new.page_tables u v ≡ mapped_at self.old.page_tables u v) }
+        ensures numbers { OnOk result (self.new.numbers ≡ self.old.numbers) }
+        ensures err { OnErr result (self.new ≡ self.old) }
     {
         let index = task.0 as usize;
-        if index >= self.slots() {
-            self.tasks.resize(index + 1, None)?;
-        }
-        self.tasks[index] = Some(Task {
-            group,
-            life: Life::Live,
-        });
+        let alloc = *self.tables.allocator();
+        let table = PageTable::new(alloc)?;
+        reserve_number(&mut self.tasks, index)?;
+        reserve_number(&mut self.tables, index)?;
+        let life = Life::Live;
+        put_task(&mut self.tasks, index, Task { group, life });
+        put_table(&mut self.tables, index, table, alloc);
+        self.live += 1;
         Ok(())
     }
 
-    /// The page that a virtual page of the task shows.
+    /// The page that a virtual page of the task shows (kernel: a walk of the page table).
     pub fn page(&self, task: TaskId, at: u32) -> Option<PageId>
-        ensures { option_map (λ page. page.0) result ≡ mapped_at self.now.mappings task.0 at }
+        ensures { option_map (λ page. page.0) result ≡ mapped_at self.now.page_tables task.0 at }
     {
-        match mapping_at(&self.mappings, task, at) {
-            Some(mapping) => Some(mapping.page),
+        match self.tables.get(task.0 as usize) {
+            Some(table) => table.page(at),
             None => None,
         }
     }
 
-    /// How many virtual pages show the page.
-    pub fn mappers(&self, page: PageId) -> usize
-        ensures { result ≡ mappers self.now.mappings page.0 }
+    /// How many virtual pages show the page (kernel: `folio_mapcount`).
+    pub fn mappers(&self, page: PageId) -> u32
+        ensures { result ≡ mappers self.now.page_tables page.0 }
     {
-        self.mappings
-            .iter()
-            .filter(|mapping| mapping.page == page)
-            .count()
+        match self.mappers.get(page.0 as usize) {
+            Some(count) => *count,
+            None => 0,
+        }
     }
 
     /// How many virtual pages of the task show a page (kernel: the resident set size, in pages).
     pub fn size(&self, task: TaskId) -> usize
-        ensures { result ≡ size_of self.now.mappings task.0 }
+        ensures { result ≡ size_of self.now.page_tables task.0 }
     {
-        self.mappings
-            .iter()
-            .filter(|mapping| mapping.task == task)
-            .count()
+        match self.tables.get(task.0 as usize) {
+            Some(table) => table.size() as usize,
+            None => 0,
+        }
     }
 
-    /// All mappings, oldest first.
-    pub fn mappings(&self) -> &[Mapping]
-        ensures { result.now ≡ self.now.mappings }
-    {
-        self.mappings.as_slice()
-    }
-
-    /// Asks for the memory of one mapping more.
-    pub fn reserve(&mut self) -> Result<(), AllocError>
-        ensures room { OnOk result (0 < self.new.room) }
-        ensures tasks { self.new.tasks ≡ self.old.tasks }
-        ensures mappings { self.new.mappings ≡ self.old.mappings }
-        ensures succeeds { 0 < self.old.room → IsOk result }
-        ensures kept { self.old.room ≤ self.new.room }
-    {
-        self.mappings.reserve(1)
-    }
-
-    /// The virtual page of the task shows the page from now on. Its memory was asked for by [`Spaces::reserve`].
+    /// The virtual page of a live task, which shows nothing, shows the page from now on (kernel:
+    /// `set_pte_at`, and `folio_add_anon_rmap_ptes`).
     pub fn map(&mut self, task: TaskId, at: u32, page: PageId)
-        requires { 0 < self.old.room }
-        ensures mappings { self.new.mappings ≡ self.old.mappings ++ mapping task.0 at page.0 ∷ [] }
+        requires alive { lives self.old.tasks task.0 ≡ true }
+        requires within { at < task_pages }
+        requires unmapped { mapped_at self.old.page_tables task.0 at ≡ None }
+        requires number { page.0 < self.old.numbers }
+        ensures shown { Shows self.old.page_tables self.new.page_tables task.0 at (Some page.0) }
         ensures tasks { self.new.tasks ≡ self.old.tasks }
-        ensures room { self.new.room + 1 ≡ self.old.room }
+        ensures numbers { self.new.numbers ≡ self.old.numbers }
     {
-        self.mappings.push_reserved(Mapping { task, at, page });
+        self.tables[task.0 as usize].map(at, page);
+        self.mappers[page.0 as usize] += 1;
     }
 
-    /// The task ends so, and its mappings go. Takes no memory.
-    pub fn exit(&mut self, task: TaskId, life: Life)
-        requires { IsSome (task_at self.old.tasks task.0) }
-        ensures ends { SetsTask self.old.tasks task.0 (group_of_task self.old.tasks task.0) life self.new.tasks }
-        ensures mappings { self.new.mappings ≡ without_task self.old.mappings task.0 }
-        ensures room { self.old.room ≤ self.new.room }
+    /// The virtual page of the task shows nothing from now on. It gives the page that it showed, if it
+    /// showed one (kernel: `ptep_get_and_clear`, and `folio_remove_rmap_ptes`).
+    pub fn unmap(&mut self, task: TaskId, at: u32) -> Option<PageId>
+        ensures page { option_map (λ page. page.0) result ≡ mapped_at self.old.page_tables task.0 at }
+        ensures shown { Shows self.old.page_tables self.new.page_tables task.0 at None }
+        ensures tasks { self.new.tasks ≡ self.old.tasks }
+        ensures numbers { self.new.numbers ≡ self.old.numbers }
     {
+        let page = self.page(task, at)?;
+        self.tables[task.0 as usize].unmap(at);
+        self.mappers[page.0 as usize] -= 1;
+        Some(page)
+    }
+
+    /// The live task ends so, and gives its page table back (kernel: `do_exit`, `mmput`). Its pages
+    /// were unmapped before.
+    pub fn exit(&mut self, task: TaskId, life: Life)
+        requires there { lives self.old.tasks task.0 ≡ true }
+        requires ended { is_live_life life ≡ false }
+        requires empty { (v : ℕ) → mapped_at self.old.page_tables task.0 v ≡ None }
+        ensures ends { SetsTask self.old.tasks task.0 (group_of_task self.old.tasks task.0) life self.new.tasks }
+        ensures same { (u v : ℕ) → mapped_at self.new.page_tables u v ≡ mapped_at self.old.page_tables u v }
+        ensures numbers { self.new.numbers ≡ self.old.numbers }
+    {
+        let alloc = *self.tables.allocator();
         end_task(&mut self.tasks, task, life);
-        remove_task(&mut self.mappings, task);
+        self.tables[task.0 as usize] = PageTable::none(alloc);
+        self.live -= 1;
+    }
+
+    /// Nothing is done: what always holds. A virtual page that shows a page is one of a live task,
+    /// and its number is below 1,024.
+    pub fn owners(&self)
+        ensures alive { (t v p : ℕ) → mapped_at self.now.page_tables t v ≡ Some p → lives self.now.tasks t ≡ true }
+        ensures within { (t v p : ℕ) → mapped_at self.now.page_tables t v ≡ Some p → v < task_pages }
+    {
+        let _ = &self.tasks;
     }
 }
 
@@ -191,15 +223,6 @@ fn is_live(life: Life) -> bool
     }
 }
 
-fn is_live_slot(slot: &Option<Task>) -> bool
-    ensures { result ≡ there_and is_live_task slot.now }
-{
-    match *slot {
-        Some(task) => is_live(task.life),
-        None => false,
-    }
-}
-
 fn is_live_in(slot: &Option<Task>, group: GroupId) -> bool
     ensures { result ≡ there_and (is_live_in group.0) slot.now }
 {
@@ -209,34 +232,49 @@ fn is_live_in(slot: &Option<Task>, group: GroupId) -> bool
     }
 }
 
-fn count_live(tasks: &[Option<Task>]) -> usize
-    ensures { result ≡ live_tasks tasks.now }
+/// Asks for the memory of what stands at the numbers up to this one.
+fn reserve_number<T>(items: &mut Vec<T>, index: usize) -> Result<(), AllocError>
+    requires { index ≤ 65535 }
+    ensures room { OnOk result (index < vec_capacity items.new) }
+    ensures items { items.new.items ≡ items.old.items }
+    ensures len { vec_len items.new ≡ vec_len items.old }
 {
-    tasks.iter().filter(|slot| is_live_slot(slot)).count()
+    items.reserve((index + 1).saturating_sub(items.len()))
 }
 
-fn mapping_at(mappings: &[Mapping], task: TaskId, at: u32) -> Option<&Mapping>
-    ensures { option_copied result ≡ find (is_at task.0 at) mappings.now }
+/// The task of the number, with no task at the numbers before that are new.
+fn put_task(tasks: &mut Vec<Option<Task>>, index: usize, task: Task)
+    requires { index < vec_capacity tasks.old }
+    ensures put { Changes tasks.old.items tasks.new.items index (Some task) }
+    ensures len { vec_len tasks.new ≡ max (vec_len tasks.old) (index + 1) }
 {
-    mappings
-        .iter()
-        .find(|mapping| mapping.task == task && mapping.at == at)
+    while tasks.len() <= index {
+        tasks.push_reserved(None);
+    }
+    tasks[index] = Some(task);
 }
 
-fn end_task(tasks: &mut [Option<Task>], task: TaskId, life: Life)
-    requires { IsSome (task_at tasks.old task.0) }
-    ensures { SetsTask tasks.old task.0 (group_of_task tasks.old task.0) life tasks.new }
+/// The page table of the number, with tables without a place at the numbers before that are new.
+fn put_table(tables: &mut Vec<PageTable>, index: usize, table: PageTable, alloc: Global)
+    requires { index < vec_capacity tables.old }
+    ensures put { table_of tables.new.items index ≡ table }
+    ensures others { (t : ℕ) → t ≢ index → table_of tables.new.items t ≡ table_of tables.old.items t }
+    ensures len { vec_len tables.new ≡ max (vec_len tables.old) (index + 1) }
+{
+    while tables.len() <= index {
+        tables.push_reserved(PageTable::none(alloc));
+    }
+    tables[index] = table;
+}
+
+/// The task that is there ends so.
+fn end_task(tasks: &mut Vec<Option<Task>>, task: TaskId, life: Life)
+    requires { lives tasks.old.items task.0 ≡ true }
+    ensures ends { SetsTask tasks.old.items task.0 (group_of_task tasks.old.items task.0) life tasks.new.items }
+    ensures len { vec_len tasks.new ≡ vec_len tasks.old }
 {
     let index = task.0 as usize;
     if let Some(known) = tasks[index] {
         tasks[index] = Some(Task { life, ..known });
     }
-}
-
-fn remove_task(mappings: &mut Vec<Mapping>, task: TaskId)
-    ensures mappings { mappings.new.items ≡ without_task mappings.old.items task.0 }
-    ensures capacity { vec_capacity mappings.new ≡ vec_capacity mappings.old }
-    ensures shorter { vec_len mappings.new ≤ vec_len mappings.old }
-{
-    mappings.retain(|mapping| mapping.task != task);
 }

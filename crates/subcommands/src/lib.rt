@@ -32,11 +32,12 @@ fn read_bytes<R: Read>(alloc: Global, script: &mut R) -> Result<Vec<u8>, Fault> 
     Ok(bytes)
 }
 
-/// The run of a script over a new device, which has the script's swap blocks and its faults.
+/// The run of a script over a new device, which has the blocks that the script asks for, and its
+/// faults.
 fn run(alloc: Global, script: &Script) -> Result<Vec<Reply>, Fault> {
     let mut device = MemDevice::new(
         alloc,
-        script.config.swap,
+        script.config.blocks(),
         &script.read_faults,
         &script.write_faults,
     )

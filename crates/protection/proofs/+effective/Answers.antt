@@ -2,7 +2,7 @@ use Rattle.std.proofs.Common.{◌≡◌, ◌≢◌, ◌==◌, ℕ, false, Some, 
 use Rattle.machine.specs.declared.amount.Amount.{Amount}
 use Rattle.machine.specs.Protection.{part_of, min_of}
 use Rattle.page_counter.specs.Counts.{usage_of}
-use Rattle.protection.proofs.KinLemmas.{asked_below-kin}
+use Rattle.protection.proofs.KinLemmas.{children_min_usage-kin}
 use Rattle.protection.proofs.EffectiveLemmas.{effective-child, effective-step, has_parent, under-parent}
 use Rattle.protection.proofs.+effective.Goals as goal
 
@@ -43,6 +43,6 @@ pub returns : goal.returns
 returns t c =
     let parent = sym c.in-Some.ensures.parent in
     let more = other_number c.in-Some.parent.0 c.args.target.0 (sym c.eq.ensures ∙ c.if-eq.false) in
-    let siblings = c.children_min_usage-siblings.ensures ∙ asked_below-kin c.args.counters.now.tree c.args.tree.now c.requires.kin (min_of c.args.counters.now.limits) (usage_of c.args.counters.now) c.in-Some.parent.0 in
+    let siblings = c.children_min_usage-siblings.ensures ∙ children_min_usage-kin c.args.counters.now.tree c.args.tree.now c.requires.kin (min_of c.args.counters.now.limits) (usage_of c.args.counters.now) c.in-Some.parent.0 in
     c.part_of.ensures ∙ equal_parts _ c.effective-above.ensures siblings c.min_usage.ensures
     ∙ sym (effective-step c.args.tree.now c.parent.ensures.tree.earlier_parents c.args.target.0 false (min_of c.args.counters.now.limits) (usage_of c.args.counters.now) c.args.group.0 c.in-Some.parent.0 c.requires.below parent more)

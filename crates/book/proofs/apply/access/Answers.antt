@@ -20,12 +20,12 @@ returns-in-Transferring-clause-carries c =
     rw c.in-Transferring.is
     (carries-busy s c.args.worker.0 c.args.entry c.args.touch (in-order s c.is_joined.ensures.listed) c.requires.touch (subst (λ (m : Meeting). MeetsSo s.tables c.args.touch m) c.in-Transferring.is c.requires.meets))
 
-pub returns-in_ok-hold-in-NeedsPage-clause-carries : goal.returns-in_ok-hold-in-NeedsPage-clause-carries
-returns-in_ok-hold-in-NeedsPage-clause-carries c =
+pub returns-in-NeedsPage-clause-carries : goal.returns-in-NeedsPage-clause-carries
+returns-in-NeedsPage-clause-carries c =
     let s = c.args.state.now in
     rw c.in-NeedsPage.is
     (carries-made s c.hold.new.self c.args.worker.0 c.args.entry c.args.touch c.in-NeedsPage.byte c.is_joined.ensures.mapped c.requires.touch
-    (subst (λ (m : Meeting). MeetsSo s.tables c.args.touch m) c.in-NeedsPage.is c.requires.meets) c.in_ok-hold-in-NeedsPage.ensures.makes)
+    (subst (λ (m : Meeting). MeetsSo s.tables c.args.touch m) c.in-NeedsPage.is c.requires.meets) c.hold.ensures)
 
 pub returns-in_ok-ticket-in-NeedsSwapIn-clause-carries : goal.returns-in_ok-ticket-in-NeedsSwapIn-clause-carries
 returns-in_ok-ticket-in-NeedsSwapIn-clause-carries c =

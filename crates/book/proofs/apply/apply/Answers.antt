@@ -24,10 +24,10 @@ pub returns-in-NoVictim-clause-carries : goal.returns-in-NoVictim-clause-carries
 returns-in-NoVictim-clause-carries c = rw c.in-NoVictim.is (carries-no_victim c.args.state.now c.count.new.self c.args.worker.0 c.args.entry c.in-NoVictim.limit (in-order c.args.state.now c.is_joined.ensures.listed) c.count.ensures.counts)
 
 pub returns-in_ok-spawn-in-Spawn-clause-carries : goal.returns-in_ok-spawn-in-Spawn-clause-carries
-returns-in_ok-spawn-in-Spawn-clause-carries c = rw c.in-Spawn.is (carries-spawn c.args.state.now c.spawn.new.self c.args.worker.0 c.args.entry c.in-Spawn.task c.in-Spawn.group c.is_joined.ensures.mapped (in-order c.args.state.now c.is_joined.ensures.listed) c.in_ok-spawn-in-Spawn.ensures.starts)
+returns-in_ok-spawn-in-Spawn-clause-carries c = rw c.in-Spawn.is (carries-spawn c.args.state.now c.spawn.new.self c.args.worker.0 c.args.entry c.in-Spawn.task c.in-Spawn.group (in-order c.args.state.now c.is_joined.ensures.listed) c.in_ok-spawn-in-Spawn.ensures.starts)
 
 pub returns-in-Exit-clause-carries : goal.returns-in-Exit-clause-carries
-returns-in-Exit-clause-carries c = rw c.in-Exit.is (carries-exit c.args.state.now c.end_task.new.self c.args.worker.0 c.args.entry c.in-Exit.task c.end_task.ensures)
+returns-in-Exit-clause-carries c = rw c.in-Exit.is (carries-exit c.args.state.now c.end_task.new.self c.args.worker.0 c.args.entry c.in-Exit.task c.is_joined.ensures.mapped c.end_task.ensures)
 
 pub returns-in_ok-mkdir-in-Mkdir-clause-carries : goal.returns-in_ok-mkdir-in-Mkdir-clause-carries
 returns-in_ok-mkdir-in-Mkdir-clause-carries c = rw c.in-Mkdir.is (λ what is. carries-mkdir c.args.state.now c.mkdir.new.self c.args.worker.0 c.args.entry c.in-Mkdir.parent c.in-Mkdir.path.now what (in-order c.args.state.now c.is_joined.ensures.listed) c.in_ok-mkdir-in-Mkdir.ensures.adds is.fits)

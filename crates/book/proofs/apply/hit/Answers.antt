@@ -1,5 +1,5 @@
 use Rattle.std.proofs.Common.{◌∙◌, ℕ, List, Option, ap}
-use Rattle.pages.specs.PageTable.{byte_in}
+use Rattle.pages.specs.PagesOf.{byte_in}
 use Rattle.page_state.proofs.OrderLemmas.{in-order}
 use Rattle.book.proofs.CarryLemmas.{carries-hit_read, carries-hit_write}
 use Rattle.book.proofs.apply.hit.Goals as goal

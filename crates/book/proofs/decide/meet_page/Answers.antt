@@ -1,9 +1,10 @@
-use Rattle.std.proofs.Common.{◌≡◌, ◌∙◌, inl, inr, sym, ap}
+use Rattle.std.proofs.Common.{◌≡◌, ◌⊎◌, ◌∙◌, inl, inr, sym, ap}
 use Rattle.std.specs.Prelude.{option_map}
 use Rattle.machine.specs.Pages.{Page, Pages, page_at}
-use Rattle.pages.specs.PageTable.{residence_of}
+use Rattle.pages.specs.declared.residence.Residence.TheVariants as code
+use Rattle.pages.specs.PagesOf.{residence_of}
 use Rattle.page_state.proofs.MappedLemmas.{mapped_there}
-use Rattle.book.proofs.JudgeLemmas.{residence-none, residence-some, coming-stands, going-stands}
+use Rattle.book.proofs.JudgeLemmas.{residence-none, residence-some, transfer-stands}
 use Rattle.book.proofs.decide.meet_page.Goals as goal
 
 pub unreachable-requires : goal.unreachable-requires
@@ -12,7 +13,7 @@ unreachable-requires c =
     let p = c.args.page.0 in
     let found : c.residence.result ≡ option_map (λ (page : Page). residence_of page.residence) (page_at s.tables.pages p) =
     c.residence.ensures.residence ∙ ap (λ (ps : Pages). option_map (λ (page : Page). residence_of page.residence) (page_at ps p)) c.pages.ensures.pages in
-    residence-none (page_at s.tables.pages p) (mapped_there s.tables.pages s.tables.tasks s.tables.mappings c.is_joined.ensures.mapped c.args.touch.task.0 c.args.touch.at p c.requires) (sym found ∙ c.in_default.is)
+    residence-none (page_at s.tables.pages p) (mapped_there s.tables.pages s.tables.page_tables c.is_joined.ensures.mapped c.args.touch.task.0 c.args.touch.at p c.requires) (sym found ∙ c.in_default.is)
 
 pub returns-in-Coming : goal.returns-in-Coming
 returns-in-Coming c =
@@ -21,7 +22,6 @@ returns-in-Coming c =
     let found : c.residence.result ≡ option_map (λ (page : Page). residence_of page.residence) (page_at s.tables.pages p) =
     c.residence.ensures.residence ∙ ap (λ (ps : Pages). option_map (λ (page : Page). residence_of page.residence) (page_at ps p)) c.pages.ensures.pages in
     let so = residence-some s.tables.pages s.flights c.is_joined.ensures.flights p c.in-Some.residence (sym c.in-Some.is ∙ found) in
-    elim c.in-Coming.is [
-      | inl is ↦ (let at = coming-stands s.tables.pages p so.0 so.1 so.2 (so.3 ∙ is) in (p, so.0, at.0, at.1, at.2, c.requires, inl at.3))
-      | inr is ↦ (let at = going-stands s.tables.pages p so.0 so.1 so.2 (so.3 ∙ is) in (p, so.0, at.0, at.1, at.2, c.requires, inr at.3))
-    ]
+    let said : (residence_of so.1 ≡ code.Coming) ⊎ (residence_of so.1 ≡ code.Going) = elim c.in-Coming.is [ inl is ↦ inl (so.3 ∙ is) | inr is ↦ inr (so.3 ∙ is) ] in
+    let at = transfer-stands s.tables.pages p so.0 so.1 so.2 said in
+    (at.0, p, so.0, at.1, at.2, at.3, c.requires, at.4)

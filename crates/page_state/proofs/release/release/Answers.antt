@@ -1,6 +1,6 @@
 use Rattle.std.proofs.Common.{Some, None, refl, sym, ap, ◌∙◌, arith}
 use Rattle.machine.specs.Pages.{Held, Coming, Going, Away}
-use Rattle.pages.specs.PageTable.{Stands, anon_page}
+use Rattle.pages.specs.PagesOf.{Stands, anon_page}
 use Rattle.pages.specs.declared.owned_page.OwnedPage.{OwnedPage}
 use Rattle.pages.specs.Records.{page_of}
 use Rattle.page_state.proofs.CountLemmas.{uncharge-usage}

@@ -1,6 +1,6 @@
 use Rattle.std.proofs.Common.{Some, subst}
 use Rattle.machine.specs.Slots.{Changes}
-use Rattle.pages.specs.PageTable.{anon_page}
+use Rattle.pages.specs.PagesOf.{anon_page}
 use Rattle.pages.specs.Transfers.{residence_after, IsFreed}
 use Rattle.page_state.proofs.SettleLemmas.{settled-block, settled-frame, settled-charge, kept-in_frame, kept-on_block}
 use Rattle.page_state.proofs.settle.end_transfer.Goals as goal

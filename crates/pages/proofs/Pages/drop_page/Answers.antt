@@ -1,4 +1,4 @@
-use Rattle.std.proofs.Common.{None, refl, arith}
+use Rattle.std.proofs.Common.{None, refl}
 use Rattle.pages.specs.Records.{page_of, bytes_of}
 use Rattle.pages.proofs.TableLemmas.{Changes-map, byte_in-changes, taken-changes}
 use Rattle.pages.proofs.FlightLemmas.{AreInFlight-apart, AreMemory-owned, IsSettled-still}
@@ -11,8 +11,9 @@ invariant_of-self c =
     let gone = c.take_at.ensures.gone in
     record {
       taken = taken-changes _ _ _ _ c.args.page.0 None None c.remove.ensures.updates gone refl is.taken;
-      within = omega arith;
+      within = rw (c.remove.ensures.capacity, c.take_at.ensures.capacity) is.within;
       in_flight = AreInFlight-apart _ _ c.args.page.0 None (Changes-map page_of _ _ _ None gone) c.self.inside.flights.slots is.in_flight (IsSettled-still _ requires.3) (λ n. refl) (AreMemory-owned c.take_at.new.slots.items);
+      few = rw c.remove.ensures.capacity is.few;
       countable = is.countable;
     }
 

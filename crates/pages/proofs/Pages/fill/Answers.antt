@@ -1,11 +1,11 @@
 use Rattle.std.proofs.Common.{◌==◌, cond, map, Some, None, ap, sym, arith, ◌∙◌}
 use Rattle.std.specs.Prelude.{option_map}
 use Rattle.std.proofs.lemmas.List.{get_or_read}
-use Rattle.pages.specs.declared.flight.Direction.TheVariants.{In}
-use Rattle.pages.specs.PageTable.{byte_of, byte_in}
+use Rattle.machine.specs.declared.record.Direction.TheVariants.{In}
+use Rattle.pages.specs.PagesOf.{byte_of, byte_in}
 use Rattle.pages.specs.Records.{page_of, bytes_of}
 use Rattle.pages.proofs.TableLemmas.{at-map, place_within, byte_in-changes}
-use Rattle.pages.proofs.TransferLemmas.{flight-listed, flight-there, flight-page, flight-stands, Rewrites, Rewrites-table, Rewrites-others, Rewrites-bytes}
+use Rattle.pages.proofs.TransferLemmas.{flight-listed, flight-there, flight-page, flight-stands, Rewrites, Rewrites-are, Rewrites-others, Rewrites-bytes}
 use Rattle.pages.proofs.Pages.fill.Goals as goal
 
 pub page_under-page-requires : goal.page_under-page-requires
@@ -40,10 +40,10 @@ rewrites c =
     }
 
 pub invariant_of-self : goal.invariant_of-self
-invariant_of-self c = Rewrites-table c.self.inside.numbers c.self.inside.flights _ _ _ _ (rewrites c) c.self.invariant
+invariant_of-self c = Rewrites-are c.self.inside.numbers c.self.inside.flights _ _ _ _ (rewrites c) _ c.self.invariant
 
 pub returns-clause-others : goal.returns-clause-others
-returns-clause-others c = rw (← c.self.view_is) (Rewrites-others c.self.inside.numbers c.self.inside.flights _ _ _ _ (rewrites c) _)
+returns-clause-others c = rw (← c.self.view_is) (Rewrites-others c.self.inside.numbers c.self.inside.flights _ _ _ _ (rewrites c))
 
 pub returns-clause-bytes : goal.returns-clause-bytes
 returns-clause-bytes c = λ p g f b stands q o.

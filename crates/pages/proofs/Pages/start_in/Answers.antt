@@ -1,35 +1,35 @@
-use Rattle.std.proofs.Common.{◌≡◌, ℕ, Some, ap, refl, ◌∙◌, arith}
+use Rattle.std.proofs.Common.{vec_capacity, ◌≡◌, ℕ, Some, ap, refl, ◌∙◌, arith}
 use Rattle.machine.specs.Pages.{Coming, Away}
 use Rattle.pages.specs.declared.owned_page.OwnedPage.TheVariants as owned_page
-use Rattle.pages.specs.declared.flight.Direction.TheVariants.{In}
-use Rattle.pages.specs.PageTable.{Stands, anon_page}
+use Rattle.machine.specs.declared.record.Direction.TheVariants.{In}
+use Rattle.pages.specs.PagesOf.{Stands, anon_page}
 use Rattle.pages.specs.Transfers.{given_ticket}
 use Rattle.pages.specs.Records.{page_of}
 use Rattle.pages.proofs.FlightLemmas.{IsSettled-is}
-use Rattle.pages.proofs.TransferLemmas.{owned-stands, Takeoff, Takeoff-table, Takeoff-starts, Takeoff-apart, part-slot}
+use Rattle.pages.proofs.TransferLemmas.{owned-stands, Takeoff, Takeoff-are, Takeoff-starts, Takeoff-apart, part-slot}
 use Rattle.pages.proofs.Pages.start_in.Goals as goal
 
 was_away : (c : goal.After-new) (block : ℕ) → Stands c.args.self.now.pages c.args.page.0 c.args.charge (Away block) → page_of c.take_at.result ≡ anon_page c.args.charge (Away block)
 was_away c block stands = owned-stands c.self.inside.owned.items c.args.page.0 c.args.charge (Away block) c.take_at.result c.take_at.ensures.owned (rw (← c.self.view_is) at stands)
 
-takeoff : (c : goal.After-new) → Takeoff c.self.inside.numbers c.self.inside.owned.items c.take_at.new.slots.items c.place.new.slots.items c.self.inside.flights c.list-ticket.new.flights c.list-ticket.result.0 c.args.page.0 c.args.worker.0 In c.args.charge c.args.frame.number c.into_away-slot.result c.take_at.result (owned_page.Coming c.args.frame c.args.charge c.into_away-slot.result c.list-ticket.result)
+takeoff : (c : goal.After-new) → Takeoff c.self.inside.numbers c.self.inside.owned.items c.take_at.new.slots.items c.place.new.slots.items (vec_capacity c.self.inside.owned) (vec_capacity c.place.new.slots) c.self.inside.flights c.list-ticket.new.flights c.list-ticket.result.0 c.args.page.0 c.args.worker.0 In c.args.charge c.args.frame.number c.into_away-slot.result c.take_at.result (owned_page.Coming c.args.frame c.args.charge c.into_away-slot.result c.list-ticket.result)
 takeoff c =
     let requires = rw (← c.self.view_is) at c.requires in
     record {
-      table = c.self.invariant;
+      are = c.self.invariant;
       free = c.list-ticket.ensures.free;
       listed = c.list-ticket.ensures.listed;
       len = c.list-ticket.ensures.len;
       fits = omega (arith, requires.room);
       capacity = c.list-ticket.ensures.capacity;
       exchanges = record { was = c.take_at.ensures.owned; gone = c.take_at.ensures.gone; placed = c.place.ensures.placed };
-      within = omega (arith, c.place.ensures.len c.self.inside.numbers.capacity (omega arith) (omega arith));
+      same_places = c.place.ensures.capacity ∙ c.take_at.ensures.capacity;
       settled = IsSettled-is _ _ (ap Some (was_away c c.requires.away.0 c.requires.away.1)) (λ n. refl);
       moves = refl;
     }
 
 pub invariant_of-self : goal.invariant_of-self
-invariant_of-self c = Takeoff-table (takeoff c)
+invariant_of-self c = Takeoff-are (takeoff c)
 
 pub returns : goal.returns
 returns c = λ block stands.
@@ -37,6 +37,6 @@ returns c = λ block stands.
     let ticket = c.new.ensures ∙ ap (λ b. given_ticket c.list-ticket.result.0 c.args.worker.0 c.args.entry b c.args.buffer.value) (c.block-block.ensures ∙ slot) in
     rw (ticket, ← c.self.view_is) (
     record {
-      starts = Takeoff-starts (takeoff c) _ _ (c.place.ensures.capacity ∙ c.take_at.ensures.capacity) c.args.charge c.args.frame.number block c.args.entry c.args.buffer.value (ap (λ b. anon_page c.args.charge (Coming c.args.frame.number b c.list-ticket.result.0)) slot);
+      starts = Takeoff-starts (takeoff c) c.args.charge c.args.frame.number block c.args.entry c.args.buffer.value (ap (λ b. anon_page c.args.charge (Coming c.args.frame.number b c.list-ticket.result.0)) slot);
       bytes = Takeoff-apart (takeoff c);
     })

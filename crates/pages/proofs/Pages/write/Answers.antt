@@ -3,7 +3,7 @@ use Rattle.std.specs.Prelude.{option_map}
 use Rattle.std.proofs.lemmas.List.{get_or_read}
 use Rattle.pages.specs.Records.{bytes_of, WritesByte}
 use Rattle.pages.proofs.TableLemmas.{at-map, byte_in-written}
-use Rattle.pages.proofs.TransferLemmas.{Rewrites, Rewrites-table, Rewrites-others, Rewrites-bytes, held-within}
+use Rattle.pages.proofs.TransferLemmas.{Rewrites, Rewrites-are, Rewrites-others, Rewrites-bytes, held-within}
 use Rattle.pages.proofs.Pages.write.Goals as goal
 
 rewrites : (c : goal.After-self-1) → Rewrites c.self.inside.owned.items c.args.page.0 c.index_mut.result.now c.write_at.new.slot
@@ -16,10 +16,10 @@ rewrites c =
     }
 
 pub invariant_of-self : goal.invariant_of-self
-invariant_of-self c = Rewrites-table c.self.inside.numbers c.self.inside.flights _ _ _ _ (rewrites c) c.self.invariant
+invariant_of-self c = Rewrites-are c.self.inside.numbers c.self.inside.flights _ _ _ _ (rewrites c) _ c.self.invariant
 
 pub returns-clause-others : goal.returns-clause-others
-returns-clause-others c = rw (← c.self.view_is) (Rewrites-others c.self.inside.numbers c.self.inside.flights _ _ _ _ (rewrites c) _)
+returns-clause-others c = rw (← c.self.view_is) (Rewrites-others c.self.inside.numbers c.self.inside.flights _ _ _ _ (rewrites c))
 
 pub returns-clause-bytes : goal.returns-clause-bytes
 returns-clause-bytes c =

@@ -26,7 +26,7 @@ returns-then-is_full-clause-called c =
     let b = c.self.inside in
     let is : IsDecided b.state c.args.event c.in-Ok.decided = c.in-Ok.ensures in
     let full = sym (full-decided b c.args.self.now c.self.view_is c.args.event c.in-Ok.decided is c.entries.result c.entries.ensures c.is_full.result c.is_full.ensures) ∙ c.if-is_full.true in
-    called-full b c.args.self.now c.self.view_is c.args.worker.0 c.args.event c.requires.asked is.none full
+    called-full b c.args.self.now c.self.view_is (record { worker = c.args.worker.0 }) c.args.event c.requires.asked is.none full
 
 pub append-requires-clause-room : goal.append-requires-clause-room
 append-requires-clause-room c =
@@ -34,7 +34,7 @@ append-requires-clause-room c =
     let is : IsDecided b.state c.args.event c.in-Ok.decided = c.in-Ok.ensures in
     let room = sym (full-decided b c.args.self.now c.self.view_is c.args.event c.in-Ok.decided is c.entries.result c.entries.ensures c.is_full.result c.is_full.ensures) ∙ c.if-is_full.false in
     let answers : AnswersTo b.state c.args.worker.0 (c.len.result + 1) c.args.event c.in-Ok-apply.reply c.apply.new.state = c.in-Ok-apply.ensures.carries c.args.event is in
-    let extending = asks b c.args.self.now c.self.invariant c.self.view_is c.apply.new.state c.args.worker.0 c.requires.known c.args.event (reply_of c.in-Ok-apply.reply) c.requires.asked is.none room answers.serves in
+    let extending = asks b c.args.self.now c.self.invariant c.self.view_is c.apply.new.state c.args.worker.0 c.requires.known c.args.event (reply_of c.in-Ok-apply.reply) c.requires.asked is.none room answers.makes_step in
     has_room b c.apply.new.state c.args.worker.0 c.args.event (reply_of c.in-Ok-apply.reply) extending c.self.invariant
 
 pub append-requires-clause-few : goal.append-requires-clause-few
@@ -46,7 +46,7 @@ invariant_of-self-in-Ok-apply c =
     let is : IsDecided b.state c.args.event c.in-Ok.decided = c.in-Ok.ensures in
     let room = sym (full-decided b c.args.self.now c.self.view_is c.args.event c.in-Ok.decided is c.entries.result c.entries.ensures c.is_full.result c.is_full.ensures) ∙ c.if-is_full.false in
     let answers : AnswersTo b.state c.args.worker.0 (c.len.result + 1) c.args.event c.in-Ok-apply.reply c.apply.new.state = c.in-Ok-apply.ensures.carries c.args.event is in
-    let extending = asks b c.args.self.now c.self.invariant c.self.view_is c.apply.new.state c.args.worker.0 c.requires.known c.args.event (reply_of c.in-Ok-apply.reply) c.requires.asked is.none room answers.serves in
+    let extending = asks b c.args.self.now c.self.invariant c.self.view_is c.apply.new.state c.args.worker.0 c.requires.known c.args.event (reply_of c.in-Ok-apply.reply) c.requires.asked is.none room answers.makes_step in
     let after : Inside = record { alloc = b.alloc; state = c.apply.new.state; entries = c.append.new.entries; counts = c.append.new.counts } in
     let appends = subst (λ (answer : Reply). Appends b after c.args.worker c.args.event answer) c.plain-said.ensures (record { entries = c.append.ensures.entries; room = c.append.ensures.room; counts = c.append.ensures.counts }) in
     book_more b after c.args.worker c.args.event (reply_of c.in-Ok-apply.reply) c.self.invariant extending appends
@@ -57,7 +57,7 @@ returns-in-Ok-apply-clause-called c =
     let is : IsDecided b.state c.args.event c.in-Ok.decided = c.in-Ok.ensures in
     let room = sym (full-decided b c.args.self.now c.self.view_is c.args.event c.in-Ok.decided is c.entries.result c.entries.ensures c.is_full.result c.is_full.ensures) ∙ c.if-is_full.false in
     let answers : AnswersTo b.state c.args.worker.0 (c.len.result + 1) c.args.event c.in-Ok-apply.reply c.apply.new.state = c.in-Ok-apply.ensures.carries c.args.event is in
-    let extending = asks b c.args.self.now c.self.invariant c.self.view_is c.apply.new.state c.args.worker.0 c.requires.known c.args.event (reply_of c.in-Ok-apply.reply) c.requires.asked is.none room answers.serves in
+    let extending = asks b c.args.self.now c.self.invariant c.self.view_is c.apply.new.state c.args.worker.0 c.requires.known c.args.event (reply_of c.in-Ok-apply.reply) c.requires.asked is.none room answers.makes_step in
     let after : Inside = record { alloc = b.alloc; state = c.apply.new.state; entries = c.append.new.entries; counts = c.append.new.counts } in
     let appends = subst (λ (answer : Reply). Appends b after c.args.worker c.args.event answer) c.plain-said.ensures (record { entries = c.append.ensures.entries; room = c.append.ensures.room; counts = c.append.ensures.counts }) in
     rw (← c.self.view_is) (called_more b after c.args.worker c.args.event (reply_of c.in-Ok-apply.reply) c.self.invariant extending appends)
@@ -68,7 +68,7 @@ returns-in-Ok-apply-clause-reads c =
     let is : IsDecided b.state c.args.event c.in-Ok.decided = c.in-Ok.ensures in
     let room = sym (full-decided b c.args.self.now c.self.view_is c.args.event c.in-Ok.decided is c.entries.result c.entries.ensures c.is_full.result c.is_full.ensures) ∙ c.if-is_full.false in
     let answers : AnswersTo b.state c.args.worker.0 (c.len.result + 1) c.args.event c.in-Ok-apply.reply c.apply.new.state = c.in-Ok-apply.ensures.carries c.args.event is in
-    let extending = asks b c.args.self.now c.self.invariant c.self.view_is c.apply.new.state c.args.worker.0 c.requires.known c.args.event (reply_of c.in-Ok-apply.reply) c.requires.asked is.none room answers.serves in
+    let extending = asks b c.args.self.now c.self.invariant c.self.view_is c.apply.new.state c.args.worker.0 c.requires.known c.args.event (reply_of c.in-Ok-apply.reply) c.requires.asked is.none room answers.makes_step in
     rw (← c.self.view_is) (read_on b.state c.apply.new.state (history_of b) b.counts.items c.args.worker.0 c.args.event (reply_of c.in-Ok-apply.reply) extending)
 
 pub returns-in-Ok-apply-clause-gives : goal.returns-in-Ok-apply-clause-gives
@@ -77,7 +77,7 @@ returns-in-Ok-apply-clause-gives c =
     let is : IsDecided b.state c.args.event c.in-Ok.decided = c.in-Ok.ensures in
     let room = sym (full-decided b c.args.self.now c.self.view_is c.args.event c.in-Ok.decided is c.entries.result c.entries.ensures c.is_full.result c.is_full.ensures) ∙ c.if-is_full.false in
     let answers : AnswersTo b.state c.args.worker.0 (c.len.result + 1) c.args.event c.in-Ok-apply.reply c.apply.new.state = c.in-Ok-apply.ensures.carries c.args.event is in
-    let extending = asks b c.args.self.now c.self.invariant c.self.view_is c.apply.new.state c.args.worker.0 c.requires.known c.args.event (reply_of c.in-Ok-apply.reply) c.requires.asked is.none room answers.serves in
+    let extending = asks b c.args.self.now c.self.invariant c.self.view_is c.apply.new.state c.args.worker.0 c.requires.known c.args.event (reply_of c.in-Ok-apply.reply) c.requires.asked is.none room answers.makes_step in
     let after : Inside = record { alloc = b.alloc; state = c.apply.new.state; entries = c.append.new.entries; counts = c.append.new.counts } in
     let appends = subst (λ (answer : Reply). Appends b after c.args.worker c.args.event answer) c.plain-said.ensures (record { entries = c.append.ensures.entries; room = c.append.ensures.room; counts = c.append.ensures.counts }) in
     let told = told_more b after c.args.worker c.args.event (reply_of c.in-Ok-apply.reply) c.self.invariant extending appends in

@@ -1,29 +1,30 @@
 use Rattle.std.proofs.Common.{ℕ, ◌∙◌, sym, ap, subst}
 use Rattle.std.proofs.lemmas.Bool.{and_parts}
-use Rattle.machine.specs.Pages.{is_going_out}
+use Rattle.machine.specs.declared.record.Direction.TheVariants.{Out}
+use Rattle.machine.specs.Pages.{is_in_flight}
 use Rattle.machine.specs.Call.{Past}
 use Rattle.machine.specs.declared.event.Event.{Event}
 use Rattle.machine.specs.declared.reply.Reply.TheVariants as reply
 use Rattle.book.specs.declared.book.Book.TheInside.{Inside}
-use Rattle.book.specs.Events.{out_ended, out_ended_with}
+use Rattle.book.specs.Events.{ended, ended_with}
 use Rattle.book.specs.Told.{state_of}
-use Rattle.page_state.proofs.TransferLemmas.{going-stands}
-use Rattle.book.proofs.MoveLemmas.{serves-settled_out}
-use Rattle.book.proofs.CallLemmas.{history_of, called-stranger, out-known, out-none, out-free, ends, has_room, few_of, Appends, called_more, book_more}
+use Rattle.page_state.proofs.TransferLemmas.{flying-stands}
+use Rattle.book.proofs.MoveLemmas.{makes_step-settled_out}
+use Rattle.book.proofs.CallLemmas.{history_of, called-stranger, ended-known, ended-none, ended-free, ends, has_room, few_of, Appends, called_more, book_more}
 use Rattle.book.proofs.book.Book.settle_out.Goals as goal
 
 pub returns-then-not-is_own-clause-called : goal.returns-then-not-is_own-clause-called
 returns-then-not-is_own-clause-called c =
-    called-stranger c.args.self.now c.args.worker.0 (out_ended c.args.end c.args.ticket) (out-known c.args.self.now c.args.worker.0 c.args.end c.args.ticket ∙ rw (← c.number-number.ensures) (sym c.if-not-is_own.ensures))
+    called-stranger c.args.self.now (record { worker = c.args.worker.0 }) (ended Out c.args.end c.args.ticket) (ended-known c.args.self.now (record { worker = c.args.worker.0 }) Out c.args.end c.args.ticket ∙ rw (← c.number-number.ensures) (sym c.if-not-is_own.ensures))
 
 pub append-requires-clause-room : goal.append-requires-clause-room
 append-requires-clause-room c =
     let b = c.self.inside in
-    let known = out-known c.args.self.now c.args.worker.0 c.args.end c.args.ticket ∙ rw (← c.number-number.ensures) (sym c.if-not-is_own.ensures) in
-    let stood = going-stands b.state.tables.pages b.state.flights c.is_joined.ensures.flights c.args.ticket.number (ap (λ (p : Past). is_going_out p.state.pages c.args.ticket.number) c.self.view_is ∙ (and_parts _ _ (sym (out-known c.args.self.now c.args.worker.0 c.args.end c.args.ticket) ∙ known)).0) in
-    let serves = serves-settled_out b.state c.settle_out.new.self c.args.worker.0 stood.0 stood.1 stood.2 stood.3 c.args.ticket c.args.end stood.4 (c.settle_out.ensures.ends stood.0 stood.1 stood.2 stood.3 stood.4) (c.settle_out.ensures.stays stood.0 stood.1 stood.2 stood.3 stood.4) in
-    let extending = ends b c.args.self.now c.self.invariant c.self.view_is c.settle_out.new.self c.args.worker.0 c.requires (out_ended c.args.end c.args.ticket) known (out-none (state_of b.state (history_of b)) c.args.end c.args.ticket) (out-free (state_of b.state (history_of b)) c.args.end c.args.ticket) serves in
-    has_room b c.settle_out.new.self c.args.worker.0 (out_ended c.args.end c.args.ticket) reply.Ok extending c.self.invariant
+    let known = ended-known c.args.self.now (record { worker = c.args.worker.0 }) Out c.args.end c.args.ticket ∙ rw (← c.number-number.ensures) (sym c.if-not-is_own.ensures) in
+    let stood = flying-stands b.state.tables.pages b.state.flights c.is_joined.ensures.flights Out c.args.ticket.number (ap (λ (p : Past). is_in_flight Out p.state.pages c.args.ticket.number) c.self.view_is ∙ (and_parts _ _ (sym (ended-known c.args.self.now (record { worker = c.args.worker.0 }) Out c.args.end c.args.ticket) ∙ known)).0) in
+    let makes_step = makes_step-settled_out b.state c.settle_out.new.self c.args.worker.0 stood.0 stood.1 stood.2 stood.3 c.args.ticket c.args.end stood.4 (c.settle_out.ensures.ends stood.0 stood.1 stood.2 stood.3 stood.4) (c.settle_out.ensures.stays stood.0 stood.1 stood.2 stood.3 stood.4) in
+    let extending = ends b c.args.self.now c.self.invariant c.self.view_is c.settle_out.new.self c.args.worker.0 c.requires (ended Out c.args.end c.args.ticket) known (ended-none (state_of b.state (history_of b)) Out c.args.end c.args.ticket) (ended-free (state_of b.state (history_of b)) Out c.args.end c.args.ticket) makes_step in
+    has_room b c.settle_out.new.self c.args.worker.0 (ended Out c.args.end c.args.ticket) reply.Ok extending c.self.invariant
 
 pub append-requires-clause-few : goal.append-requires-clause-few
 append-requires-clause-few c = few_of c.self.inside c.self.invariant c.is_joined.ensures.limit c.args.worker.0
@@ -31,25 +32,25 @@ append-requires-clause-few c = few_of c.self.inside c.self.invariant c.is_joined
 pub invariant_of-self : goal.invariant_of-self
 invariant_of-self c =
     let b = c.self.inside in
-    let known = out-known c.args.self.now c.args.worker.0 c.args.end c.args.ticket ∙ rw (← c.number-number.ensures) (sym c.if-not-is_own.ensures) in
-    let stood = going-stands b.state.tables.pages b.state.flights c.is_joined.ensures.flights c.args.ticket.number (ap (λ (p : Past). is_going_out p.state.pages c.args.ticket.number) c.self.view_is ∙ (and_parts _ _ (sym (out-known c.args.self.now c.args.worker.0 c.args.end c.args.ticket) ∙ known)).0) in
-    let serves = serves-settled_out b.state c.settle_out.new.self c.args.worker.0 stood.0 stood.1 stood.2 stood.3 c.args.ticket c.args.end stood.4 (c.settle_out.ensures.ends stood.0 stood.1 stood.2 stood.3 stood.4) (c.settle_out.ensures.stays stood.0 stood.1 stood.2 stood.3 stood.4) in
-    let extending = ends b c.args.self.now c.self.invariant c.self.view_is c.settle_out.new.self c.args.worker.0 c.requires (out_ended c.args.end c.args.ticket) known (out-none (state_of b.state (history_of b)) c.args.end c.args.ticket) (out-free (state_of b.state (history_of b)) c.args.end c.args.ticket) serves in
+    let known = ended-known c.args.self.now (record { worker = c.args.worker.0 }) Out c.args.end c.args.ticket ∙ rw (← c.number-number.ensures) (sym c.if-not-is_own.ensures) in
+    let stood = flying-stands b.state.tables.pages b.state.flights c.is_joined.ensures.flights Out c.args.ticket.number (ap (λ (p : Past). is_in_flight Out p.state.pages c.args.ticket.number) c.self.view_is ∙ (and_parts _ _ (sym (ended-known c.args.self.now (record { worker = c.args.worker.0 }) Out c.args.end c.args.ticket) ∙ known)).0) in
+    let makes_step = makes_step-settled_out b.state c.settle_out.new.self c.args.worker.0 stood.0 stood.1 stood.2 stood.3 c.args.ticket c.args.end stood.4 (c.settle_out.ensures.ends stood.0 stood.1 stood.2 stood.3 stood.4) (c.settle_out.ensures.stays stood.0 stood.1 stood.2 stood.3 stood.4) in
+    let extending = ends b c.args.self.now c.self.invariant c.self.view_is c.settle_out.new.self c.args.worker.0 c.requires (ended Out c.args.end c.args.ticket) known (ended-none (state_of b.state (history_of b)) Out c.args.end c.args.ticket) (ended-free (state_of b.state (history_of b)) Out c.args.end c.args.ticket) makes_step in
     let after : Inside = record { alloc = b.alloc; state = c.settle_out.new.self; entries = c.append.new.entries; counts = c.append.new.counts } in
     let appends = subst (λ (what : Event). Appends b after c.args.worker what reply.Ok)
-    (c.out_ended.ensures ∙ ap (λ (n : ℕ). out_ended_with c.args.end n) c.number-number.ensures)
+    (c.out_ended.ensures c.args.ticket.bytes ∙ ap (λ (n : ℕ). ended_with Out c.args.end n c.args.ticket.bytes) c.number-number.ensures)
     (record { entries = c.append.ensures.entries; room = c.append.ensures.room; counts = c.append.ensures.counts }) in
-    book_more b after c.args.worker (out_ended c.args.end c.args.ticket) reply.Ok c.self.invariant extending appends
+    book_more b after c.args.worker (ended Out c.args.end c.args.ticket) reply.Ok c.self.invariant extending appends
 
 pub returns-clause-called : goal.returns-clause-called
 returns-clause-called c =
     let b = c.self.inside in
-    let known = out-known c.args.self.now c.args.worker.0 c.args.end c.args.ticket ∙ rw (← c.number-number.ensures) (sym c.if-not-is_own.ensures) in
-    let stood = going-stands b.state.tables.pages b.state.flights c.is_joined.ensures.flights c.args.ticket.number (ap (λ (p : Past). is_going_out p.state.pages c.args.ticket.number) c.self.view_is ∙ (and_parts _ _ (sym (out-known c.args.self.now c.args.worker.0 c.args.end c.args.ticket) ∙ known)).0) in
-    let serves = serves-settled_out b.state c.settle_out.new.self c.args.worker.0 stood.0 stood.1 stood.2 stood.3 c.args.ticket c.args.end stood.4 (c.settle_out.ensures.ends stood.0 stood.1 stood.2 stood.3 stood.4) (c.settle_out.ensures.stays stood.0 stood.1 stood.2 stood.3 stood.4) in
-    let extending = ends b c.args.self.now c.self.invariant c.self.view_is c.settle_out.new.self c.args.worker.0 c.requires (out_ended c.args.end c.args.ticket) known (out-none (state_of b.state (history_of b)) c.args.end c.args.ticket) (out-free (state_of b.state (history_of b)) c.args.end c.args.ticket) serves in
+    let known = ended-known c.args.self.now (record { worker = c.args.worker.0 }) Out c.args.end c.args.ticket ∙ rw (← c.number-number.ensures) (sym c.if-not-is_own.ensures) in
+    let stood = flying-stands b.state.tables.pages b.state.flights c.is_joined.ensures.flights Out c.args.ticket.number (ap (λ (p : Past). is_in_flight Out p.state.pages c.args.ticket.number) c.self.view_is ∙ (and_parts _ _ (sym (ended-known c.args.self.now (record { worker = c.args.worker.0 }) Out c.args.end c.args.ticket) ∙ known)).0) in
+    let makes_step = makes_step-settled_out b.state c.settle_out.new.self c.args.worker.0 stood.0 stood.1 stood.2 stood.3 c.args.ticket c.args.end stood.4 (c.settle_out.ensures.ends stood.0 stood.1 stood.2 stood.3 stood.4) (c.settle_out.ensures.stays stood.0 stood.1 stood.2 stood.3 stood.4) in
+    let extending = ends b c.args.self.now c.self.invariant c.self.view_is c.settle_out.new.self c.args.worker.0 c.requires (ended Out c.args.end c.args.ticket) known (ended-none (state_of b.state (history_of b)) Out c.args.end c.args.ticket) (ended-free (state_of b.state (history_of b)) Out c.args.end c.args.ticket) makes_step in
     let after : Inside = record { alloc = b.alloc; state = c.settle_out.new.self; entries = c.append.new.entries; counts = c.append.new.counts } in
     let appends = subst (λ (what : Event). Appends b after c.args.worker what reply.Ok)
-    (c.out_ended.ensures ∙ ap (λ (n : ℕ). out_ended_with c.args.end n) c.number-number.ensures)
+    (c.out_ended.ensures c.args.ticket.bytes ∙ ap (λ (n : ℕ). ended_with Out c.args.end n c.args.ticket.bytes) c.number-number.ensures)
     (record { entries = c.append.ensures.entries; room = c.append.ensures.room; counts = c.append.ensures.counts }) in
-    rw (← c.self.view_is) (called_more b after c.args.worker (out_ended c.args.end c.args.ticket) reply.Ok c.self.invariant extending appends)
+    rw (← c.self.view_is) (called_more b after c.args.worker (ended Out c.args.end c.args.ticket) reply.Ok c.self.invariant extending appends)

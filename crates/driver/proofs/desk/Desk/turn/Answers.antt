@@ -1,4 +1,4 @@
-use Rattle.std.proofs.Common.{◌≡◌, ◌∙◌, ◌<◌, List, length, ap, sym}
+use Rattle.std.proofs.Common.{◌≡◌, ◌∙◌, ℕ, ◌<◌, List, length, refl, ap, sym}
 use Rattle.driver.specs.declared.turn.Activity.TheVariants.{Rests, Begun, Does}
 use Rattle.driver.specs.declared.turn.Seat.{Seat}
 use Rattle.driver.specs.Schedule.{World}
@@ -41,7 +41,7 @@ returns-in-Err-clause-turn g c =
     let within : place_of c.args.actor old.seats < length old.seats = seated c.args.actor old.seats (λ rests. let wrong : Begun c.in-Begun.command ≡ Rests = c.in-Begun.ensures.was ∙ rests in cc) in
     rw c.word-in-Err.ensures
     (turn_refused old _ c.args.actor c.in-Begun.command c.in-Err.cause (sym c.in-Begun.ensures.was) (sym c.in-Err.ensures.judged)
-    (ap (λ (ss : List Seat). record old { seats = ss }) (c.take.ensures.taken.rests within)))
+    (ap (λ (n : ℕ). record old { caller = record { worker = n }; seats = c.take.new.self }) c.judge.ensures.pass ∙ ap (λ (ss : List Seat). record old { seats = ss }) (c.take.ensures.taken.rests within)))
 
 pub returns-in_ok-turn_stage-in-Ok-clause-turn : goal.returns-in_ok-turn_stage-in-Ok-clause-turn
 returns-in_ok-turn_stage-in-Ok-clause-turn g c =
@@ -49,7 +49,7 @@ returns-in_ok-turn_stage-in-Ok-clause-turn g c =
     let new : World = world c.turn_stage.new.self (g.D.BlockDevice.disk c.turn_stage.new.device) in
     let within : place_of c.args.actor old.seats < length old.seats = seated c.args.actor old.seats (λ rests. let wrong : Begun c.in-Begun.command ≡ Rests = c.in-Begun.ensures.was ∙ rests in cc) in
     turn_begun old new c.args.actor c.in-Begun.command c.in-Ok.stage c.in_ok-turn_stage-in-Ok.field-0 (sym c.in-Begun.ensures.was) (sym c.in-Ok.ensures.judged)
-    (turn_taken old c.take.new.self new c.args.actor c.in-Ok.stage c.in_ok-turn_stage-in-Ok.field-0 (c.take.ensures.taken.others within) c.in_ok-turn_stage-in-Ok.ensures.turn)
+    (turn_taken old c.judge.new.pass c.take.new.self new c.args.actor c.in-Ok.stage c.in_ok-turn_stage-in-Ok.field-0 (ap (λ (n : ℕ). record { worker = n }) c.judge.ensures.pass) (c.take.ensures.taken.others within) c.in_ok-turn_stage-in-Ok.ensures.turn)
 
 pub returns-in_ok-turn_stage-in-Does-clause-turn : goal.returns-in_ok-turn_stage-in-Does-clause-turn
 returns-in_ok-turn_stage-in-Does-clause-turn g c =
@@ -57,4 +57,4 @@ returns-in_ok-turn_stage-in-Does-clause-turn g c =
     let new : World = world c.turn_stage-in-Does.new.self (g.D.BlockDevice.disk c.turn_stage-in-Does.new.device) in
     let within : place_of c.args.actor old.seats < length old.seats = seated c.args.actor old.seats (λ rests. let wrong : Does c.in-Does.stage ≡ Rests = c.in-Does.ensures.was ∙ rests in cc) in
     turn_does old new c.args.actor c.in-Does.stage c.in_ok-turn_stage-in-Does.field-0 (sym c.in-Does.ensures.was)
-    (turn_taken old c.take.new.self new c.args.actor c.in-Does.stage c.in_ok-turn_stage-in-Does.field-0 (c.take.ensures.taken.others within) c.in_ok-turn_stage-in-Does.ensures.turn)
+    (turn_taken old old.caller c.take.new.self new c.args.actor c.in-Does.stage c.in_ok-turn_stage-in-Does.field-0 refl (c.take.ensures.taken.others within) c.in_ok-turn_stage-in-Does.ensures.turn)

@@ -8,4 +8,4 @@ pub returns-clause-wants : goal.returns-clause-wants
 returns-clause-wants c =
     let s : State = c.args.self.now.book.state in
     let free : c.free_frames.result ≡ free_frames s = omega (arith, c.free_frames.ensures) in
-    c.ask.ensures.wants ∙ (ap (λ (marks : Watermarks). wants marks c.free_frames.result c.args.stage) c.watermarks.ensures ∙ ap (λ (n : ℕ). wants s.opening.marks n c.args.stage) free)
+    c.ask.ensures.wants ∙ (ap (λ (marks : Watermarks). wants marks c.free_frames.result c.args.stage) c.watermarks.ensures ∙ ap (λ (n : ℕ). wants s.opening.watermarks n c.args.stage) free)

@@ -1,15 +1,15 @@
-use Rattle.std.proofs.Common.{◌≡◌, ◌∙◌, ◌==◌, cond, None, Some, eq-eqb, refl, sym, ap, subst, arith}
+use Rattle.std.proofs.Common.{None, Some, eq-eqb, refl, sym, ap, subst, arith}
 use Rattle.machine.specs.Slots.{Changes}
-use Rattle.machine.specs.Pages.{page_at, is_in_transfer}
+use Rattle.machine.specs.Pages.{is_in_transfer}
 use Rattle.machine.specs.Step.{new_page}
-use Rattle.pages.specs.PageTable.{PageTable, byte_in}
+use Rattle.pages.specs.PagesOf.{PagesOf}
 use Rattle.page_state.specs.Holdings.{HoldingsOf, IsGranted}
 use Rattle.page_state.specs.Queue.{queue_of}
 use Rattle.page_state.proofs.CountLemmas.{charge-usage}
-use Rattle.page_state.proofs.HoldingLemmas.{kept-step, holding-step, relists-same, same-view}
+use Rattle.page_state.proofs.HoldingLemmas.{Stays, kept-step, holding-step, relists-same, same-view}
 use Rattle.page_state.proofs.EntryLemmas.{grouped-same, grouped-in}
 use Rattle.page_state.proofs.OrderLemmas.{listed-held, goes-on-in}
-use Rattle.page_state.proofs.GrantLemmas.{group-counted, room-free, few-charged, granted-over, granted-some, granted-frame}
+use Rattle.page_state.proofs.GrantLemmas.{group-counted, number-free, room-free, few-charged, granted-over, granted-some, granted-frame}
 use Rattle.page_state.proofs.holdings.Holdings.hold.Goals as goal
 
 pub take_room-frame-requires-clause-few : goal.take_room-frame-requires-clause-few
@@ -29,8 +29,23 @@ push-requires c =
     let live = rw (← c.self.view_is) at c.requires.live in
     record { room = (room-free c.self.inside c.self.invariant some).0; group = group-counted c.self.inside c.self.invariant c.args.group.0 live }
 
-pub invariant_of-self-2 : goal.invariant_of-self-2
-invariant_of-self-2 c =
+pub hold-page-requires-clause-room : goal.hold-page-requires-clause-room
+hold-page-requires-clause-room c =
+    let some = granted-some c.self.inside c.self.invariant c.args.group.0 (subst (λ (h : HoldingsOf). IsGranted h c.args.group.0) (sym c.self.view_is) c.requires.granted) in
+    number-free c.self.inside c.self.invariant c.are_in_flight.ensures some
+
+stays : (c : goal.After-push) → Stays c.self.inside (record (c.self.inside) { pages = c.hold-page.new.self; counters = c.take_room-frame.new.counters; pool = c.take_room-frame.new.pool; held = c.push.new.self })
+stays c = record {
+  groups = c.take_room-frame.ensures.charged.groups;
+  frames = c.take_room-frame.ensures.frame.frames;
+  blocks = refl;
+  numbers = ap (λ (t : PagesOf). t.numbers) c.hold-page.ensures.others;
+  held_room = c.push.ensures.room;
+  moving_room = refl;
+}
+
+pub invariant_of-self : goal.invariant_of-self
+invariant_of-self c =
     let h = c.self.inside in
     let live = rw (← c.self.view_is) at c.requires.live in
     let p = c.hold-page.result.0 in
@@ -38,9 +53,9 @@ invariant_of-self-2 c =
     let f = c.take_room-frame.result.0.number in
     let room = c.take_room-frame.ensures in
     let pages = c.hold-page.new.self.pages in
-    let free = subst (λ (t : PageTable). page_at t.pages p ≡ None) c.in_ok-reserve_page.ensures.pages c.hold-page.ensures.free in
-    let placed = subst (λ x. Changes h.pages.pages pages p (Some (new_page x f))) room.group (subst (λ (t : PageTable). Changes t.pages pages p (Some (new_page c.take_room-frame.result.1 f))) c.in_ok-reserve_page.ensures.pages c.hold-page.ensures.placed) in
-    let tickets : c.hold-page.new.self.tickets ≡ h.pages.tickets = c.hold-page.ensures.tickets ∙ ap (λ (t : PageTable). t.tickets) c.in_ok-reserve_page.ensures.pages in
+    let free = c.hold-page.ensures.free in
+    let placed = subst (λ x. Changes h.pages.pages pages p (Some (new_page x f))) room.group c.hold-page.ensures.placed in
+    let tickets = ap (λ (t : PagesOf). t.tickets) c.hold-page.ensures.others in
     let spares = room.frame.spares in
     let more = c.push.ensures.more in
     holding-step h _ p None (Some (new_page g f))
@@ -52,14 +67,11 @@ invariant_of-self-2 c =
           refl (record { counts = λ n. refl; len = refl })
           (record { tree = room.charged.groups.tree; usage = λ a lt. (let u = charge-usage h.counters c.take_room-frame.new.counters g a room.charged lt in omega (arith, u)); live = live })
           c.self.invariant.kept;
-      frames = room.frame.frames;
-      groups = room.charged.groups.tree;
+      stays = stays c;
       held = record { once = λ n. (let k = c.push.ensures.counts n in omega (arith, k)); len = omega (arith, more) };
       moving = relists-same is_in_transfer h.moving.numbers p None (Some (new_page g f)) refl;
       held_groups = grouped-in (queue_of h.held) h.pages.pages pages p None (Some (new_page g f)) free placed c.self.invariant.held_groups (queue_of c.push.new.self) (c.args.group, c.hold-page.result) c.push.ensures.entries c.push.ensures.last refl (eq-eqb g g refl) (λ x listed none. absurd cc);
       moving_groups = grouped-same h.moving h.pages.pages pages p None (Some (new_page g f)) free placed c.self.invariant.moving_groups (λ x listed none. absurd cc);
-      held_room = c.push.ensures.room;
-      moving_room = refl;
       spares = omega (arith, spares);
       tickets = omega (arith, tickets);
     })
@@ -73,10 +85,9 @@ returns-clause-adds c =
     let f = c.take_room-frame.result.0.number in
     let room = c.take_room-frame.ensures in
     let pages = c.hold-page.new.self.pages in
-    let free = subst (λ (t : PageTable). page_at t.pages p ≡ None) c.in_ok-reserve_page.ensures.pages c.hold-page.ensures.free in
-    let placed = subst (λ x. Changes h.pages.pages pages p (Some (new_page x f))) room.group (subst (λ (t : PageTable). Changes t.pages pages p (Some (new_page c.take_room-frame.result.1 f))) c.in_ok-reserve_page.ensures.pages c.hold-page.ensures.placed) in
+    let free = c.hold-page.ensures.free in
+    let placed = subst (λ x. Changes h.pages.pages pages p (Some (new_page x f))) room.group c.hold-page.ensures.placed in
     let frame = granted-frame h c.self.invariant c.take_room-frame.new.counters c.take_room-frame.new.pool _ _ _ room in
-    let groups = room.charged.groups in
     rw (← c.self.view_is)
     (record {
       frame = f;
@@ -84,8 +95,8 @@ returns-clause-adds c =
       in_range = frame.0;
       unused = frame.1;
       placed = placed;
-      bytes = λ q o. c.hold-page.ensures.bytes q o ∙ ap (λ (t : PageTable). cond (q == p) (cond (c.args.offset == o) c.args.byte 0) (byte_in t.bytes q o)) c.in_ok-reserve_page.ensures.pages;
-      flights = c.hold-page.ensures.flights ∙ ap (λ (t : PageTable). t.flights) c.in_ok-reserve_page.ensures.pages;
+      bytes = c.hold-page.ensures.bytes;
+      flights = ap (λ (t : PagesOf). t.flights) c.hold-page.ensures.others;
       order = goes-on-in h.pages.pages pages h.held.numbers (listed-held h.held.numbers h.pages.pages c.self.invariant.held.once) p None (Some (new_page g f)) free placed c.push.new.self.numbers p c.push.ensures.last refl refl refl;
-      others = same-view h (record h { pages = c.hold-page.new.self; counters = c.take_room-frame.new.counters; pool = c.take_room-frame.new.pool; held = c.push.new.self }) groups.tree groups.limits groups.room room.frame.frames refl c.push.ensures.room;
+      others = same-view h _ (stays c);
     })

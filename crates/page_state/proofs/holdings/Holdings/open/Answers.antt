@@ -22,6 +22,8 @@ invariant_of-result c =
     let held_room = c.in_ok-held.ensures.room in
     let moving_room = c.in_ok-moving.ensures.room in
     let tickets = c.in-Ok-new.ensures.tickets in
+    let numbers = c.in-Ok-new.ensures.numbers in
+    let blocks = cut.blocks in
     let going : count_there is_going pages.pages ≡ 0 = ap (count_there is_going) none in
     record {
       kept = record {
@@ -37,6 +39,7 @@ invariant_of-result c =
       held_room = omega (arith, frames, held_room);
       moving_room = omega (arith, frames, moving_room);
       held_counts = c.in_ok-held.ensures.groups ∙ sym (ap length c.in_ok-counters.ensures.tree);
+      numbers = omega (arith, frames, blocks, numbers);
       spares = omega (arith, frames, spares, going);
       tickets = omega (arith, frames, tickets);
     }

@@ -1,49 +1,41 @@
-use Rattle.std.proofs.Common.{◌≡◌, ◌∙◌, ℕ, true, refl, sym, ap, subst, arith}
-use Rattle.machine.specs.Tree.{is_live}
+use Rattle.std.proofs.Common.{◌∙◌, ℕ, refl, ap, subst, arith}
 use Rattle.machine.specs.Pages.{Coming, page_at}
-use Rattle.pages.specs.declared.flight.Direction.TheVariants.{In}
-use Rattle.pages.specs.PageTable.{PageTable, Stands}
+use Rattle.machine.specs.declared.record.Direction.TheVariants.{In}
+use Rattle.pages.specs.PagesOf.{PagesOf, Stands}
 use Rattle.pages.specs.Transfers.{Ends}
-use Rattle.page_state.proofs.GrantLemmas.{room-moving, group-counted, stands-live}
-use Rattle.page_state.proofs.SettleLemmas.{Lands, holding-lands, lands-settles}
+use Rattle.page_state.proofs.SettleLemmas.{Lands, relist-fits, holding-lands, lands-settles}
 use Rattle.page_state.proofs.holdings.Holdings.settle_in.Goals as goal
 
 pub end_transfer-buffer-requires-clause-stands : goal.end_transfer-buffer-requires-clause-stands
 end_transfer-buffer-requires-clause-stands c =
     let w = rw (← c.self.view_is) at c.requires in
-    (In, c.args.page.0, w.0, w.1, w.2, ap (λ (t : PageTable). page_at t.pages c.args.page.0) c.fill.ensures.others ∙ w.3)
+    (In, c.args.page.0, w.0, w.1, w.2, ap (λ (t : PagesOf). page_at t.pages c.args.page.0) c.fill.ensures.others ∙ w.3)
 
 pub relist-requires : goal.relist-requires
 relist-requires c =
     let w = rw (← c.self.view_is) at c.requires in
-    let h = c.self.inside in
-    let owned = c.group_of-group.ensures w.0 (Coming w.1 w.2 c.args.ticket.number) w.3 in
-    record {
-      room = room-moving h c.self.invariant c.args.page.0 w.0 (Coming w.1 w.2 c.args.ticket.number) w.3 refl;
-      group = group-counted h c.self.invariant c.group_of-group.result.0 (subst (λ (x : ℕ). is_live h.counters.tree x ≡ true) (sym owned) (stands-live h.counters h.pages.pages c.args.page.0 w.0 (Coming w.1 w.2 c.args.ticket.number) w.3 c.self.invariant.kept.counted));
-    }
+    let fits = relist-fits c.self.inside c.self.invariant In c.args.page.0 w.0 w.1 w.2 c.args.ticket.number c.group_of-group.result.0 w.3 (c.group_of-group.ensures w.0 (Coming w.1 w.2 c.args.ticket.number) w.3) in
+    record { room = fits.0; group = fits.1 }
 
 ends : (c : goal.After-new) (g f b : ℕ) → Stands c.self.inside.pages.pages c.args.page.0 g (Coming f b c.args.ticket.number)
     → Ends (record (c.self.inside.pages) { bytes = c.fill.new.pages.bytes }) c.end_transfer-buffer.new.pages c.args.page.0 g f b c.args.ticket.number c.args.end
 ends c g f b stood =
     let p = c.args.page.0 in
-    subst (λ (t : PageTable). Ends t c.end_transfer-buffer.new.pages p g f b c.args.ticket.number c.args.end) c.fill.ensures.others
-    (c.end_transfer-buffer.ensures.ends In p g f b (ap (λ (t : PageTable). page_at t.pages p) c.fill.ensures.others ∙ stood))
+    subst (λ (t : PagesOf). Ends t c.end_transfer-buffer.new.pages p g f b c.args.ticket.number c.args.end) c.fill.ensures.others
+    (c.end_transfer-buffer.ensures.ends In p g f b (ap (λ (t : PagesOf). page_at t.pages p) c.fill.ensures.others ∙ stood))
 
 lands : (c : goal.After-new) (g f b : ℕ) → Stands c.self.inside.pages.pages c.args.page.0 g (Coming f b c.args.ticket.number)
     → Lands c.self.inside (record { pages = c.end_transfer-buffer.new.pages; pool = c.end_transfer-buffer.new.pool; slots = c.end_transfer-buffer.new.slots; counters = c.end_transfer-buffer.new.counters; held = c.relist.new.held; moving = c.relist.new.moving }) c.args.page.0 g f b c.args.ticket.number In c.args.end (c.group_of-group.result, c.args.page)
 lands c g f b stood =
     let settled = c.end_transfer-buffer.ensures in
-    let ended = ends c g f b stood in
     let spares = settled.spares in
     record {
       stood = stood;
       same = refl;
       owned = c.group_of-group.ensures g (Coming f b c.args.ticket.number) stood;
-      placed = ended.placed;
-      unlisted = ended.unlisted;
-      tickets = ended.more;
-      bytes = λ q o other. ended.others q o other ∙ c.fill.ensures.bytes q o other;
+      filled = c.fill.new.pages.bytes;
+      others = c.fill.ensures.bytes;
+      ended = ends c g f b stood;
       kept = settled.kept;
       groups = settled.groups;
       frames = settled.frames;

@@ -1,12 +1,10 @@
-use Rattle.std.proofs.Common.{◌≡◌, ◌∙◌, ℕ, true, refl, sym, ap, subst, arith}
-use Rattle.machine.specs.Tree.{is_live}
+use Rattle.std.proofs.Common.{◌∙◌, ℕ, refl, sym, ap, subst, arith}
 use Rattle.machine.specs.Pages.{Going}
 use Rattle.frames.specs.Pool.{PoolOf}
-use Rattle.pages.specs.declared.flight.Direction.TheVariants.{Out}
-use Rattle.pages.specs.PageTable.{Stands}
+use Rattle.machine.specs.declared.record.Direction.TheVariants.{Out}
+use Rattle.pages.specs.PagesOf.{Stands}
 use Rattle.page_state.specs.Owned.{AreKept}
-use Rattle.page_state.proofs.GrantLemmas.{room-moving, group-counted, stands-live}
-use Rattle.page_state.proofs.SettleLemmas.{Lands, holding-lands, lands-settles}
+use Rattle.page_state.proofs.SettleLemmas.{Lands, relist-fits, holding-lands, lands-settles}
 use Rattle.page_state.proofs.holdings.Holdings.settle_out.Goals as goal
 
 pub end_transfer-spare-requires-clause-stands : goal.end_transfer-spare-requires-clause-stands
@@ -17,29 +15,22 @@ end_transfer-spare-requires-clause-stands c =
 pub relist-requires : goal.relist-requires
 relist-requires c =
     let w = rw (← c.self.view_is) at c.requires in
-    let h = c.self.inside in
-    let owned = c.group_of-group.ensures w.0 (Going w.1 w.2 c.args.ticket.number) w.3 in
-    record {
-      room = room-moving h c.self.invariant c.args.page.0 w.0 (Going w.1 w.2 c.args.ticket.number) w.3 refl;
-      group = group-counted h c.self.invariant c.group_of-group.result.0 (subst (λ (x : ℕ). is_live h.counters.tree x ≡ true) (sym owned) (stands-live h.counters h.pages.pages c.args.page.0 w.0 (Going w.1 w.2 c.args.ticket.number) w.3 c.self.invariant.kept.counted));
-    }
+    let fits = relist-fits c.self.inside c.self.invariant Out c.args.page.0 w.0 w.1 w.2 c.args.ticket.number c.group_of-group.result.0 w.3 (c.group_of-group.ensures w.0 (Going w.1 w.2 c.args.ticket.number) w.3) in
+    record { room = fits.0; group = fits.1 }
 
 lands : (c : goal.After-relist) (g f b : ℕ) → Stands c.self.inside.pages.pages c.args.page.0 g (Going f b c.args.ticket.number)
     → Lands c.self.inside (record { pages = c.end_transfer-spare.new.pages; pool = c.give_spare.new.self; slots = c.end_transfer-spare.new.slots; counters = c.end_transfer-spare.new.counters; held = c.relist.new.held; moving = c.relist.new.moving }) c.args.page.0 g f b c.args.ticket.number Out c.args.end (c.group_of-group.result, c.args.page)
 lands c g f b stood =
     let settled = c.end_transfer-spare.ensures in
-    let h = c.self.inside in
-    let ended = settled.ends Out c.args.page.0 g f b stood in
     let spares = settled.spares in
     let more = ap (λ (q : PoolOf). q.spares) c.give_spare.ensures in
     record {
       stood = stood;
       same = refl;
       owned = c.group_of-group.ensures g (Going f b c.args.ticket.number) stood;
-      placed = ended.placed;
-      unlisted = ended.unlisted;
-      tickets = ended.more;
-      bytes = ended.others;
+      filled = c.self.inside.pages.bytes;
+      others = λ q o other. refl;
+      ended = settled.ends Out c.args.page.0 g f b stood;
       kept = subst (λ (pool : PoolOf). AreKept c.end_transfer-spare.new.counters pool c.end_transfer-spare.new.slots c.end_transfer-spare.new.pages.pages) (sym c.give_spare.ensures) (record { frames = settled.kept.frames; blocks = settled.kept.blocks; counted = settled.kept.counted });
       groups = settled.groups;
       frames = ap (λ (q : PoolOf). q.frames) c.give_spare.ensures ∙ settled.frames;

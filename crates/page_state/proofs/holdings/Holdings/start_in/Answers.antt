@@ -1,11 +1,11 @@
 use Rattle.std.proofs.Common.{◌≡◌, ◌∙◌, Some, eq-eqb, refl, sym, ap, subst, arith}
 use Rattle.machine.specs.Pages.{Coming, Away, is_held, is_in_transfer}
 use Rattle.page_counter.specs.Counts.{Charges, over_in}
-use Rattle.pages.specs.PageTable.{Stands, anon_page}
+use Rattle.pages.specs.PagesOf.{Stands, anon_page}
 use Rattle.pages.specs.Transfers.{StartsIn}
 use Rattle.page_state.specs.Queue.{queue_of}
 use Rattle.page_state.proofs.CountLemmas.{charge-usage}
-use Rattle.page_state.proofs.HoldingLemmas.{kept-step, holding-step, relists-same, relists-in, same-view, ticket-free}
+use Rattle.page_state.proofs.HoldingLemmas.{Stays, kept-step, holding-step, relists-same, relists-in, same-view, ticket-free}
 use Rattle.page_state.proofs.EntryLemmas.{grouped-same, grouped-in}
 use Rattle.page_state.proofs.OrderLemmas.{listed-held, goes-on-at}
 use Rattle.page_state.proofs.GrantLemmas.{stands-live, room-free, few-charged, granted-over, granted-some, granted-frame}
@@ -35,6 +35,16 @@ pub push-requires : goal.push-requires
 push-requires c =
     let away = rw (← c.self.view_is) at c.requires.away in
     record { room = (room-free c.self.inside c.self.invariant (granted-some c.self.inside c.self.invariant away.0 away.3)).1 }
+
+stays : (c : goal.After-push) → c.start_in-ticket.new.self.numbers ≡ c.self.inside.pages.numbers → Stays c.self.inside (record (c.self.inside) { pages = c.start_in-ticket.new.self; counters = c.take_room-frame.new.counters; pool = c.take_room-frame.new.pool; moving = c.push.new.self })
+stays c numbers = record {
+  groups = c.take_room-frame.ensures.charged.groups;
+  frames = c.take_room-frame.ensures.frame.frames;
+  blocks = refl;
+  numbers = numbers;
+  held_room = refl;
+  moving_room = c.push.ensures.room;
+}
 
 pub invariant_of-self : goal.invariant_of-self
 invariant_of-self c =
@@ -67,14 +77,11 @@ invariant_of-self c =
             live = stands-live h.counters h.pages.pages p g (Away b) stood c.self.invariant.kept.counted;
           })
           c.self.invariant.kept;
-      frames = room.frame.frames;
-      groups = room.charged.groups.tree;
+      stays = stays c starts.numbers;
       held = relists-same is_held h.held.numbers p from to refl;
       moving = relists-in is_in_transfer h.moving.numbers c.push.new.self.numbers p p from to refl refl refl c.push.ensures.counts c.push.ensures.more;
       held_groups = grouped-same (queue_of h.held) h.pages.pages pages p from to stood starts.placed c.self.invariant.held_groups (λ x listed own. own);
       moving_groups = grouped-in h.moving h.pages.pages pages p from to stood starts.placed c.self.invariant.moving_groups c.push.new.self (c.group_of-group.result, c.args.page) c.push.ensures.entries c.push.ensures.last refl (eq-eqb g c.group_of-group.result.0 room.group) (λ x listed own. own);
-      held_room = refl;
-      moving_room = c.push.ensures.room;
       spares = omega (arith, spares);
       tickets = omega (arith, tickets);
     })
@@ -87,7 +94,6 @@ returns-clause-begins c =
     let f = c.take_room-frame.result.0.number in
     let room = c.take_room-frame.ensures in
     let frame = granted-frame h c.self.invariant c.take_room-frame.new.counters c.take_room-frame.new.pool _ _ _ room in
-    let groups = room.charged.groups in
     rw (← c.self.view_is) (λ g b stood.
     let owned = c.group_of-group.ensures g (Away b) stood in
     let same : c.take_room-frame.result.1 ≡ g = room.group ∙ owned in
@@ -103,5 +109,5 @@ returns-clause-begins c =
       bytes = begins.bytes;
       listed = begins.starts.listed;
       order = goes-on-at h.pages.pages c.start_in-ticket.new.self.pages h.held.numbers (listed-held h.held.numbers h.pages.pages c.self.invariant.held.once) p _ _ stood begins.starts.placed refl;
-      others = same-view h (record h { pages = c.start_in-ticket.new.self; counters = c.take_room-frame.new.counters; pool = c.take_room-frame.new.pool; moving = c.push.new.self }) groups.tree groups.limits groups.room room.frame.frames refl refl;
+      others = same-view h _ (stays c begins.starts.numbers);
     })

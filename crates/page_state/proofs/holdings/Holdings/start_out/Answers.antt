@@ -2,13 +2,13 @@ use Rattle.std.proofs.Common.{◌≡◌, ◌<◌, false, Some, eq-eqb, refl, sym
 use Rattle.machine.specs.Slots.{Changes}
 use Rattle.machine.specs.Pages.{Held, Going, is_held, is_in_transfer, has_swap, is_swap_taken}
 use Rattle.frames.specs.Pool.{PoolOf, free_count}
-use Rattle.pages.specs.PageTable.{anon_page}
+use Rattle.pages.specs.PagesOf.{anon_page}
 use Rattle.pages.specs.Transfers.{given_ticket}
 use Rattle.pages.specs.Tickets.{TicketOf}
 use Rattle.page_state.specs.Owned.{has_this_block}
 use Rattle.page_state.specs.Queue.{queue_of}
 use Rattle.page_state.proofs.BalanceLemmas.{taken-in}
-use Rattle.page_state.proofs.HoldingLemmas.{listed-once, kept-step, holding-step, relists-in, relists-out, same-view, ticket-free, held-stands}
+use Rattle.page_state.proofs.HoldingLemmas.{Stays, listed-once, kept-step, holding-step, relists-in, relists-out, same-view, ticket-free, held-stands}
 use Rattle.page_state.proofs.EntryLemmas.{grouped-in, grouped-out}
 use Rattle.page_state.proofs.OrderLemmas.{listed-held, goes-on-out}
 use Rattle.page_state.proofs.GrantLemmas.{stands-live, room-held}
@@ -34,6 +34,16 @@ push-requires c =
     let held = rw (← c.self.view_is) at c.requires.held in
     let w = held-stands h.pages.pages h.pages.flights c.args.page.0 c.are_in_flight.ensures held in
     record { room = (room-held h c.self.invariant c.args.page.0 w.0 w.1 w.2).0 }
+
+stays : (c : goal.After-push) → c.start_out-ticket.new.self.numbers ≡ c.self.inside.pages.numbers → Stays c.self.inside (record (c.self.inside) { pages = c.start_out-ticket.new.self; pool = c.take_spare-spare.new.pool; slots = c.take_slot-slot.new.slots; held = c.remove.new.self; moving = c.push.new.self })
+stays c numbers = record {
+  groups = record { tree = refl; limits = refl; room = refl };
+  frames = sym (ap (λ (q : PoolOf). q.frames) c.take_spare-spare.ensures);
+  blocks = c.take_slot-slot.ensures.blocks;
+  numbers = numbers;
+  held_room = c.remove.ensures.room;
+  moving_room = c.push.ensures.room;
+}
 
 pub invariant_of-self : goal.invariant_of-self
 invariant_of-self c =
@@ -65,14 +75,11 @@ invariant_of-self c =
           (record { counts = λ m. (let k = slots.counts m in omega (arith, k)); len = (let k = slots.fewer in omega (arith, k)) })
           (record { tree = refl; usage = λ a lt. refl; live = stands-live h.counters h.pages.pages p g (Held f) w.2 c.self.invariant.kept.counted })
           c.self.invariant.kept;
-      frames = sym frames;
-      groups = refl;
+      stays = stays c starts.numbers;
       held = relists-out is_held h.held.numbers c.remove.new.self.numbers h.pages.pages p p from to refl w.2 refl c.self.invariant.held c.remove.ensures.counts c.remove.ensures.fewer;
       moving = relists-in is_in_transfer h.moving.numbers c.push.new.self.numbers p p from to refl refl refl c.push.ensures.counts c.push.ensures.more;
       held_groups = grouped-out (queue_of h.held) h.pages.pages c.start_out-ticket.new.self.pages p from to w.2 starts.placed c.self.invariant.held_groups (queue_of c.remove.new.self) p c.remove.ensures.entries c.remove.ensures.others refl;
       moving_groups = grouped-in h.moving h.pages.pages c.start_out-ticket.new.self.pages p from to w.2 starts.placed c.self.invariant.moving_groups c.push.new.self (c.group_of-group.result, c.args.page) c.push.ensures.entries c.push.ensures.last refl (eq-eqb g c.group_of-group.result.0 (sym (c.group_of-group.ensures g (Held f) w.2))) (λ x listed own. own);
-      held_room = c.remove.ensures.room;
-      moving_room = c.push.ensures.room;
       spares = omega (arith, spares);
       tickets = omega (arith, tickets);
     })
@@ -98,7 +105,7 @@ returns c =
       bytes = begins.bytes;
       listed = begins.starts.listed;
       order = goes-on-out h.pages.pages c.start_out-ticket.new.self.pages h.held.numbers (listed-held h.held.numbers h.pages.pages c.self.invariant.held.once) p _ _ stood begins.starts.placed c.remove.new.self.numbers p c.remove.ensures.others refl refl;
-      others = same-view h (record h { pages = c.start_out-ticket.new.self; pool = c.take_spare-spare.new.pool; slots = c.take_slot-slot.new.slots; held = c.remove.new.self; moving = c.push.new.self }) refl refl refl (sym (ap (λ (q : PoolOf). q.frames) c.take_spare-spare.ensures)) slots.blocks c.remove.ensures.room;
+      others = same-view h _ (stays c begins.starts.numbers);
     })
 
 pub remove-requires : goal.remove-requires

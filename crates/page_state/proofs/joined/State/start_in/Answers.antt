@@ -1,6 +1,6 @@
 use Rattle.std.proofs.Common.{◌<◌, refl, ap, subst}
 use Rattle.machine.specs.Pages.{Away, Coming}
-use Rattle.pages.specs.PageTable.{anon_page}
+use Rattle.pages.specs.PagesOf.{anon_page}
 use Rattle.page_state.specs.Holdings.{HoldingsOf}
 use Rattle.page_state.specs.States.{StateOf}
 use Rattle.page_state.specs.Joined.{joined_of}
@@ -19,8 +19,8 @@ invariant_of-self-2 c =
     let away = rw (← c.self.view_is) at c.requires.away in
     let begins = c.in_ok-ticket.ensures.begins away.0 away.1 away.2 in
     joined-pages s c.self.invariant c.start_in.new.self s.cursors s.spaces begins.others
-    (mapped-begun s.holdings.stored.pages c.start_in.new.self.stored.pages s.spaces.tasks s.spaces.mappings c.args.page.0 (anon_page away.0 (Away away.1)) (anon_page away.0 (Coming begins.frame away.1 c.in_ok-ticket.ticket.number)) c.self.invariant.mapped away.2 begins.placed refl)
-    c.self.invariant.homes begins.order refl
+    (mapped-begun s.holdings.stored.pages s.spaces.page_tables c.self.invariant.mapped c.start_in.new.self.stored.pages c.args.page.0 (anon_page away.0 (Away away.1)) (anon_page away.0 (Coming begins.frame away.1 c.in_ok-ticket.ticket.number)) away.2 begins.placed refl)
+    refl c.self.invariant.homes begins.order refl
 
 pub returns-clause-begins : goal.returns-clause-begins
 returns-clause-begins c =

@@ -1,0 +1,400 @@
+-- What each change of the parts is to the plain machine: changes that move no page.
+use Rattle.std.proofs.Common.{◌≡◌, inr, ℕ, ◌<◌, ◌≤◌, ◌&&◌, Bool, true, false, cond, List, [], ◌∷◌, ◌++◌, Option, Some, None, refl, sym, ap, subst, ◌∙◌, arith}
+use Rattle.std.specs.Prelude.{IfSome, slice_set}
+use Rattle.std.proofs.lemmas.Bool.{or_right}
+use Rattle.machine.specs.declared.record.Key.TheVariants as key
+use Rattle.machine.specs.declared.record.Life.{Life}
+use Rattle.machine.specs.declared.record.Life.TheVariants.{Live, Exited, Killed}
+use Rattle.machine.specs.declared.record.Task.{Task}
+use Rattle.machine.specs.declared.event.Place.{Place}
+use Rattle.machine.specs.declared.event.Place.TheVariants.{Virtual}
+use Rattle.machine.specs.declared.event.Op.{Op}
+use Rattle.machine.specs.declared.event.Op.TheVariants.{Read, Write}
+use Rattle.machine.specs.declared.event.Cause.{Cause}
+use Rattle.machine.specs.declared.event.Cause.TheVariants as cause
+use Rattle.machine.specs.declared.event.Setting.{Setting}
+use Rattle.machine.specs.declared.event.Query.{Query}
+use Rattle.machine.specs.declared.event.Event.{Event}
+use Rattle.machine.specs.declared.event.Event.TheVariants as event
+use Rattle.machine.specs.declared.reply.Shown.{Shown}
+use Rattle.machine.specs.declared.reply.Reply.{Reply}
+use Rattle.machine.specs.declared.reply.Reply.TheVariants as reply
+use Rattle.machine.specs.Slots.{at, there_and}
+use Rattle.machine.specs.Pages.{Held, Away, Page, Pages, page_at, is_number, in_transfer}
+use Rattle.machine.specs.Counts.{no_limits, limits_at, Counted}
+use Rattle.machine.specs.Tasks.{Tasks, PageTables, task_at, lives, group_of_task, mapped_at}
+use Rattle.machine.specs.State.{State, over_in, is_frame_free}
+use Rattle.machine.specs.Access.{page_size, meets}
+use Rattle.machine.specs.Call.{fetches, need}
+use Rattle.machine.specs.Reclaim.{stands, target_of, has_takeable, has_transfer}
+use Rattle.machine.specs.Lists.{Order, GoesOn, Orders}
+use Rattle.machine.specs.Victim.{IsVictim}
+use Rattle.machine.specs.Step.{Step, ChargeStep, MeetStep, TaskStep, LifeStep, RelieveStep, ReclaimOneStep, KillStep, count_of, new_node, with_setting, shown_of}
+use Rattle.machine.specs.History.{Spot, InTask, Says, Nothing, says, follow, ticket_given, taker_or}
+use Rattle.machine.specs.declared.record.Direction.{Direction}
+use Rattle.machine.specs.declared.record.Direction.TheVariants.{In, Out}
+use Rattle.pages.specs.PagesOf.{byte_in, moving, Stands}
+use Rattle.pages.specs.declared.flight.Flight.{Flight}
+use Rattle.memory_events.specs.Tallies.{Tells}
+use Rattle.page_state.specs.States.{StateOf, byte_shown, byte_at}
+use Rattle.book.specs.Effects.{counting, Steps, Tallied, group_after, byte_at_spot, is_in_memory, is_known, knows, ReadsByte, ChangesFlights, worker_of}
+use Rattle.book.specs.MakesStep.{MakesStep, starts, is_refused}
+use Rattle.page_state.proofs.OrderLemmas.{InOrder, goes-on-still}
+
+-- ---- where nothing changes that an event may tell of
+
+-- the pages with their bytes and transfers, the tasks and what they map are as they were
+pub record IsStill (old new : StateOf) : Type 0 where
+  pub pages : new.tables.pages ≡ old.tables.pages
+  pub tasks : new.tables.tasks ≡ old.tables.tasks
+  pub page_tables : new.tables.page_tables ≡ old.tables.page_tables
+  pub bytes : new.bytes ≡ old.bytes
+  pub flights : new.flights ≡ old.flights
+  pub opening : new.tables.opening ≡ old.tables.opening
+
+-- the event with its reply says nothing of a byte, gives out no ticket, and puts no task in a group
+pub record IsQuiet (what : Event) (answer : Reply) : Type 0 where
+  pub says : (spot : Spot) → says what answer spot ≡ Nothing
+  pub ticket : ticket_given answer ≡ None
+  pub groups : (u g : ℕ) → group_after what answer u g ≡ g
+  pub given : is_refused answer ≡ false
+
+pub still-self : (s : StateOf) → IsStill s s
+still-self s = record { pages = refl; tasks = refl; page_tables = refl; bytes = refl; flights = refl; opening = refl }
+
+-- where no page and no cursor changes
+pub order-still : (old new : StateOf) → InOrder old → new.tables.pages ≡ old.tables.pages → new.order ≡ old.order → GoesOn old.tables.pages old.order.held new.tables.pages new.order.held × (new.order.cursors ≡ old.order.cursors)
+order-still old new listed pages order = (goes-on-still old.tables.pages new.tables.pages old.order.held new.order.held listed pages (ap (λ (o : Order). o.held) order), ap (λ (o : Order). o.cursors) order)
+
+pub flight-kept : (slot before : Option Flight) → slot ≡ before → IfSome slot (λ f. Some f.worker.0 ≡ worker_of before)
+flight-kept None before e = tt
+flight-kept (Some f) before e = ap worker_of e
+
+pub flights-kept : (old new : StateOf) (worker : ℕ) (answer : Reply) → ticket_given answer ≡ None → new.flights ≡ old.flights → ChangesFlights old worker answer new
+flights-kept old new worker answer none same n =
+    subst (λ (m : Option ℕ). IfSome (at new.flights n) (λ f. Some f.worker.0 ≡ taker_or n m worker (worker_of (at old.flights n)))) (sym none)
+    (flight-kept (at new.flights n) (at old.flights n) (ap (λ (fs : List (Option Flight)). at fs n) same))
+
+pub makes_step-still : (old new : StateOf) (worker : ℕ) (what : Event) (answer : Reply) → IsStill old new → IsQuiet what answer
+    → Steps old what answer new → Orders old.tables old.order what answer new.tables new.order → Tallied old what answer new → ReadsByte old what answer → 1 ≤ need old.tables what → MakesStep old worker what answer new
+makes_step-still old new worker what answer still quiet steps orders tallied reads needs =
+    record {
+      steps = steps;
+      orders = orders;
+      tallied = tallied;
+      groups = λ u. ap (λ (ts : Tasks). group_of_task ts u) still.tasks ∙ sym (quiet.groups u (group_of_task old.tables.tasks u));
+      reads = reads;
+      bytes = λ t v o alive within known. inr (sym (same_known t v) ∙ known, same_byte t v o ∙ sym (ap (λ (said : Says). follow said (byte_at_spot old) (InTask t v o)) (quiet.says (InTask t v o))));
+      coming = λ t v p g f b n alive shown stands. inr (record {
+        shown = sym (same_place t v) ∙ shown;
+        stands = sym (ap (λ (ps : Pages). page_at ps p) still.pages) ∙ stands;
+        quiet = λ o. quiet.says (InTask t v o);
+        other = ap (λ (m : Option ℕ). is_number m n) quiet.ticket;
+      });
+      flights = flights-kept old new worker answer quiet.ticket still.flights;
+      living = λ u h. or_right (starts what answer u) (lives old.tables.tasks u) (sym (ap (λ (ts : Tasks). lives ts u) still.tasks) ∙ h);
+      kept = (let same = ap in_transfer still.pages in omega (arith, same, needs));
+      given = quiet.given;
+      opening = still.opening;
+    }
+  where
+    same_place : (t v : ℕ) → mapped_at new.tables.page_tables t v ≡ mapped_at old.tables.page_tables t v
+    same_place t v = ap (λ (ts : PageTables). mapped_at ts t v) still.page_tables
+
+    same_known : (t v : ℕ) → knows new t v ≡ knows old t v
+    same_known t v = ap (is_known new.tables.pages) (same_place t v) ∙ ap (λ (ps : Pages). is_known ps (mapped_at old.tables.page_tables t v)) still.pages
+
+    same_byte : (t v o : ℕ) → byte_at new t v o ≡ byte_at old t v o
+    same_byte t v o = ap (λ (m : Option ℕ). byte_shown new.bytes m o) (same_place t v) ∙ ap (λ (bs : List (Option (List ℕ))). byte_shown bs (mapped_at old.tables.page_tables t v) o) still.bytes
+
+-- ---- how many entries an event needs
+
+one_or_two : (b : Bool) → 1 ≤ cond b 2 1
+one_or_two true = omega arith
+one_or_two false = omega arith
+
+pub access-needs : (s : State) (t : ℕ) (place : Place) (op : Op) → 1 ≤ need s (event.Access (record { 0 = t }) place op)
+access-needs s t place op = one_or_two (fetches s t place op)
+
+pub relief-needs : (s : State) (why : Cause) → 1 ≤ need s (event.Relieve why)
+relief-needs s why = one_or_two (stands s why && has_takeable s (target_of why))
+
+-- ---- one row of the step at a time
+
+pub live_step : (s : State) (slot : Option Task) (task : Task) (F : Task → Type 0) (answer : Reply) (new : State) → slot ≡ Some task → task.life ≡ Live → F task → TaskStep s slot F answer new
+live_step s slot task F answer new is living h = rw is (by_life task.life living)
+  where
+    by_life : (life : Life) → life ≡ Live → LifeStep s life (F task) answer new
+    by_life Live e = h
+    by_life Exited e = cc
+    by_life Killed e = cc
+
+pub killed_step : (s : State) (slot : Option Task) (task : Task) (F : Task → Type 0) → slot ≡ Some task → task.life ≡ Killed → TaskStep s slot F reply.Killed s
+killed_step s slot task F is killed = rw is (rw killed (refl, refl))
+
+pub granted_step : (s : State) (over : Option ℕ) (free : Bool) (Granted : Type 0) (answer : Reply) (new : State) → over ≡ None → free ≡ true → Granted → ChargeStep s over free Granted answer new
+granted_step s over free Granted answer new none is h = rw none (rw is h)
+
+pub over_step : (s : State) (over : Option ℕ) (free : Bool) (Granted : Type 0) (a : ℕ) → over ≡ Some a
+    → ChargeStep s over free Granted (reply.Over (record { 0 = a })) (record s { counted = s.counted ++ (record { group = a; key = key.Max }) ∷ [] })
+over_step s over free Granted a is = rw is (refl, refl)
+
+pub frameless_step : (s : State) (over : Option ℕ) (free : Bool) (Granted : Type 0) → over ≡ None → free ≡ false → ChargeStep s over free Granted reply.NoFrame s
+frameless_step s over free Granted none is = rw none (rw is (refl, refl))
+
+-- ---- groups
+
+pub makes_step-mkdir : (old new : StateOf) (worker : ℕ) (path : List ℕ)
+    → new.tables ≡ record old.tables { tree = old.tables.tree ++ new_node old.tables.tree path ∷ []; limits = old.tables.limits ++ no_limits ∷ [] } → new.bytes ≡ old.bytes → new.flights ≡ old.flights
+    → InOrder old → new.order.held ≡ old.order.held → new.order.cursors ≡ old.order.cursors ++ None ∷ []
+    → ((c : List Counted) → Tells old.tallies c → Tells new.tallies c) → MakesStep old worker (event.Mkdir path) reply.Ok new
+makes_step-mkdir old new worker path tables bytes flights listed held cursors tells =
+    makes_step-still old new worker (event.Mkdir path) reply.Ok
+    (record {
+      pages = ap (λ (s : State). s.pages) tables;
+      tasks = ap (λ (s : State). s.tasks) tables;
+      page_tables = ap (λ (s : State). s.page_tables) tables;
+      bytes = bytes;
+      flights = flights;
+      opening = ap (λ (s : State). s.opening) tables;
+    })
+    (record { says = λ spot. refl; ticket = refl; groups = λ u g. refl; given = refl })
+    (λ c told. ap (λ (s : State). counting s c) tables)
+    (goes-on-still old.tables.pages new.tables.pages old.order.held new.order.held listed (ap (λ (s : State). s.pages) tables) held, cursors) tells tt (omega arith)
+
+pub makes_step-set : (old new : StateOf) (worker g : ℕ) (setting : Setting)
+    → new.tables ≡ record old.tables { limits = slice_set old.tables.limits g (with_setting (limits_at old.tables.limits g) setting) } → new.bytes ≡ old.bytes → new.flights ≡ old.flights
+    → InOrder old → new.order ≡ old.order
+    → ((c : List Counted) → Tells old.tallies c → Tells new.tallies c) → MakesStep old worker (event.Set (record { 0 = g }) setting) reply.Ok new
+makes_step-set old new worker g setting tables bytes flights listed order tells =
+    makes_step-still old new worker (event.Set (record { 0 = g }) setting) reply.Ok
+    (record {
+      pages = ap (λ (s : State). s.pages) tables;
+      tasks = ap (λ (s : State). s.tasks) tables;
+      page_tables = ap (λ (s : State). s.page_tables) tables;
+      bytes = bytes;
+      flights = flights;
+      opening = ap (λ (s : State). s.opening) tables;
+    })
+    (record { says = λ spot. refl; ticket = refl; groups = λ u g. refl; given = refl })
+    (λ c told. ap (λ (s : State). counting s c) tables) (order-still old new listed (ap (λ (s : State). s.pages) tables) order) tells tt (omega arith)
+
+-- what is shown is told for whatever events the tallies tell
+pub makes_step-show : (s : StateOf) (worker : ℕ) (what : Query) (numbers : Shown) → InOrder s → ((c : List Counted) → Tells s.tallies c → numbers ≡ shown_of (counting s.tables c) what)
+    → MakesStep s worker (event.Show what) (reply.Shown numbers) s
+makes_step-show s worker what numbers listed is =
+    makes_step-still s s worker (event.Show what) (reply.Shown numbers) (still-self s) (record { says = λ spot. refl; ticket = refl; groups = λ u g. refl; given = refl })
+    (λ c told. (is c told, refl)) (order-still s s listed refl refl) (λ c told. told) tt (omega arith)
+
+-- ---- accesses
+
+-- a task that was killed is told so
+pub makes_step-killed : (s : StateOf) (worker t : ℕ) (place : Place) (op : Op) (task : Task) → task_at s.tables.tasks t ≡ Some task → task.life ≡ Killed → InOrder s
+    → MakesStep s worker (event.Access (record { 0 = t }) place op) reply.Killed s
+makes_step-killed s worker t place Read task is killed listed =
+    makes_step-still s s worker (event.Access (record { 0 = t }) place Read) reply.Killed (still-self s) (record { says = λ spot. refl; ticket = refl; groups = λ u g. refl; given = refl })
+    (λ c told. killed_step (counting s.tables c) _ task _ is killed) (order-still s s listed refl refl) (λ c told. told) tt (access-needs s.tables t place Read)
+makes_step-killed s worker t place (Write b) task is killed listed =
+    makes_step-still s s worker (event.Access (record { 0 = t }) place (Write b)) reply.Killed (still-self s) (record { says = λ spot. refl; ticket = refl; groups = λ u g. refl; given = refl })
+    (λ c told. killed_step (counting s.tables c) _ task _ is killed) (order-still s s listed refl refl) (λ c told. told) tt (access-needs s.tables t place (Write b))
+
+pub makes_step-unmapped : (s : StateOf) (worker t v o : ℕ) (task : Task) → task_at s.tables.tasks t ≡ Some task → task.life ≡ Live → mapped_at s.tables.page_tables t v ≡ None → o < page_size → InOrder s
+    → MakesStep s worker (event.Access (record { 0 = t }) (Virtual v o) Read) (reply.Done 0 None) s
+makes_step-unmapped s worker t v o task is living none within listed =
+    makes_step-still s s worker (event.Access (record { 0 = t }) (Virtual v o) Read) (reply.Done 0 None) (still-self s) (record { says = λ spot. refl; ticket = refl; groups = λ u g. refl; given = refl })
+    (λ c told. live_step (counting s.tables c) _ task _ _ _ is living (rw none (refl, refl))) (order-still s s listed refl refl) (λ c told. told)
+    (sym (ap (λ m. byte_shown s.bytes m o) none), (ap (is_known s.tables.pages) none, within)) (access-needs s.tables t (Virtual v o) Read)
+
+pub makes_step-hit_read : (s : StateOf) (worker t v o p g f : ℕ) (task : Task) → task_at s.tables.tasks t ≡ Some task → task.life ≡ Live → mapped_at s.tables.page_tables t v ≡ Some p
+    → Stands s.tables.pages p g (Held f) → o < page_size → InOrder s
+    → MakesStep s worker (event.Access (record { 0 = t }) (Virtual v o) Read) (reply.Done (byte_in s.bytes p o) (Some (record { 0 = f }))) s
+makes_step-hit_read s worker t v o p g f task is living shown page within listed =
+    makes_step-still s s worker (event.Access (record { 0 = t }) (Virtual v o) Read) (reply.Done (byte_in s.bytes p o) (Some (record { 0 = f }))) (still-self s) (record { says = λ spot. refl; ticket = refl; groups = λ u g. refl; given = refl })
+    (λ c told. live_step (counting s.tables c) _ task _ _ _ is living (rw shown (rw page (refl, refl)))) (order-still s s listed refl refl) (λ c told. told)
+    (sym (ap (λ m. byte_shown s.bytes m o) shown), (ap (is_known s.tables.pages) shown ∙ ap (there_and (λ (page : Page). is_in_memory page.residence)) page, within)) (access-needs s.tables t (Virtual v o) Read)
+
+-- replies to any access that neither reads nor writes
+pub quiet-busy : (t : ℕ) (place : Place) (op : Op) → IsQuiet (event.Access (record { 0 = t }) place op) reply.Busy
+quiet-busy t place Read = record { says = λ spot. refl; ticket = refl; groups = λ u g. refl; given = refl }
+quiet-busy t place (Write b) = record { says = λ spot. refl; ticket = refl; groups = λ u g. refl; given = refl }
+
+pub quiet-over : (t a : ℕ) (place : Place) (op : Op) → IsQuiet (event.Access (record { 0 = t }) place op) (reply.Over (record { 0 = a }))
+quiet-over t a place Read = record { says = λ spot. refl; ticket = refl; groups = λ u g. refl; given = refl }
+quiet-over t a place (Write b) = record { says = λ spot. refl; ticket = refl; groups = λ u g. refl; given = refl }
+
+pub quiet-no_frame : (t : ℕ) (place : Place) (op : Op) → IsQuiet (event.Access (record { 0 = t }) place op) reply.NoFrame
+quiet-no_frame t place Read = record { says = λ spot. refl; ticket = refl; groups = λ u g. refl; given = refl }
+quiet-no_frame t place (Write b) = record { says = λ spot. refl; ticket = refl; groups = λ u g. refl; given = refl }
+
+reads-busy : (s : StateOf) (t : ℕ) (place : Place) (op : Op) → ReadsByte s (event.Access (record { 0 = t }) place op) reply.Busy
+reads-busy s t place Read = tt
+reads-busy s t place (Write b) = tt
+
+reads-over : (s : StateOf) (t a : ℕ) (place : Place) (op : Op) → ReadsByte s (event.Access (record { 0 = t }) place op) (reply.Over (record { 0 = a }))
+reads-over s t a place Read = tt
+reads-over s t a place (Write b) = tt
+
+reads-no_frame : (s : StateOf) (t : ℕ) (place : Place) (op : Op) → ReadsByte s (event.Access (record { 0 = t }) place op) reply.NoFrame
+reads-no_frame s t place Read = tt
+reads-no_frame s t place (Write b) = tt
+
+pub makes_step-busy : (s : StateOf) (worker t v o p g f b n : ℕ) (direction : Direction) (op : Op) (task : Task) → task_at s.tables.tasks t ≡ Some task → task.life ≡ Live → mapped_at s.tables.page_tables t v ≡ Some p
+    → Stands s.tables.pages p g (moving direction f b n) → InOrder s → MakesStep s worker (event.Access (record { 0 = t }) (Virtual v o) op) reply.Busy s
+makes_step-busy s worker t v o p g f b n direction op task is living shown page listed =
+    makes_step-still s s worker (event.Access (record { 0 = t }) (Virtual v o) op) reply.Busy (still-self s) (quiet-busy t (Virtual v o) op)
+    (λ c told. live_step (counting s.tables c) _ task _ _ _ is living (meets_transfer c direction page)) (order-still s s listed refl refl) (λ c told. told) (reads-busy s t (Virtual v o) op) (access-needs s.tables t (Virtual v o) op)
+  where
+    meets_transfer : (c : List Counted) (direction : Direction) → Stands s.tables.pages p g (moving direction f b n)
+        → MeetStep (counting s.tables c) t task.group.0 op (meets (counting s.tables c) t (Virtual v o) op) reply.Busy (counting s.tables c)
+    meets_transfer c In page = rw shown (rw page (refl, refl))
+    meets_transfer c Out page = rw shown (rw page (refl, refl))
+
+-- ---- charges that are refused
+
+pub makes_step-over : (old new : StateOf) (worker t v o a : ℕ) (op : Op) (task : Task) → task_at old.tables.tasks t ≡ Some task → task.life ≡ Live
+    → ((c : List Counted) → MeetStep (counting old.tables c) t task.group.0 op (meets (counting old.tables c) t (Virtual v o) op) (reply.Over (record { 0 = a })) (counting old.tables (c ++ count_of a key.Max ∷ [])))
+    → new.tables ≡ old.tables → new.bytes ≡ old.bytes → new.flights ≡ old.flights → InOrder old → new.order ≡ old.order
+    → ((c : List Counted) → Tells old.tallies c → Tells new.tallies (c ++ count_of a key.Max ∷ []))
+    → MakesStep old worker (event.Access (record { 0 = t }) (Virtual v o) op) (reply.Over (record { 0 = a })) new
+makes_step-over old new worker t v o a op task is living meet tables bytes flights listed order tells =
+    makes_step-still old new worker (event.Access (record { 0 = t }) (Virtual v o) op) (reply.Over (record { 0 = a }))
+    (record {
+      pages = ap (λ (s : State). s.pages) tables;
+      tasks = ap (λ (s : State). s.tasks) tables;
+      page_tables = ap (λ (s : State). s.page_tables) tables;
+      bytes = bytes;
+      flights = flights;
+      opening = ap (λ (s : State). s.opening) tables;
+    })
+    (quiet-over t a (Virtual v o) op)
+    (λ c told. subst (λ (s : State). Step (counting old.tables c) (event.Access (record { 0 = t }) (Virtual v o) op) (reply.Over (record { 0 = a })) (counting s (c ++ count_of a key.Max ∷ []))) (sym tables)
+    (live_step (counting old.tables c) _ task _ _ _ is living (meet c)))
+    (order-still old new listed (ap (λ (s : State). s.pages) tables) order) tells (reads-over old t a (Virtual v o) op) (access-needs old.tables t (Virtual v o) op)
+
+pub makes_step-no_frame : (old new : StateOf) (worker t v o : ℕ) (op : Op) (task : Task) → task_at old.tables.tasks t ≡ Some task → task.life ≡ Live
+    → ((c : List Counted) → MeetStep (counting old.tables c) t task.group.0 op (meets (counting old.tables c) t (Virtual v o) op) reply.NoFrame (counting old.tables c))
+    → new.tables ≡ old.tables → new.bytes ≡ old.bytes → new.flights ≡ old.flights → InOrder old → new.order ≡ old.order
+    → ((c : List Counted) → Tells old.tallies c → Tells new.tallies c) → MakesStep old worker (event.Access (record { 0 = t }) (Virtual v o) op) reply.NoFrame new
+makes_step-no_frame old new worker t v o op task is living meet tables bytes flights listed order tells =
+    makes_step-still old new worker (event.Access (record { 0 = t }) (Virtual v o) op) reply.NoFrame
+    (record {
+      pages = ap (λ (s : State). s.pages) tables;
+      tasks = ap (λ (s : State). s.tasks) tables;
+      page_tables = ap (λ (s : State). s.page_tables) tables;
+      bytes = bytes;
+      flights = flights;
+      opening = ap (λ (s : State). s.opening) tables;
+    })
+    (quiet-no_frame t (Virtual v o) op)
+    (λ c told. subst (λ (s : State). Step (counting old.tables c) (event.Access (record { 0 = t }) (Virtual v o) op) reply.NoFrame (counting s c)) (sym tables)
+    (live_step (counting old.tables c) _ task _ _ _ is living (meet c)))
+    (order-still old new listed (ap (λ (s : State). s.pages) tables) order) tells (reads-no_frame old t (Virtual v o) op) (access-needs old.tables t (Virtual v o) op)
+
+-- a write where nothing is mapped
+pub unmapped-over : (s : State) (t v o b g a : ℕ) → mapped_at s.page_tables t v ≡ None → over_in s g ≡ Some a
+    → (c : List Counted) → MeetStep (counting s c) t g (Write b) (meets (counting s c) t (Virtual v o) (Write b)) (reply.Over (record { 0 = a })) (counting s (c ++ count_of a key.Max ∷ []))
+unmapped-over s t v o b g a none full c = rw none (over_step (counting s c) _ _ _ a full)
+
+pub unmapped-no_frame : (s : State) (t v o b g : ℕ) → mapped_at s.page_tables t v ≡ None → over_in s g ≡ None → is_frame_free s ≡ false
+    → (c : List Counted) → MeetStep (counting s c) t g (Write b) (meets (counting s c) t (Virtual v o) (Write b)) reply.NoFrame (counting s c)
+unmapped-no_frame s t v o b g none under taken c = rw none (frameless_step (counting s c) _ _ _ under taken)
+
+-- an access to a page on its block
+pub away-over : (s : State) (t v o p g own b a : ℕ) (op : Op) → mapped_at s.page_tables t v ≡ Some p → Stands s.pages p g (Away b) → over_in s g ≡ Some a
+    → (c : List Counted) → MeetStep (counting s c) t own op (meets (counting s c) t (Virtual v o) op) (reply.Over (record { 0 = a })) (counting s (c ++ count_of a key.Max ∷ []))
+away-over s t v o p g own b a op shown away full c = rw shown (rw away (over_step (counting s c) _ _ _ a full))
+
+pub away-no_frame : (s : State) (t v o p g own b : ℕ) (op : Op) → mapped_at s.page_tables t v ≡ Some p → Stands s.pages p g (Away b) → over_in s g ≡ None → is_frame_free s ≡ false
+    → (c : List Counted) → MeetStep (counting s c) t own op (meets (counting s c) t (Virtual v o) op) reply.NoFrame (counting s c)
+away-no_frame s t v o p g own b op shown away under taken c = rw shown (rw away (frameless_step (counting s c) _ _ _ under taken))
+
+-- ---- relief
+
+pub stands_counting : (s : State) (c : List Counted) (why : Cause) → stands (counting s c) why ≡ stands s why
+stands_counting s c (cause.Charge g) = refl
+stands_counting s c (cause.Lower g) = refl
+stands_counting s c cause.Frame = refl
+
+quiet-relief : (why : Cause) (answer : Reply) → ticket_given answer ≡ None → is_refused answer ≡ false → IsQuiet (event.Relieve why) answer
+quiet-relief why answer none given = record { says = λ spot. refl; ticket = none; groups = λ u g. refl; given = given }
+
+pub makes_step-room : (s : StateOf) (worker : ℕ) (why : Cause) → stands s.tables why ≡ false → InOrder s → MakesStep s worker (event.Relieve why) reply.Room s
+makes_step-room s worker why met listed =
+    makes_step-still s s worker (event.Relieve why) reply.Room (still-self s) (quiet-relief why reply.Room refl refl)
+    (λ c told. room c) (order-still s s listed refl refl) (λ c told. told) tt (relief-needs s.tables why)
+  where
+    room : (c : List Counted) → RelieveStep (counting s.tables c) why reply.Room (counting s.tables c)
+    room c = let here = stands_counting s.tables c why ∙ met in rw here (refl, refl)
+
+pub makes_step-wait : (s : StateOf) (worker : ℕ) (why : Cause) → stands s.tables why ≡ true → has_takeable s.tables (target_of why) ≡ false → has_transfer s.tables (target_of why) ≡ true → InOrder s
+    → MakesStep s worker (event.Relieve why) reply.Wait s
+makes_step-wait s worker why wants untakeable moving listed =
+    makes_step-still s s worker (event.Relieve why) reply.Wait (still-self s) (quiet-relief why reply.Wait refl refl)
+    (λ c told. waits c) (order-still s s listed refl refl) (λ c told. told) tt (relief-needs s.tables why)
+  where
+    waits : (c : List Counted) → RelieveStep (counting s.tables c) why reply.Wait (counting s.tables c)
+    waits c =
+        let here = stands_counting s.tables c why ∙ wants in
+        let none : has_takeable (counting s.tables c) (target_of why) ≡ false = untakeable in
+        let some : has_transfer (counting s.tables c) (target_of why) ≡ true = moving in
+        rw here (rw none (rw some (refl, refl)))
+
+-- relief that is wanted, with nothing to reclaim
+pub relieve_step : (s : State) (why : Cause) (answer : Reply) (new : State) → stands s why ≡ true → has_takeable s (target_of why) ≡ false → has_transfer s (target_of why) ≡ false
+    → KillStep s (target_of why) answer new → RelieveStep s why answer new
+relieve_step s why answer new wants untakeable settled kill = rw wants (rw untakeable (rw settled kill))
+
+pub makes_step-no_victim : (old new : StateOf) (worker : ℕ) (why : Cause) → stands old.tables why ≡ true → has_takeable old.tables (target_of why) ≡ false → has_transfer old.tables (target_of why) ≡ false
+    → IsVictim old.tables.tree old.tables.tasks old.tables.page_tables (target_of why) None → new.tables ≡ old.tables → new.bytes ≡ old.bytes → new.flights ≡ old.flights → InOrder old → new.order ≡ old.order
+    → ((c : List Counted) → Tells old.tallies c → Tells new.tallies (c ++ count_of (target_of why) key.Oom ∷ [])) → MakesStep old worker (event.Relieve why) reply.NoVictim new
+makes_step-no_victim old new worker why wants untakeable settled nobody tables bytes flights listed order tells =
+    makes_step-still old new worker (event.Relieve why) reply.NoVictim
+    (record {
+      pages = ap (λ (s : State). s.pages) tables;
+      tasks = ap (λ (s : State). s.tasks) tables;
+      page_tables = ap (λ (s : State). s.page_tables) tables;
+      bytes = bytes;
+      flights = flights;
+      opening = ap (λ (s : State). s.opening) tables;
+    })
+    (quiet-relief why reply.NoVictim refl refl)
+    (λ c told. relieve_step (counting old.tables c) why reply.NoVictim _ (stands_counting old.tables c why ∙ wants) untakeable settled
+    (nobody, ap (λ (s : State). counting s (c ++ count_of (target_of why) key.Oom ∷ [])) tables))
+    (order-still old new listed (ap (λ (s : State). s.pages) tables) order) tells tt (relief-needs old.tables why)
+
+-- ---- a page for whoever asks
+
+pub reclaim-needs : (s : State) (g : ℕ) → 1 ≤ need s (event.ReclaimOne (record { 0 = g }))
+reclaim-needs s g = one_or_two (has_takeable s g)
+
+quiet-reclaim : (g : ℕ) (answer : Reply) → ticket_given answer ≡ None → is_refused answer ≡ false → IsQuiet (event.ReclaimOne (record { 0 = g })) answer
+quiet-reclaim g answer none given = record { says = λ spot. refl; ticket = none; groups = λ u g. refl; given = given }
+
+pub makes_step-reclaim_wait : (s : StateOf) (worker g : ℕ) → has_takeable s.tables g ≡ false → has_transfer s.tables g ≡ true → InOrder s → MakesStep s worker (event.ReclaimOne (record { 0 = g })) reply.Wait s
+makes_step-reclaim_wait s worker g untakeable moving listed =
+    makes_step-still s s worker (event.ReclaimOne (record { 0 = g })) reply.Wait (still-self s) (quiet-reclaim g reply.Wait refl refl)
+    (λ c told. waits c) (order-still s s listed refl refl) (λ c told. told) tt (reclaim-needs s.tables g)
+  where
+    waits : (c : List Counted) → ReclaimOneStep (counting s.tables c) g reply.Wait (counting s.tables c)
+    waits c =
+        let none : has_takeable (counting s.tables c) g ≡ false = untakeable in
+        let some : has_transfer (counting s.tables c) g ≡ true = moving in
+        rw none (rw some (refl, refl))
+
+pub makes_step-nothing : (s : StateOf) (worker g : ℕ) → has_takeable s.tables g ≡ false → has_transfer s.tables g ≡ false → InOrder s → MakesStep s worker (event.ReclaimOne (record { 0 = g })) reply.Nothing s
+makes_step-nothing s worker g untakeable settled listed =
+    makes_step-still s s worker (event.ReclaimOne (record { 0 = g })) reply.Nothing (still-self s) (quiet-reclaim g reply.Nothing refl refl)
+    (λ c told. finds_none c) (order-still s s listed refl refl) (λ c told. told) tt (reclaim-needs s.tables g)
+  where
+    finds_none : (c : List Counted) → ReclaimOneStep (counting s.tables c) g reply.Nothing (counting s.tables c)
+    finds_none c =
+        let none : has_takeable (counting s.tables c) g ≡ false = untakeable in
+        let no_more : has_transfer (counting s.tables c) g ≡ false = settled in
+        rw none (rw no_more (refl, refl))
+
+-- ---- ends of tasks
+
+pub makes_step-exit_killed : (s : StateOf) (worker t : ℕ) (task : Task) → task_at s.tables.tasks t ≡ Some task → task.life ≡ Killed → InOrder s → MakesStep s worker (event.Exit (record { 0 = t })) reply.Killed s
+makes_step-exit_killed s worker t task is killed listed =
+    makes_step-still s s worker (event.Exit (record { 0 = t })) reply.Killed (still-self s) (record { says = λ spot. refl; ticket = refl; groups = λ u g. refl; given = refl })
+    (λ c told. killed_step (counting s.tables c) _ task _ is killed) (order-still s s listed refl refl) (λ c told. told) tt (omega arith)

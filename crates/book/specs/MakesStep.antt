@@ -1,0 +1,73 @@
+-- What the parts answer to one event, and how they change.
+use Rattle.std.specs.Prelude.{◌≡◌, ℕ, ◌+◌, ◌<◌, ◌≤◌, ◌==◌, ◌||◌, Bool, true, false, slice_index}
+use Rattle.machine.specs.declared.event.Event.{Event}
+use Rattle.machine.specs.declared.event.Event.TheVariants as event
+use Rattle.machine.specs.declared.reply.Reply.{Reply}
+use Rattle.machine.specs.declared.reply.Reply.TheVariants as reply
+use Rattle.machine.specs.Pages.{Coming, Going, in_transfer}
+use Rattle.machine.specs.Tasks.{lives}
+use Rattle.machine.specs.Access.{page_size}
+use Rattle.machine.specs.Lists.{Orders}
+use Rattle.machine.specs.Call.{need}
+use Rattle.pages.specs.PagesOf.{byte_in, Stands}
+use Rattle.pages.specs.Transfers.{given_ticket}
+use Rattle.book.specs.declared.event.Reply.{Reply as Given}
+use Rattle.book.specs.declared.event.Reply.TheVariants as given
+use Rattle.book.specs.Replies.{IsAccessReply, IsReliefReply, IsReclaimReply, IsOkReply, IsExitReply, IsShownReply}
+use Rattle.page_state.specs.States.{StateOf}
+use Rattle.book.specs.Effects.{Steps, Tallied, ChangesGroups, ReadsByte, ChangesBytes, ChangesComing, ChangesFlights}
+
+-- the event is the task's first
+abbrev pub starts : Event → Reply → ℕ → Bool
+starts (event.Spawn t g) reply.Ok u = t.0 == u
+starts what answer u = false
+
+abbrev pub is_refused : Reply → Bool
+is_refused (reply.Refused why) = true
+is_refused answer = false
+
+-- the machine's step with this reply, asked by a worker; where a page is taken it is the one in order; a read gives the byte that stood there; and tasks' groups, bytes and transfers change as the event says
+pub record MakesStep (old : StateOf) (worker : ℕ) (what : Event) (answer : Reply) (new : StateOf) : Type 0 where
+  pub steps : Steps old what answer new
+  pub orders : Orders old.tables old.order what answer new.tables new.order
+  pub tallied : Tallied old what answer new
+  pub groups : ChangesGroups old what answer new
+  pub reads : ReadsByte old what answer
+  pub bytes : ChangesBytes old what answer new
+  pub coming : ChangesComing old what answer new
+  pub flights : ChangesFlights old worker answer new
+  pub living : (t : ℕ) → lives new.tables.tasks t ≡ true → (starts what answer t || lives old.tables.tasks t) ≡ true
+  -- a transfer that begins has room for its end, and one that ends gives it back
+  pub kept : in_transfer new.tables.pages + 1 ≤ in_transfer old.tables.pages + need old.tables what
+  pub given : is_refused answer ≡ false
+  pub opening : new.tables.opening ≡ old.tables.opening
+
+-- ---- events without a ticket
+
+-- the event has no ticket: it ends no transfer
+abbrev pub IsAsked : Event → Type 0
+IsAsked (event.Arrived ticket arrived) = ⊥
+IsAsked (event.FetchFailed ticket) = ⊥
+IsAsked (event.Left ticket) = ⊥
+IsAsked (event.LeaveFailed ticket) = ⊥
+IsAsked what = Unit {0}
+
+abbrev pub RepliesTo : Event → Given → Type 0
+RepliesTo (event.Access task place op) said = IsAccessReply said
+RepliesTo (event.Relieve cause) said = IsReliefReply said
+RepliesTo (event.ReclaimOne group) said = IsReclaimReply said
+RepliesTo (event.Spawn task group) said = IsOkReply said
+RepliesTo (event.Exit task) said = IsExitReply said
+RepliesTo (event.Mkdir path) said = IsOkReply said
+RepliesTo (event.Set group setting) said = IsOkReply said
+RepliesTo (event.Show query) said = IsShownReply said
+RepliesTo what said = ⊥
+
+-- the ticket that is given out is that of a page in transfer; and a write-out has the page's bytes
+abbrev pub GivesTicket : StateOf → ℕ → ℕ → Given → Type 0
+GivesTicket new worker entry (given.Fetch ticket) =
+    (p : ℕ) × (g : ℕ) × (f : ℕ) × Stands new.tables.pages p g (Coming f ticket.block ticket.number) × (ticket ≡ given_ticket ticket.number worker entry ticket.block ticket.bytes)
+GivesTicket new worker entry (given.Out ticket) =
+    (p : ℕ) × (g : ℕ) × (f : ℕ) × Stands new.tables.pages p g (Going f ticket.block ticket.number) × (ticket ≡ given_ticket ticket.number worker entry ticket.block ticket.bytes)
+    × ((o : ℕ) → o < page_size → slice_index ticket.bytes o ≡ byte_in new.bytes p o)
+GivesTicket new worker entry said = Unit {0}

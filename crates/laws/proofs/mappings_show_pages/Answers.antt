@@ -1,0 +1,12 @@
+use Rattle.std.proofs.Common.{◌≡◌, true, Option, Some, None, refl}
+use Rattle.std.specs.Prelude.{is_some}
+use Rattle.machine.specs.Pages.{Page}
+use Rattle.machine.proofs.ShownLemmas.{shows_pages-legal}
+use Rattle.laws.proofs.mappings_show_pages.Goals as goal
+
+there : (slot : Option Page) → is_some slot ≡ true → (page : Page) × (slot ≡ Some page)
+there None e = cc
+there (Some page) e = (page, refl)
+
+pub returns : goal.returns
+returns c opening history s legal t v p mapped = there _ ((shows_pages-legal opening history s legal).there t v p mapped)

@@ -1,0 +1,72 @@
+-- Examples: amounts, and what control files say.
+use Rattle.std.proofs.Common.{◌≡◌, true, false, Some, None, refl}
+use Rattle.std.specs.Prelude.{◌∷◌, [], ◌++◌, codes}
+use Rattle.std.specs.Fmt.{digits}
+use Rattle.machine.specs.declared.amount.Amount.TheVariants.{Max, Pages}
+use Rattle.machine.specs.declared.control.ControlFile.TheVariants as file
+use Rattle.machine.specs.declared.reply.Shown.TheVariants as shown
+use Rattle.machine.specs.Amounts.{exceeds}
+use Rattle.machine.specs.Control.{amount_of, file_named, has_file, text_of}
+
+-- ---- amounts
+
+-- bytes are rounded down to whole pages
+pages-down : amount_of (codes "8191") ≡ Some (Pages 1)
+pages-down = refl
+
+-- a suffix multiplies by 1,024, small or large: 2 GB are 524,288 pages
+suffix : amount_of (codes "2G") ≡ Some (Pages 524288)
+suffix = refl
+
+-- large or small
+suffix-small : amount_of (codes "12k") ≡ Some (Pages 3)
+suffix-small = refl
+
+-- and there is one at most
+suffix-two : amount_of (codes "1KK") ≡ None
+suffix-two = refl
+
+-- `max` is written in small letters
+max-large : amount_of (codes "MAX") ≡ None
+max-large = refl
+
+-- no zero stands in front
+zero_in_front : amount_of (codes "010") ≡ None
+zero_in_front = refl
+
+-- 2^64 bytes are too many
+too_large : amount_of (codes "16777216T") ≡ None
+too_large = refl
+
+-- no count is more than `max`
+exceeds-max : exceeds 1000000 Max ≡ false
+exceeds-max = refl
+
+-- and none is more than itself
+exceeds-equal : exceeds 4 (Pages 4) ≡ false
+exceeds-equal = refl
+
+-- ---- files
+
+-- what a file says ends with a line's end, and is in bytes
+says-pages : text_of (shown.Pages 3) ≡ codes "12288" ++ 10 ∷ []
+unfolding digits
+says-pages = refl
+
+-- a line for each key, in this order
+says-events : text_of (shown.Events (record { low = 0; high = 0; max = 12; oom = 2; oom_kill = 1; oom_group_kill = 0 }))
+    ≡ codes "low 0" ++ 10 ∷ codes "high 0" ++ 10 ∷ codes "max 12" ++ 10 ∷ codes "oom 2" ++ 10 ∷ codes "oom_kill 1" ++ 10 ∷ codes "oom_group_kill 0" ++ 10 ∷ []
+unfolding digits
+says-events = refl
+
+-- the root has `memory.reclaim`
+file-reclaim : has_file 0 file.Reclaim ≡ true
+file-reclaim = refl
+
+-- and no other file
+file-current : has_file 0 file.Current ≡ false
+file-current = refl
+
+-- a file that there is not
+file-unknown : file_named (codes "memory.high") ≡ None
+file-unknown = refl

@@ -1,0 +1,154 @@
+-- A place that comes to show nothing, in all joined parts.
+use Rattle.std.proofs.Common.{◌≡◌, ◌≢◌, inl, inr, ℕ, ◌<◌, ◌==◌, ◌&&◌, not, Bool, true, false, cond, Option, Some, None, ne_eqb, refl, sym, ap, ◌∙◌, subst, arith}
+use Rattle.std.specs.Prelude.{IfSome, is_some}
+use Rattle.machine.specs.Slots.{there_and}
+use Rattle.machine.specs.Tree.{is_live}
+use Rattle.machine.specs.Pages.{Page, page_at, is_anon, in_transfer_at, is_in_transfer}
+use Rattle.machine.specs.declared.record.Life.{Life}
+use Rattle.machine.specs.Tasks.{Tasks, PageTables, SetsTask, lives, group_of_task, mapped_at, mappers, Shows}
+use Rattle.machine.specs.State.{State}
+use Rattle.machine.specs.Step.{still}
+use Rattle.machine.proofs.TreeLemmas.{eq_cases}
+use Rattle.machine.proofs.SlotLemmas.{one_if}
+use Rattle.machine.proofs.MappingLemmas.{mappers-alike, mappers-shows, shown_once}
+use Rattle.pages.specs.PagesOf.{anon_page, is_moving_in, byte_in}
+use Rattle.spaces.specs.Space.{Space}
+use Rattle.page_state.specs.declared.joined.State.TheInside.{Inside}
+use Rattle.page_state.specs.Holdings.{HoldingsOf, StayInOrder, DropsPage}
+use Rattle.page_state.specs.Drops.{DropsUnmapped}
+use Rattle.page_state.specs.States.{StateOf}
+use Rattle.page_state.specs.Changes.{Unmaps, UnmapsBelow, EndsTask}
+use Rattle.page_state.specs.Joined.{joined_of, IsJoined}
+use Rattle.page_state.proofs.MappedLemmas.{mapped-dropped}
+use Rattle.page_state.proofs.OrderLemmas.{goes-on-still}
+use Rattle.page_state.proofs.DropLemmas.{fewer, stays_settled, unmaps-all}
+use Rattle.page_state.proofs.JoinLemmas.{joined-pages, joined-tasks}
+
+-- ---- one page
+
+-- nothing maps it, and it is in no transfer
+pub dropped : (old new : HoldingsOf) (tables : PageTables) (p : ℕ) → DropsPage old new p → IfSome (page_at old.stored.pages p) (λ page. page ≡ anon_page page.group page.residence) → (mappers tables p == 0) ≡ true
+    → is_moving_in old.stored.pages p ≡ false → DropsUnmapped old new tables p
+dropped old new tables p drops memory none rests =
+    record {
+      pages = record { changed = drops.gone.changed ∙ sym (goes (page_at old.stored.pages p) memory rests); others = drops.gone.others };
+      bytes = λ q o there. elim (eq_cases q p) [ inl same ↦ absurd (let wrong : true ≡ false = sym there ∙ ap is_some (ap (page_at new.stored.pages) same ∙ drops.gone.changed) in cc) | inr other ↦ elsewhere q o other ];
+      others = elsewhere;
+      flights = drops.flights;
+      order = drops.order;
+      rest = drops.others;
+    }
+  where
+    elsewhere : (q o : ℕ) → q ≢ p → byte_in new.stored.bytes q o ≡ byte_in old.stored.bytes q o
+    elsewhere q o other = drops.bytes q o ∙ ap (λ b. cond b 0 (byte_in old.stored.bytes q o)) (ne_eqb q p other)
+
+    goes : (slot : Option Page) → IfSome slot (λ page. page ≡ anon_page page.group page.residence) → there_and is_in_transfer slot ≡ false → still tables p slot ≡ None
+    goes None memory rests = refl
+    goes (Some page) memory rests =
+        ap (λ (x : Page). cond (is_anon x.content && ((mappers tables p == 0) && not (in_transfer_at page.residence))) None (Some page)) memory
+        ∙ ap (λ b. cond (b && not (in_transfer_at page.residence)) None (Some page)) none
+        ∙ ap (λ b. cond (not b) None (Some page)) rests
+
+-- something maps it, or it is in transfer
+pub kept : (h : HoldingsOf) (tables : PageTables) (p : ℕ) → StayInOrder h h → still tables p (page_at h.stored.pages p) ≡ page_at h.stored.pages p → DropsUnmapped h h tables p
+kept h tables p order stays =
+    record { pages = record { changed = sym stays; others = λ q other. refl }; bytes = λ q o there. refl; others = λ q o other. refl; flights = refl; order = order; rest = refl }
+
+-- one in transfer stays
+pub still-transfer : (tables : PageTables) (p : ℕ) (slot : Option Page) → there_and is_in_transfer slot ≡ true → still tables p slot ≡ slot
+still-transfer tables p None moves = refl
+still-transfer tables p (Some page) moves = ap (λ b. cond (is_anon page.content && ((mappers tables p == 0) && not b)) None (Some page)) moves ∙ by_tests (is_anon page.content) (mappers tables p == 0)
+  where
+    by_tests : (a b : Bool) → cond (a && (b && false)) None (Some page) ≡ Some page
+    by_tests true true = refl
+    by_tests true false = refl
+    by_tests false b = refl
+
+-- ---- one place
+
+module _ (s : Inside) (is : IsJoined s) (memory : (p : ℕ) → IfSome (page_at s.holdings.stored.pages p) (λ page. page ≡ anon_page page.group page.residence))
+    (spaces : Space) (t v : ℕ) (shown : Shows s.spaces.page_tables spaces.page_tables t v None) (tasks : spaces.tasks ≡ s.spaces.tasks) (numbers : spaces.numbers ≡ s.spaces.numbers) where
+  homes : (u : ℕ) → lives spaces.tasks u ≡ true → is_live s.tree (group_of_task spaces.tasks u) ≡ true
+  homes = subst (λ (ts : Tasks). (u : ℕ) → lives ts u ≡ true → is_live s.tree (group_of_task ts u) ≡ true) (sym tasks) is.homes
+
+  -- it showed nothing before
+  module _ (none : mapped_at s.spaces.page_tables t v ≡ None) where
+    alike : (p : ℕ) → mappers spaces.page_tables p ≡ mappers s.spaces.page_tables p
+    alike p = let both = mappers-shows s.spaces.page_tables spaces.page_tables t v p None shown in let was : shown_once (mapped_at s.spaces.page_tables t v) p ≡ 0 = ap (λ m. shown_once m p) none in omega (arith, both, was)
+
+    stays : (p : ℕ) → page_at s.holdings.stored.pages p ≡ still spaces.page_tables p (page_at s.holdings.stored.pages p)
+    stays p = sym (stays_settled spaces.page_tables p (page_at s.holdings.stored.pages p) (let least = is.mapped.least p in let same = alike p in omega (arith, least, same)))
+
+    pub joined-unshown : IsJoined (record s { spaces = spaces })
+    joined-unshown =
+        joined-tasks s is spaces
+        (mapped-dropped s.holdings.stored.pages s.spaces.page_tables is.mapped s.holdings.stored.pages spaces.page_tables memory (fewer s.spaces.page_tables spaces.page_tables t v shown) stays) numbers homes
+
+    pub unmaps-unshown : Unmaps (joined_of s) (joined_of (record s { spaces = spaces })) t v
+    unmaps-unshown =
+        record {
+          shown = shown;
+          drops = record {
+            pages = stays;
+            bytes = λ p k there. refl;
+            flights = refl;
+            held = goes-on-still s.holdings.stored.pages s.holdings.stored.pages s.holdings.held s.holdings.held is.listed refl refl;
+            cursors = refl;
+            tallies = refl;
+          };
+          tables = (let old : StateOf = joined_of s in ap (λ (ts : Tasks). record (old.tables) { tasks = ts; page_tables = spaces.page_tables }) tasks);
+        }
+
+  -- it showed this page, which goes where nothing else maps it
+  module _ (p : ℕ) (was : mapped_at s.spaces.page_tables t v ≡ Some p) (now : HoldingsOf) (drops : DropsUnmapped s.holdings now spaces.page_tables p) where
+    others_alike : (q : ℕ) → q ≢ p → mappers spaces.page_tables q ≡ mappers s.spaces.page_tables q
+    others_alike q other =
+        let both = mappers-shows s.spaces.page_tables spaces.page_tables t v q None shown in
+        let miss : shown_once (mapped_at s.spaces.page_tables t v) q ≡ 0 = ap (λ m. shown_once m q) was ∙ ap one_if (ne_eqb p q (λ e. other (sym e))) in
+        omega (arith, both, miss)
+
+    all : (q : ℕ) → page_at now.stored.pages q ≡ still spaces.page_tables q (page_at s.holdings.stored.pages q)
+    all q =
+        elim (eq_cases q p) [
+          | inl same ↦ ap (page_at now.stored.pages) same ∙ drops.pages.changed ∙ ap (λ (x : ℕ). still spaces.page_tables x (page_at s.holdings.stored.pages x)) (sym same)
+          | inr other ↦ drops.pages.others q other ∙ sym (stays_settled spaces.page_tables q (page_at s.holdings.stored.pages q) (let least = is.mapped.least q in let same = others_alike q other in omega (arith, least, same)))
+        ]
+
+    pub joined-unmapped : IsJoined (record s { holdings = now; spaces = spaces })
+    joined-unmapped =
+        joined-pages s is now s.cursors spaces drops.rest
+        (mapped-dropped s.holdings.stored.pages s.spaces.page_tables is.mapped now.stored.pages spaces.page_tables memory (fewer s.spaces.page_tables spaces.page_tables t v shown) all) numbers homes drops.order refl
+
+    pub unmaps-unmapped : Unmaps (joined_of s) (joined_of (record s { holdings = now; spaces = spaces })) t v
+    unmaps-unmapped =
+        record {
+          shown = shown;
+          drops = record { pages = all; bytes = drops.bytes; flights = drops.flights; held = drops.order; cursors = refl; tallies = refl };
+          tables = (let old : StateOf = joined_of s in
+              ap (λ (h : HoldingsOf). record (old.tables) { limits = h.limits; pages = now.stored.pages; tasks = spaces.tasks; page_tables = spaces.page_tables }) drops.rest
+              ∙ ap (λ (ts : Tasks). record (old.tables) { pages = now.stored.pages; tasks = ts; page_tables = spaces.page_tables }) tasks);
+        }
+
+-- ---- all places of a task
+
+still-alike : (tables tables' : PageTables) (p : ℕ) (slot : Option Page) → mappers tables' p ≡ mappers tables p → still tables' p slot ≡ still tables p slot
+still-alike tables tables' p None same = refl
+still-alike tables tables' p (Some page) same = ap (λ m. cond (is_anon page.content && ((m == 0) && not (in_transfer_at page.residence))) None (Some page)) same
+
+-- its virtual pages show nothing, and it ends
+pub ends-unmapped : (old : StateOf) (s : Inside) (spaces : Space) (t n : ℕ) (life : Life) → UnmapsBelow old (joined_of s) t n → ((v p : ℕ) → mapped_at old.tables.page_tables t v ≡ Some p → v < n)
+    → SetsTask s.spaces.tasks t (group_of_task s.spaces.tasks t) life spaces.tasks → ((u v : ℕ) → mapped_at spaces.page_tables u v ≡ mapped_at s.spaces.page_tables u v) → EndsTask old (joined_of (record s { spaces = spaces })) t life
+ends-unmapped old s spaces t n life all inside ends same =
+    record {
+      shown = (let nothing = unmaps-all old (joined_of s) t n all inside in record { none = λ v. same t v ∙ nothing.none v; others = λ u v other. same u v ∙ nothing.others u v other });
+      ends = subst (λ (ts : Tasks). SetsTask ts t (group_of_task ts t) life spaces.tasks) (ap (λ (st : State). st.tasks) all.tables) ends;
+      drops = record {
+        pages = λ p. all.drops.pages p ∙ sym (still-alike s.spaces.page_tables spaces.page_tables p (page_at old.tables.pages p) (mappers-alike s.spaces.page_tables spaces.page_tables p same));
+        bytes = all.drops.bytes;
+        flights = all.drops.flights;
+        held = all.drops.held;
+        cursors = all.drops.cursors;
+        tallies = all.drops.tallies;
+      };
+      tables = ap (λ (st : State). record st { tasks = spaces.tasks; page_tables = spaces.page_tables }) all.tables;
+    }

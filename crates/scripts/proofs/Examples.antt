@@ -1,0 +1,234 @@
+-- Examples: the faults of lines, what faultless lines say, and the frames that a header asks for.
+use Rattle.std.proofs.Common.{◌≡◌, ℕ, zero, suc, ◌<◌, ltb-true, Bool, true, false, List, [], ◌∷◌, Option, Some, None, refl, ap, ◌∙◌, arith}
+use Rattle.std.specs.Prelude.{codes, nat_lt, slice_index}
+use Rattle.std.specs.List.{list_all}
+use Rattle.std.specs.Str.{is_utf8}
+use Rattle.std.specs.Str.Lines.{lines}
+use Rattle.std.proofs.lemmas.Str.{is_utf8-from_IsUtf8, IsUtf8-from_ascii}
+use Rattle.std.proofs.lemmas.Bool.{and_parts}
+use Rattle.machine.specs.declared.command.Actor.TheVariants as actor
+use Rattle.machine.specs.declared.command.Command.TheVariants as command
+use Rattle.machine.specs.declared.command.Step.TheVariants as step
+use Rattle.machine.specs.declared.event.Op.TheVariants as op
+use Rattle.machine.specs.declared.event.Place.TheVariants.{Virtual}
+use Rattle.scripts.specs.declared.fault.Cause.{Cause}
+use Rattle.scripts.specs.declared.fault.Cause.TheVariants.{UnknownWord, MissingArgument, ExtraArgument, BadNumber, BadName, HeaderAfterCommands, HeaderTwice}
+use Rattle.scripts.specs.declared.forms.Word.{Word}
+use Rattle.scripts.specs.declared.forms.Word.TheVariants as word
+use Rattle.scripts.specs.Words.{words_of}
+use Rattle.scripts.specs.Faults.{first_of, line_faults}
+use Rattle.scripts.specs.Script.{steps_of_item}
+use Rattle.scripts.specs.Meaning.{meaning}
+use Rattle.scripts.specs.Header.{goes_on, frames_asked, header_frames}
+use Rattle.scripts.proofs.HeaderLemmas.{frames_line-other, frames_line-frames, frames_line-behind}
+
+-- ---- faults of a line of text
+
+-- with 64 frames asked for, behind commands or not, and behind these words of the header
+abbrev behind : Bool → List Word → List ℕ → Option Cause
+behind commands given line = first_of (line_faults (record { frames = 64; commands = commands; given = given }) (words_of line))
+
+abbrev cause : List ℕ → Option Cause
+cause line = behind false [] line
+
+-- an empty line is faultless
+empty : cause (codes "") ≡ None
+empty = refl
+
+-- and so is a comment
+comment : cause (codes "  #foo") ≡ None
+comment = refl
+
+-- ---- which cause is named of several
+
+-- an unknown word comes before a number too large
+word_first : cause (codes "99999999999 foo") ≡ Some UnknownWord
+word_first = refl
+
+-- so does a missing argument
+missing_first : cause (codes "99999999999") ≡ Some MissingArgument
+missing_first = refl
+
+-- and one too many
+extra_first : cause (codes "99999999999 exit 1") ≡ Some ExtraArgument
+extra_first = refl
+
+-- a number comes before a name
+number_before_name : cause (codes "task x a") ≡ Some BadNumber
+number_before_name = refl
+
+-- ---- words
+
+-- a task's words have a number in front
+shell_cannot : cause (codes "write 0 0 1") ≡ Some UnknownWord
+shell_cannot = refl
+
+-- ---- numbers
+
+-- a task's number may have zeros in front
+zeros_in_front : cause (codes "007 read 0 0") ≡ None
+zeros_in_front = refl
+
+-- whether a task has this number is not the script's to say
+task_70000 : cause (codes "task 70000 /a") ≡ None
+task_70000 = refl
+
+-- but a number is below 2^32
+task_too_large : cause (codes "task 4294967296 /a") ≡ Some BadNumber
+task_too_large = refl
+
+-- a byte is at most 255
+byte_too_large : cause (codes "1 write 0 0 256") ≡ Some BadNumber
+byte_too_large = refl
+
+-- a machine has a frame
+no_frames : cause (codes "frames 0") ≡ Some BadNumber
+no_frames = refl
+
+-- and 65,536 swap blocks at most
+swap_most : cause (codes "swap 65536") ≡ None
+swap_most = refl
+
+-- the calls of the device are counted from 1
+fault_zero : cause (codes "fault read 0") ≡ Some BadNumber
+fault_zero = refl
+
+-- the marks are at most the frames
+marks : cause (codes "watermarks 3 64") ≡ None
+marks = refl
+
+-- and no more
+marks_too_large : cause (codes "watermarks 3 65") ≡ Some BadNumber
+marks_too_large = refl
+
+-- ---- names
+
+-- a path begins with a slash
+relative : cause (codes "group a") ≡ Some BadName
+relative = refl
+
+-- what is set, and to what, is not the script's to judge
+set_anything : cause (codes "set / x y") ≡ None
+set_anything = refl
+
+-- but that there is something is
+set_missing : cause (codes "set / x") ≡ Some MissingArgument
+set_missing = refl
+
+-- ---- lines that are begun
+
+-- no line of the header is begun
+begin_header : cause (codes "begin frames 4") ≡ Some UnknownWord
+begin_header = refl
+
+-- nor is a part
+begin_part : cause (codes "begin step 1") ≡ Some UnknownWord
+begin_part = refl
+
+-- nor is a comment
+begin_comment : cause (codes "begin #") ≡ Some UnknownWord
+begin_comment = refl
+
+-- an actor is a task's number or a name
+step_daemon : cause (codes "step daemon") ≡ None
+step_daemon = refl
+
+-- ---- the header
+
+-- the header comes before all commands
+late : behind true [] (codes "frames 4") ≡ Some HeaderAfterCommands
+late = refl
+
+-- and each of its lines once
+twice : behind false (word.Swap ∷ word.Frames ∷ []) (codes "frames 4") ≡ Some HeaderTwice
+twice = refl
+
+-- the place comes before the number of times
+late_and_twice : behind true (word.Frames ∷ []) (codes "frames 4") ≡ Some HeaderAfterCommands
+late_and_twice = refl
+
+-- but for `fault`, of which there may be many
+fault_twice : behind false (word.Fault ∷ []) (codes "fault read 1") ≡ None
+fault_twice = refl
+
+-- a wrong number comes before either
+number_before_late : behind true (word.Frames ∷ []) (codes "frames 0") ≡ Some BadNumber
+number_before_late = refl
+
+-- a comment does not end the header
+goes_on-comment : goes_on (words_of (codes " # x")) ≡ true
+goes_on-comment = refl
+
+-- nor does a faulty line of it
+goes_on-faulty : goes_on (words_of (codes "fault foo")) ≡ true
+goes_on-faulty = refl
+
+-- but a task's line does, whatever its word
+goes_on-task : goes_on (words_of (codes "7 frames")) ≡ false
+goes_on-task = refl
+
+-- ---- what lines say
+
+-- the shell does the whole of a line
+says_group : steps_of_item (meaning (words_of (codes "group /a"))) ≡ step.Begin actor.Shell (command.Group (codes "/a")) ∷ step.Finish actor.Shell ∷ []
+says_group = refl
+
+-- and what is begun is begun by control, and not finished
+says_begin : steps_of_item (meaning (words_of (codes "begin group /a"))) ≡ step.Begin actor.Control (command.Group (codes "/a")) ∷ []
+says_begin = refl
+
+-- the daemon begins what is the daemon's
+says_daemon : steps_of_item (meaning (words_of (codes "begin daemon"))) ≡ step.Begin actor.Daemon command.Daemon ∷ []
+says_daemon = refl
+
+-- a number is a task's
+says_step : steps_of_item (meaning (words_of (codes "step 007"))) ≡ step.Advance (actor.Task 7) ∷ []
+says_step = refl
+
+-- virtual page, offset and byte, in this order
+says_write : steps_of_item (meaning (words_of (codes "7 write 1 2 3")))
+    ≡ step.Begin (actor.Task 7) (command.Access (Virtual 1 2) (op.Write 3)) ∷ step.Finish (actor.Task 7) ∷ []
+says_write = refl
+
+-- ---- lines
+
+-- a line ends with its newline, and one carriage return before that is no part of it; behind no newline it is
+lines-return : lines (97 ∷ 13 ∷ 13 ∷ 10 ∷ 98 ∷ 13 ∷ []) ≡ (97 ∷ 13 ∷ []) ∷ (98 ∷ 13 ∷ []) ∷ []
+lines-return = refl
+
+-- each newline ends a line, an empty one too
+lines-two : lines (10 ∷ 10 ∷ []) ≡ [] ∷ [] ∷ []
+lines-two = refl
+
+-- ---- the frames of a header
+
+-- bytes below 128 are text
+text : (bs : List ℕ) → list_all (λ b. nat_lt b 128) bs ≡ true → is_utf8 bs ≡ true
+text bs all = is_utf8-from_IsUtf8 bs (IsUtf8-from_ascii bs (ascii bs all))
+  where
+    ascii : (bs : List ℕ) → list_all (λ b. nat_lt b 128) bs ≡ true → (i : ℕ) → slice_index bs i < 128
+    ascii [] all i = omega arith
+    ascii (b ∷ bs) all zero = ltb-true b 128 (and_parts (nat_lt b 128) (list_all (λ b. nat_lt b 128) bs) all).0
+    ascii (b ∷ bs) all (suc i) = ascii bs (and_parts (nat_lt b 128) (list_all (λ b. nat_lt b 128) bs) all).1 i
+
+-- the line that says so asks for 4 frames
+asks : frames_asked (Some (codes "frames 4")) ≡ 4
+asks = rw (text (codes "frames 4") refl) refl
+
+-- and so do the lines of which it is the first
+asks-first : header_frames (codes "frames 4" ∷ codes "frames 5" ∷ []) ≡ 4
+asks-first = ap frames_asked (frames_line-frames (codes "frames 4") (codes "frames 5" ∷ []) (text (codes "frames 4") refl, refl, refl)) ∙ asks
+
+-- behind other lines of the header too
+asks-behind_swap : header_frames (codes "swap 2" ∷ codes "frames 4" ∷ []) ≡ 4
+asks-behind_swap =
+    ap frames_asked (frames_line-other (codes "swap 2") (codes "frames 4" ∷ []) (text (codes "swap 2") refl, refl, refl))
+    ∙ ap frames_asked (frames_line-frames (codes "frames 4") [] (text (codes "frames 4") refl, refl, refl)) ∙ asks
+
+-- behind a command it says nothing: 64 is the default
+asks-behind_command : header_frames (codes "daemon" ∷ codes "frames 4" ∷ []) ≡ 64
+asks-behind_command = ap frames_asked (frames_line-behind (codes "daemon") (codes "frames 4" ∷ []) (rw (text (codes "daemon") refl) refl))
+
+-- a faulty first line asks for the default
+asks-faulty : frames_asked (Some (codes "frames 0")) ≡ 64
+asks-faulty = rw (text (codes "frames 0") refl) refl
