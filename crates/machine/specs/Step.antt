@@ -1,6 +1,6 @@
 -- What an event that is not refused may answer, and the state after it. By cases on the event, then on the state, then on the reply.
 -- Free are only: which takeable page is taken, and which free frame, swap block, page number and ticket number is used; and the byte that a read gives,
--- which the history says (IsRight). With those given, nothing else is free.
+-- which the history says (IsRight). With those given, nothing else that a look-up in a table can see is free.
 use Rattle.std.specs.Prelude.{◌≡◌, ℕ, ◌<◌, ◌==◌, ◌&&◌, ◌||◌, not, Bool, true, false, MatchBool, if◌then◌else◌, List, [], ◌∷◌, ◌++◌, slice_set, Option, Some, None}
 use Rattle.machine.specs.declared.record.Key.{Key}
 use Rattle.machine.specs.declared.record.Key.TheVariants as key

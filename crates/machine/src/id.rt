@@ -13,8 +13,8 @@ impl GroupId {
 #[derive(Clone, Copy, Debug, PartialEq, Eq)]
 pub struct TaskId(pub u32);
 
-/// A page. No more pages are there at once than there are frames and swap blocks, and their numbers are
-/// below that; a number is used again once its page is gone.
+/// A page. How many numbers there are comes from the opening, at least as many as frames and swap
+/// blocks; a number is used again once its page is gone.
 #[derive(Clone, Copy, Debug, PartialEq, Eq)]
 pub struct PageId(pub u32);
 

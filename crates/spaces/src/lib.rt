@@ -149,7 +149,8 @@ impl Spaces {
         }
     }
 
-    /// How many virtual pages of the task show a page (kernel: the resident set size, in pages).
+    /// How many virtual pages of the task show a page, in a frame or in swap (kernel: what `oom_badness`
+    /// counts, in pages).
     pub fn size(&self, task: TaskId) -> usize
         ensures { result ≡ size_of self.now.page_tables task.0 }
     {
