@@ -1,7 +1,7 @@
 //! A block device in memory.
 
 ghost use Rattle.std.specs.Prelude.{◌≡◌, ℕ, ◌+◌, ◌<◌, ◌≤◌, ◌↔◌, length, replicate, IfOk, IsErr, OnErr, IsTrue, if◌then◌else◌};
-ghost use Rattle.block_store.specs.Device.{held, ReadsBlock, WritesBlock};
+ghost use Rattle.block_store.specs.Device.{bytes_on, ReadsBlock, WritesBlock};
 ghost use Rattle.block_store.specs.Memory.{is_listed, counted, faults_left};
 
 use crate::device::{BLOCK_BYTES, BlockDevice, Fault};
@@ -104,7 +104,7 @@ impl BlockDevice for MemDevice {
 
         // Exactly the listed writes fail, and each fills its block with one byte.
         ensures fault { IsErr result ↔ IsTrue (is_listed self.old.write_faults self.old.writes) }
-        ensures spoiled { OnErr result (held self.new.disk.contents block ≡ replicate BLOCK_BYTES 255) }
+        ensures spoiled { OnErr result (bytes_on self.new.disk.contents block ≡ replicate BLOCK_BYTES 255) }
         ensures counted { self.new ≡ record self.old { disk = self.new.disk; writes = counted self.old.writes } }
     {
         if strikes(&mut self.writes, &self.write_faults) {

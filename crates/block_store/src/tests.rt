@@ -1,7 +1,7 @@
 //! What no clause says: each call once, and a generic caller.
 
 ghost use Rattle.std.specs.Prelude.{◌≡◌, ◌≢◌, ℕ, ◌+◌, ◌<◌, length, IfSome, OnSome, IfNone};
-ghost use Rattle.block_store.specs.Device.{held};
+ghost use Rattle.block_store.specs.Device.{bytes_on};
 
 use crate::{BLOCK_BYTES, BlockDevice, Fault, MemDevice, Slots};
 use std::test::Fail;
@@ -14,9 +14,9 @@ fn written_and_read<D: BlockDevice>(
 ) -> Option<[u8; BLOCK_BYTES]>
     requires { block < length (D.disk device.old).contents }
     ensures same { IfSome result (λ found. found ≡ bytes.now) }
-    ensures written { OnSome result (held (D.disk device.new).contents block ≡ bytes.now) }
+    ensures written { OnSome result (bytes_on (D.disk device.new).contents block ≡ bytes.now) }
     ensures blocks { length (D.disk device.new).contents ≡ length (D.disk device.old).contents }
-    ensures others { (k : ℕ) → k ≢ block → held (D.disk device.new).contents k ≡ held (D.disk device.old).contents k }
+    ensures others { (k : ℕ) → k ≢ block → bytes_on (D.disk device.new).contents k ≡ bytes_on (D.disk device.old).contents k }
     ensures good { OnSome result ((D.disk device.new).failures ≡ (D.disk device.old).failures) }
     ensures fault { IfNone result ((D.disk device.new).failures ≡ (D.disk device.old).failures + 1) }
 {

@@ -26,7 +26,7 @@ use Rattle.machine.specs.Reclaim.{target_of}
 use Rattle.machine.specs.Step.{Step}
 use Rattle.machine.specs.Lists.{Order, TakesNext, CursorsGoOn, Orders}
 use Rattle.machine.specs.History.{is_by, entries_by}
-use Rattle.machine.specs.Call.{Past, Caller, took, knows_pass, need, is_trace_full, entry_of, Answers, Served, Called}
+use Rattle.machine.specs.Call.{Past, Caller, took, knows_pass, need, is_trace_full, entry_of, Answers, Answered, Called}
 use Rattle.book.specs.declared.book.Book.TheInside.{Inside}
 use Rattle.page_state.specs.States.{StateOf}
 use Rattle.book.specs.Effects.{counting, counted_after}
@@ -93,7 +93,7 @@ pub called-stranger : (old : Past) (caller : Caller) (what : Event) → knows_pa
 called-stranger old caller what strange = rw strange (refl, refl)
 
 -- what is served, where it is no refusal
-served : (old : Past) (caller : Caller) (what : Event) (answer : Reply) (new : Past) → is_refused answer ≡ false → Answers old caller what answer new → Served old caller what answer new
+served : (old : Past) (caller : Caller) (what : Event) (answer : Reply) (new : Past) → is_refused answer ≡ false → Answers old caller what answer new → Answered old caller what answer new
 served old caller what (reply.Refused why) new e h = cc
 served old caller what answer new e h = h
 

@@ -21,7 +21,7 @@ use Rattle.machine.specs.State.{over_in}
 use Rattle.machine.specs.Reclaim.{has_takeable, has_transfer}
 use Rattle.machine.specs.Victim.{IsVictim}
 use Rattle.machine.specs.Step.{count_of, shown_of, with_setting}
-use Rattle.pages.specs.PagesOf.{byte_in, Stands}
+use Rattle.pages.specs.PagesOf.{byte_in, HasResidence}
 use Rattle.pages.specs.Tickets.{TicketOf}
 use Rattle.pages.specs.Transfers.{given_ticket}
 use Rattle.memory_events.specs.Tallies.{Tallies, Tells}
@@ -125,7 +125,7 @@ carries-fetch old new worker entry touch page ticket mapped is meets begins =
       page.0,
       meets.0,
       begins.frame,
-      subst (λ (b : ℕ). Stands new.tables.pages page.0 meets.0 (Coming begins.frame b ticket.number)) (sym (ap (λ (t : TicketOf). t.block) begins.given)) begins.placed.changed,
+      subst (λ (b : ℕ). HasResidence new.tables.pages page.0 meets.0 (Coming begins.frame b ticket.number)) (sym (ap (λ (t : TicketOf). t.block) begins.given)) begins.placed.changed,
       subst (λ (b : ℕ). ticket ≡ given_ticket ticket.number worker entry b ticket.bytes) (sym (ap (λ (t : TicketOf). t.block) begins.given)) begins.given,
     )
     tt

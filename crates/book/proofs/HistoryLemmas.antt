@@ -27,7 +27,7 @@ use Rattle.machine.specs.Legal.{Legal}
 use Rattle.machine.specs.History.{IsRight, Spot, InTask, Says, Byte, Nothing, says, says_if, follow, at_first, last, Fetched, fetched_by, fetch_of, HoldsLast, IsHonest, Honest, ticket_given, taker_or, taker, entries_by}
 use Rattle.machine.specs.Call.{is_full_for, knows_pass, entry_of}
 use Rattle.machine.proofs.TreeLemmas.{eq_cases}
-use Rattle.pages.specs.PagesOf.{Stands}
+use Rattle.pages.specs.PagesOf.{HasResidence}
 use Rattle.pages.specs.declared.flight.Flight.{Flight}
 use Rattle.memory_events.specs.Tallies.{Tells}
 use Rattle.page_state.specs.States.{StateOf, byte_at}
@@ -87,7 +87,7 @@ starts-says what answer t v o first quiet = cc
 
 -- what an honest arrival brought is the last write
 arrived_last : (old : StateOf) (history : List Entry) (what : Event) (answer : Reply) (t v o byte : ℕ)
-    → ((p g f b n : ℕ) → lives old.tables.tasks t ≡ true → mapped_at old.tables.page_tables t v ≡ Some p → Stands old.tables.pages p g (Coming f b n) → IsFetched history n t v)
+    → ((p g f b n : ℕ) → lives old.tables.tasks t ≡ true → mapped_at old.tables.page_tables t v ≡ Some p → HasResidence old.tables.pages p g (Coming f b n) → IsFetched history n t v)
     → (starts what answer t || lives old.tables.tasks t) ≡ true → IsHonest at_first history what → o < page_size → Arrives old what t v o byte → byte ≡ follow (says what answer (InTask t v o)) (last at_first history) (InTask t v o)
 arrived_last old history (event.Arrived ticket bytes) answer t v o byte coming living honest lt arrives =
     let fetched = coming arrives.0 arrives.1 arrives.2 arrives.3 ticket.0 living arrives.4 arrives.5 in
@@ -176,7 +176,7 @@ module _ (old new : StateOf) (history : List Entry) (counts : List ℕ) (worker 
         | inr follows ↦ follows.1 ∙ follow-same (says what answer (InTask t v o)) (byte_at_spot old) (last at_first history) (InTask t v o) (λ quiet. h.told.bytes honest.0 t v o (lived t v o alive quiet) lt follows.0)
       ]
 
-  coming_on : (t v p g f b n : ℕ) → lives new.tables.tasks t ≡ true → mapped_at new.tables.page_tables t v ≡ Some p → Stands new.tables.pages p g (Coming f b n) → IsFetched more n t v
+  coming_on : (t v p g f b n : ℕ) → lives new.tables.tasks t ≡ true → mapped_at new.tables.page_tables t v ≡ Some p → HasResidence new.tables.pages p g (Coming f b n) → IsFetched more n t v
   coming_on t v p g f b n alive shown stands =
       elim (h.makes_step.coming t v p g f b n alive shown stands) [
         | inl began ↦ fetch_began history worker what answer t v n began

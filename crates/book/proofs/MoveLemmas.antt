@@ -28,7 +28,7 @@ use Rattle.machine.proofs.Values.{unlike}
 use Rattle.machine.proofs.TreeLemmas.{eq_cases}
 use Rattle.machine.proofs.SlotLemmas.{one_if}
 use Rattle.machine.proofs.MappingLemmas.{mapped_at-one}
-use Rattle.pages.specs.PagesOf.{byte_in, Stands, anon_page, flight}
+use Rattle.pages.specs.PagesOf.{byte_in, HasResidence, anon_page, flight}
 use Rattle.pages.specs.declared.flight.Flight.{Flight}
 use Rattle.machine.specs.declared.record.Direction.{Direction}
 use Rattle.machine.specs.declared.record.Direction.TheVariants.{In, Out}
@@ -111,7 +111,7 @@ module _ (old new : StateOf) (what : Event) (answer : Reply) (p : ℕ) (to : Opt
       elim (eq_cases q p) [
         | inl same ↦ inl (move.coming t v g f b n (before ∙ ap Some same) (sym (ap (page_at new.tables.pages) same ∙ move.placed.changed) ∙ stands))
         | inr other ↦
-            (let stood : Stands old.tables.pages q g (Coming f b n) = sym (move.placed.others q other) ∙ stands in
+            (let stood : HasResidence old.tables.pages q g (Coming f b n) = sym (move.placed.others q other) ∙ stands in
             inr (record { shown = before; stands = stood; quiet = λ o. move.silent (InTask t v o); other = move.fresh n (under-taken old.tables.pages q n (coming-under old.tables.pages q g f b n stood)) }))
       ]
 
@@ -178,7 +178,7 @@ reads-fetch s t n place Read = tt
 reads-fetch s t n place (Write b) = tt
 
 -- an access to a page on its block begins to read it in, where its charge is granted: it needs an entry for the end too, and may want memory
-pub away-fetches : (s : State) (t v o p g b : ℕ) (op : Op) (task : Task) → task_at s.tasks t ≡ Some task → task.life ≡ Live → mapped_at s.page_tables t v ≡ Some p → Stands s.pages p g (Away b)
+pub away-fetches : (s : State) (t v o p g b : ℕ) (op : Op) (task : Task) → task_at s.tasks t ≡ Some task → task.life ≡ Live → mapped_at s.page_tables t v ≡ Some p → HasResidence s.pages p g (Away b)
     → over_in s g ≡ None → is_frame_free s ≡ true → fetches s t (Virtual v o) op ≡ true
 away-fetches s t v o p g b op task known live shown away under free = rw known (rw live (rw shown (rw away (rw under (rw free refl)))))
 
@@ -186,7 +186,7 @@ pub fetch-needs : (s : State) (t : ℕ) (place : Place) (op : Op) → fetches s 
 fetch-needs s t place op fetch = ap (λ b. cond b 2 1) fetch
 
 pub makes_step-fetch : (old new : StateOf) (worker t v o p g f b n : ℕ) (op : Op) (task : Task) → AreMapped old.tables.pages old.tables.page_tables
-    → task_at old.tables.tasks t ≡ Some task → task.life ≡ Live → mapped_at old.tables.page_tables t v ≡ Some p → Stands old.tables.pages p g (Away b)
+    → task_at old.tables.tasks t ≡ Some task → task.life ≡ Live → mapped_at old.tables.page_tables t v ≡ Some p → HasResidence old.tables.pages p g (Away b)
     → over_in old.tables g ≡ None → is_frame_free old.tables ≡ true → IsFreeFrame old.tables f → is_ticket_taken old.tables.pages n ≡ false
     → Changes old.tables.pages new.tables.pages p (Some (anon_page g (Coming f b n)))
     → new.tables ≡ record old.tables { pages = new.tables.pages }
@@ -350,7 +350,7 @@ no_coming-after false g g' f' b' n' r rests e =
     unlike (is_in_transfer (anon_page g r)) (ap (λ (r : Residence). is_in_transfer (anon_page g r)) same) rests
 
 -- the end of a transfer, whatever it comes to
-module _ (old new : StateOf) (worker p g n : ℕ) (from to : Residence) (what : Event) (stood : Stands old.tables.pages p g from) (moves : is_in_transfer (anon_page g from) ≡ true)
+module _ (old new : StateOf) (worker p g n : ℕ) (from to : Residence) (what : Event) (stood : HasResidence old.tables.pages p g from) (moves : is_in_transfer (anon_page g from) ≡ true)
     (rests : is_in_transfer (anon_page g to) ≡ false) (tables : new.tables ≡ record old.tables { pages = new.tables.pages }) (placed : Changes old.tables.pages new.tables.pages p (or_gone old.tables.page_tables p (anon_page g to)))
     (unlisted : Changes old.flights new.flights n None) (bytes : (q k : ℕ) → q ≢ p → byte_in new.bytes q k ≡ byte_in old.bytes q k) where
   pub makes_step-end : Steps old what reply.Ok new → Orders old.tables old.order what reply.Ok new.tables new.order → Tallied old what reply.Ok new → ReadsByte old what reply.Ok → ((spot : Spot) → says what reply.Ok spot ≡ Nothing) → ((u g : ℕ) → group_after what reply.Ok u g ≡ g)
@@ -378,15 +378,15 @@ module _ (old new : StateOf) (worker p g n : ℕ) (from to : Residence) (what : 
       omega (arith, less, was, now))
 
 -- a page that is being written out is in memory
-pub going-known : (pages : Pages) (p g f b n : ℕ) → Stands pages p g (Going f b n) → there_and (λ page. is_in_memory page.residence) (page_at pages p) ≡ true
+pub going-known : (pages : Pages) (p g f b n : ℕ) → HasResidence pages p g (Going f b n) → there_and (λ page. is_in_memory page.residence) (page_at pages p) ≡ true
 going-known pages p g f b n stands = ap (there_and (λ (page : Page). is_in_memory page.residence)) stands
 
 -- the page is in its frame, or on its block: what the machine's step says of it
-pub ends-in_frame : (old new : State) (p g f b : ℕ) (from : ℕ → ℕ → Residence) → Stands old.pages p g (from f b) → Changes old.pages new.pages p (or_gone old.page_tables p (anon_page g (Held f))) → new ≡ record old { pages = new.pages }
+pub ends-in_frame : (old new : State) (p g f b : ℕ) (from : ℕ → ℕ → Residence) → HasResidence old.pages p g (from f b) → Changes old.pages new.pages p (or_gone old.page_tables p (anon_page g (Held f))) → new ≡ record old { pages = new.pages }
     → EndsTransfer old from in_frame reply.Ok new
 ends-in_frame old new p g f b from stood placed same = record { p = p; page = anon_page g (from f b); frame = f; block = b; there = stood; moves = refl; placed = placed; answers = refl; state = same }
 
-pub ends-on_block : (old new : State) (p g f b : ℕ) (from : ℕ → ℕ → Residence) → Stands old.pages p g (from f b) → Changes old.pages new.pages p (or_gone old.page_tables p (anon_page g (Away b))) → new ≡ record old { pages = new.pages }
+pub ends-on_block : (old new : State) (p g f b : ℕ) (from : ℕ → ℕ → Residence) → HasResidence old.pages p g (from f b) → Changes old.pages new.pages p (or_gone old.page_tables p (anon_page g (Away b))) → new ≡ record old { pages = new.pages }
     → EndsTransfer old from on_block reply.Ok new
 ends-on_block old new p g f b from stood placed same = record { p = p; page = anon_page g (from f b); frame = f; block = b; there = stood; moves = refl; placed = placed; answers = refl; state = same }
 
@@ -396,7 +396,7 @@ ends-on_block old new p g f b from stood placed same = record { p = p; page = an
 not_away : {P : Type 0} (b : ℕ) → is_in_memory (Away b) ≡ true → P
 not_away b e = absurd (cc)
 
-pub makes_step-settled_in : (old new : StateOf) (worker p g f b : ℕ) (ticket : TicketOf) (end : End) → Stands old.tables.pages p g (Coming f b ticket.number) → Settles old new p g ticket.number (residence_after end f b)
+pub makes_step-settled_in : (old new : StateOf) (worker p g f b : ℕ) (ticket : TicketOf) (end : End) → HasResidence old.tables.pages p g (Coming f b ticket.number) → Settles old new p g ticket.number (residence_after end f b)
     → (end ≡ InFrame → (t v k : ℕ) → mapped_at old.tables.page_tables t v ≡ Some p → byte_in new.bytes p k ≡ slice_index ticket.bytes k) → MakesStep old worker (ended In end ticket) reply.Ok new
 makes_step-settled_in old new worker p g f b ticket InFrame stood ends own =
     makes_step-end old new worker p g ticket.number (Coming f b ticket.number) (Held f) (event.Arrived (record { 0 = ticket.number }) ticket.bytes) stood refl refl ends.tables ends.placed ends.unlisted ends.others
@@ -409,7 +409,7 @@ makes_step-settled_in old new worker p g f b ticket OnBlock stood ends own =
     (ends.held, ends.cursors) (λ c told. subst (λ (t : Tallies). Tells t c) (sym ends.tallies) told) tt (λ spot. refl) (λ u g. refl)
     (λ t v k shown there. not_away b there)
 
-pub makes_step-settled_out : (old new : StateOf) (worker p g f b : ℕ) (ticket : TicketOf) (end : End) → Stands old.tables.pages p g (Going f b ticket.number) → Settles old new p g ticket.number (residence_after end f b)
+pub makes_step-settled_out : (old new : StateOf) (worker p g f b : ℕ) (ticket : TicketOf) (end : End) → HasResidence old.tables.pages p g (Going f b ticket.number) → Settles old new p g ticket.number (residence_after end f b)
     → (end ≡ InFrame → (t v k : ℕ) → mapped_at old.tables.page_tables t v ≡ Some p → byte_in new.bytes p k ≡ byte_in old.bytes p k) → MakesStep old worker (ended Out end ticket) reply.Ok new
 makes_step-settled_out old new worker p g f b ticket InFrame stood ends own =
     makes_step-end old new worker p g ticket.number (Going f b ticket.number) (Held f) (event.LeaveFailed (record { 0 = ticket.number })) stood refl refl ends.tables ends.placed ends.unlisted ends.others

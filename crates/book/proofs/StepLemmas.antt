@@ -33,7 +33,7 @@ use Rattle.machine.specs.Step.{Step, ChargeStep, MeetStep, TaskStep, LifeStep, R
 use Rattle.machine.specs.History.{Spot, InTask, Says, Nothing, says, follow, ticket_given, taker_or}
 use Rattle.machine.specs.declared.record.Direction.{Direction}
 use Rattle.machine.specs.declared.record.Direction.TheVariants.{In, Out}
-use Rattle.pages.specs.PagesOf.{byte_in, moving, Stands}
+use Rattle.pages.specs.PagesOf.{byte_in, moving, HasResidence}
 use Rattle.pages.specs.declared.flight.Flight.{Flight}
 use Rattle.memory_events.specs.Tallies.{Tells}
 use Rattle.page_state.specs.States.{StateOf, byte_shown, byte_at}
@@ -206,7 +206,7 @@ makes_step-unmapped s worker t v o task is living none within listed =
     (sym (ap (λ m. byte_shown s.bytes m o) none), (ap (is_known s.tables.pages) none, within)) (access-needs s.tables t (Virtual v o) Read)
 
 pub makes_step-hit_read : (s : StateOf) (worker t v o p g f : ℕ) (task : Task) → task_at s.tables.tasks t ≡ Some task → task.life ≡ Live → mapped_at s.tables.page_tables t v ≡ Some p
-    → Stands s.tables.pages p g (Held f) → o < page_size → InOrder s
+    → HasResidence s.tables.pages p g (Held f) → o < page_size → InOrder s
     → MakesStep s worker (event.Access (record { 0 = t }) (Virtual v o) Read) (reply.Done (byte_in s.bytes p o) (Some (record { 0 = f }))) s
 makes_step-hit_read s worker t v o p g f task is living shown page within listed =
     makes_step-still s s worker (event.Access (record { 0 = t }) (Virtual v o) Read) (reply.Done (byte_in s.bytes p o) (Some (record { 0 = f }))) (still-self s) (record { says = λ spot. refl; ticket = refl; groups = λ u g. refl; given = refl })
@@ -239,12 +239,12 @@ reads-no_frame s t place Read = tt
 reads-no_frame s t place (Write b) = tt
 
 pub makes_step-busy : (s : StateOf) (worker t v o p g f b n : ℕ) (direction : Direction) (op : Op) (task : Task) → task_at s.tables.tasks t ≡ Some task → task.life ≡ Live → mapped_at s.tables.page_tables t v ≡ Some p
-    → Stands s.tables.pages p g (moving direction f b n) → InOrder s → MakesStep s worker (event.Access (record { 0 = t }) (Virtual v o) op) reply.Busy s
+    → HasResidence s.tables.pages p g (moving direction f b n) → InOrder s → MakesStep s worker (event.Access (record { 0 = t }) (Virtual v o) op) reply.Busy s
 makes_step-busy s worker t v o p g f b n direction op task is living shown page listed =
     makes_step-still s s worker (event.Access (record { 0 = t }) (Virtual v o) op) reply.Busy (still-self s) (quiet-busy t (Virtual v o) op)
     (λ c told. live_step (counting s.tables c) _ task _ _ _ is living (meets_transfer c direction page)) (order-still s s listed refl refl) (λ c told. told) (reads-busy s t (Virtual v o) op) (access-needs s.tables t (Virtual v o) op)
   where
-    meets_transfer : (c : List Counted) (direction : Direction) → Stands s.tables.pages p g (moving direction f b n)
+    meets_transfer : (c : List Counted) (direction : Direction) → HasResidence s.tables.pages p g (moving direction f b n)
         → MeetStep (counting s.tables c) t task.group.0 op (meets (counting s.tables c) t (Virtual v o) op) reply.Busy (counting s.tables c)
     meets_transfer c In page = rw shown (rw page (refl, refl))
     meets_transfer c Out page = rw shown (rw page (refl, refl))
@@ -300,11 +300,11 @@ pub unmapped-no_frame : (s : State) (t v o b g : ℕ) → mapped_at s.page_table
 unmapped-no_frame s t v o b g none under taken c = rw none (frameless_step (counting s c) _ _ _ under taken)
 
 -- an access to a page on its block
-pub away-over : (s : State) (t v o p g own b a : ℕ) (op : Op) → mapped_at s.page_tables t v ≡ Some p → Stands s.pages p g (Away b) → over_in s g ≡ Some a
+pub away-over : (s : State) (t v o p g own b a : ℕ) (op : Op) → mapped_at s.page_tables t v ≡ Some p → HasResidence s.pages p g (Away b) → over_in s g ≡ Some a
     → (c : List Counted) → MeetStep (counting s c) t own op (meets (counting s c) t (Virtual v o) op) (reply.Over (record { 0 = a })) (counting s (c ++ count_of a key.Max ∷ []))
 away-over s t v o p g own b a op shown away full c = rw shown (rw away (over_step (counting s c) _ _ _ a full))
 
-pub away-no_frame : (s : State) (t v o p g own b : ℕ) (op : Op) → mapped_at s.page_tables t v ≡ Some p → Stands s.pages p g (Away b) → over_in s g ≡ None → is_frame_free s ≡ false
+pub away-no_frame : (s : State) (t v o p g own b : ℕ) (op : Op) → mapped_at s.page_tables t v ≡ Some p → HasResidence s.pages p g (Away b) → over_in s g ≡ None → is_frame_free s ≡ false
     → (c : List Counted) → MeetStep (counting s c) t own op (meets (counting s c) t (Virtual v o) op) reply.NoFrame (counting s c)
 away-no_frame s t v o p g own b op shown away under taken c = rw shown (rw away (frameless_step (counting s c) _ _ _ under taken))
 

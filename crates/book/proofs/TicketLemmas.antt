@@ -9,13 +9,13 @@ use Rattle.book.specs.declared.event.Reply.{Reply}
 use Rattle.book.specs.declared.event.Reply.TheVariants as reply
 use Rattle.page_state.specs.States.{StateOf, byte_shown}
 use Rattle.book.specs.Effects.{is_in_memory, is_known}
-use Rattle.book.specs.Replies.{Gives}
+use Rattle.book.specs.Replies.{HandsOut}
 use Rattle.book.specs.MakesStep.{GivesTicket}
 use Rattle.book.specs.Told.{state_of, IsHistory}
 
 -- a ticket that the parts give out, as a book gives it
 pub gives_more : (new : StateOf) (history : List Entry) (counts : List ℕ) (passes worker entry : ℕ) (answer : Reply) → IsHistory new history counts → entry ≡ length history → GivesTicket new worker entry answer
-    → Gives (record { state = state_of new history; history = history; order = new.order; passes = passes }) worker answer
+    → HandsOut (record { state = state_of new history; history = history; order = new.order; passes = passes }) worker answer
 gives_more new history counts passes worker entry (reply.Fetch ticket) told newest gives =
     record {
       p = gives.0;

@@ -22,7 +22,7 @@ use Rattle.machine.proofs.Values.{some_inj, unlike}
 use Rattle.machine.proofs.TreeLemmas.{eq_cases}
 use Rattle.machine.proofs.SlotLemmas.{one_if}
 use Rattle.machine.proofs.MappingLemmas.{mapped_at-mappers, mapped_at-one}
-use Rattle.pages.specs.PagesOf.{byte_in, Stands, anon_page}
+use Rattle.pages.specs.PagesOf.{byte_in, HasResidence, anon_page}
 use Rattle.memory_events.specs.Tallies.{Tells}
 use Rattle.page_state.specs.States.{StateOf, byte_shown, byte_at}
 use Rattle.page_state.specs.Changes.{StartsTask}
@@ -67,7 +67,7 @@ unlike_held : {P : Type 0} (slot : Option Page) (g f g' f' b' n' : ℕ) → slot
 unlike_held slot g f g' f' b' n' is also = unlike (there_and is_in_transfer slot) (ap (there_and is_in_transfer) also) (ap (there_and is_in_transfer) is)
 
 pub makes_step-hit_write : (old new : StateOf) (worker t v o b p g f : ℕ) (task : Task) → AreMapped old.tables.pages old.tables.page_tables
-    → task_at old.tables.tasks t ≡ Some task → task.life ≡ Live → mapped_at old.tables.page_tables t v ≡ Some p → Stands old.tables.pages p g (Held f)
+    → task_at old.tables.tasks t ≡ Some task → task.life ≡ Live → mapped_at old.tables.page_tables t v ≡ Some p → HasResidence old.tables.pages p g (Held f)
     → new.tables ≡ old.tables → ((q k : ℕ) → byte_in new.bytes q k ≡ (if (q == p) && (o == k) then b else byte_in old.bytes q k)) → new.flights ≡ old.flights
     → InOrder old → new.order ≡ old.order → ((c : List Counted) → Tells old.tallies c → Tells new.tallies c)
     → MakesStep old worker (event.Access (record { 0 = t }) (Virtual v o) (Write b)) (reply.Done b (Some (record { 0 = f }))) new
@@ -84,7 +84,7 @@ makes_step-hit_write old new worker t v o b p g f task mapped is living shown pa
       );
       coming = λ u w q g' f' b' n alive there stands.
           (let before : mapped_at old.tables.page_tables u w ≡ Some q = sym (ap (λ (s : State). mapped_at s.page_tables u w) tables) ∙ there in
-          let stood : Stands old.tables.pages q g' (Coming f' b' n) = sym (ap (λ (s : State). page_at s.pages q) tables) ∙ stands in
+          let stood : HasResidence old.tables.pages q g' (Coming f' b' n) = sym (ap (λ (s : State). page_at s.pages q) tables) ∙ stands in
           inr (record {
             shown = before;
             stands = stood;
@@ -209,7 +209,7 @@ makes_step-made old new worker t v o b p f task mapped is living none under free
     known_at u w false miss known =
         known_old u w (mapped_at old.tables.page_tables u w) refl (sym (ap (is_known new.tables.pages) (shown.others u w miss)) ∙ known)
 
-    coming_at : (u w q g' f' b' n : ℕ) → mapped_at new.tables.page_tables u w ≡ Some q → Stands new.tables.pages q g' (Coming f' b' n) → (test : Bool) → ((t == u) && (v == w)) ≡ test
+    coming_at : (u w q g' f' b' n : ℕ) → mapped_at new.tables.page_tables u w ≡ Some q → HasResidence new.tables.pages q g' (Coming f' b' n) → (test : Bool) → ((t == u) && (v == w)) ≡ test
         → StaysComing old (event.Access (record { 0 = t }) (Virtual v o) (Write b)) (reply.Done b None) u w q g' f' b' n
     coming_at u w q g' f' b' n there stands true hit =
         let same : q ≡ p = some_inj (sym there ∙ shows u w hit) in

@@ -17,7 +17,7 @@ use Rattle.machine.specs.Refusals.{refusal}
 use Rattle.machine.specs.Reclaim.{stands, target_of, has_takeable, has_transfer}
 use Rattle.machine.specs.Victim.{IsVictim}
 use Rattle.machine.specs.Lists.{Order, served}
-use Rattle.pages.specs.PagesOf.{moving, Stands}
+use Rattle.pages.specs.PagesOf.{moving, HasResidence}
 use Rattle.page_state.specs.States.{StateOf}
 use Rattle.page_state.specs.Changes.{HasRoom, LacksRoom}
 use Rattle.book.specs.declared.event.Reply.{Reply as Given}
@@ -43,16 +43,16 @@ pub record IsTouch (s : State) (touch : Touch) : Type 0 where
 -- it needs a charge to g: a write where nothing is mapped to the task's own group, a page on its block to the page's
 pub data NeedsCharge (s : State) (touch : Touch) (g : ℕ) : Type 0 where
   ForNew : (byte : ℕ) → touch.op ≡ Write byte → mapped_at s.page_tables touch.task.0 touch.at ≡ None → g ≡ touch.group.0 → NeedsCharge s touch g
-  ForAway : (p block : ℕ) → mapped_at s.page_tables touch.task.0 touch.at ≡ Some p → Stands s.pages p g (Away block) → NeedsCharge s touch g
+  ForAway : (p block : ℕ) → mapped_at s.page_tables touch.task.0 touch.at ≡ Some p → HasResidence s.pages p g (Away block) → NeedsCharge s touch g
 
 -- what it meets, and whether the charge that it needs is granted
 abbrev pub MeetsSo : State → Touch → Meeting → Type 0
 MeetsSo s touch meeting.Unmapped = (touch.op ≡ Read) × (mapped_at s.page_tables touch.task.0 touch.at ≡ None)
-MeetsSo s touch (meeting.Hits p frame) = (g : ℕ) × (mapped_at s.page_tables touch.task.0 touch.at ≡ Some p.0) × Stands s.pages p.0 g (Held frame.0)
+MeetsSo s touch (meeting.Hits p frame) = (g : ℕ) × (mapped_at s.page_tables touch.task.0 touch.at ≡ Some p.0) × HasResidence s.pages p.0 g (Held frame.0)
 MeetsSo s touch meeting.Transferring =
-    (direction : Direction) × (p : ℕ) × (g : ℕ) × (f : ℕ) × (b : ℕ) × (n : ℕ) × (mapped_at s.page_tables touch.task.0 touch.at ≡ Some p) × Stands s.pages p g (moving direction f b n)
+    (direction : Direction) × (p : ℕ) × (g : ℕ) × (f : ℕ) × (b : ℕ) × (n : ℕ) × (mapped_at s.page_tables touch.task.0 touch.at ≡ Some p) × HasResidence s.pages p g (moving direction f b n)
 MeetsSo s touch (meeting.NeedsPage byte) = (touch.op ≡ Write byte) × (mapped_at s.page_tables touch.task.0 touch.at ≡ None) × HasRoom s touch.group.0
-MeetsSo s touch (meeting.NeedsSwapIn p) = (g : ℕ) × (b : ℕ) × (mapped_at s.page_tables touch.task.0 touch.at ≡ Some p.0) × Stands s.pages p.0 g (Away b) × HasRoom s g
+MeetsSo s touch (meeting.NeedsSwapIn p) = (g : ℕ) × (b : ℕ) × (mapped_at s.page_tables touch.task.0 touch.at ≡ Some p.0) × HasResidence s.pages p.0 g (Away b) × HasRoom s g
 MeetsSo s touch (meeting.Lacks why) = (g : ℕ) × NeedsCharge s touch g × LacksRoom s g why
 
 -- ---- decisions

@@ -16,7 +16,7 @@ use Rattle.machine.specs.Reclaim.{target_of}
 use Rattle.machine.specs.Step.{Step, count_of}
 use Rattle.machine.specs.Access.{page_size}
 use Rattle.machine.specs.History.{Spot, InTask, spot_of, Nothing, says, follow, ticket_given, taker_or}
-use Rattle.pages.specs.PagesOf.{Stands}
+use Rattle.pages.specs.PagesOf.{HasResidence}
 use Rattle.pages.specs.declared.flight.Flight.{Flight}
 use Rattle.memory_events.specs.Tallies.{Tells}
 use Rattle.page_state.specs.States.{StateOf, byte_at}
@@ -84,7 +84,7 @@ ReadsByte old what answer = Unit {0}
 -- the page at the place was being read in under the ticket that arrived, and this is its byte
 abbrev pub Arrives : StateOf → Event → ℕ → ℕ → ℕ → ℕ → Type 0
 Arrives old (event.Arrived ticket arrived) t v o byte =
-    (p : ℕ) × (g : ℕ) × (f : ℕ) × (b : ℕ) × (mapped_at old.tables.page_tables t v ≡ Some p) × Stands old.tables.pages p g (Coming f b ticket.0) × (byte ≡ slice_index arrived o)
+    (p : ℕ) × (g : ℕ) × (f : ℕ) × (b : ℕ) × (mapped_at old.tables.page_tables t v ≡ Some p) × HasResidence old.tables.pages p g (Coming f b ticket.0) × (byte ≡ slice_index arrived o)
 Arrives old what t v o byte = ⊥
 
 -- the byte was in memory, and is what the event says of it, or as it was
@@ -107,14 +107,14 @@ IsFetchOf what answer t v n = ⊥
 -- the page at the place was being read in before, and the event says nothing of it
 pub record StaysComing (old : StateOf) (what : Event) (answer : Reply) (t v p g f b n : ℕ) : Type 0 where
   pub shown : mapped_at old.tables.page_tables t v ≡ Some p
-  pub stands : Stands old.tables.pages p g (Coming f b n)
+  pub stands : HasResidence old.tables.pages p g (Coming f b n)
   pub quiet : (o : ℕ) → says what answer (InTask t v o) ≡ Nothing
   pub other : is_number (ticket_given answer) n ≡ false
 
 -- each page of a live task that is being read in
 abbrev pub ChangesComing : StateOf → Event → Reply → StateOf → Type 0
 ChangesComing old what answer new =
-    (t v p g f b n : ℕ) → lives new.tables.tasks t ≡ true → mapped_at new.tables.page_tables t v ≡ Some p → Stands new.tables.pages p g (Coming f b n)
+    (t v p g f b n : ℕ) → lives new.tables.tasks t ≡ true → mapped_at new.tables.page_tables t v ≡ Some p → HasResidence new.tables.pages p g (Coming f b n)
     → IsFetchOf what answer t v n ⊎ StaysComing old what answer t v p g f b n
 
 abbrev pub worker_of : Option Flight → Option ℕ

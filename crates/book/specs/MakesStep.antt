@@ -9,7 +9,7 @@ use Rattle.machine.specs.Tasks.{lives}
 use Rattle.machine.specs.Access.{page_size}
 use Rattle.machine.specs.Lists.{Orders}
 use Rattle.machine.specs.Call.{need}
-use Rattle.pages.specs.PagesOf.{byte_in, Stands}
+use Rattle.pages.specs.PagesOf.{byte_in, HasResidence}
 use Rattle.pages.specs.Transfers.{given_ticket}
 use Rattle.book.specs.declared.event.Reply.{Reply as Given}
 use Rattle.book.specs.declared.event.Reply.TheVariants as given
@@ -66,8 +66,8 @@ RepliesTo what said = ⊥
 -- the ticket that is given out is that of a page in transfer; and a write-out has the page's bytes
 abbrev pub GivesTicket : StateOf → ℕ → ℕ → Given → Type 0
 GivesTicket new worker entry (given.Fetch ticket) =
-    (p : ℕ) × (g : ℕ) × (f : ℕ) × Stands new.tables.pages p g (Coming f ticket.block ticket.number) × (ticket ≡ given_ticket ticket.number worker entry ticket.block ticket.bytes)
+    (p : ℕ) × (g : ℕ) × (f : ℕ) × HasResidence new.tables.pages p g (Coming f ticket.block ticket.number) × (ticket ≡ given_ticket ticket.number worker entry ticket.block ticket.bytes)
 GivesTicket new worker entry (given.Out ticket) =
-    (p : ℕ) × (g : ℕ) × (f : ℕ) × Stands new.tables.pages p g (Going f ticket.block ticket.number) × (ticket ≡ given_ticket ticket.number worker entry ticket.block ticket.bytes)
+    (p : ℕ) × (g : ℕ) × (f : ℕ) × HasResidence new.tables.pages p g (Going f ticket.block ticket.number) × (ticket ≡ given_ticket ticket.number worker entry ticket.block ticket.bytes)
     × ((o : ℕ) → o < page_size → slice_index ticket.bytes o ≡ byte_in new.bytes p o)
 GivesTicket new worker entry said = Unit {0}

@@ -127,7 +127,7 @@ pub record GivesOut (past : Past) (worker : ℕ) (ticket : TicketOf) : Type 0 wh
       → slice_index ticket.bytes o ≡ last at_first past.history (InTask t v o)
 
 -- what a reply gives out, after the call
-abbrev pub Gives : Past → ℕ → Reply → Type 0
-Gives past worker (reply.Fetch ticket) = GivesIn past worker ticket
-Gives past worker (reply.Out ticket) = GivesOut past worker ticket
-Gives past worker said = Unit {0}
+abbrev pub HandsOut : Past → ℕ → Reply → Type 0
+HandsOut past worker (reply.Fetch ticket) = GivesIn past worker ticket
+HandsOut past worker (reply.Out ticket) = GivesOut past worker ticket
+HandsOut past worker said = Unit {0}

@@ -9,7 +9,7 @@ use Rattle.machine.specs.Access.{page_size}
 use Rattle.machine.specs.State.{State}
 use Rattle.machine.specs.Legal.{Legal}
 use Rattle.machine.specs.History.{Right, InTask, at_offset, at_first, last, Fetched, fetch_of, Honest, taker, entries_by, Numbered}
-use Rattle.pages.specs.PagesOf.{Stands}
+use Rattle.pages.specs.PagesOf.{HasResidence}
 use Rattle.memory_events.specs.Tallies.{Tells}
 use Rattle.page_state.specs.States.{StateOf, byte_at}
 use Rattle.book.specs.Effects.{counting, counted_after, group_after, knows}
@@ -41,7 +41,7 @@ pub record IsHistory (c : StateOf) (history : List Entry) (counts : List ℕ) : 
   pub numbered : Numbered history
   -- the byte at each live task's place that is in memory is the one last written there
   pub bytes : Honest at_first history → (t v o : ℕ) → lives c.tables.tasks t ≡ true → o < page_size → knows c t v ≡ true → byte_at c t v o ≡ last at_first history (InTask t v o)
-  pub coming : (t v p g f b n : ℕ) → lives c.tables.tasks t ≡ true → mapped_at c.tables.page_tables t v ≡ Some p → Stands c.tables.pages p g (Coming f b n) → IsFetched history n t v
+  pub coming : (t v p g f b n : ℕ) → lives c.tables.tasks t ≡ true → mapped_at c.tables.page_tables t v ≡ Some p → HasResidence c.tables.pages p g (Coming f b n) → IsFetched history n t v
   pub takers : (n : ℕ) → IfSome (at c.flights n) (λ f. taker n history ≡ Some f.worker.0)
   pub groups : (t : ℕ) → group_of_task c.tables.tasks t ≡ group_in history t
   pub tallied : Tells c.tallies (counted_in history)

@@ -9,7 +9,7 @@ ghost use Rattle.machine.specs.Lists.{ListsHeld};
 ghost use Rattle.machine.specs.History.{Right, IsRight, Honest, Numbered, at_first};
 ghost use Rattle.machine.specs.Call.{first_past, took, Called};
 ghost use Rattle.book.specs.Events.{event_of, reply_of, ended, ended_with};
-ghost use Rattle.book.specs.Replies.{Replies, IsInReply, IsOutReply, IsBack, HandsBack, KeepsTicket, Gives};
+ghost use Rattle.book.specs.Replies.{Replies, IsInReply, IsOutReply, IsBack, HandsBack, KeepsTicket, HandsOut};
 ghost use Rattle.book.specs.MakesStep.{IsAsked, RepliesTo};
 
 use crate::apply::apply;
@@ -128,7 +128,7 @@ impl Book {
         ensures called { Called self.old pass.old (event_of event) (reply_of result) self.new }
         ensures reads { Honest at_first self.old.history → IsRight at_first self.old.history (event_of event) (reply_of result) }
         ensures replies { Replies event result }
-        ensures gives { Gives self.new pass.old.worker result }
+        ensures gives { HandsOut self.new pass.old.worker result }
         ensures keeps { KeepsTicket pass.old.worker event result }
         ensures pass { pass.new.worker ≡ pass.old.worker }
         ensures passes { self.new.passes ≡ self.old.passes }
@@ -162,7 +162,7 @@ impl Book {
         ensures called { Called self.old (record { worker = worker.0 }) event (reply_of result) self.new }
         ensures reads { Honest at_first self.old.history → IsRight at_first self.old.history event (reply_of result) }
         ensures replies { RepliesTo event result }
-        ensures gives { Gives self.new worker.0 result }
+        ensures gives { HandsOut self.new worker.0 result }
         ensures passes { self.new.passes ≡ self.old.passes }
     {
         let decided = match decide(&self.state, &event) {

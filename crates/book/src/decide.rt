@@ -5,7 +5,7 @@ ghost use Rattle.std.specs.Prelude.{◌≡◌, ℕ, true, None, Some, MatchResul
 ghost use Rattle.machine.specs.declared.event.Event.TheVariants as event;
 ghost use Rattle.machine.specs.Tree.{is_live};
 ghost use Rattle.machine.specs.Pages as residence;
-ghost use Rattle.pages.specs.PagesOf.{Stands};
+ghost use Rattle.pages.specs.PagesOf.{HasResidence};
 ghost use Rattle.machine.specs.Tasks.{task_at, mapped_at};
 ghost use Rattle.machine.specs.Reclaim.{stands, target_of};
 ghost use Rattle.machine.specs.Refusals.{refusal, below_target, bars_children, bars_tasks, file_refusal, show_refusal, spawn_refusal};
@@ -139,7 +139,7 @@ fn meet_page(state: &State, touch: Touch, page: PageId) -> Meeting
 /// An access to a page on its block.
 fn meet_away(state: &State, touch: Touch, page: PageId) -> Meeting
     requires shown { mapped_at state.now.tables.page_tables touch.task.0 touch.at ≡ Some page.0 }
-    requires away { (g b : ℕ) × Stands state.now.tables.pages page.0 g (residence.Away b) }
+    requires away { (g b : ℕ) × HasResidence state.now.tables.pages page.0 g (residence.Away b) }
     ensures { MeetsSo state.now.tables touch result }
 {
     state.is_joined();

@@ -22,7 +22,7 @@ use Rattle.machine.specs.Tasks.{Tasks, task_at, live_tasks}
 use Rattle.machine.specs.State.{State}
 use Rattle.machine.specs.Access.{is_place}
 use Rattle.machine.specs.Refusals.{refusal, first_cause, bars_children, bars_tasks, number_refusal, life_refusal, task_refusal, below_refusal, mkdir_refusal, file_refusal, below_target, show_refusal}
-use Rattle.machine.specs.Call.{Past, Caller, Answers, Refuses, Served, JudgedBy, Called, knows_pass, is_trace_full}
+use Rattle.machine.specs.Call.{Past, Caller, Answers, Refuses, Answered, JudgedBy, Called, knows_pass, is_trace_full}
 use Rattle.pages.specs.Tickets.{TicketOf}
 use Rattle.book.specs.declared.event.Reply.{Reply as Book_reply}
 use Rattle.book.specs.declared.event.Reply.TheVariants as said
@@ -119,14 +119,14 @@ pub data Comes (old : Past) (caller : Caller) (what : Event) (answer : Reply) (n
   ByRefusal : IsRefused old answer new → Comes old caller what answer new
   ByEntry : IsServed old caller what answer new → Comes old caller what answer new
 
-served_comes : (old new : Past) (caller : Caller) (what : Event) (answer : Reply) → refusal old.state what ≡ None → is_trace_full old what ≡ false → Served old caller what answer new → Comes old caller what answer new
+served_comes : (old new : Past) (caller : Caller) (what : Event) (answer : Reply) → refusal old.state what ≡ None → is_trace_full old what ≡ false → Answered old caller what answer new → Comes old caller what answer new
 served_comes old new caller what (reply.Refused why) none room h = ByRefusal (record { why = why; refused = refl; known = λ e. (let is = h.0 in cc); same = h.2 })
 served_comes old new caller what answer none room h = ByEntry (record { unrefused = none; room = room; done = λ why e. cc; answers = h })
 
 pub called_comes : (old new : Past) (caller : Caller) (what : Event) (answer : Reply) → knows_pass old.state old.history caller what ≡ true → Called old caller what answer new → Comes old caller what answer new
 called_comes old new caller what answer known called = by_known (knows_pass old.state old.history caller what) known called
   where
-    by_room : (full : Bool) → is_trace_full old what ≡ full → refusal old.state what ≡ None → MatchBool full (Refuses old TraceFull answer new) (Served old caller what answer new) → Comes old caller what answer new
+    by_room : (full : Bool) → is_trace_full old what ≡ full → refusal old.state what ≡ None → MatchBool full (Refuses old TraceFull answer new) (Answered old caller what answer new) → Comes old caller what answer new
     by_room true is none h = ByRefusal (record { why = TraceFull; refused = h.0; known = λ e. cc; same = h.1 })
     by_room false is none h = served_comes old new caller what answer none is h
 

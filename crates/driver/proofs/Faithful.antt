@@ -28,13 +28,13 @@ use Rattle.machine.specs.Call.{Past}
 use Rattle.machine.specs.Legal.{Legal}
 use Rattle.machine.proofs.Values.{some_inj, never_some, unlike}
 use Rattle.block_store.specs.declared.device.Fault.{Fault}
-use Rattle.block_store.specs.Device.{Disk, held, KeepsOthers, ReadsBlock, WritesBlock}
+use Rattle.block_store.specs.Device.{Disk, bytes_on, KeepsOthers, ReadsBlock, WritesBlock}
 use Rattle.pages.specs.Tickets.{TicketOf}
 use Rattle.book.specs.declared.event.Event.{Event}
 use Rattle.book.specs.declared.event.Event.TheVariants as event
 use Rattle.book.specs.declared.event.Reply.{Reply}
 use Rattle.book.specs.Events.{event_of, reply_of}
-use Rattle.book.specs.Replies.{Gives, GivesOut}
+use Rattle.book.specs.Replies.{HandsOut, GivesOut}
 use Rattle.driver.specs.declared.turn.Access.{Access}
 use Rattle.driver.specs.declared.turn.Resume.{Resume}
 use Rattle.driver.specs.declared.turn.Pending.{Pending}
@@ -65,8 +65,8 @@ PlacesHold past number bytes =
 
 -- what an ending brings: the bytes of its block; or that its block holds the page
 abbrev pub BringsPending : Past → List (List ℕ) → Event → Type 0
-BringsPending past contents (event.Arrived ticket) = ticket.bytes ≡ held contents ticket.block
-BringsPending past contents (event.Left ticket) = PlacesHold past ticket.number (held contents ticket.block)
+BringsPending past contents (event.Arrived ticket) = ticket.bytes ≡ bytes_on contents ticket.block
+BringsPending past contents (event.Left ticket) = PlacesHold past ticket.number (bytes_on contents ticket.block)
 BringsPending past contents what = Unit {0}
 
 abbrev pub BringsWanted : Past → List (List ℕ) → Want → Type 0
@@ -90,12 +90,12 @@ stored_at residence = None
 abbrev pub IsStored : Past → List (List ℕ) → Type 0
 IsStored past contents =
     (t v p b o : ℕ) (page : Page) → mapped_at past.state.page_tables t v ≡ Some p → page_at past.state.pages p ≡ Some page → stored_at page.residence ≡ Some b → o < page_size
-    → slice_index (held contents b) o ≡ last at_first past.history (InTask t v o)
+    → slice_index (bytes_on contents b) o ≡ last at_first past.history (InTask t v o)
 
 -- the block of a page that is being read in holds what was last written when that began
 abbrev pub IsFetched : Past → List (List ℕ) → Type 0
 IsFetched past contents =
-    (p f b n : ℕ) (page : Page) → page_at past.state.pages p ≡ Some page → page.residence ≡ Coming f b n → HoldsLast at_first (held contents b) (fetch_of n past.history)
+    (p f b n : ℕ) (page : Page) → page_at past.state.pages p ≡ Some page → page.residence ≡ Coming f b n → HoldsLast at_first (bytes_on contents b) (fetch_of n past.history)
 
 -- what is known of a past and of a device
 pub record Holds (opening : Opening) (past : Past) (contents : List (List ℕ)) : Type 0 where
@@ -222,18 +222,18 @@ module _ (opening : Opening) (old new : Past) (contents : List (List ℕ)) (what
       place : (mapped_at old.state.page_tables t v ≡ Some p) × ((o : ℕ) → last at_first new.history (InTask t v o) ≡ last at_first old.history (InTask t v o))
       place = place_on t v p page mapped there (stored_frameless page.residence b stands)
 
-      before_stored : (before : Page) → page_at old.state.pages p ≡ Some before → stored_at before.residence ≡ Some b → slice_index (held contents b) o ≡ last at_first new.history (InTask t v o)
+      before_stored : (before : Page) → page_at old.state.pages p ≡ Some before → stored_at before.residence ≡ Some b → slice_index (bytes_on contents b) o ≡ last at_first new.history (InTask t v o)
       before_stored before at block = h.stored t v p b o before place.0 at block within ∙ sym (place.1 o)
 
-      by_left : (k : EndsOnBlock Out old.state (event_of what) p page.residence) → (own : TicketOf) → what ≡ event.Left own → own.number ≡ k.ticket.0 → k.block ≡ b → slice_index (held contents b) o ≡ last at_first new.history (InTask t v o)
+      by_left : (k : EndsOnBlock Out old.state (event_of what) p page.residence) → (own : TicketOf) → what ≡ event.Left own → own.number ≡ k.ticket.0 → k.block ≡ b → slice_index (bytes_on contents b) o ≡ last at_first new.history (InTask t v o)
       by_left k own is number block =
-          let hold : PlacesHold old own.number (held contents own.block) = subst (λ (e : Event). BringsPending old contents e) is brings in
+          let hold : PlacesHold old own.number (bytes_on contents own.block) = subst (λ (e : Event). BringsPending old contents e) is brings in
           let kept : IsGoing old own = subst (λ (e : Event). KeepsPending old e) is keeps in
           let going : k.before.residence ≡ Going k.frame k.block own.number = k.flew ∙ ap (λ n. Going k.frame k.block n) (sym number) in
           let same : own.block ≡ b = sym (going_block own p k.frame k.block k.before kept k.there going) ∙ block in
-          ap (λ x. slice_index (held contents x) o) (sym same) ∙ hold p k.frame k.block t v o k.before k.there going place.0 within ∙ sym (place.1 o)
+          ap (λ x. slice_index (bytes_on contents x) o) (sym same) ∙ hold p k.frame k.block t v o k.before k.there going place.0 within ∙ sym (place.1 o)
 
-      by_stood : Stood old.state (event_of what) (reply_of answered) p page.residence → slice_index (held contents b) o ≡ last at_first new.history (InTask t v o)
+      by_stood : Stood old.state (event_of what) (reply_of answered) p page.residence → slice_index (bytes_on contents b) o ≡ last at_first new.history (InTask t v o)
       by_stood (InFrame f e) = never_some (stored_at page.residence) (ap stored_at e) stands
       by_stood (ItStays k) = before_stored k.before k.there (sym (ap stored_at k.same) ∙ stands)
       by_stood (ItFetches k) = before_stored k.before k.there (ap stored_at k.away ∙ sym (ap stored_at k.coming) ∙ stands)
@@ -244,7 +244,7 @@ module _ (opening : Opening) (old new : Past) (contents : List (List ℕ)) (what
   fetched_on : IsFetched new contents
   fetched_on p f b n page there coming = by_stood (effect.pages.stood p page there)
     where
-      by_fetch : (k : Fetches old.state (event_of what) (reply_of answered) p page.residence) → HoldsLast at_first (held contents b) (fetch_of n new.history)
+      by_fetch : (k : Fetches old.state (event_of what) (reply_of answered) p page.residence) → HoldsLast at_first (bytes_on contents b) (fetch_of n new.history)
       by_fetch k =
           let both : Coming k.frame k.block k.ticket.0 ≡ Coming f b n = sym k.coming ∙ coming in
           let block : k.block ≡ b = some_inj (ap block_at both) in
@@ -254,14 +254,14 @@ module _ (opening : Opening) (old new : Past) (contents : List (List ℕ)) (what
           ∙ ap (λ (e : Plain_event). fetched_by n e (reply_of answered) old.history (fetch_of n old.history)) k.is
           ∙ ap (λ (r : Plain_reply). fetched_by n (plain.Access k.task (Virtual k.v k.offset) k.op) r old.history (fetch_of n old.history)) k.answers
           ∙ ap (λ (x : Bool). cond x (Some (record { spot = InTask k.task.0 k.v k.offset; earlier = old.history })) (fetch_of n old.history)) (ap (λ (m : ℕ). m == n) number ∙ eq-eqb n n refl) in
-          subst (λ (x : Option Fetched). HoldsLast at_first (held contents b) x) (sym began)
+          subst (λ (x : Option Fetched). HoldsLast at_first (bytes_on contents b) x) (sym began)
           (λ o within. h.stored k.task.0 k.v p b o k.before k.mapped k.there (ap stored_at k.away ∙ ap (λ (x : ℕ). Some x) block) within)
 
-      by_stood : Stood old.state (event_of what) (reply_of answered) p page.residence → HoldsLast at_first (held contents b) (fetch_of n new.history)
+      by_stood : Stood old.state (event_of what) (reply_of answered) p page.residence → HoldsLast at_first (bytes_on contents b) (fetch_of n new.history)
       by_stood (InFrame f' e) = coming_held page.residence f b n f' coming e
       by_stood (ItStays k) =
           let before : k.before.residence ≡ Coming f b n = sym k.same ∙ coming in
-          subst (λ (x : Option Fetched). HoldsLast at_first (held contents b) x) (sym (fetch_on n (not_given p n k.before k.there (ap ticket_at before)))) (h.fetched p f b n k.before k.there before)
+          subst (λ (x : Option Fetched). HoldsLast at_first (bytes_on contents b) x) (sym (fetch_on n (not_given p n k.before k.there (ap ticket_at before)))) (h.fetched p f b n k.before k.there before)
       by_stood (ItFetches k) = by_fetch k
       by_stood (ItLeaves k) = coming_going page.residence f b n k.frame k.block k.ticket.0 coming k.going
       by_stood (OnBlock direction k) = coming_away page.residence f b n k.block coming k.away
@@ -292,7 +292,7 @@ module _ (opening : Opening) (old new : Past) (contents : List (List ℕ)) (what
 
   pending_on : (e : Event) → ((n : ℕ) → number_pending e ≡ Some n → ticket_given (reply_of answered) ≡ Some n → ⊥) → BringsPending old contents e → BringsPending new contents e
   pending_on (event.Arrived ticket) other brought = brought
-  pending_on (event.Left ticket) other brought = hold_on ticket.number (held contents ticket.block) (other ticket.number refl) brought
+  pending_on (event.Left ticket) other brought = hold_on ticket.number (bytes_on contents ticket.block) (other ticket.number refl) brought
   pending_on e other brought = tt
 
   wanted_on : (w : Want) → ((n : ℕ) → number_wanted w ≡ Some n → ticket_given (reply_of answered) ≡ Some n → ⊥) → BringsWanted old contents w → BringsWanted new contents w
@@ -318,13 +318,13 @@ module _ (opening : Opening) (old new : Past) (contents : List (List ℕ)) (what
       let same : p ≡ given.p = pages_share_no_ticket opening new.history new.state legal_on p given.p ticket.number page given.page there given.there (ap ticket_at going) (ap ticket_at given.going) in
       given.bytes honest_on t v o within (effect.places.live t v p mapped) (mapped ∙ ap (λ (x : ℕ). Some x) same)
 
-  own_on : (transition : Transition) → Gives new 0 answered → Next answered transition → BringsAt new contents (left_of transition)
+  own_on : (transition : Transition) → HandsOut new 0 answered → Next answered transition → BringsAt new contents (left_of transition)
   own_on transition gives (Handless none fine) = brings_none new contents (left_of transition) none
   own_on transition gives (Reads access ticket is goes) = subst (λ (t : Transition). BringsAt new contents (left_of t)) (sym goes) tt
   own_on transition gives (Writes on ticket is goes) =
-      subst (λ (t : Transition). BringsAt new contents (left_of t)) (sym goes) (sends ticket (subst (λ (r : Reply). Gives new 0 r) is gives))
+      subst (λ (t : Transition). BringsAt new contents (left_of t)) (sym goes) (sends ticket (subst (λ (r : Reply). HandsOut new 0 r) is gives))
 
-  pub faithful_on : (w : Want) (transition : Transition) → Gives new 0 answered → Next answered transition → TurnsFaithful opening old contents w transition new contents
+  pub faithful_on : (w : Want) (transition : Transition) → HandsOut new 0 answered → Next answered transition → TurnsFaithful opening old contents w transition new contents
   faithful_on w transition gives next =
       record { holds = holds_on; own = own_on transition gives next; others = λ at differ kept brought. at_on at (flies_ungiven at kept) brought }
 
@@ -333,7 +333,7 @@ module _ (opening : Opening) (old new : Past) (contents : List (List ℕ)) (what
 -- a write to the block of a page that is written out
 module _ (opening : Opening) (past : Past) (contents contents' : List (List ℕ)) (h : Holds opening past contents) (ticket : TicketOf) (going : IsGoing past ticket) (kept : KeepsOthers contents contents' ticket.block) where
   -- changes no other page's
-  held_other : (p b : ℕ) (page : Page) → page_at past.state.pages p ≡ Some page → block_at page.residence ≡ Some b → (page ≡ going.page → ⊥) → held contents' b ≡ held contents b
+  held_other : (p b : ℕ) (page : Page) → page_at past.state.pages p ≡ Some page → block_at page.residence ≡ Some b → (page ≡ going.page → ⊥) → bytes_on contents' b ≡ bytes_on contents b
   held_other p b page there block differs =
       kept.others b
       (λ same.
@@ -408,7 +408,7 @@ module _ (opening : Opening) (past : Past) (disk disk' : Disk) (h : Holds openin
 
       own : (answered : Result (Unit {0}) Fault) → WritesBlock disk ticket.block ticket.bytes answered disk' → BringsWanted past disk'.contents (in_hand (after_write on answered ticket))
       own (Ok done) e =
-          let written : held disk'.contents ticket.block ≡ ticket.bytes = ap (λ (d : Disk). held d.contents ticket.block) e ∙ get_or-set_same disk.contents ticket.block ticket.bytes [] there in
+          let written : bytes_on disk'.contents ticket.block ≡ ticket.bytes = ap (λ (d : Disk). bytes_on d.contents ticket.block) e ∙ get_or-set_same disk.contents ticket.block ticket.bytes [] there in
           subst (PlacesHold past ticket.number) (sym written) hold
       own (Err fault) e = tt
 
@@ -427,7 +427,7 @@ module _ (opening : Opening) (past : Past) (disk disk' : Disk) (h : Holds openin
       same (Err fault) e = ap (λ (d : Disk). d.contents) e
 
       own : (answered : Result (Unit {0}) Fault) → ReadsBlock disk ticket.block answered reads.filled.bytes disk' → BringsWanted past disk.contents (in_hand (after_read access answered reads.filled))
-      own (Ok done) e = e.0 ∙ ap (held disk.contents) (sym (ap (λ (t : TicketOf). t.block) reads.same))
+      own (Ok done) e = e.0 ∙ ap (bytes_on disk.contents) (sym (ap (λ (t : TicketOf). t.block) reads.same))
       own (Err fault) e = tt
 
 -- ---- a turn

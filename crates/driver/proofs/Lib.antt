@@ -6,3 +6,4 @@ pub mod Faithful
 pub mod TicketLemmas
 pub mod SeatLists
 pub mod Runs
+pub mod TurnExamples

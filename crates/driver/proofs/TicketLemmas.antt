@@ -8,7 +8,7 @@ use Rattle.machine.specs.Legal.{Legal}
 use Rattle.machine.specs.Call.{Past}
 use Rattle.book.specs.declared.event.Reply.{Reply}
 use Rattle.book.specs.declared.event.Reply.TheVariants as reply
-use Rattle.book.specs.Replies.{Gives}
+use Rattle.book.specs.Replies.{HandsOut}
 use Rattle.machine.specs.declared.amount.Amount.{Amount}
 use Rattle.machine.specs.declared.amount.Amount.TheVariants as amount
 use Rattle.machine.specs.declared.config.Watermarks.{Watermarks}
@@ -39,7 +39,7 @@ use Rattle.machine.proofs.SoundLemmas.{legal-fit}
 use Rattle.driver.specs.Tickets.{IsOwn, OwnEvent, OwnReply, OwnStage, OwnTransition}
 
 pub gives_own : (past : Past) (worker : ℕ) → worker ≡ 0 → Legal past.state.opening past.history past.state
-    → (said : Reply) → Gives past worker said → OwnReply past.state.opening.swap said
+    → (said : Reply) → HandsOut past worker said → OwnReply past.state.opening.swap said
 gives_own past worker first legal (reply.Fetch ticket) h =
     record {
       own = h.own ∙ first;

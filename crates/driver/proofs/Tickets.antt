@@ -25,7 +25,7 @@ use Rattle.book.specs.declared.event.Event.TheVariants as event
 use Rattle.book.specs.declared.event.Reply.{Reply}
 use Rattle.book.specs.declared.event.Reply.TheVariants as said
 use Rattle.book.specs.Events.{event_of, reply_of}
-use Rattle.book.specs.Replies.{Gives, GivesIn, GivesOut}
+use Rattle.book.specs.Replies.{HandsOut, GivesIn, GivesOut}
 use Rattle.driver.specs.declared.turn.Access.{Access}
 use Rattle.driver.specs.declared.turn.Resume.{Resume}
 use Rattle.driver.specs.declared.turn.Pending.{Pending}
@@ -286,7 +286,7 @@ module _ (old new : Past) (alive : AllLive old.state.page_tables old.state.tasks
     given_fresh n e at h number =
         unlike (is_ticket_taken old.state.pages n) (flies_taken old n (at_flies old at n h number)) ((effect_of (event_of what) (reply_of answered) went).fresh n e)
 
-    on_turn : Gives new 0 answered → Next answered transition → TurnsWell old (want.Call remembers what) transition new
+    on_turn : HandsOut new 0 answered → Next answered transition → TurnsWell old (want.Call remembers what) transition new
     on_turn gives (Handless none fine) =
         record {
           live = (effect_of (event_of what) (reply_of answered) went).places.live;
@@ -296,7 +296,7 @@ module _ (old new : Past) (alive : AllLive old.state.page_tables old.state.tasks
           fine = fine;
         }
     on_turn gives (Reads access ticket is goes) =
-        let given : GivesIn new 0 ticket = subst (λ (r : Reply). Gives new 0 r) is gives in
+        let given : GivesIn new 0 ticket = subst (λ (r : Reply). HandsOut new 0 r) is gives in
         let ticketed : ticket_given (reply_of answered) ≡ Some ticket.number = ap (λ (r : Reply). ticket_given (reply_of r)) is in
         record {
           live = (effect_of (event_of what) (reply_of answered) went).places.live;
@@ -306,7 +306,7 @@ module _ (old new : Past) (alive : AllLive old.state.page_tables old.state.tasks
           fine = subst (λ (t : Transition). FineOutcome (outcome_of t)) (sym goes) tt;
         }
     on_turn gives (Writes on ticket is goes) =
-        let given : GivesOut new 0 ticket = subst (λ (r : Reply). Gives new 0 r) is gives in
+        let given : GivesOut new 0 ticket = subst (λ (r : Reply). HandsOut new 0 r) is gives in
         let ticketed : ticket_given (reply_of answered) ≡ Some ticket.number = ap (λ (r : Reply). ticket_given (reply_of r)) is in
         record {
           live = (effect_of (event_of what) (reply_of answered) went).places.live;

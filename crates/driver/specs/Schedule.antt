@@ -14,7 +14,7 @@ use Rattle.block_store.specs.Device.{Disk}
 use Rattle.book.specs.declared.event.Event.{Event}
 use Rattle.book.specs.declared.event.Reply.{Reply}
 use Rattle.book.specs.Events.{event_of, reply_of}
-use Rattle.book.specs.Replies.{KeepsTicket, Gives}
+use Rattle.book.specs.Replies.{KeepsTicket, HandsOut}
 use Rattle.driver.specs.declared.turn.Pending.{Pending}
 use Rattle.driver.specs.declared.turn.Stage.{Stage}
 use Rattle.driver.specs.declared.turn.Want.{Want}
@@ -85,7 +85,7 @@ left_of (transition.Ends said) = Rests
 pub record Asks (caller : Caller) (old : Past) (remembers : Pending) (what : Event) (transition : Transition) (new : Past) : Type 0 where
   pub said : Reply
   pub called : Called old caller (event_of what) (reply_of said) new
-  pub gives : Gives new caller.worker said
+  pub gives : HandsOut new caller.worker said
   pub keeps : KeepsTicket caller.worker what said
   pub told : Told remembers said transition
 

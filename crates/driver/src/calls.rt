@@ -3,7 +3,7 @@
 ghost use Rattle.std.specs.Prelude.{◌≡◌, ℕ, ◌<◌, length};
 ghost use Rattle.machine.specs.Call.{Called};
 ghost use Rattle.book.specs.Events.{event_of, reply_of};
-ghost use Rattle.book.specs.Replies.{Replies, KeepsTicket, Gives};
+ghost use Rattle.book.specs.Replies.{Replies, KeepsTicket, HandsOut};
 ghost use Rattle.driver.specs.Turns.{ReadsIn, WritesOut};
 ghost use Rattle.driver.specs.Tickets.{IsOwn, OwnEvent, OwnReply, OwnTransition, OwnActivity, IsHanded};
 ghost use Rattle.driver.specs.Desks.{IsSame};
@@ -20,7 +20,7 @@ pub fn call(book: &mut Book, pass: &mut Pass, event: Event) -> Reply
     requires given { book.old.passes ≡ 1 }
     requires own { OwnEvent book.old.state.opening.swap event }
     ensures called { Called book.old pass.old (event_of event) (reply_of result) book.new }
-    ensures gives { Gives book.new pass.old.worker result }
+    ensures gives { HandsOut book.new pass.old.worker result }
     ensures keeps { KeepsTicket pass.old.worker event result }
     ensures replies { Replies event result }
     ensures own { OwnReply book.old.state.opening.swap result }

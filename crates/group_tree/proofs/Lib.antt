@@ -1,5 +1,5 @@
-pub mod TableLemmas
 pub mod TreeFacts
+pub mod TableLemmas
 pub mod PathLemmas
 pub mod WalkLemmas
 pub mod RoomLemmas

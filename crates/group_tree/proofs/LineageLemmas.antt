@@ -1,25 +1,17 @@
 -- A lineage stays one, whatever group comes or goes.
 use Rattle.std.proofs.Common.{inl, inr, ◌≡◌, ◌≢◌, ℕ, zero, suc, ◌<◌, ◌==◌, true, false, ◌||◌, ◌&&◌, List, [], ◌∷◌, ◌++◌, length, get_or, Some, None, refl, sym, ap, ◌∙◌, subst, arith, length-append, length-set, get_or-set_other, get_or-set_same}
 use Rattle.std.specs.Prelude.{slice_set}
-use Rattle.std.proofs.lemmas.Bool.{cases_lt, or_right}
+use Rattle.std.proofs.lemmas.Bool.{or_right}
 use Rattle.std.proofs.lemmas.Bool.Decides.{nat_tests}
-use Rattle.std.proofs.lemmas.List.{get_or_append_left, get_or-map, length-map, map-append, map-set}
+use Rattle.std.proofs.lemmas.List.{get_or-map, length-map, map-append, map-set}
 use Rattle.std.proofs.lemmas.List.Folds.{list_any_at}
-use Rattle.std.proofs.Math.Seq.{get_or-append_seam}
-use Rattle.std.proofs.Math.ListN.{get_or-eq_default}
 use Rattle.machine.specs.declared.id.GroupId.{GroupId}
 use Rattle.machine.specs.Tree.{Node, no_node, node_at, is_live, is_parent, is_child, has_children, under, under_at, IsTree}
 use Rattle.machine.proofs.TreeLemmas.{eq_cases, lt_cases, under_at-step, under_at-append, same_under, IsTree-push}
 use Rattle.group_tree.specs.declared.lineage.Group.{Group}
 use Rattle.group_tree.specs.Lineages.{bare, node_of, nodes_of, IsLineage}
-
--- a live group is there
-pub live-within : (tree : List Node) (g : ℕ) → is_live tree g ≡ true → g < length tree
-live-within tree g live =
-    elim (cases_lt g (length tree)) [
-      | inl lt ↦ lt
-      | inr beyond ↦ absurd (let not_live = ap (λ x. x.live) (get_or-eq_default tree no_node beyond) in cc)
-    ]
+pub use Rattle.group_tree.proofs.TreeFacts.{live-within}
+use Rattle.group_tree.proofs.TreeFacts.{at_new, still_live, push-parents_live}
 
 -- whatever the parent is under, the group is
 pub under-child : (tree : List Node) → IsTree tree → (a g p : ℕ) → (node_at tree g).parent ≡ Some p → under tree a p ≡ true → under tree a g ≡ true
@@ -47,18 +39,6 @@ IsLineage-root = record {
 
 -- a group more, below a live one
 module _ (tree : List Node) (p : ℕ) (is : IsLineage tree) (parent_live : is_live tree p ≡ true) where
-  at_old : (g : ℕ) → g < length tree → node_at (tree ++ bare (Some p) ∷ []) g ≡ node_at tree g
-  at_old g lt = get_or_append_left tree (bare (Some p) ∷ []) no_node g lt
-
-  at_new : (g : ℕ) → g ≡ length tree → node_at (tree ++ bare (Some p) ∷ []) g ≡ bare (Some p)
-  at_new g same = ap (node_at (tree ++ bare (Some p) ∷ [])) same ∙ get_or-append_seam tree (bare (Some p)) [] no_node
-
-  at_none : (g : ℕ) → length tree < g → node_at (tree ++ bare (Some p) ∷ []) g ≡ no_node
-  at_none g gt = get_or-eq_default (tree ++ bare (Some p) ∷ []) no_node (let len = length-append tree (bare (Some p) ∷ []) in omega (arith, len))
-
-  still_live : (g : ℕ) → is_live tree g ≡ true → is_live (tree ++ bare (Some p) ∷ []) g ≡ true
-  still_live g live = ap (λ x. x.live) (at_old g (live-within tree g live)) ∙ live
-
   push-tree : IsTree (tree ++ bare (Some p) ∷ [])
   push-tree = IsTree-push tree (bare (Some p)) is.earlier_parents (live-within tree p parent_live)
 
@@ -69,24 +49,16 @@ module _ (tree : List Node) (p : ℕ) (is : IsLineage tree) (parent_live : is_li
   push-rooted g lt =
       elim (lt_cases g (length tree)) [
         | inl old ↦ push-rooted_old g old
-        | inr (inl new) ↦ under-child (tree ++ bare (Some p) ∷ []) push-tree 0 g p (ap (λ x. x.parent) (at_new g new)) (push-rooted_old p (live-within tree p parent_live))
+        | inr (inl new) ↦ under-child (tree ++ bare (Some p) ∷ []) push-tree 0 g p (ap (λ x. x.parent) (at_new tree (bare (Some p)) g new)) (push-rooted_old p (live-within tree p parent_live))
         | inr (inr beyond) ↦ absurd (let len = length-append tree (bare (Some p) ∷ []) in omega (arith, len, beyond, lt))
-      ]
-
-  push-parents_live : (g q : ℕ) → is_live (tree ++ bare (Some p) ∷ []) g ≡ true → (node_at (tree ++ bare (Some p) ∷ []) g).parent ≡ Some q → is_live (tree ++ bare (Some p) ∷ []) q ≡ true
-  push-parents_live g q live e =
-      elim (lt_cases g (length tree)) [
-        | inl old ↦ still_live q (is.parents_live g q (sym (ap (λ x. x.live) (at_old g old)) ∙ live) (sym (ap (λ x. x.parent) (at_old g old)) ∙ e))
-        | inr (inl new) ↦ (let some : Some p ≡ Some q = sym (ap (λ x. x.parent) (at_new g new)) ∙ e in let same : p ≡ q = cc in still_live q (ap (is_live tree) (sym same) ∙ parent_live))
-        | inr (inr beyond) ↦ absurd (let none : None ≡ Some q = sym (ap (λ x. x.parent) (at_none g beyond)) ∙ e in cc)
       ]
 
   pub IsLineage-push : IsLineage (tree ++ bare (Some p) ∷ [])
   IsLineage-push = record {
     earlier_parents = push-tree;
-    root_first = still_live 0 is.root_first;
+    root_first = still_live tree (bare (Some p)) 0 is.root_first;
     rooted = push-rooted;
-    parents_live = push-parents_live;
+    parents_live = push-parents_live tree (bare (Some p)) p refl parent_live is.parents_live;
   }
 
 -- a group less, that is not the root and has no children

@@ -10,8 +10,8 @@ use Rattle.machine.specs.Tree.{Node, no_node, node_at, is_live, is_child, is_par
 use Rattle.machine.proofs.TreeLemmas.{eq_cases, under_at-None, under_at-step}
 use Rattle.group_tree.specs.Groups.{IsGroupTree}
 use Rattle.group_tree.specs.Walk.{children_among, children_from, after_in, after, left}
-use Rattle.group_tree.proofs.PushLemmas.{within}
-use Rattle.group_tree.proofs.LineageLemmas.{live-within, under-child}
+use Rattle.group_tree.proofs.TreeFacts.{live-within, within}
+use Rattle.group_tree.proofs.LineageLemmas.{under-child}
 use Rattle.group_tree.proofs.WalkLemmas.{under_here}
 
 nothing_left : (xs : List Node) → length xs ≡ 0 → xs ≡ []

@@ -1,65 +1,72 @@
--- What the two tables say of the groups that they hold.
-use Rattle.std.proofs.Common.{◌≡◌, ℕ, zero, suc, ◌+◌, ◌==◌, Bool, true, false, cond, if◌then◌else◌, ◌||◌, ◌&&◌, List, [], ◌∷◌, ◌++◌, length, get_or, Option, Some, None, refl, sym, ap, ◌∙◌, arith}
+-- What the tables say of the groups, and go on to once there is one more.
+use Rattle.std.proofs.Common.{◌≡◌, ℕ, ◌+◌, ◌==◌, Bool, true, false, cond, if◌then◌else◌, ◌&&◌, ◌||◌, List, [], ◌∷◌, ◌++◌, length, Option, Some, None, refl, sym, ap, ◌∙◌, arith}
 use Rattle.std.specs.Prelude.{string_bytes}
 use Rattle.std.specs.List.{list_any, position_from}
-use Rattle.std.specs.Option.{option_map, option_flatten, option_copied, unwrap_or}
-use Rattle.std.specs.Borrow.{Bor}
 use Rattle.std.specs.Str.{bytes_eq}
 use Rattle.std.specs.Map.{lookup}
 use Rattle.std.specs.declared.string.String.{String}
 use Rattle.std.specs.declared.alloc.Global.{Global}
 use Rattle.std.proofs.lemmas.Iterator.Adapters.{position_from-zero}
-use Rattle.std.proofs.lemmas.List.Sums.{sum_by-cons}
+use Rattle.std.proofs.lemmas.List.Sums.{sum_by-append, sum_by-cons}
 use Rattle.std.proofs.lemmas.Bool.Decides.{nat_tests}
 use Rattle.machine.specs.declared.id.GroupId.{GroupId}
-use Rattle.machine.specs.Tree.{node_at, is_parent, is_at_path, has_children, live_groups, find_group}
-use Rattle.group_tree.specs.Tables.{number, node, nodes, AreNumbered}
+use Rattle.machine.specs.Tree.{Node, is_child, has_children, is_at_path, live_groups, find_group}
+use Rattle.group_tree.specs.declared.tree.Group.{Group}
+use Rattle.group_tree.specs.Tables.{number, node_of, nodes_of, indexed}
 
-pub length-nodes : (ps : List (Option GroupId)) (es : List (String Global × GroupId)) → length ps ≡ length es → length (nodes ps es) ≡ length ps
-length-nodes [] es h = refl
-length-nodes (p ∷ ps) [] h = absurd (omega arith)
-length-nodes (p ∷ ps) (e ∷ es) h = let shorter = length-nodes ps es (omega arith) in omega (arith, shorter)
+pub live_groups-push : (tree : List Node) (x : Node) → x.live ≡ true → live_groups (tree ++ x ∷ []) ≡ live_groups tree + 1
+live_groups-push tree x live =
+    let sum : live_groups (tree ++ x ∷ []) ≡ live_groups tree + live_groups (x ∷ []) = sum_by-append (λ (y : Node). if y.live then 1 else 0) tree (x ∷ []) in
+    let one : live_groups (x ∷ []) ≡ 1 = sum_by-cons (λ (y : Node). if y.live then 1 else 0) x [] ∙ ap (λ b. (if b then 1 else 0) + 0) live in
+    omega (arith, sum, one)
 
-pub nodes-push : (ps : List (Option GroupId)) (es : List (String Global × GroupId)) (p : Option GroupId) (e : String Global × GroupId) → length ps ≡ length es
-    → nodes (ps ++ p ∷ []) (es ++ e ∷ []) ≡ nodes ps es ++ node p e.0 ∷ []
-nodes-push [] [] p e h = refl
-nodes-push [] (f ∷ es) p e h = absurd (omega arith)
-nodes-push (q ∷ ps) [] p e h = absurd (omega arith)
-nodes-push (q ∷ ps) (f ∷ es) p e h = ap (λ rest. node q f.0 ∷ rest) (nodes-push ps es p e (omega arith))
+pub has_children-nodes : (groups : List Group) (g : ℕ) → list_any (λ x. is_child g (node_of x)) groups ≡ has_children (nodes_of groups) g
+has_children-nodes [] g = refl
+has_children-nodes (x ∷ groups) g = ap (λ t. is_child g (node_of x) || t) (has_children-nodes groups g)
 
-pub AreNumbered-push : (n : ℕ) (es : List (String Global × GroupId)) (e : String Global × GroupId) → AreNumbered n es → e.1.0 ≡ n + length es → AreNumbered n (es ++ e ∷ [])
-AreNumbered-push n [] e h is = (omega arith, tt)
-AreNumbered-push n (f ∷ es) e h is = (h.0, AreNumbered-push (n + 1) es e h.1 (omega arith))
+-- the first, or the other where there is none
+abbrev pub or_else : {X : Type 0} → Option X → Option X → Option X
+or_else None other = other
+or_else (Some x) other = Some x
 
--- the parent of a group, in the table of parents
-pub parent-nodes : (ps : List (Option GroupId)) (es : List (String Global × GroupId)) (g : ℕ) → length ps ≡ length es → number (get_or ps g None) ≡ (node_at (nodes ps es) g).parent
-parent-nodes [] es g h = refl
-parent-nodes (p ∷ ps) [] g h = absurd (omega arith)
-parent-nodes (p ∷ ps) (e ∷ es) zero h = refl
-parent-nodes (p ∷ ps) (e ∷ es) (suc g) h = parent-nodes ps es g (omega arith)
+first_or : {X : Type 0} (b : Bool) (x : X) (whole part other : Option X) → whole ≡ or_else part other → cond b (Some x) whole ≡ or_else (cond b (Some x) part) other
+first_or true x whole part other h = refl
+first_or false x whole part other h = h
 
--- what is read from the table of parents
-pub read : (r : Option (Bor (Option GroupId))) → option_flatten (option_copied r) ≡ unwrap_or (option_map (λ x. x.now) r) None
-read None = refl
-read (Some x) = refl
+position_from-push : (test : Node → Bool) (n : ℕ) (xs : List Node) (y : Node) → position_from test n (xs ++ y ∷ []) ≡ or_else (position_from test n xs) (cond (test y) (Some (n + length xs)) None)
+position_from-push test n [] y = ap (λ m. cond (test y) (Some m) None) (let same : n ≡ n + 0 = omega arith in same)
+position_from-push test n (x ∷ xs) y =
+    first_or (test x) n (position_from test (n + 1) (xs ++ y ∷ [])) (position_from test (n + 1) xs) (cond (test y) (Some (n + length (x ∷ xs))) None)
+    (position_from-push test (n + 1) xs y
+    ∙ ap (λ m. or_else (position_from test (n + 1) xs) (cond (test y) (Some m) None)) (let same : n + 1 + length xs ≡ n + length (x ∷ xs) = omega arith in same))
 
--- a search of the table of parents by any test of equality
-pub any_same : (test same : Option GroupId → Bool) → ((p : Option GroupId) → test p ≡ same p) → (ps : List (Option GroupId)) → list_any test ps ≡ list_any same ps
-any_same test same h [] = refl
-any_same test same h (p ∷ ps) = ap (λ t. t || list_any test ps) (h p) ∙ ap (λ t. same p || t) (any_same test same h ps)
+-- the new group is found where none was
+pub find_group-push : (tree : List Node) (x : Node) (path : List ℕ) → find_group (tree ++ x ∷ []) path ≡ or_else (find_group tree path) (cond (is_at_path path x) (Some (length tree)) None)
+find_group-push tree x path =
+    position_from-zero (is_at_path path) (tree ++ x ∷ []) ∙ position_from-push (is_at_path path) 0 tree x
+    ∙ ap (λ m. or_else (position_from (is_at_path path) 0 tree) (cond (is_at_path path x) (Some m) None)) (let same : 0 + length tree ≡ length tree = omega arith in same)
+    ∙ ap (λ at. or_else at (cond (is_at_path path x) (Some (length tree)) None)) (sym (position_from-zero (is_at_path path) tree))
 
-pub live_groups-nodes : (ps : List (Option GroupId)) (es : List (String Global × GroupId)) → length ps ≡ length es → live_groups (nodes ps es) ≡ length ps
-live_groups-nodes [] es h = refl
-live_groups-nodes (p ∷ ps) [] h = absurd (omega arith)
-live_groups-nodes (p ∷ ps) (e ∷ es) h =
-    let fewer = live_groups-nodes ps es (omega arith) in
-    let one_more = sum_by-cons (λ x. if x.live then 1 else 0) (node p e.0) (nodes ps es) in
-    omega (arith, fewer, one_more)
+lookup-push : (test : String Global → Bool) (index : List (String Global × GroupId)) (key : String Global) (id : GroupId)
+    → lookup test (index ++ (key, id) ∷ []) ≡ or_else (lookup test index) (cond (test key) (Some id) None)
+lookup-push test [] key id = refl
+lookup-push test (e ∷ index) key id =
+    first_or (test e.0) e.1 (lookup test (index ++ (key, id) ∷ [])) (lookup test index) (cond (test key) (Some id) None) (lookup-push test index key id)
 
-pub has_children-nodes : (ps : List (Option GroupId)) (es : List (String Global × GroupId)) (g : ℕ) → length ps ≡ length es → has_children (nodes ps es) g ≡ list_any (λ p. is_parent (number p) g) ps
-has_children-nodes [] es g h = refl
-has_children-nodes (p ∷ ps) [] g h = absurd (omega arith)
-has_children-nodes (p ∷ ps) (e ∷ es) g h = ap (λ rest. is_parent (number p) g || rest) (has_children-nodes ps es g (omega arith))
+number_or : (at other : Option GroupId) → number (or_else at other) ≡ or_else (number at) (number other)
+number_or None other = refl
+number_or (Some g) other = refl
+
+number_cond : (b : Bool) (g : GroupId) → number (cond b (Some g) None) ≡ cond b (Some g.0) None
+number_cond true g = refl
+number_cond false g = refl
+
+indexed-push : (index : List (String Global × GroupId)) (key : String Global) (id : GroupId) (path : List ℕ)
+    → indexed (index ++ (key, id) ∷ []) path ≡ or_else (indexed index path) (cond (bytes_eq path (string_bytes key)) (Some id.0) None)
+indexed-push index key id path =
+    ap number (lookup-push (λ k. bytes_eq path (string_bytes k)) index key id)
+    ∙ number_or (lookup (λ k. bytes_eq path (string_bytes k)) index) (cond (bytes_eq path (string_bytes key)) (Some id) None)
+    ∙ ap (or_else (indexed index path)) (number_cond (bytes_eq path (string_bytes key)) id)
 
 same_test : (x y : ℕ) → (x == y) ≡ (y == x)
 same_test x y = grind (arith, nat_tests)
@@ -70,20 +77,15 @@ bytes_eq-comm [] (y ∷ ys) = refl
 bytes_eq-comm (x ∷ xs) [] = refl
 bytes_eq-comm (x ∷ xs) (y ∷ ys) = ap (λ t. t && bytes_eq xs ys) (same_test x y) ∙ ap (λ t. y == x && t) (bytes_eq-comm xs ys)
 
-chosen : (t : Bool) (g : GroupId) (n : ℕ) (others : Option GroupId) (at : Option ℕ) → g.0 ≡ n → number others ≡ at → number (cond t (Some g) others) ≡ cond t (Some n) at
-chosen true g n others at is same = ap Some is
-chosen false g n others at is same = same
+pub bytes_eq-self : (xs : List ℕ) → bytes_eq xs xs ≡ true
+bytes_eq-self [] = refl
+bytes_eq-self (x ∷ xs) = let own : (x == x) ≡ true = grind (arith, nat_tests) in ap (λ t. t && bytes_eq xs xs) own ∙ bytes_eq-self xs
 
-found : (path : List ℕ) (n : ℕ) (ps : List (Option GroupId)) (es : List (String Global × GroupId)) → length ps ≡ length es → AreNumbered n es
-    → number (lookup (λ k. bytes_eq path (string_bytes k)) es) ≡ position_from (is_at_path path) n (nodes ps es)
-found path n [] [] h numbered = refl
-found path n [] (e ∷ es) h numbered = absurd (omega arith)
-found path n (p ∷ ps) [] h numbered = absurd (omega arith)
-found path n (p ∷ ps) (e ∷ es) h numbered =
-    chosen (bytes_eq path (string_bytes e.0)) e.1 n _ _ numbered.0 (found path (n + 1) ps es (omega arith) numbered.1)
-    ∙ ap (λ t. cond t (Some n) (position_from (is_at_path path) (n + 1) (nodes ps es))) (bytes_eq-comm path (string_bytes e.0))
-
--- a look-up by path finds the first group of that path
-pub find-nodes : (path : List ℕ) (ps : List (Option GroupId)) (es : List (String Global × GroupId)) → length ps ≡ length es → AreNumbered 0 es
-    → number (lookup (λ k. bytes_eq path (string_bytes k)) es) ≡ find_group (nodes ps es) path
-find-nodes path ps es h numbered = found path 0 ps es h numbered ∙ sym (position_from-zero (is_at_path path) (nodes ps es))
+-- an index that finds what the tree does goes on to, once it has the new group's path and number
+pub indexed-found : (tree : List Node) (x : Node) (index : List (String Global × GroupId)) (key : String Global) (id : GroupId) → x.live ≡ true → string_bytes key ≡ x.path → id.0 ≡ length tree
+    → ((path : List ℕ) → indexed index path ≡ find_group tree path) → (path : List ℕ) → indexed (index ++ (key, id) ∷ []) path ≡ find_group (tree ++ x ∷ []) path
+indexed-found tree x index key id live key_is id_is found path =
+    let same : bytes_eq path (string_bytes key) ≡ is_at_path path x = ap (bytes_eq path) key_is ∙ bytes_eq-comm path x.path ∙ sym (ap (λ b. b && bytes_eq x.path path) live) in
+    indexed-push index key id path ∙ ap (λ at. or_else at (cond (bytes_eq path (string_bytes key)) (Some id.0) None)) (found path)
+    ∙ ap (λ b. or_else (find_group tree path) (cond b (Some id.0) None)) same ∙ ap (λ n. or_else (find_group tree path) (cond (is_at_path path x) (Some n) None)) id_is
+    ∙ sym (find_group-push tree x path)

@@ -21,7 +21,7 @@ impl Tree {
         ensures from { IfSome result (λ c. (from ≤ c.0) × (c.0 < length self.now)) }
     {
         for number in from..self.next_id().0 {
-            if self.parent(GroupId(number)) == Some(parent) {
+            if self.is_child(GroupId(number), parent) {
                 return Some(GroupId(number));
             }
         }

@@ -2,11 +2,12 @@
 
 ghost use Rattle.std.specs.Prelude.{◌≡◌, ℕ, Bool, ◌++◌, ◌∷◌, [], false, length, map, IsTrue, IfSome, IfOk, IfErr, OnOk, OnErr};
 ghost use Rattle.std.specs.Option.{option_map};
-ghost use Rattle.machine.specs.Tree.{root, node_at, is_live, chain, under, has_children, find_group};
+ghost use Rattle.machine.specs.Tree.{root, node_at, is_live, is_child, chain, under, has_children, find_group};
 ghost use Rattle.machine.specs.Names.{parent_path};
 ghost use Rattle.machine.specs.Refusals.{first_cause, space_refusal, mkdir_refusal};
 ghost use Rattle.machine.specs.Step.{new_node};
 ghost use Rattle.group_tree.specs.Groups.{IsGroupTree};
+ghost use Rattle.group_tree.specs.Tables.{node_of};
 
 use crate::path::parent_path;
 use arrayvec::ArrayVec;
@@ -17,11 +18,32 @@ use std::alloc::{AllocError, Global};
 use std::marker::Model;
 use text_forms::name::is_path;
 
-/// How many groups there can be, the root counted.
+/// How many live groups there can be, the root counted.
 const MAX_GROUPS: usize = 256;
 
 /// How many groups a group can hang below, the root counted.
 const MAX_LEVELS: usize = 16;
+
+/// How many groups there can ever be: also the number of the next group after them is a `u32`.
+const MAX_NUMBERS: usize = u32::MAX as usize;
+
+/// A group: what it hangs below, the path that it was made with, and whether it still is.
+#[derive(Drop)]
+struct Group {
+    parent: Option<GroupId>,
+    /// For the contracts, which see it. The code finds a group by the index.
+    path: String,
+    live: bool,
+}
+
+impl Group {
+    /// Whether it is live and hangs below the parent.
+    fn is_child(&self, parent: GroupId) -> bool
+        ensures { result ≡ is_child parent.0 (node_of self.now) }
+    {
+        self.live && self.parent == Some(parent)
+    }
+}
 
 /// The tree of groups. Its first group is the root, at `/`.
 ///
@@ -30,20 +52,24 @@ const MAX_LEVELS: usize = 16;
 #[derive(Drop)]
 pub struct Tree {
     alloc: Global,
-    parents: Vec<Option<GroupId>>,
+    /// By number. A removed group stays, so that its parent stays known.
+    groups: Vec<Group>,
+    /// How many groups are live.
+    live: usize,
+    /// The live group of each path.
     by_path: IndexMap<String, GroupId>,
 }
 
 impl Model for Tree {
     ghost use Rattle.std.specs.Prelude.{List};
     ghost use Rattle.machine.specs.Tree.{Node};
-    ghost use Rattle.group_tree.specs.Tables.{nodes, AreTables};
+    ghost use Rattle.group_tree.specs.Tables.{nodes_of, AreTables};
 
     ghost Value = { List Node };
 
-    ghost view = { λ t. nodes t.parents.items t.by_path.entries };
+    ghost view = { λ t. nodes_of t.groups.items };
 
-    ghost invariant = { λ t. AreTables t.parents.items t.by_path.entries };
+    ghost invariant = { λ t. AreTables t.groups.items t.live t.by_path.entries };
 }
 
 impl Tree {
@@ -51,13 +77,19 @@ impl Tree {
     pub fn open(alloc: Global) -> Result<Self, AllocError>
         ensures { IfOk result (λ tree. tree ≡ root ∷ []) }
     {
-        let mut parents = Vec::with_capacity(alloc, 1)?;
+        let mut groups = Vec::with_capacity(alloc, 1)?;
         let mut by_path = IndexMap::new(alloc);
+        let path = String::from_str(alloc, "/")?;
         by_path.insert(String::from_str(alloc, "/")?, GroupId::ROOT)?;
-        parents.push_reserved(None);
+        groups.push_reserved(Group {
+            parent: None,
+            path,
+            live: true,
+        });
         Ok(Tree {
             alloc,
-            parents,
+            groups,
+            live: 1,
             by_path,
         })
     }
@@ -66,19 +98,30 @@ impl Tree {
     /// mem_cgroup_css_alloc).
     ///
     /// The caller has seen that nothing refuses it (`parent_for`, `space_refusal`). `AllocError`
-    /// where there is no memory for it, and then nothing changes.
+    /// where there is no memory for it, or no number left, and then nothing changes.
     pub fn mkdir(&mut self, path: &str) -> Result<GroupId, AllocError>
         requires { mkdir_refusal self.old (λ g. false) path.now ≡ None }
         ensures id { IfOk result (λ g. g.0 ≡ length self.old) }
         ensures ok { OnOk result (self.new ≡ self.old ++ new_node self.old path.now ∷ []) }
         ensures err { OnErr result (self.new ≡ self.old) }
     {
+        // `space_refusal` bounds the live groups alone, and a removed one keeps its number. Where no
+        // number is left, memory is wanting: the table has no place for one group more.
+        if self.groups.len() >= MAX_NUMBERS {
+            return Err(AllocError);
+        }
         let id = self.next_id();
         let parent = self.find(parent_path(path));
+        let key = String::from_str(self.alloc, path)?;
         let path = String::from_str(self.alloc, path)?;
-        self.parents.reserve(1)?;
-        self.by_path.insert(path, id)?;
-        self.parents.push_reserved(parent);
+        self.groups.reserve(1)?;
+        self.by_path.insert(key, id)?;
+        self.groups.push_reserved(Group {
+            parent,
+            path,
+            live: true,
+        });
+        self.live += 1;
         Ok(id)
     }
 
@@ -86,21 +129,24 @@ impl Tree {
     pub fn groups_form_a_tree(&self)
         ensures { IsGroupTree self.now }
     {
-        let _ = &self.parents;
+        let _ = &self.groups;
     }
 
     /// What the group that is made next is numbered.
     pub fn next_id(&self) -> GroupId
         ensures { result.0 ≡ length self.now }
     {
-        GroupId(self.parents.len() as u32)
+        GroupId(self.groups.len() as u32)
     }
 
-    /// Whether there is such a group.
+    /// Whether there is such a group, and it was not removed.
     pub fn is_live(&self, group: GroupId) -> bool
         ensures { result ≡ is_live self.now group.0 }
     {
-        (group.0 as usize) < self.parents.len()
+        match self.groups.get(group.0 as usize) {
+            Some(group) => group.live,
+            None => false,
+        }
     }
 
     /// The group of a path.
@@ -117,7 +163,7 @@ impl Tree {
         ensures parent { option_map (λ g. g.0) result ≡ (node_at self.now group.0).parent }
         ensures tree { IsGroupTree self.now }
     {
-        self.parents.get(group.0 as usize).copied().flatten()
+        self.groups.get(group.0 as usize)?.parent
     }
 
     /// Whether one group is another or above it (kernel: mem_cgroup_is_descendant).
@@ -134,11 +180,21 @@ impl Tree {
         false
     }
 
+    /// Whether this is the number of a live group that hangs below the parent.
+    pub(crate) fn is_child(&self, group: GroupId, parent: GroupId) -> bool
+        ensures { result ≡ is_child parent.0 (node_at self.now group.0) }
+    {
+        match self.groups.get(group.0 as usize) {
+            Some(group) => group.is_child(parent),
+            None => false,
+        }
+    }
+
     /// Whether a live group hangs below this one.
     pub fn has_children(&self, group: GroupId) -> bool
         ensures { result ≡ has_children self.now group.0 }
     {
-        self.parents.contains(&Some(group))
+        self.groups.iter().any(|other| other.is_child(group))
     }
 
     /// The group, what it hangs below, and so on up to the root. No group has more than 16 above it.
@@ -182,12 +238,12 @@ impl Tree {
     }
 
     /// Why no group can be made below this one for want of room: `NoSpace` where there are 256
-    /// groups, or where it lies 16 levels below the root.
+    /// live groups, or where it lies 16 levels below the root.
     pub fn space_refusal(&self, parent: GroupId) -> Option<Refusal>
         requires { IsTrue (is_live self.now parent.0) }
         ensures { result ≡ space_refusal self.now parent.0 }
     {
-        if self.parents.len() >= MAX_GROUPS || self.ancestors(parent).len() > MAX_LEVELS {
+        if self.live >= MAX_GROUPS || self.ancestors(parent).len() > MAX_LEVELS {
             Some(Refusal::NoSpace)
         } else {
             None

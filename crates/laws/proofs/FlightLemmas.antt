@@ -24,12 +24,12 @@ use Rattle.machine.specs.State.{Opening, State, over_in, is_frame_free}
 use Rattle.machine.specs.Access.{Meeting, Unmapped, Hits, Transferring, NeedsPage, NeedsCopy, NeedsSwapIn, Dangling, meets}
 use Rattle.machine.specs.Reclaim.{has_takeable, has_transfer, stands, target_of}
 use Rattle.machine.specs.Call.{meeting_fetches, life_fetches, task_fetches, fetches, need}
-use Rattle.machine.specs.Step.{ChargeStep, Charges, MakesPage, StartsFetch, HitStep, UnmappedStep, MeetStep, LifeStep, TaskStep, StartsLeave, Drops, LeavesBy, LeavesFrom, Takes, ReclaimStep, KillStep, RelieveStep, still, EndsTask, Exits, EndsTransfer, touched, Step}
+use Rattle.machine.specs.Step.{ChargeStep, TriesCharge, MakesPage, StartsFetch, HitStep, UnmappedStep, MeetStep, LifeStep, TaskStep, StartsLeave, Drops, LeavesBy, LeavesFrom, Takes, ReclaimStep, KillStep, RelieveStep, still, EndsTask, Exits, EndsTransfer, touched, Step}
 use Rattle.machine.proofs.SlotLemmas.{one_if, count_there-changes}
 use Rattle.machine.proofs.SoundLemmas.{count-less, still_passes}
 use Rattle.machine.proofs.MoveLemmas.{Settled, hits_held, swaps_away, in_frame-cases, on_block-cases}
 use Rattle.machine.proofs.OpeningLemmas.{step_opening}
-use Rattle.laws.specs.Laws.{begins_transfer, ends_transfer, begun, ended, TraceHasRoom, TransfersAreBegunLessEnded}
+use Rattle.laws.specs.Laws.{begins_transfer, ends_transfer, transfers_begun, transfers_ended, TraceHasRoom, TransfersAreBegunLessEnded}
 use Rattle.laws.proofs.LawLemmas.{by_test}
 
 -- ---- one step
@@ -104,7 +104,7 @@ module _ (old new : State) where
 
   module _ (t : TaskId) (v o : ℕ) (op : Op) where
     -- where a charge is needed
-    charged : (g : ℕ) (Granted : Type 0) (answer : Reply) → (over_in old g ≡ None → is_frame_free old ≡ true → Granted → Flies old (event.Access t (Virtual v o) op) answer new) → Charges old g Granted answer new
+    charged : (g : ℕ) (Granted : Type 0) (answer : Reply) → (over_in old g ≡ None → is_frame_free old ≡ true → Granted → Flies old (event.Access t (Virtual v o) op) answer new) → TriesCharge old g Granted answer new
         → Flies old (event.Access t (Virtual v o) op) answer new
     charged g Granted answer granted step = by_over (over_in old g) refl step
       where
@@ -295,7 +295,7 @@ trace_has_room opening (entry ∷ earlier) s legal =
     within n most e = grind (arith, nat_tests, e)
 
 pub transfers_are_begun_less_ended : TransfersAreBegunLessEnded
-transfers_are_begun_less_ended opening [] s legal = subst (λ (s : State). in_transfer s.pages + ended [] ≡ begun []) (sym legal) refl
+transfers_are_begun_less_ended opening [] s legal = subst (λ (s : State). in_transfer s.pages + transfers_ended [] ≡ transfers_begun []) (sym legal) refl
 transfers_are_begun_less_ended opening (entry ∷ earlier) s legal =
     let flies = step_flies legal.0 s entry.event entry.reply legal.2.steps in
     let rest = transfers_are_begun_less_ended opening earlier legal.0 legal.1 in

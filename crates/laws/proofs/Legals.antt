@@ -22,7 +22,7 @@ use Rattle.driver.specs.declared.turn.Activity.{Activity}
 use Rattle.driver.specs.declared.turn.Activity.TheVariants.{Rests, Begun, Does}
 use Rattle.machine.specs.State.{Opening, opening_of}
 use Rattle.machine.specs.Refusals.{refusal}
-use Rattle.machine.specs.Call.{Past, Caller, knows_pass, Refuses, Served, JudgedBy, Called, is_trace_full}
+use Rattle.machine.specs.Call.{Past, Caller, knows_pass, Refuses, Answered, JudgedBy, Called, is_trace_full}
 use Rattle.machine.specs.Legal.{Legal}
 use Rattle.driver.specs.Turns.{Judged, judged}
 use Rattle.driver.specs.Schedule.{World, WantTurn, wants_at, first_world, activity_of, StageTurn, JudgedTurn, ActivityTurn, Goings, EndsIn, RunsOut, Begins, Stepped, Runs}
@@ -39,7 +39,7 @@ module _ (opening : Opening) where
   legal-world old new e h = subst (λ (w : World). Legal opening w.past.history w.past.state) (sym e) h
 
   legal-served : (old new : Past) (caller : Caller) (what : Event) (answer : Reply) → knows_pass old.state old.history caller what ≡ true → refusal old.state what ≡ None → is_trace_full old what ≡ false
-      → Served old caller what answer new → IsLegal old → IsLegal new
+      → Answered old caller what answer new → IsLegal old → IsLegal new
   legal-served old new caller what (reply.Refused why) known none room h legal = legal-same old new h.2 legal
   legal-served old new caller what answer known none room h legal = rw h.history (old.state, legal, record { known = known; unrefused = none; room = room; steps = h.steps })
 
@@ -47,7 +47,7 @@ module _ (opening : Opening) where
   legal-called old new caller what answer called legal = by_ticket (knows_pass old.state old.history caller what) refl called
     where
       by_room : (full : Bool) → knows_pass old.state old.history caller what ≡ true → is_trace_full old what ≡ full → refusal old.state what ≡ None
-          → MatchBool full (Refuses old TraceFull answer new) (Served old caller what answer new) → IsLegal new
+          → MatchBool full (Refuses old TraceFull answer new) (Answered old caller what answer new) → IsLegal new
       by_room true known is none h = legal-same old new h.1 legal
       by_room false known is none h = legal-served old new caller what answer known none is h legal
 

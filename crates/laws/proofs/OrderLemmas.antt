@@ -19,7 +19,7 @@ use Rattle.machine.specs.State.{State}
 use Rattle.machine.specs.Reclaim.{target_of}
 use Rattle.machine.specs.Lists.{Order, TakesNext, is_page_of, first_held, ListsHeld, is_fresh, GoesOn, CursorsGoOn}
 use Rattle.machine.specs.Refusals.{refusal}
-use Rattle.machine.specs.Call.{Past, Caller, Answers, Served, JudgedBy, Called, knows_pass, is_trace_full}
+use Rattle.machine.specs.Call.{Past, Caller, Answers, Answered, JudgedBy, Called, knows_pass, is_trace_full}
 use Rattle.machine.specs.Step.{new_node}
 use Rattle.machine.proofs.Values.{some_inj, never_some, unlike}
 use Rattle.machine.proofs.TreeLemmas.{eq_cases}
@@ -117,7 +117,7 @@ listed-on before after held held' goes listed p =
 
 -- ---- one call
 
-served_or : {P : Type 0} (old new : Past) (caller : Caller) (what : Event) (answer : Reply) → (new ≡ old → P) → (Answers old caller what answer new → P) → Served old caller what answer new → P
+served_or : {P : Type 0} (old new : Past) (caller : Caller) (what : Event) (answer : Reply) → (new ≡ old → P) → (Answers old caller what answer new → P) → Answered old caller what answer new → P
 served_or old new caller what (reply.Refused why) same answers h = same h.2
 served_or old new caller what answer same answers h = answers h
 
@@ -216,7 +216,7 @@ module _ (old new : Past) (caller : Caller) (what : Event) (answer : Reply) (tar
   not_refused : {P : Type 0} (why : Refusal) → answer ≡ reply.Refused why → P
   not_refused why e = never_some (took_for what answer) (ap (took_for what) e ∙ refused_none what why) taken
 
-  served_answers : (said : Reply) → answer ≡ said → Served old caller what said new → Answers old caller what said new
+  served_answers : (said : Reply) → answer ≡ said → Answered old caller what said new → Answers old caller what said new
   served_answers (reply.Refused why) e h = not_refused why e
   served_answers said e h = h
 

@@ -233,15 +233,15 @@ ends_transfer (event.LeaveFailed ticket) = true
 ends_transfer what = false
 
 -- how many transfers were begun, and how many ended
-abbrev pub begun : List Entry → ℕ
-begun history = count_by (λ (entry : Entry). begins_transfer entry.reply) history
+abbrev pub transfers_begun : List Entry → ℕ
+transfers_begun history = count_by (λ (entry : Entry). begins_transfer entry.reply) history
 
-abbrev pub ended : List Entry → ℕ
-ended history = count_by (λ (entry : Entry). ends_transfer entry.event) history
+abbrev pub transfers_ended : List Entry → ℕ
+transfers_ended history = count_by (λ (entry : Entry). ends_transfer entry.event) history
 
 -- as many transfers are in flight as were begun and have not ended. (Excludes a transfer that ends twice, and one that is lost.)
 abbrev pub TransfersAreBegunLessEnded : Type 0
-TransfersAreBegunLessEnded = (opening : Opening) (history : List Entry) (s : State) → Legal opening history s → in_transfer s.pages + ended history ≡ begun history
+TransfersAreBegunLessEnded = (opening : Opening) (history : List Entry) (s : State) → Legal opening history s → in_transfer s.pages + transfers_ended history ≡ transfers_begun history
 
 -- a page counts as charged while it is being read in and while it is being written out
 abbrev pub TransfersStayCharged : Type 0

@@ -28,7 +28,7 @@ use Rattle.machine.specs.State.{State, over_in, is_frame_free}
 use Rattle.machine.specs.Access.{Meeting, Unmapped, Hits, Transferring, NeedsPage, NeedsCopy, NeedsSwapIn, Dangling, meets}
 use Rattle.machine.specs.Reclaim.{has_takeable, has_transfer, stands, target_of}
 use Rattle.machine.specs.Refusals.{refusal}
-use Rattle.machine.specs.Step.{ChargeStep, Charges, MakesPage, StartsFetch, HitStep, UnmappedStep, MeetStep, LifeStep, TaskStep, Takes, StartsLeave, Drops, LeavesBy, LeavesFrom, ReclaimStep, ReclaimOneStep, KillStep, RelieveStep, still, EndsTask, Exits, EndsTransfer, in_frame, on_block, Step}
+use Rattle.machine.specs.Step.{ChargeStep, TriesCharge, MakesPage, StartsFetch, HitStep, UnmappedStep, MeetStep, LifeStep, TaskStep, Takes, StartsLeave, Drops, LeavesBy, LeavesFrom, ReclaimStep, ReclaimOneStep, KillStep, RelieveStep, still, EndsTask, Exits, EndsTransfer, in_frame, on_block, Step}
 use Rattle.machine.specs.History.{InTask, is_spot, Byte, Nothing, says_if, says, ticket_given}
 use Rattle.machine.proofs.Values.{some_inj, never_some, unlike}
 use Rattle.machine.proofs.TreeLemmas.{eq_cases}
@@ -390,7 +390,7 @@ module _ (old new : State) (alive : AllLive old.page_tables old.tasks) where
         (λ t' v' o'. says_undone t (Virtual v o) op answer t' v' o' (ap is_done h.answers)) (gives answer h.ticket (ap ticket_given h.answers) h.ticket_free)
 
     -- where a charge is needed
-    charged : (g : ℕ) (Granted : Type 0) (answer : Reply) → (Granted → Accessed answer) → Charges old g Granted answer new → Accessed answer
+    charged : (g : ℕ) (Granted : Type 0) (answer : Reply) → (Granted → Accessed answer) → TriesCharge old g Granted answer new → Accessed answer
     charged g Granted answer granted step = by_over (over_in old g) step
       where
         by_over : (low : Option ℕ) → ChargeStep old low (is_frame_free old) Granted answer new → Accessed answer

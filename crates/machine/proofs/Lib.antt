@@ -10,6 +10,8 @@ pub mod OpeningLemmas
 pub mod Did
 pub mod ShownLemmas
 pub mod SettledLemmas
+pub mod ListedLemmas
+pub mod AgingLemmas
 mod ExampleStates
 mod TreeExamples
 mod AccessExamples
@@ -21,3 +23,4 @@ mod ReliefExamples
 mod LegalExamples
 mod HistoryExamples
 mod ControlExamples
+mod GenerationExamples

@@ -13,7 +13,7 @@ use Rattle.machine.specs.Refusals.{refusal}
 use Rattle.machine.specs.Step.{new_node, Step}
 use Rattle.machine.proofs.Values.{unlike}
 use Rattle.machine.proofs.Did.{is_mkdir, Did, Kept, Made, Moved, Dropped, Ended, Spawned, Grown, step_did}
-use Rattle.machine.specs.Call.{Past, Caller, Refuses, Served, JudgedBy, Called, knows_pass, is_trace_full}
+use Rattle.machine.specs.Call.{Past, Caller, Refuses, Answered, JudgedBy, Called, knows_pass, is_trace_full}
 
 -- the groups after an event that nothing refuses
 abbrev pub tree_after : State → Event → List Node
@@ -51,14 +51,14 @@ module _ (old new : Past) (caller : Caller) (what : Event) (answer : Reply) wher
   refused : (why : Refusal) → Refuses old why answer new → new.state.opening ≡ old.state.opening
   refused why h = ap (λ (p : Past). p.state.opening) h.1
 
-pub served : (old new : Past) (caller : Caller) (what : Event) (answer : Reply) → Served old caller what answer new → new.state.opening ≡ old.state.opening
+pub served : (old new : Past) (caller : Caller) (what : Event) (answer : Reply) → Answered old caller what answer new → new.state.opening ≡ old.state.opening
 served old new caller what (reply.Refused why) h = ap (λ (p : Past). p.state.opening) h.2
 served old new caller what answer h = step_opening old.state what answer new.state h.steps
 
 pub called_opening : (old new : Past) (caller : Caller) (what : Event) (answer : Reply) → Called old caller what answer new → new.state.opening ≡ old.state.opening
 called_opening old new caller what answer called = known (knows_pass old.state old.history caller what) called
   where
-    by_room : (full : Bool) → MatchBool full (Refuses old TraceFull answer new) (Served old caller what answer new) → new.state.opening ≡ old.state.opening
+    by_room : (full : Bool) → MatchBool full (Refuses old TraceFull answer new) (Answered old caller what answer new) → new.state.opening ≡ old.state.opening
     by_room true h = refused old new caller what answer TraceFull h
     by_room false h = served old new caller what answer h
 

@@ -31,7 +31,7 @@ use Rattle.machine.specs.Victim.{is_candidate, is_worse, IsWorst}
 use Rattle.machine.specs.Lists.{Order, served, first_held, TakesNext, CursorsGoOn}
 use Rattle.machine.specs.Step.{ChargeStep, MakesPage, StartsFetch, HitStep, UnmappedStep, MeetStep, LifeStep, TaskStep, Takes, StartsLeave, Drops, LeavesBy, LeavesFrom, ReclaimStep, KillStep, EndsTransfer, Step}
 use Rattle.machine.specs.Refusals.{refusal}
-use Rattle.machine.specs.Call.{Past, Caller, Refuses, Answers, Served, JudgedBy, Called, knows_pass, is_trace_full, AreBytesAlike, AreAlike}
+use Rattle.machine.specs.Call.{Past, Caller, Refuses, Answers, Answered, JudgedBy, Called, knows_pass, is_trace_full, AreBytesAlike, AreAlike}
 use Rattle.machine.proofs.Values.{some_inj, unlike}
 use Rattle.machine.proofs.TreeLemmas.{eq_cases}
 use Rattle.machine.proofs.MoveLemmas.{Met, met}
@@ -292,7 +292,7 @@ module _ (old new new' : State) (order order' order'' : Order) where
 -- ---- calls
 
 -- a call that is served, and does not want for memory, is a step
-served_step : (old new : Past) (caller : Caller) (what : Event) (answer : Reply) → (answer ≡ reply.Refused NoMemory → ⊥) → Served old caller what answer new → Answers old caller what answer new
+served_step : (old new : Past) (caller : Caller) (what : Event) (answer : Reply) → (answer ≡ reply.Refused NoMemory → ⊥) → Answered old caller what answer new → Answers old caller what answer new
 served_step old new caller what (reply.Refused why) memory h = absurd (memory (ap reply.Refused h.0))
 served_step old new caller what answer memory h = h
 

@@ -132,13 +132,13 @@ pub record Answers (old : Past) (caller : Caller) (what : Event) (answer : Reply
 abbrev pub Refuses : Past → Refusal → Reply → Past → Type 0
 Refuses old why answer new = (answer ≡ reply.Refused why) × (new ≡ old)
 
-abbrev pub Served : Past → Caller → Event → Reply → Past → Type 0
-Served old caller what (reply.Refused why) new = (why ≡ NoMemory) × (grows old.state what ≡ true) × (new ≡ old)
-Served old caller what answer new = Answers old caller what answer new
+abbrev pub Answered : Past → Caller → Event → Reply → Past → Type 0
+Answered old caller what (reply.Refused why) new = (why ≡ NoMemory) × (grows old.state what ≡ true) × (new ≡ old)
+Answered old caller what answer new = Answers old caller what answer new
 
 abbrev pub JudgedBy : Past → Caller → Event → Option Refusal → Reply → Past → Type 0
 JudgedBy old caller what (Some why) answer new = Refuses old why answer new
-JudgedBy old caller what None answer new = MatchBool (is_trace_full old what) (Refuses old TraceFull answer new) (Served old caller what answer new)
+JudgedBy old caller what None answer new = MatchBool (is_trace_full old what) (Refuses old TraceFull answer new) (Answered old caller what answer new)
 
 -- a stranger comes first, then the causes in order, then the trace's room, then memory
 abbrev pub Called : Past → Caller → Event → Reply → Past → Type 0

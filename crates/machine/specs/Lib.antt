@@ -15,6 +15,9 @@ pub mod Access
 pub mod Refusals
 pub mod Step
 pub mod History
+pub mod Generations
+pub mod Aging
+pub mod Eviction
 pub mod Lists
 pub mod Call
 pub mod Legal

@@ -47,8 +47,8 @@ abbrev pub ChargeStep : State → Option ℕ → Bool → Type 0 → Reply → S
 ChargeStep old (Some a) free Granted answer new = (answer ≡ reply.Over (record { 0 = a })) × (new ≡ record old { counted = old.counted ++ count_of a key.Max ∷ [] })
 ChargeStep old None free Granted answer new = MatchBool free Granted (Only old reply.NoFrame answer new)
 
-abbrev pub Charges : State → ℕ → Type 0 → Reply → State → Type 0
-Charges old g Granted answer new = ChargeStep old (over_in old g) (is_frame_free old) Granted answer new
+abbrev pub TriesCharge : State → ℕ → Type 0 → Reply → State → Type 0
+TriesCharge old g Granted answer new = ChargeStep old (over_in old g) (is_frame_free old) Granted answer new
 
 -- a frame that no page has
 pub record IsFreeFrame (s : State) (frame : ℕ) : Type 0 where
@@ -112,9 +112,9 @@ abbrev pub MeetStep : State → ℕ → ℕ → Op → Meeting → Reply → Sta
 MeetStep old t g op Unmapped answer new = UnmappedStep old answer new
 MeetStep old t g op (Hits p page frame) answer new = HitStep old p page frame op answer new
 MeetStep old t g op Transferring answer new = Only old reply.Busy answer new
-MeetStep old t g op (NeedsPage v) answer new = Charges old g (MakesPage old t v g op answer new) answer new
-MeetStep old t g op (NeedsCopy v) answer new = Charges old g (MakesPage old t v g op answer new) answer new
-MeetStep old t g op (NeedsSwapIn p page block) answer new = Charges old page.group (StartsFetch old p page.group page.content block answer new) answer new
+MeetStep old t g op (NeedsPage v) answer new = TriesCharge old g (MakesPage old t v g op answer new) answer new
+MeetStep old t g op (NeedsCopy v) answer new = TriesCharge old g (MakesPage old t v g op answer new) answer new
+MeetStep old t g op (NeedsSwapIn p page block) answer new = TriesCharge old page.group (StartsFetch old p page.group page.content block answer new) answer new
 MeetStep old t g op Dangling answer new = ⊥
 
 -- an event of a task: a killed one is told so

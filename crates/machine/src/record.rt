@@ -30,6 +30,13 @@ pub enum Direction {
     Out,
 }
 
+/// The type of a page: memory of tasks, or of a file (kernel: LRU_GEN_ANON, LRU_GEN_FILE).
+#[derive(Clone, Copy, Debug, PartialEq, Eq)]
+pub enum Kind {
+    Anon,
+    File,
+}
+
 /// What is counted in `memory.events`.
 #[derive(Clone, Copy, Debug, PartialEq, Eq)]
 pub enum Key {

@@ -7,7 +7,7 @@ use Rattle.machine.specs.Tree.{Node, node_at, is_live, IsTree, share, under}
 use Rattle.machine.proofs.TreeLemmas.{share-under, share-own, share-step}
 use Rattle.group_tree.specs.Lineages.{IsLineage}
 use Rattle.group_tree.proofs.LineageLemmas.{live-within}
-use Rattle.page_counter.specs.Counts.{Counts, Charges, MovesUp, Counted, IsOut, usage_of}
+use Rattle.page_counter.specs.Counts.{Counts, Charges, MovesUp, AreCounts, IsOut, usage_of}
 
 -- the count of a after one charge more
 pub count_more : (tree : List Node) → IsTree tree → (a g : ℕ) (charges : List ℕ) → count_by (λ x. under tree a x) (g ∷ charges) ≡ count_by (λ x. under tree a x) charges + share tree a (Some g)
@@ -16,9 +16,9 @@ count_more tree is a g charges =
     let one = share-under tree is a (Some g) in
     omega (arith, more, one)
 
-pub Counted-charge : (old new : Counts) (g : ℕ) (charges : List ℕ) → IsTree old.tree → is_live old.tree g ≡ true → Charges old new g → Counted old charges → Counted new (g ∷ charges)
-Counted-charge old new g charges is live change counted =
-    subst (λ t. Counted (record { tree = t; limits = new.limits; usage = new.usage; room = new.room }) (g ∷ charges)) (sym change.groups.tree)
+pub AreCounts-charge : (old new : Counts) (g : ℕ) (charges : List ℕ) → IsTree old.tree → is_live old.tree g ≡ true → Charges old new g → AreCounts old charges → AreCounts new (g ∷ charges)
+AreCounts-charge old new g charges is live change counted =
+    subst (λ t. AreCounts (record { tree = t; limits = new.limits; usage = new.usage; room = new.room }) (g ∷ charges)) (sym change.groups.tree)
     (record {
       live = All-cons (λ x. is_live old.tree x ≡ true) g charges live counted.live;
       counts =
@@ -29,10 +29,10 @@ Counted-charge old new g charges is live change counted =
           omega (arith, usage, before, more));
     })
 
-pub Counted-uncharge : (old new : Counts) (g : ℕ) (rest : List ℕ) → IsTree old.tree → Charges new old g → Counted old (g ∷ rest) → Counted new rest
-Counted-uncharge old new g rest is change counted =
+pub AreCounts-uncharge : (old new : Counts) (g : ℕ) (rest : List ℕ) → IsTree old.tree → Charges new old g → AreCounts old (g ∷ rest) → AreCounts new rest
+AreCounts-uncharge old new g rest is change counted =
     let changed = subst (λ t. (a : ℕ) → a < length t → usage_of old a ≡ usage_of new a + share t a (Some g)) (sym change.groups.tree) change.usage in
-    subst (λ t. Counted (record { tree = t; limits = new.limits; usage = new.usage; room = new.room }) rest) change.groups.tree
+    subst (λ t. AreCounts (record { tree = t; limits = new.limits; usage = new.usage; room = new.room }) rest) change.groups.tree
     (record {
       live = All-tail (λ x. is_live old.tree x ≡ true) g rest counted.live;
       counts =
@@ -43,9 +43,9 @@ Counted-uncharge old new g rest is change counted =
           omega (arith, usage, before, more));
     })
 
-pub Counted-move_up : (old new : Counts) (g p : ℕ) (rest : List ℕ) → IsLineage old.tree → (node_at old.tree g).parent ≡ Some p → MovesUp old new g → Counted old (g ∷ rest) → Counted new (p ∷ rest)
-Counted-move_up old new g p rest is parent change counted =
-    subst (λ t. Counted (record { tree = t; limits = new.limits; usage = new.usage; room = new.room }) (p ∷ rest)) (sym change.groups.tree)
+pub AreCounts-move_up : (old new : Counts) (g p : ℕ) (rest : List ℕ) → IsLineage old.tree → (node_at old.tree g).parent ≡ Some p → MovesUp old new g → AreCounts old (g ∷ rest) → AreCounts new (p ∷ rest)
+AreCounts-move_up old new g p rest is parent change counted =
+    subst (λ t. AreCounts (record { tree = t; limits = new.limits; usage = new.usage; room = new.room }) (p ∷ rest)) (sym change.groups.tree)
     (record {
       live =
           All-cons (λ x. is_live old.tree x ≡ true) p rest (is.parents_live g p (All-head (λ x. is_live old.tree x ≡ true) g rest counted.live) parent)

@@ -14,7 +14,7 @@ use Rattle.machine.specs.Tree.{Node, node_at, is_child, IsTree, rank, share, und
 use Rattle.machine.proofs.TreeLemmas.{eq_cases, share-None, share-beyond, share-own, share-step, parent_above, rank-parent}
 use Rattle.group_tree.specs.Walk.{children_from}
 use Rattle.group_tree.proofs.PreorderLemmas.{children_from-end, children_from-child, children_from-other, children-from, child_parent}
-use Rattle.page_counter.specs.Counts.{Counts, Counted, usage_of}
+use Rattle.page_counter.specs.Counts.{Counts, AreCounts, usage_of}
 use Rattle.page_counter.specs.Tables.{IsCounters}
 use Rattle.page_counter.proofs.ChargeLemmas.{count_more}
 
@@ -169,7 +169,7 @@ at_most-le count Max = omega arith
 at_most-le count (Pages n) = omega arith
 
 -- what the children of a group ask for together is at most what the group counts
-pub children_min_usage-le : (s : Counts) (setting : ℕ → Amount) (charges : List ℕ) → IsTree s.tree → Counted s charges → (p : ℕ) → p < length s.tree → children_min_usage s.tree setting (usage_of s) p ≤ usage_of s p
+pub children_min_usage-le : (s : Counts) (setting : ℕ → Amount) (charges : List ℕ) → IsTree s.tree → AreCounts s charges → (p : ℕ) → p < length s.tree → children_min_usage s.tree setting (usage_of s) p ≤ usage_of s p
 children_min_usage-le s setting charges is counted p lt =
     let less =
     sum-le s.tree p (min_usage setting (usage_of s)) (λ c. count_by (λ x. under s.tree c x) charges) 0

@@ -11,7 +11,7 @@ use Rattle.machine.specs.Tree.{Node, no_node, node_at, is_live, IsTree, under}
 use Rattle.machine.proofs.TreeLemmas.{eq_cases, lt_cases, share-own, same_under, under_at-append, under_at-beyond, IsTree-push}
 use Rattle.group_tree.specs.Lineages.{bare, IsLineage}
 use Rattle.group_tree.proofs.LineageLemmas.{live-within}
-use Rattle.page_counter.specs.Counts.{Counts, Counted, usage_of}
+use Rattle.page_counter.specs.Counts.{Counts, AreCounts, usage_of}
 use Rattle.page_counter.specs.Tables.{IsCounters}
 use Rattle.page_counter.proofs.ChargeLemmas.{count_more}
 
@@ -45,16 +45,16 @@ module _ (s : Counts) (group : ℕ) (is : IsLineage s.tree) (live : is_live s.tr
         | inr differs ↦ ap (λ x. x.parent) (other_node g differs)
       ]
 
-  charged_elsewhere : (charges : List ℕ) → Counted s charges → (k d : ℕ) → k < length charges → get_or charges k d ≢ group
+  charged_elsewhere : (charges : List ℕ) → AreCounts s charges → (k d : ℕ) → k < length charges → get_or charges k d ≢ group
   charged_elsewhere charges counted k d lt same =
       let own = counts_own s.tree is.earlier_parents charges k d lt in
       let count = counted.counts group (live-within s.tree group live) in
       let at_group : count_by (λ x. under s.tree (get_or charges k d) x) charges ≡ count_by (λ x. under s.tree group x) charges = ap (λ g. count_by (λ x. under s.tree g x) charges) same in
       omega (arith, own, count, at_group, uncharged)
 
-  pub Counted-remove : (new : Counts) (charges : List ℕ) → new.tree ≡ slice_set s.tree group (record (node_at s.tree group) { live = false }) → new.usage ≡ s.usage → Counted s charges → Counted new charges
-  Counted-remove new charges tree usage counted =
-      subst (λ t. Counted (record { tree = t; limits = new.limits; usage = new.usage; room = new.room }) charges) (sym tree)
+  pub AreCounts-remove : (new : Counts) (charges : List ℕ) → new.tree ≡ slice_set s.tree group (record (node_at s.tree group) { live = false }) → new.usage ≡ s.usage → AreCounts s charges → AreCounts new charges
+  AreCounts-remove new charges tree usage counted =
+      subst (λ t. AreCounts (record { tree = t; limits = new.limits; usage = new.usage; room = new.room }) charges) (sym tree)
       (record {
         live = λ k d lt. ap (λ x. x.live) (other_node (get_or charges k d) (charged_elsewhere charges counted k d lt)) ∙ counted.live k d lt;
         counts =
@@ -71,7 +71,7 @@ module _ (s : Counts) (group : ℕ) (is : IsLineage s.tree) (live : is_live s.tr
         limits_length = ap length limits ∙ held.limits_length ∙ sym fewer;
         usage_length = ap length usage ∙ held.usage_length ∙ sym fewer;
         charges = held.charges;
-        counted = Counted-remove new held.charges tree usage held.counted;
+        counted = AreCounts-remove new held.charges tree usage held.counted;
       }
 
 counts_append : (tree more : List Node) → IsTree tree → (a : ℕ) (charges : List ℕ) → All (λ x. is_live tree x ≡ true) charges → count_by (λ x. under (tree ++ more) a x) charges ≡ count_by (λ x. under tree a x) charges
@@ -98,7 +98,7 @@ same_length-push xs xs' ys ys' x y pushed_x pushed_y same =
 
 -- a group is made, below a live one
 module _ (s new : Counts) (p : ℕ) (is : IsLineage s.tree) (held : IsCounters s) (parent_live : is_live s.tree p ≡ true) (tree : new.tree ≡ s.tree ++ bare (Some p) ∷ []) (usage : new.usage ≡ s.usage ++ 0 ∷ []) where
-  pushed_count : (charges : List ℕ) → Counted s charges → (a : ℕ) → a < length (s.tree ++ bare (Some p) ∷ []) → slice_index (s.usage ++ 0 ∷ []) a ≡ count_by (λ g. under (s.tree ++ bare (Some p) ∷ []) a g) charges
+  pushed_count : (charges : List ℕ) → AreCounts s charges → (a : ℕ) → a < length (s.tree ++ bare (Some p) ∷ []) → slice_index (s.usage ++ 0 ∷ []) a ≡ count_by (λ g. under (s.tree ++ bare (Some p) ∷ []) a g) charges
   pushed_count charges counted a lt =
       elim (lt_cases a (length s.tree)) [
         | inl old ↦
@@ -112,9 +112,9 @@ module _ (s new : Counts) (p : ℕ) (is : IsLineage s.tree) (held : IsCounters s
         | inr (inr beyond) ↦ absurd (let len = length-append s.tree (bare (Some p) ∷ []) in omega (arith, len, beyond, lt))
       ]
 
-  pub Counted-push : (charges : List ℕ) → Counted s charges → Counted new charges
-  Counted-push charges counted =
-      subst (λ t. Counted (record { tree = t; limits = new.limits; usage = new.usage; room = new.room }) charges) (sym tree)
+  pub AreCounts-push : (charges : List ℕ) → AreCounts s charges → AreCounts new charges
+  AreCounts-push charges counted =
+      subst (λ t. AreCounts (record { tree = t; limits = new.limits; usage = new.usage; room = new.room }) charges) (sym tree)
       (record {
         live =
             λ k d lt.
@@ -128,5 +128,5 @@ module _ (s new : Counts) (p : ℕ) (is : IsLineage s.tree) (held : IsCounters s
         limits_length = same_length-push s.limits new.limits s.tree new.tree _ _ limits tree held.limits_length;
         usage_length = same_length-push s.usage new.usage s.tree new.tree _ _ usage tree held.usage_length;
         charges = held.charges;
-        counted = Counted-push held.charges held.counted;
+        counted = AreCounts-push held.charges held.counted;
       }

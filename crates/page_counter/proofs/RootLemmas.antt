@@ -7,7 +7,7 @@ use Rattle.machine.specs.Tree.{Node, is_live, under}
 use Rattle.machine.proofs.TreeLemmas.{share-under, share-le}
 use Rattle.group_tree.specs.Lineages.{IsLineage}
 use Rattle.group_tree.proofs.LineageLemmas.{live-within}
-use Rattle.page_counter.specs.Counts.{Counts, Counted, usage_of}
+use Rattle.page_counter.specs.Counts.{Counts, AreCounts, usage_of}
 use Rattle.page_counter.proofs.ChargeLemmas.{count_more}
 
 -- every page is counted at the root
@@ -23,7 +23,7 @@ most_at_root tree is a (g ∷ charges) live =
     omega (arith, more, root, rest, le, below_root, one)
 
 -- no group counts more pages than the root
-pub root_counts_most : (s : Counts) (charges : List ℕ) → IsLineage s.tree → Counted s charges → (a : ℕ) → a < length s.tree → usage_of s a ≤ usage_of s 0
+pub root_counts_most : (s : Counts) (charges : List ℕ) → IsLineage s.tree → AreCounts s charges → (a : ℕ) → a < length s.tree → usage_of s a ≤ usage_of s 0
 root_counts_most s charges is counted a lt =
     let here = counted.counts a lt in
     let root = counted.counts 0 (live-within s.tree 0 is.root_first) in

@@ -4,7 +4,7 @@ use Rattle.std.proofs.lemmas.List.{get_or_default}
 use Rattle.machine.specs.Tree.{IsTree, share}
 use Rattle.machine.proofs.TreeLemmas.{eq_cases, share-None}
 use Rattle.group_tree.proofs.LineageLemmas.{live-within}
-use Rattle.page_counter.specs.Counts.{Counts, SameGroups, Charges, MovesUp, Counted, IsOut}
+use Rattle.page_counter.specs.Counts.{Counts, SameGroups, Charges, MovesUp, AreCounts, IsOut}
 use Rattle.page_counter.specs.Tables.{IsCounters}
 use Rattle.page_counter.proofs.ChargeLemmas.{live-out, counts_itself}
 
@@ -57,7 +57,7 @@ Charges-taken s now usage g is same taken =
     }
 
 -- the counters stay such, where only counts changed
-pub IsCounters-counts : (old new : Counts) (charges : List ℕ) → IsCounters old → SameGroups old new → length new.usage ≡ length old.usage → Counted new charges → IsCounters new
+pub IsCounters-counts : (old new : Counts) (charges : List ℕ) → IsCounters old → SameGroups old new → length new.usage ≡ length old.usage → AreCounts new charges → IsCounters new
 IsCounters-counts old new charges held groups same counted =
     record {
       limits_length = ap length groups.limits ∙ held.limits_length ∙ sym (ap length groups.tree);

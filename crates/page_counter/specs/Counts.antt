@@ -20,14 +20,14 @@ abbrev pub over_in : Counts → ℕ → Option ℕ
 over_in s g = counts.over s.tree s.limits (usage_of s) g
 
 -- these are the groups of the charges that are out: each group is there, and its number is how many of them are at or under it
-pub record Counted (s : Counts) (charges : List ℕ) : Type 0 where
+pub record AreCounts (s : Counts) (charges : List ℕ) : Type 0 where
   pub live : All (λ g. is_live s.tree g ≡ true) charges
   pub counts : (a : ℕ) → a < length s.tree → usage_of s a ≡ count_by (λ g. under s.tree a g) charges
 
 -- a charge of g is out: the charges that are out are it and some others
 pub record IsOut (s : Counts) (g : ℕ) : Type 0 where
   pub others : List ℕ
-  pub counted : Counted s (g ∷ others)
+  pub counted : AreCounts s (g ∷ others)
 
 -- the groups, their limits and the memory for more are the same
 pub record SameGroups (old new : Counts) : Type 0 where

@@ -1,6 +1,6 @@
 -- The tables that the counters stand in, by the groups' numbers.
 use Rattle.std.specs.Prelude.{◌≡◌, ℕ, ◌-◌, List, length, min, vec_len, vec_capacity}
-use Rattle.page_counter.specs.Counts.{Counts, Counted}
+use Rattle.page_counter.specs.Counts.{Counts, AreCounts}
 use Rattle.page_counter.specs.declared.counters.Counters.TheInside.{Inside}
 
 -- what the tables say. There is memory for as many groups more as each table has room for
@@ -17,4 +17,4 @@ pub record IsCounters (s : Counts) : Type 0 where
   pub limits_length : length s.limits ≡ length s.tree
   pub usage_length : length s.usage ≡ length s.tree
   pub charges : List ℕ
-  pub counted : Counted s charges
+  pub counted : AreCounts s charges

@@ -40,7 +40,7 @@ impl Model for Counters {
 }
 
 impl Counters {
-    ghost use Rattle.page_counter.specs.Counts.{Charges, MovesUp, Counted, IsOut, over_in, usage_of};
+    ghost use Rattle.page_counter.specs.Counts.{Charges, MovesUp, AreCounts, IsOut, over_in, usage_of};
 
     /// The counters of the root alone: no limit, and no page charged. `AllocError` where there is
     /// no memory for them.
@@ -48,7 +48,7 @@ impl Counters {
         ensures tree { IfOk result (λ c. c.tree ≡ bare None ∷ []) }
         ensures limits { IfOk result (λ c. c.limits ≡ no_limits ∷ []) }
         ensures usage { IfOk result (λ c. c.usage ≡ 0 ∷ []) }
-        ensures counted { IfOk result (λ c. Counted c []) }
+        ensures counted { IfOk result (λ c. AreCounts c []) }
     {
         let lineage = Lineage::new(alloc)?;
         let mut limits = Vec::with_capacity(alloc, 1)?;
@@ -71,7 +71,7 @@ impl Counters {
         ensures usage { self.new.usage ≡ self.old.usage }
         ensures succeeds { 0 < self.old.room → IsOk result }
         ensures kept { self.old.room ≤ self.new.room }
-        ensures counted { (charges : List ℕ) → Counted self.old charges → Counted self.new charges }
+        ensures counted { (charges : List ℕ) → AreCounts self.old charges → AreCounts self.new charges }
     {
         self.lineage.reserve()?;
         self.limits.reserve(1)?;
@@ -88,7 +88,7 @@ impl Counters {
         ensures limits { self.new.limits ≡ self.old.limits ++ no_limits ∷ [] }
         ensures usage { self.new.usage ≡ self.old.usage ++ 0 ∷ [] }
         ensures room { self.new.room + 1 ≡ self.old.room }
-        ensures counted { (charges : List ℕ) → Counted self.old charges → Counted self.new charges }
+        ensures counted { (charges : List ℕ) → AreCounts self.old charges → AreCounts self.new charges }
     {
         prove!(group.0 as usize == self.usage.len());
         self.lineage.is_lineage();
@@ -109,7 +109,7 @@ impl Counters {
         ensures same_limits { OnErr result (self.new.limits ≡ self.old.limits) }
         ensures same_usage { OnErr result (self.new.usage ≡ self.old.usage) }
         ensures succeeds { 0 < self.old.room → IsOk result }
-        ensures counted { (charges : List ℕ) → Counted self.old charges → Counted self.new charges }
+        ensures counted { (charges : List ℕ) → AreCounts self.old charges → AreCounts self.new charges }
     {
         self.reserve()?;
         self.add_reserved(group, parent);
@@ -126,7 +126,7 @@ impl Counters {
         ensures limits { self.new.limits ≡ self.old.limits }
         ensures usage { self.new.usage ≡ self.old.usage }
         ensures room { self.new.room ≡ self.old.room }
-        ensures counted { (charges : List ℕ) → Counted self.old charges → Counted self.new charges }
+        ensures counted { (charges : List ℕ) → AreCounts self.old charges → AreCounts self.new charges }
     {
         self.lineage.is_lineage();
         self.lineage.remove(group);
@@ -148,7 +148,7 @@ impl Counters {
         ensures tree { self.new.tree ≡ self.old.tree }
         ensures usage { self.new.usage ≡ self.old.usage }
         ensures room { self.new.room ≡ self.old.room }
-        ensures counted { (charges : List ℕ) → Counted self.old charges → Counted self.new charges }
+        ensures counted { (charges : List ℕ) → AreCounts self.old charges → AreCounts self.new charges }
     {
         self.limits[group.0 as usize].max = max;
     }
@@ -170,7 +170,7 @@ impl Counters {
         ensures tree { self.new.tree ≡ self.old.tree }
         ensures usage { self.new.usage ≡ self.old.usage }
         ensures room { self.new.room ≡ self.old.room }
-        ensures counted { (charges : List ℕ) → Counted self.old charges → Counted self.new charges }
+        ensures counted { (charges : List ℕ) → AreCounts self.old charges → AreCounts self.new charges }
     {
         self.limits[group.0 as usize].min = min;
     }
@@ -231,7 +231,7 @@ impl Counters {
         ensures over { IfErr result (λ limit. over_in self.old group.0 ≡ Some limit.0.0) }
         ensures group { IfOk result (λ charge. charge ≡ group.0) }
         ensures charged { OnOk result (Charges self.old self.new group.0) }
-        ensures counted { (charges : List ℕ) → Counted self.old charges → OnOk result (Counted self.new (group.0 ∷ charges)) }
+        ensures counted { (charges : List ℕ) → AreCounts self.old charges → OnOk result (AreCounts self.new (group.0 ∷ charges)) }
         ensures err { OnErr result (self.new ≡ self.old) }
     {
         self.lineage.is_lineage();
@@ -249,7 +249,7 @@ impl Counters {
     pub fn uncharge(&mut self, charge: Charge)
         requires out { IsOut self.old charge }
         ensures uncharged { Charges self.new self.old charge }
-        ensures counted { (rest : List ℕ) → Counted self.old (charge ∷ rest) → Counted self.new rest }
+        ensures counted { (rest : List ℕ) → AreCounts self.old (charge ∷ rest) → AreCounts self.new rest }
     {
         self.lineage.is_lineage();
         let group = charge.into_group();
@@ -263,7 +263,7 @@ impl Counters {
         requires below { IsSome (node_at self.old.tree charge).parent }
         ensures parent { (node_at self.old.tree charge).parent ≡ Some result }
         ensures moved { MovesUp self.old self.new charge }
-        ensures counted { (rest : List ℕ) → Counted self.old (charge ∷ rest) → Counted self.new (result ∷ rest) }
+        ensures counted { (rest : List ℕ) → AreCounts self.old (charge ∷ rest) → AreCounts self.new (result ∷ rest) }
     {
         let group = charge.into_group();
         let Some(parent) = self.lineage.parent(group) else {
@@ -278,7 +278,7 @@ impl Counters {
         ensures lineage { IsLineage self.now.tree }
         ensures limits { length self.now.limits ≡ length self.now.tree }
         ensures usage { length self.now.usage ≡ length self.now.tree }
-        ensures counted { (charges : List ℕ) × Counted self.now charges }
+        ensures counted { (charges : List ℕ) × AreCounts self.now charges }
     {
         self.lineage.is_lineage();
         let _ = &self.limits;

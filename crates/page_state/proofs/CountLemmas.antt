@@ -13,7 +13,7 @@ use Rattle.machine.proofs.TreeLemmas.{eq_cases, share-is, over_at-same}
 use Rattle.machine.proofs.SlotLemmas.{one_if}
 use Rattle.group_tree.specs.Lineages.{IsLineage}
 use Rattle.group_tree.proofs.LineageLemmas.{live-within}
-use Rattle.page_counter.specs.Counts.{Counts, Counted, IsOut, Charges, usage_of, over_in}
+use Rattle.page_counter.specs.Counts.{Counts, AreCounts, IsOut, Charges, usage_of, over_in}
 use Rattle.page_state.specs.Owned.{IsCounted}
 use Rattle.page_state.proofs.BalanceLemmas.{changed-count}
 
@@ -55,7 +55,7 @@ charged-groups tree a (Some page ∷ pages) =
     omega (arith, all, groups, rest)
 
 -- pages that are counted are charges that are out
-pub pages-counted : (counters : Counts) (pages : Pages) → IsCounted counters pages → Counted counters (groups_of pages)
+pub pages-counted : (counters : Counts) (pages : Pages) → IsCounted counters pages → AreCounts counters (groups_of pages)
 pages-counted counters pages counted =
     record {
       live = all_groups (λ g. is_live counters.tree g ≡ true) pages counted.live;
@@ -73,7 +73,7 @@ live_longer tree more None h = tt
 live_longer tree more (Some page) h = ap (λ (x : Node). x.live) (get_or_append_left tree more no_node page.group (live-within tree page.group h)) ∙ h
 
 -- a group more, to which nothing is charged
-pub counted-longer : (c d : Counts) (more : List Node) (pages : Pages) → d.tree ≡ c.tree ++ more → ((charges : List ℕ) → Counted c charges → Counted d charges) → IsCounted c pages → IsCounted d pages
+pub counted-longer : (c d : Counts) (more : List Node) (pages : Pages) → d.tree ≡ c.tree ++ more → ((charges : List ℕ) → AreCounts c charges → AreCounts d charges) → IsCounted c pages → IsCounted d pages
 counted-longer c d more pages tree keeps counted =
     let after = keeps (groups_of pages) (pages-counted c pages counted) in
     record {

@@ -5,14 +5,15 @@ use Rattle.std.proofs.lemmas.Bool.{and_right}
 use Rattle.std.proofs.lemmas.Bool.Decides.{nat_tests}
 use Rattle.machine.specs.Slots.{there_and}
 use Rattle.machine.specs.Pages.{Page, page_at, is_anon, is_held, in_transfer_at, is_in_transfer, in_transfer}
-use Rattle.machine.specs.Tasks.{PageTables, mapped_at, mappers, Shows, ShowsNothing}
+use Rattle.machine.specs.Tasks.{PageTables, mapped_at, mappers, Shows}
 use Rattle.machine.specs.State.{State}
 use Rattle.machine.specs.Step.{still}
 use Rattle.machine.proofs.TreeLemmas.{eq_cases}
 use Rattle.machine.proofs.MappingLemmas.{mapped_at-mappers, mappers-shows}
 use Rattle.page_state.specs.Mapped.{AreMapped, is_settled}
 use Rattle.page_state.specs.States.{StateOf, byte_shown}
-use Rattle.page_state.specs.Changes.{DropsPages, Unmaps, UnmapsBelow}
+use Rattle.page_state.specs.Changes.{DropsPages, Unmaps, UnmapsAll}
+use Rattle.page_state.specs.Drops.{UnmapsBelow}
 use Rattle.page_state.proofs.MappedLemmas.{still-mapped, still-still, still-less, still-moving, mapped_there}
 use Rattle.page_state.proofs.OrderLemmas.{InOrder, goes-on-then, goes-on-still}
 use Rattle.page_state.proofs.TransferLemmas.{in_transfer-alike}
@@ -111,8 +112,8 @@ unmaps-more old mid new t n first second =
     miss : (v : ℕ) → v ≢ n → ((t == t) && (n == v)) ≡ false
     miss v other = ap (λ b. (t == t) && b) (ne_eqb n v (λ e. other (sym e))) ∙ and_right (t == t) false refl
 
-pub unmaps-all : (old new : StateOf) (t n : ℕ) → UnmapsBelow old new t n → ((v p : ℕ) → mapped_at old.tables.page_tables t v ≡ Some p → v < n) → ShowsNothing old.tables.page_tables new.tables.page_tables t
-unmaps-all old new t n all inside = record { none = none; others = all.others }
+pub unmaps-all : (old new : StateOf) (t n : ℕ) → UnmapsBelow old new t n → ((v p : ℕ) → mapped_at old.tables.page_tables t v ≡ Some p → v < n) → UnmapsAll old new t
+unmaps-all old new t n all inside = record { shown = record { none = none; others = all.others }; drops = all.drops; tables = all.tables }
   where
     unshown : (v : ℕ) → n ≤ v → (m : Option ℕ) → mapped_at old.tables.page_tables t v ≡ m → m ≡ None
     unshown v le None e = refl

@@ -13,7 +13,7 @@ use Rattle.machine.proofs.MappingLemmas.{mapped_at-mappers}
 use Rattle.pages.specs.declared.flight.Flight.{Flight}
 use Rattle.pages.specs.declared.end.End.{End}
 use Rattle.pages.specs.declared.end.End.TheVariants.{InFrame, OnBlock}
-use Rattle.pages.specs.PagesOf.{Stands, anon_page, byte_in, moving, is_direction, is_flight_to, IsInTransfer, AreInFlight}
+use Rattle.pages.specs.PagesOf.{HasResidence, anon_page, byte_in, moving, is_direction, is_flight_to, IsInTransfer, AreInFlight}
 use Rattle.pages.specs.Transfers.{residence_after}
 use Rattle.pages.proofs.FlightLemmas.{under-moving}
 use Rattle.page_state.specs.declared.joined.State.TheInside.{Inside}
@@ -30,8 +30,8 @@ use Rattle.page_state.proofs.JoinLemmas.{joined-pages}
 
 -- the flight of a ticket is that of a page which is in transfer under it, in the direction that was asked for
 pub flies-so : (pages : Pages) (n : ℕ) (f : Flight) (d : Direction) → IsInTransfer pages n f → is_in_flight d pages n ≡ is_flight_to d (Some f) → is_in_flight d pages n ≡ true
-    → (g r b : ℕ) × Stands pages f.page.0 g (moving d r b n)
-flies-so pages n f d here tells is = (here.group, here.frame, here.block, subst (λ x. Stands pages f.page.0 here.group (moving x here.frame here.block n)) (alike d f.direction (sym tells ∙ is)) here.stands)
+    → (g r b : ℕ) × HasResidence pages f.page.0 g (moving d r b n)
+flies-so pages n f d here tells is = (here.group, here.frame, here.block, subst (λ x. HasResidence pages f.page.0 here.group (moving x here.frame here.block n)) (alike d f.direction (sym tells ∙ is)) here.stands)
   where
     alike : (d e : Direction) → is_direction d e ≡ true → e ≡ d
     alike In In so = refl
@@ -40,7 +40,7 @@ flies-so pages n f d here tells is = (here.group, here.frame, here.block, subst 
     alike Out In so = cc
 
 -- and no other page is
-pub flies-alone : (pages : Pages) (flights : List (Option Flight)) (n : ℕ) (f : Flight) (d : Direction) (p g r b : ℕ) → AreInFlight pages flights → Some f ≡ at flights n → Stands pages p g (moving d r b n) → f.page.0 ≡ p
+pub flies-alone : (pages : Pages) (flights : List (Option Flight)) (n : ℕ) (f : Flight) (d : Direction) (p g r b : ℕ) → AreInFlight pages flights → Some f ≡ at flights n → HasResidence pages p g (moving d r b n) → f.page.0 ≡ p
 flies-alone pages flights n f d p g r b are is stands = some_inj (ap (option_map (λ (f : Flight). f.page.0)) is ∙ are.listed p n (under-moving (page_at pages p) d g r b n stands))
 
 -- ---- the page is settled
@@ -60,7 +60,7 @@ module _ (s : Inside) (is : IsJoined s) (settled now : HoldingsOf) (p : ℕ) (dr
   bytes-ended there t v k shown =
       drops.bytes p k (ap is_some (drops.pages.changed ∙ still-mapped s.spaces.page_tables p (page_at settled.stored.pages p) (mapped_at-mappers s.spaces.page_tables t v p shown)) ∙ there)
 
-  module _ (g n : ℕ) (from to : Residence) (rests : in_transfer_at to ≡ false) (stood : Stands s.holdings.stored.pages p g from) (settles : Settles s.holdings settled p g n to) where
+  module _ (g n : ℕ) (from to : Residence) (rests : in_transfer_at to ≡ false) (stood : HasResidence s.holdings.stored.pages p g from) (settles : Settles s.holdings settled p g n to) where
     same : now ≡ with_order s.holdings now.stored now.held
     same = drops.rest ∙ ap (λ (h : HoldingsOf). with_order h now.stored now.held) settles.others
 
@@ -91,14 +91,14 @@ module _ (s : Inside) (is : IsJoined s) (settled now : HoldingsOf) (p : ℕ) (dr
         }
 
 -- whichever page is in transfer under the ticket, its transfer ends
-module _ (s : Inside) (is : IsJoined s) (settled now : HoldingsOf) (q n : ℕ) (d : Direction) (end : End) (alone : (p g r b : ℕ) → Stands s.holdings.stored.pages p g (moving d r b n) → q ≡ p)
-    (settles : (g r b : ℕ) → Stands s.holdings.stored.pages q g (moving d r b n) → Settles s.holdings settled q g n (residence_after end r b)) (drops : DropsUnmapped settled now s.spaces.page_tables q) where
-  pub joined-settled : (g r b : ℕ) → Stands s.holdings.stored.pages q g (moving d r b n) → IsJoined (record s { holdings = now })
+module _ (s : Inside) (is : IsJoined s) (settled now : HoldingsOf) (q n : ℕ) (d : Direction) (end : End) (alone : (p g r b : ℕ) → HasResidence s.holdings.stored.pages p g (moving d r b n) → q ≡ p)
+    (settles : (g r b : ℕ) → HasResidence s.holdings.stored.pages q g (moving d r b n) → Settles s.holdings settled q g n (residence_after end r b)) (drops : DropsUnmapped settled now s.spaces.page_tables q) where
+  pub joined-settled : (g r b : ℕ) → HasResidence s.holdings.stored.pages q g (moving d r b n) → IsJoined (record s { holdings = now })
   joined-settled g r b stood = joined-ended s is settled now q drops g n (moving d r b n) (residence_after end r b) (rests_after end r b) stood (settles g r b stood)
 
-  module _ (p g r b : ℕ) (stood : Stands s.holdings.stored.pages p g (moving d r b n)) where
-    here : Stands s.holdings.stored.pages q g (moving d r b n)
-    here = subst (λ x. Stands s.holdings.stored.pages x g (moving d r b n)) (sym (alone p g r b stood)) stood
+  module _ (p g r b : ℕ) (stood : HasResidence s.holdings.stored.pages p g (moving d r b n)) where
+    here : HasResidence s.holdings.stored.pages q g (moving d r b n)
+    here = subst (λ x. HasResidence s.holdings.stored.pages x g (moving d r b n)) (sym (alone p g r b stood)) stood
 
     pub any-ended : EndsTransfer (joined_of s) (joined_of (record s { holdings = now })) p g n (residence_after end r b)
     any-ended =

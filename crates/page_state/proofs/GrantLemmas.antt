@@ -9,7 +9,7 @@ use Rattle.group_tree.specs.Lineages.{IsLineage}
 use Rattle.group_tree.proofs.LineageLemmas.{live-within}
 use Rattle.frames.specs.Pool.{PoolOf}
 use Rattle.page_counter.specs.Counts.{Counts, usage_of, over_in}
-use Rattle.pages.specs.PagesOf.{Stands, pages_there, AreInFlight}
+use Rattle.pages.specs.PagesOf.{HasResidence, pages_there, AreInFlight}
 use Rattle.page_state.specs.declared.holdings.Holdings.TheInside.{Inside}
 use Rattle.page_state.specs.Room.{TakesRoom}
 use Rattle.page_state.specs.Holdings.{over_of, IsGranted}
@@ -19,7 +19,7 @@ use Rattle.page_state.proofs.CountLemmas.{root-small, over-counted}
 use Rattle.page_state.proofs.HoldingLemmas.{there-owned, used-split, going-least}
 
 -- the group of a page is there
-pub stands-live : (c : Counts) (pages : Pages) (p g : ℕ) (r : Residence) → Stands pages p g r → IsCounted c pages → is_live c.tree g ≡ true
+pub stands-live : (c : Counts) (pages : Pages) (p g : ℕ) (r : Residence) → HasResidence pages p g r → IsCounted c pages → is_live c.tree g ≡ true
 stands-live c pages p g r stood counted = subst (λ slot. IfSome slot (λ page. is_live c.tree page.group ≡ true)) stood (counted.live p)
 
 module _ (h : Inside) (is : IsHolding h) where
@@ -45,7 +45,7 @@ module _ (h : Inside) (is : IsHolding h) where
       omega (arith, owned, frames, blocks, numbers, some)
 
   -- a page in a frame may come to be in transfer
-  pub room-held : (p g f : ℕ) → Stands h.pages.pages p g (Held f) → (length h.moving.numbers < h.moving.room) × (0 < h.pages.tickets) × (0 < h.pool.spares)
+  pub room-held : (p g f : ℕ) → HasResidence h.pages.pages p g (Held f) → (length h.moving.numbers < h.moving.room) × (0 < h.pages.tickets) × (0 < h.pool.spares)
   room-held p g f stood =
       let split = used-split h.pages.pages in
       let all = is.kept.frames.all in
@@ -58,7 +58,7 @@ module _ (h : Inside) (is : IsHolding h) where
       (omega arith, omega arith, omega arith)
 
   -- and a page in transfer may be held again
-  pub room-moving : (p g : ℕ) (r : Residence) → Stands h.pages.pages p g r → in_transfer_at r ≡ true → length h.held.numbers < h.held.room.pages
+  pub room-moving : (p g : ℕ) (r : Residence) → HasResidence h.pages.pages p g r → in_transfer_at r ≡ true → length h.held.numbers < h.held.room.pages
   room-moving p g r stood moves =
       let split = used-split h.pages.pages in
       let all = is.kept.frames.all in

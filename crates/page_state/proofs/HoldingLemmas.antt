@@ -20,7 +20,7 @@ use Rattle.pages.proofs.TableLemmas.{any-some}
 use Rattle.pages.specs.declared.flight.Flight.{Flight}
 use Rattle.pages.specs.declared.owned_page.OwnedPage.{OwnedPage}
 use Rattle.pages.specs.Records.{page_of}
-use Rattle.pages.specs.PagesOf.{pages_there, anon_page, Stands, is_under_ticket, AreInFlight}
+use Rattle.pages.specs.PagesOf.{pages_there, anon_page, HasResidence, is_under_ticket, AreInFlight}
 use Rattle.page_state.specs.declared.holdings.Holdings.TheInside.{Inside}
 use Rattle.page_state.specs.Queue.{QueueOf, HeldRoom, queue_of, numbers_of, page_count}
 use Rattle.page_state.specs.Holdings.{with_order}
@@ -135,11 +135,11 @@ kept-step c d pool pool' slots slots' pages pages' p from to stood changes frame
     }
 
 -- the frame and the block of a page are not free
-pub frame-out : (c : Counts) (pool : PoolOf) (slots : SlotsOf) (pages : Pages) (p g : ℕ) (r : Residence) (f : ℕ) → Stands pages p g r → frame_at r ≡ Some f → AreKept c pool slots pages → (free_count pool.free f ≡ 0) × (f < pool.frames)
+pub frame-out : (c : Counts) (pool : PoolOf) (slots : SlotsOf) (pages : Pages) (p g : ℕ) (r : Residence) (f : ℕ) → HasResidence pages p g r → frame_at r ≡ Some f → AreKept c pool slots pages → (free_count pool.free f ≡ 0) × (f < pool.frames)
 frame-out c pool slots pages p g r f stood is kept =
     given-out has_this_frame has_frame pool.frames pool.free pages p f (ap (there_and (has_this_frame f)) stood ∙ ap (λ (o : Option ℕ). is_number o f) is ∙ eq-eqb f f refl) kept.frames
 
-pub block-out : (c : Counts) (pool : PoolOf) (slots : SlotsOf) (pages : Pages) (p g : ℕ) (r : Residence) (b : ℕ) → Stands pages p g r → block_at r ≡ Some b → AreKept c pool slots pages → (slot_count slots.free b ≡ 0) × (b < slots.blocks)
+pub block-out : (c : Counts) (pool : PoolOf) (slots : SlotsOf) (pages : Pages) (p g : ℕ) (r : Residence) (b : ℕ) → HasResidence pages p g r → block_at r ≡ Some b → AreKept c pool slots pages → (slot_count slots.free b ≡ 0) × (b < slots.blocks)
 block-out c pool slots pages p g r b stood is kept =
     given-out has_this_block has_swap slots.blocks slots.free pages p b (ap (there_and (has_this_block b)) stood ∙ ap (λ (o : Option ℕ). is_number o b) is ∙ eq-eqb b b refl) kept.blocks
 
@@ -268,7 +268,7 @@ some_stands (Some page) memory held = let there = held_res page.residence held m
     held_res (Away b) held is = cc
 
 -- a page that is held stands in a frame
-pub held-stands : (pages : Pages) (flights : List (Option Flight)) (p : ℕ) → AreInFlight pages flights → is_held_in pages p ≡ true → (g f : ℕ) × Stands pages p g (Held f)
+pub held-stands : (pages : Pages) (flights : List (Option Flight)) (p : ℕ) → AreInFlight pages flights → is_held_in pages p ≡ true → (g f : ℕ) × HasResidence pages p g (Held f)
 held-stands pages flights p is held = some_stands (page_at pages p) (is.memory p) held
 
 -- a ticket that is not in flight is none that a page has

@@ -25,11 +25,11 @@ use Rattle.group_tree.proofs.LineageLemmas.{live-within}
 use Rattle.page_counter.specs.Counts.{usage_of}
 use Rattle.protection.proofs.CallerLemmas.{effective-same}
 use Rattle.pages.specs.PagesOf.{anon_page}
-use Rattle.reclaim.specs.Pass.{AreHeld, is_unprotected, oldest_of, gives, GivesNone}
+use Rattle.reclaim.specs.Pass.{AreHeld, is_unprotected_by_counts, oldest_of, gives_by_counts, GivesNone}
 use Rattle.reclaim.proofs.PassLemmas.{found-passes, counted-found, asked-order}
 use Rattle.page_state.specs.declared.holdings.Holdings.TheInside.{Inside}
 use Rattle.page_state.specs.Queue.{QueueOf, numbers_of, page_count, queue_of}
-use Rattle.page_state.specs.Holdings.{takes, gives_of, IsNext}
+use Rattle.page_state.specs.Holdings.{may_take, gives_of, IsNext}
 use Rattle.page_state.specs.Owned.{holdings_of, AreGrouped, AreListed, IsHolding}
 use Rattle.page_state.proofs.OrderLemmas.{some_is}
 use Rattle.page_state.proofs.KinLemmas.{kin-charged}
@@ -142,7 +142,7 @@ module _ (h : Inside) (is : IsHolding h) (tree : List Node) (are : AreKin h.coun
         → effective false tree (min_of h.counters.limits) (usage_of h.counters) target g ≡ effective false tree (min_of h.counters.limits) (charged tree h.pages.pages) target g
     effective-charged g live differs below = effective-same tree order target false (min_of h.counters.limits) (usage_of h.counters) (charged tree h.pages.pages) usages g (live-within tree g live) differs below
 
-    open-same : (g : ℕ) → is_live tree g ≡ true → under tree target g ≡ true → is_unprotected_in false tree h.counters.limits (charged tree h.pages.pages) target g ≡ is_unprotected tree h.counters target g
+    open-same : (g : ℕ) → is_live tree g ≡ true → under tree target g ≡ true → is_unprotected_in false tree h.counters.limits (charged tree h.pages.pages) target g ≡ is_unprotected_by_counts tree h.counters target g
     open-same g live below =
         elim (eq_cases g target) [
           | inl same ↦
@@ -159,9 +159,9 @@ module _ (h : Inside) (is : IsHolding h) (tree : List Node) (are : AreKin h.coun
 
       -- the page stands in a frame, and its group is open to the target
       abbrev is_taken : Page → Bool
-      is_taken page = is_held page && (under tree target page.group && is_unprotected tree h.counters target page.group)
+      is_taken page = is_held page && (under tree target page.group && is_unprotected_by_counts tree h.counters target page.group)
 
-      takes-slot : (p : ℕ) → there_and (takes (holdings_of h) tree target) (page_at h.pages.pages p) ≡ (free && there_and is_taken (page_at h.pages.pages p))
+      takes-slot : (p : ℕ) → there_and (may_take (holdings_of h) tree target) (page_at h.pages.pages p) ≡ (free && there_and is_taken (page_at h.pages.pages p))
       takes-slot p = by_slot (page_at h.pages.pages p) (memory p) (live_at p)
         where
           shuffle : (t u o o' b : Bool) → (u ≡ true → o ≡ o') → (((t && u) && o) && b) ≡ (b && (t && (u && o')))
@@ -175,20 +175,20 @@ module _ (h : Inside) (is : IsHolding h) (tree : List Node) (are : AreKin h.coun
           shuffle true true o o' false same = and_right o false refl
 
           by_slot : (slot : Option Page) → IfSome slot (λ page. page ≡ anon_page page.group page.residence) → IfSome slot (λ page. is_live tree page.group ≡ true)
-              → there_and (takes (holdings_of h) tree target) slot ≡ (free && there_and is_taken slot)
+              → there_and (may_take (holdings_of h) tree target) slot ≡ (free && there_and is_taken slot)
           by_slot None anon live = sym (and_right free false refl)
           by_slot (Some page) anon live =
               let swaps : (not (is_anon page.content) || free) ≡ free = ap (λ (x : Page). not (is_anon x.content) || free) anon in
               ap (λ b. ((is_held page && under tree target page.group) && is_unprotected_in false tree h.counters.limits (charged tree h.pages.pages) target page.group) && b) swaps
-              ∙ shuffle (is_held page) (under tree target page.group) (is_unprotected_in false tree h.counters.limits (charged tree h.pages.pages) target page.group) (is_unprotected tree h.counters target page.group) free (open-same page.group live)
+              ∙ shuffle (is_held page) (under tree target page.group) (is_unprotected_in false tree h.counters.limits (charged tree h.pages.pages) target page.group) (is_unprotected_by_counts tree h.counters target page.group) free (open-same page.group live)
 
       -- a group below the target gives one, by the table and by the queue
-      gives-same : (counts : List ℕ) → AreHeld counts h.held.entries → (g : ℕ) → is_live tree g ≡ true → under tree target g ≡ true → gives_of (holdings_of h) tree target g ≡ gives tree h.counters counts free target g
-      gives-same counts counted g live below =
-          any_both (λ page. is_held page && (page.group == g)) (λ page. (page.group == g) && takes (holdings_of h) tree target page) (free && is_unprotected tree h.counters target g) h.pages.pages
+      gives_by_counts-same : (counts : List ℕ) → AreHeld counts h.held.entries → (g : ℕ) → is_live tree g ≡ true → under tree target g ≡ true → gives_of (holdings_of h) tree target g ≡ gives_by_counts tree h.counters counts free target g
+      gives_by_counts-same counts counted g live below =
+          any_both (λ page. is_held page && (page.group == g)) (λ page. (page.group == g) && may_take (holdings_of h) tree target page) (free && is_unprotected_by_counts tree h.counters target g) h.pages.pages
           (λ p. by_slot (page_at h.pages.pages p) (takes-slot p))
-          ∙ regroup free (is_unprotected tree h.counters target g) (any_there (λ page. is_held page && (page.group == g)) h.pages.pages)
-          ∙ ap (λ b. free && (is_unprotected tree h.counters target g && b))
+          ∙ regroup free (is_unprotected_by_counts tree h.counters target g) (any_there (λ page. is_held page && (page.group == g)) h.pages.pages)
+          ∙ ap (λ b. free && (is_unprotected_by_counts tree h.counters target g && b))
           (sym (any-entries is_held (λ x. x == g) (queue_of h.held) h.pages.pages is.held is.held_groups) ∙ any-counted (λ (entry : GroupId × PageId). entry.0.0 == g) h.held.entries ∙ sym (ap (nat_lt 0) (counted g)))
         where
           regroup : (a b c : Bool) → ((a && b) && c) ≡ (a && (b && c))
@@ -203,28 +203,28 @@ module _ (h : Inside) (is : IsHolding h) (tree : List Node) (are : AreKin h.coun
           own_bits false true o b e = and_right b false refl ∙ sym (and_right (b && o) false refl)
           own_bits t false o b e = absurd cc
 
-          by_test : (page : Page) (e : Bool) → (page.group == g) ≡ e → takes (holdings_of h) tree target page ≡ (free && is_taken page)
-              → (e && takes (holdings_of h) tree target page) ≡ ((free && is_unprotected tree h.counters target g) && (is_held page && e))
+          by_test : (page : Page) (e : Bool) → (page.group == g) ≡ e → may_take (holdings_of h) tree target page ≡ (free && is_taken page)
+              → (e && may_take (holdings_of h) tree target page) ≡ ((free && is_unprotected_by_counts tree h.counters target g) && (is_held page && e))
           by_test page true own is_so =
               let same : page.group ≡ g = grind (arith, nat_tests, own) in
-              is_so ∙ ap (λ x. free && (is_held page && (under tree target x && is_unprotected tree h.counters target x))) same
-              ∙ own_bits (is_held page) (under tree target g) (is_unprotected tree h.counters target g) free below
-          by_test page false own is_so = sym (ap (λ b. (free && is_unprotected tree h.counters target g) && b) (and_right (is_held page) false refl) ∙ and_right (free && is_unprotected tree h.counters target g) false refl)
+              is_so ∙ ap (λ x. free && (is_held page && (under tree target x && is_unprotected_by_counts tree h.counters target x))) same
+              ∙ own_bits (is_held page) (under tree target g) (is_unprotected_by_counts tree h.counters target g) free below
+          by_test page false own is_so = sym (ap (λ b. (free && is_unprotected_by_counts tree h.counters target g) && b) (and_right (is_held page) false refl) ∙ and_right (free && is_unprotected_by_counts tree h.counters target g) false refl)
 
-          by_slot : (slot : Option Page) → there_and (takes (holdings_of h) tree target) slot ≡ (free && there_and is_taken slot)
-              → there_and (λ page. (page.group == g) && takes (holdings_of h) tree target page) slot ≡ ((free && is_unprotected tree h.counters target g) && there_and (λ page. is_held page && (page.group == g)) slot)
-          by_slot None is_so = sym (and_right (free && is_unprotected tree h.counters target g) false refl)
+          by_slot : (slot : Option Page) → there_and (may_take (holdings_of h) tree target) slot ≡ (free && there_and is_taken slot)
+              → there_and (λ page. (page.group == g) && may_take (holdings_of h) tree target page) slot ≡ ((free && is_unprotected_by_counts tree h.counters target g) && there_and (λ page. is_held page && (page.group == g)) slot)
+          by_slot None is_so = sym (and_right (free && is_unprotected_by_counts tree h.counters target g) false refl)
           by_slot (Some page) is_so = by_test page (page.group == g) refl is_so
 
       module _ (groups : IsGroupTree tree) (live : is_live tree target ≡ true) (counts : List ℕ) (counted : AreHeld counts h.held.entries) (last : Option ℕ) (group : Option GroupId)
-          (serves : option_map (λ (g : GroupId). g.0) group ≡ served_by tree (gives tree h.counters counts free target) target last) where
+          (serves : option_map (λ (g : GroupId). g.0) group ≡ served_by tree (gives_by_counts tree h.counters counts free target) target last) where
         -- the group that the counts tell is the one that the table tells
         turn_told : option_map (λ (g : GroupId). g.0) group ≡ served_by tree (gives_of (holdings_of h) tree target) target last
         turn_told =
             serves
             ∙ sym
-            (find_agree (gives_of (holdings_of h) tree target) (gives tree h.counters counts free target) (asking_order tree target last)
-            (λ k d lt. let here = asked-order tree target last groups live k d lt in gives-same counts counted (get_or (asking_order tree target last) k d) here.0 here.1))
+            (find_agree (gives_of (holdings_of h) tree target) (gives_by_counts tree h.counters counts free target) (asking_order tree target last)
+            (λ k d lt. let here = asked-order tree target last groups live k d lt in gives_by_counts-same counts counted (get_or (asking_order tree target last) k d) here.0 here.1))
 
         turn_of : (g : Option GroupId) → option_map (λ (x : GroupId). x.0) g ≡ served_by tree (gives_of (holdings_of h) tree target) target last → IfSome g (λ x. served_by tree (gives_of (holdings_of h) tree target) target last ≡ Some x.0)
         turn_of None told = tt
@@ -233,40 +233,40 @@ module _ (h : Inside) (is : IsHolding h) (tree : List Node) (are : AreKin h.coun
         pub turn-is : IfSome group (λ g. served_by tree (gives_of (holdings_of h) tree target) target last ≡ Some g.0)
         turn-is = turn_of group turn_told
 
-        none_taken : GivesNone tree h.counters counts free target → any_there (takes (holdings_of h) tree target) h.pages.pages ≡ false
-        none_taken none = any_there-none (takes (holdings_of h) tree target) h.pages.pages (count_there-none (takes (holdings_of h) tree target) h.pages.pages (λ p. by_slot p (page_at h.pages.pages p) refl (live_at p)))
+        none_taken : GivesNone tree h.counters counts free target → any_there (may_take (holdings_of h) tree target) h.pages.pages ≡ false
+        none_taken none = any_there-none (may_take (holdings_of h) tree target) h.pages.pages (count_there-none (may_take (holdings_of h) tree target) h.pages.pages (λ p. by_slot p (page_at h.pages.pages p) refl (live_at p)))
           where
-            fails : (p : ℕ) (page : Page) → page_at h.pages.pages p ≡ Some page → is_live tree page.group ≡ true → takes (holdings_of h) tree target page ≡ true → takes (holdings_of h) tree target page ≡ false
+            fails : (p : ℕ) (page : Page) → page_at h.pages.pages p ≡ Some page → is_live tree page.group ≡ true → may_take (holdings_of h) tree target page ≡ true → may_take (holdings_of h) tree target page ≡ false
             fails p page there alive passes =
                 let below = (and_parts (is_held page) (under tree target page.group) (and_parts (is_held page && under tree target page.group) _ (and_parts _ _ passes).0).0).1 in
                 let own : (page.group == page.group) ≡ true = grind (arith, nat_tests) in
-                let given = any-some (λ (x : Page). (x.group == page.group) && takes (holdings_of h) tree target x) h.pages.pages p
-                (ap (there_and (λ (x : Page). (x.group == page.group) && takes (holdings_of h) tree target x)) there ∙ and_from (page.group == page.group) (takes (holdings_of h) tree target page) own passes) in
-                let told = sym (gives-same counts counted page.group alive below) ∙ given in
+                let given = any-some (λ (x : Page). (x.group == page.group) && may_take (holdings_of h) tree target x) h.pages.pages p
+                (ap (there_and (λ (x : Page). (x.group == page.group) && may_take (holdings_of h) tree target x)) there ∙ and_from (page.group == page.group) (may_take (holdings_of h) tree target page) own passes) in
+                let told = sym (gives_by_counts-same counts counted page.group alive below) ∙ given in
                 let wrong : true ≡ false = sym told ∙ none page.group alive below in
                 absurd cc
 
-            by_slot : (p : ℕ) (slot : Option Page) → page_at h.pages.pages p ≡ slot → IfSome slot (λ page. is_live tree page.group ≡ true) → there_and (takes (holdings_of h) tree target) slot ≡ false
+            by_slot : (p : ℕ) (slot : Option Page) → page_at h.pages.pages p ≡ slot → IfSome slot (λ page. is_live tree page.group ≡ true) → there_and (may_take (holdings_of h) tree target) slot ≡ false
             by_slot p None there alive = refl
             by_slot p (Some page) there alive =
-                elim (cases_Bool (takes (holdings_of h) tree target page)) [
+                elim (cases_Bool (may_take (holdings_of h) tree target page)) [
                   | inl passes ↦ fails p page there alive passes
                   | inr not_so ↦ not_so
                 ]
 
         none_of : (g : Option GroupId) → IfSome g (λ x. served_by tree (gives_of (holdings_of h) tree target) target last ≡ Some x.0) → IfNone g (GivesNone tree h.counters counts free target)
-            → is_none g ≡ not (any_there (takes (holdings_of h) tree target) h.pages.pages)
+            → is_none g ≡ not (any_there (may_take (holdings_of h) tree target) h.pages.pages)
         none_of None turn none = sym (ap not (none_taken none))
         none_of (Some g) turn none =
             let given = (found-passes (λ (x : ℕ). Unit {0}) (gives_of (holdings_of h) tree target) (asking_order tree target last) g.0 (λ k d lt. tt) turn).1 in
-            sym (ap not (any_more (there_and (λ (page : Page). (page.group == g.0) && takes (holdings_of h) tree target page)) (there_and (takes (holdings_of h) tree target)) h.pages.pages passes given))
+            sym (ap not (any_more (there_and (λ (page : Page). (page.group == g.0) && may_take (holdings_of h) tree target page)) (there_and (may_take (holdings_of h) tree target)) h.pages.pages passes given))
           where
-            passes : (slot : Option Page) → there_and (λ (page : Page). (page.group == g.0) && takes (holdings_of h) tree target page) slot ≡ true → there_and (takes (holdings_of h) tree target) slot ≡ true
+            passes : (slot : Option Page) → there_and (λ (page : Page). (page.group == g.0) && may_take (holdings_of h) tree target page) slot ≡ true → there_and (may_take (holdings_of h) tree target) slot ≡ true
             passes None e = e
             passes (Some page) e = (and_parts (page.group == g.0) _ e).1
 
         -- none has one where no page may be taken
-        pub none-is : IfNone group (GivesNone tree h.counters counts free target) → is_none group ≡ not (any_there (takes (holdings_of h) tree target) h.pages.pages)
+        pub none-is : IfNone group (GivesNone tree h.counters counts free target) → is_none group ≡ not (any_there (may_take (holdings_of h) tree target) h.pages.pages)
         none-is none = none_of group turn-is none
 
 -- ---- the page that a group gives
@@ -302,7 +302,7 @@ module _ (h : Inside) (is : IsHolding h) (memory : (p : ℕ) → IfSome (page_at
     pub room : nat_lt (used_swap h.pages.pages) h.slots.blocks ≡ true
 
   abbrev gives_page : List Node → Page → Bool
-  gives_page tree page = (page.group == g) && takes (holdings_of h) tree target page
+  gives_page tree page = (page.group == g) && may_take (holdings_of h) tree target page
 
   held_given : (tree : List Node) → any_there (gives_page tree) h.pages.pages ≡ true → HasHeld
   held_given tree given = any_more (there_and (gives_page tree)) (there_and (λ page. is_held page && (page.group == g))) h.pages.pages by_slot given
@@ -362,7 +362,7 @@ module _ (h : Inside) (is : IsHolding h) (memory : (p : ℕ) → IfSome (page_at
           (let once = is.held.once (get_or h.held.entries k d).1.0 in let some = subst (λ (ns : List ℕ). 1 ≤ page_count ns (get_or h.held.entries k d).1.0) (sym is.held_groups.numbers) (count-at h.held.entries k d lt) in omega (arith, once, some))
 
       taken : MayGive tree → (slot : Option Page) → IfSome slot (λ page. page ≡ anon_page page.group page.residence) → there_and (λ (page : Page). page.group == g) slot ≡ true → there_and is_held slot ≡ true
-          → there_and (takes (holdings_of h) tree target) slot ≡ true
+          → there_and (may_take (holdings_of h) tree target) slot ≡ true
       taken may None anon own held = absurd cc
       taken may (Some page) anon own held =
           let same : page.group ≡ g = grind (arith, nat_tests, own) in

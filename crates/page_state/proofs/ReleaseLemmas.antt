@@ -7,13 +7,13 @@ use Rattle.block_store.specs.Slots.{SlotsOf, slot_count}
 use Rattle.page_counter.specs.Counts.{Counts, IsOut}
 use Rattle.pages.specs.declared.owned_page.OwnedPage.{OwnedPage}
 use Rattle.pages.specs.Records.{page_of}
-use Rattle.pages.specs.PagesOf.{Stands, anon_page}
+use Rattle.pages.specs.PagesOf.{HasResidence, anon_page}
 use Rattle.page_state.specs.Owned.{Leaves}
 use Rattle.page_state.proofs.CountLemmas.{page-out}
 use Rattle.page_state.proofs.HoldingLemmas.{frame-out, block-out}
 
 module _ (c : Counts) (pool : PoolOf) (slots : SlotsOf) (owned : OwnedPage) (g : ℕ) (r : Residence) (leaves : Leaves c pool slots (page_of owned)) (is : page_of owned ≡ anon_page g r) where
-  stood : Stands leaves.pages leaves.p g r
+  stood : HasResidence leaves.pages leaves.p g r
   stood = leaves.stood ∙ ap Some is
 
   pub leaves-frame : (f : ℕ) → frame_at r ≡ Some f → (free_count pool.free f ≡ 0) × (f < pool.frames)

@@ -13,7 +13,7 @@ use Rattle.pages.specs.declared.end.End.{End}
 use Rattle.pages.specs.declared.end.End.TheVariants.{InFrame, OnBlock}
 use Rattle.machine.specs.declared.record.Direction.{Direction}
 use Rattle.machine.specs.declared.record.Direction.TheVariants.{In, Out}
-use Rattle.pages.specs.PagesOf.{Stands, anon_page, byte_in, moving}
+use Rattle.pages.specs.PagesOf.{HasResidence, anon_page, byte_in, moving}
 use Rattle.pages.specs.Transfers.{residence_after, Ends}
 use Rattle.page_state.specs.declared.holdings.Holdings.TheInside.{Inside}
 use Rattle.page_state.specs.Queue.{HeldOf, queue_of}
@@ -35,7 +35,7 @@ moving-is Out f b n = (refl, refl, refl, refl)
 
 -- ---- what the page owns no more goes back
 
-module _ (c : Counts) (pool : PoolOf) (slots : SlotsOf) (pages : Pages) (d : Direction) (p g f b n : ℕ) (stood : Stands pages p g (moving d f b n)) (kept : AreKept c pool slots pages) where
+module _ (c : Counts) (pool : PoolOf) (slots : SlotsOf) (pages : Pages) (d : Direction) (p g f b n : ℕ) (stood : HasResidence pages p g (moving d f b n)) (kept : AreKept c pool slots pages) where
   abbrev is : (frame_at (moving d f b n) ≡ Some f) × (block_at (moving d f b n) ≡ Some b) × (in_transfer_at (moving d f b n) ≡ true) × (is_held_at (moving d f b n) ≡ false)
   is = moving-is d f b n
 
@@ -97,7 +97,7 @@ module _ (c : Counts) (pool : PoolOf) (slots : SlotsOf) (pages : Pages) (d : Dir
 
 -- a page is settled, and the lists with it
 pub record Lands (h h' : Inside) (p g f b n : ℕ) (d : Direction) (end : End) (entry : GroupId × PageId) : Type 0 where
-  pub stood : Stands h.pages.pages p g (moving d f b n)
+  pub stood : HasResidence h.pages.pages p g (moving d f b n)
   pub same : entry.1.0 ≡ p
   pub owned : entry.0.0 ≡ g
   -- the bytes as the transfer ends
@@ -113,7 +113,7 @@ pub record Lands (h h' : Inside) (p g f b n : ℕ) (d : Direction) (end : End) (
   pub moving : LeavesQueue h.moving h'.moving entry.1.0
 
 -- the page that is settled may be held again, in its group
-pub relist-fits : (h : Inside) → IsHolding h → (d : Direction) (p g f b n x : ℕ) → Stands h.pages.pages p g (moving d f b n) → x ≡ g → (length h.held.numbers < h.held.room.pages) × (x < h.held.room.groups)
+pub relist-fits : (h : Inside) → IsHolding h → (d : Direction) (p g f b n x : ℕ) → HasResidence h.pages.pages p g (moving d f b n) → x ≡ g → (length h.held.numbers < h.held.room.pages) × (x < h.held.room.groups)
 relist-fits h is d p g f b n x stood same = (
   room-moving h is p g (moving d f b n) stood (moving-is d f b n).2,
   group-counted h is x (subst (λ y. is_live h.counters.tree y ≡ true) (sym same) (stands-live h.counters h.pages.pages p g (moving d f b n) stood is.kept.counted)),

@@ -14,15 +14,15 @@ use Rattle.machine.specs.Reclaim.{is_unprotected, is_takeable, has_takeable}
 use Rattle.machine.specs.Lists.{TakesNext, served}
 use Rattle.machine.proofs.Values.{unlike}
 use Rattle.pages.specs.declared.flight.Flight.{Flight}
-use Rattle.pages.specs.PagesOf.{anon_page, Stands, AreInFlight}
-use Rattle.page_state.specs.Holdings.{HoldingsOf, takes, gives_of, IsTurn, IsNext}
+use Rattle.pages.specs.PagesOf.{anon_page, HasResidence, AreInFlight}
+use Rattle.page_state.specs.Holdings.{HoldingsOf, may_take, gives_of, IsTurn, IsNext}
 use Rattle.page_state.proofs.TransferLemmas.{stands-so}
 
 -- ---- a page that may be taken
 
 module _ (s : State) (target p : ℕ) (flights : List (Option Flight)) (are : AreInFlight s.pages flights) (takeable : there_and (is_takeable s target) (page_at s.pages p) ≡ true) where
   -- it stands in a frame
-  pub taken-stands : (g : ℕ) × (f : ℕ) × Stands s.pages p g (Held f) × (is_takeable s target (anon_page g (Held f)) ≡ true)
+  pub taken-stands : (g : ℕ) × (f : ℕ) × HasResidence s.pages p g (Held f) × (is_takeable s target (anon_page g (Held f)) ≡ true)
   taken-stands = by_slot (page_at s.pages p) refl takeable
     where
       held_first : (a b c d : Bool) → (a && b && c && d) ≡ true → a ≡ true
@@ -32,15 +32,15 @@ module _ (s : State) (target p : ℕ) (flights : List (Option Flight)) (are : Ar
       held_of : (page : Page) → is_takeable s target page ≡ true → is_held page ≡ true
       held_of page e = held_first (is_held page) (under s.tree target page.group) (is_unprotected s target page.group) (not (is_anon page.content) || is_swap_free s) e
 
-      by_residence : (page : Page) (r : Residence) → page.residence ≡ r → Stands s.pages p page.group page.residence → is_takeable s target (anon_page page.group page.residence) ≡ true
-          → (g : ℕ) × (f : ℕ) × Stands s.pages p g (Held f) × (is_takeable s target (anon_page g (Held f)) ≡ true)
+      by_residence : (page : Page) (r : Residence) → page.residence ≡ r → HasResidence s.pages p page.group page.residence → is_takeable s target (anon_page page.group page.residence) ≡ true
+          → (g : ℕ) × (f : ℕ) × HasResidence s.pages p g (Held f) × (is_takeable s target (anon_page g (Held f)) ≡ true)
       by_residence page (Held f) is stands e = (page.group, f, stands ∙ ap (λ (r : Residence). Some (anon_page page.group r)) is, ap (λ (r : Residence). is_takeable s target (anon_page page.group r)) (sym is) ∙ e)
       by_residence page (Coming f b n) is stands e = unlike (is_held (anon_page page.group page.residence)) (held_of (anon_page page.group page.residence) e) (ap (λ (r : Residence). is_held (anon_page page.group r)) is)
       by_residence page (Going f b n) is stands e = unlike (is_held (anon_page page.group page.residence)) (held_of (anon_page page.group page.residence) e) (ap (λ (r : Residence). is_held (anon_page page.group r)) is)
       by_residence page (Away b) is stands e = unlike (is_held (anon_page page.group page.residence)) (held_of (anon_page page.group page.residence) e) (ap (λ (r : Residence). is_held (anon_page page.group r)) is)
 
       by_slot : (slot : Option Page) → page_at s.pages p ≡ slot → there_and (is_takeable s target) slot ≡ true
-          → (g : ℕ) × (f : ℕ) × Stands s.pages p g (Held f) × (is_takeable s target (anon_page g (Held f)) ≡ true)
+          → (g : ℕ) × (f : ℕ) × HasResidence s.pages p g (Held f) × (is_takeable s target (anon_page g (Held f)) ≡ true)
       by_slot None is e = absurd (cc)
       by_slot (Some page) is e =
           let memory : page ≡ anon_page page.group page.residence = subst (λ (slot : Option Page). IfSome slot (λ page. page ≡ anon_page page.group page.residence)) is (are.memory p) in
@@ -54,12 +54,12 @@ tables_of config tree h tasks page_tables =
     record { opening = opening_of config; tree = tree; limits = h.limits; pages = h.stored.pages; tasks = tasks; page_tables = page_tables; counted = [] }
 
 module _ (config : Config) (tree : List Node) (h : HoldingsOf) (tasks : Tasks) (page_tables : PageTables) (swap : h.swap ≡ config.swap) (target : ℕ) where
-  takes-alike : takes h tree target ≡ is_takeable (tables_of config tree h tasks page_tables) target
+  takes-alike : may_take h tree target ≡ is_takeable (tables_of config tree h tasks page_tables) target
   takes-alike =
       ap {B = Page → Bool} (λ (n : ℕ) (page : Page). is_held page && under tree target page.group && is_unprotected_in false tree h.limits (charged tree h.stored.pages) target page.group
       && (not (is_anon page.content) || nat_lt (used_swap h.stored.pages) n)) swap
 
-  pub takeable-alike : any_there (takes h tree target) h.stored.pages ≡ has_takeable (tables_of config tree h tasks page_tables) target
+  pub takeable-alike : any_there (may_take h tree target) h.stored.pages ≡ has_takeable (tables_of config tree h tasks page_tables) target
   takeable-alike = ap (λ (test : Page → Bool). any_there test h.stored.pages) takes-alike
 
   gives-alike : (cursors : List (Option ℕ)) → served_by tree (gives_of h tree target) target (cursor_at cursors target) ≡ served (tables_of config tree h tasks page_tables) (record { held = h.held; cursors = cursors }) target
@@ -84,8 +84,8 @@ module _ (config : Config) (tree : List Node) (h : HoldingsOf) (tasks : Tasks) (
       }
 
   -- where it stands
-  pub taken-page : (p : ℕ) (flights : List (Option Flight)) → AreInFlight h.stored.pages flights → there_and (takes h tree target) (page_at h.stored.pages p) ≡ true
-      → (g : ℕ) × (f : ℕ) × Stands h.stored.pages p g (Held f) × (is_takeable (tables_of config tree h tasks page_tables) target (anon_page g (Held f)) ≡ true)
+  pub taken-page : (p : ℕ) (flights : List (Option Flight)) → AreInFlight h.stored.pages flights → there_and (may_take h tree target) (page_at h.stored.pages p) ≡ true
+      → (g : ℕ) × (f : ℕ) × HasResidence h.stored.pages p g (Held f) × (is_takeable (tables_of config tree h tasks page_tables) target (anon_page g (Held f)) ≡ true)
   taken-page p flights are e = taken-stands (tables_of config tree h tasks page_tables) target p flights are (sym (ap (λ (test : Page → Bool). there_and test (page_at h.stored.pages p)) takes-alike) ∙ e)
 
   -- and a swap block is free

@@ -9,7 +9,7 @@ use Rattle.machine.proofs.Values.{unlike}
 use Rattle.machine.proofs.SlotLemmas.{one_if, sum_by-alike, count_there-changes}
 pub use Rattle.pages.proofs.TableLemmas.{any-some}
 use Rattle.pages.specs.declared.flight.Flight.{Flight}
-use Rattle.pages.specs.PagesOf.{anon_page, moving, Stands, is_under_ticket, is_moving_in, AreInFlight}
+use Rattle.pages.specs.PagesOf.{anon_page, moving, HasResidence, is_under_ticket, is_moving_in, AreInFlight}
 
 module _ {T : Type 0} (test : T → Bool) where
   -- what passes somewhere does so at a number
@@ -23,7 +23,7 @@ module _ {T : Type 0} (test : T → Bool) where
 
 -- ---- tickets
 
-pub coming-under : (pages : Pages) (p g f b n : ℕ) → Stands pages p g (Coming f b n) → is_under_ticket pages p n ≡ true
+pub coming-under : (pages : Pages) (p g f b n : ℕ) → HasResidence pages p g (Coming f b n) → is_under_ticket pages p n ≡ true
 coming-under pages p g f b n stands = ap (there_and (λ (page : Page). is_number (ticket_at page.residence) n)) stands ∙ eq-eqb n n refl
 
 pub under-taken : (pages : Pages) (p n : ℕ) → is_under_ticket pages p n ≡ true → is_ticket_taken pages n ≡ true
@@ -35,11 +35,11 @@ free-other pages m n free taken = ne_eqb m n (λ same. unlike (is_ticket_taken p
 
 module _ (pages : Pages) (flights : List (Option Flight)) (are : AreInFlight pages flights) where
   -- a page that is there is one of memory
-  pub stands-so : (p : ℕ) (page : Page) → page_at pages p ≡ Some page → Stands pages p page.group page.residence
+  pub stands-so : (p : ℕ) (page : Page) → page_at pages p ≡ Some page → HasResidence pages p page.group page.residence
   stands-so p page is = is ∙ ap Some (subst (λ (slot : Option Page). IfSome slot (λ page. page ≡ anon_page page.group page.residence)) is (are.memory p))
 
   -- the page that is in transfer in a direction under a ticket, with its frame and its block
-  pub flying-stands : (d : Direction) (n : ℕ) → is_in_flight d pages n ≡ true → (p : ℕ) × (g : ℕ) × (f : ℕ) × (b : ℕ) × Stands pages p g (moving d f b n)
+  pub flying-stands : (d : Direction) (n : ℕ) → is_in_flight d pages n ≡ true → (p : ℕ) × (g : ℕ) × (f : ℕ) × (b : ℕ) × HasResidence pages p g (moving d f b n)
   flying-stands d n e =
       let found = any-where (λ (page : Page). is_flying_at d n page.residence) pages e in
       by_slot found.0 (page_at pages found.0) refl found.1
@@ -49,7 +49,7 @@ module _ (pages : Pages) (flights : List (Option Flight)) (are : AreInFlight pag
       by_residence Out (Going f b m) hit = (f, b, ap (Going f b) (eqb-true m n hit))
       by_residence d r hit = absurd (cc)
 
-      by_slot : (p : ℕ) (slot : Option Page) → page_at pages p ≡ slot → there_and (λ (page : Page). is_flying_at d n page.residence) slot ≡ true → (p : ℕ) × (g : ℕ) × (f : ℕ) × (b : ℕ) × Stands pages p g (moving d f b n)
+      by_slot : (p : ℕ) (slot : Option Page) → page_at pages p ≡ slot → there_and (λ (page : Page). is_flying_at d n page.residence) slot ≡ true → (p : ℕ) × (g : ℕ) × (f : ℕ) × (b : ℕ) × HasResidence pages p g (moving d f b n)
       by_slot p None is hit = cc
       by_slot p (Some page) is hit =
           let at = by_residence d page.residence hit in

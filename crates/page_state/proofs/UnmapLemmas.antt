@@ -17,11 +17,11 @@ use Rattle.page_state.specs.declared.joined.State.TheInside.{Inside}
 use Rattle.page_state.specs.Holdings.{HoldingsOf, StayInOrder, DropsPage}
 use Rattle.page_state.specs.Drops.{DropsUnmapped}
 use Rattle.page_state.specs.States.{StateOf}
-use Rattle.page_state.specs.Changes.{Unmaps, UnmapsBelow, EndsTask}
+use Rattle.page_state.specs.Changes.{Unmaps, UnmapsAll, EndsTask}
 use Rattle.page_state.specs.Joined.{joined_of, IsJoined}
 use Rattle.page_state.proofs.MappedLemmas.{mapped-dropped}
 use Rattle.page_state.proofs.OrderLemmas.{goes-on-still}
-use Rattle.page_state.proofs.DropLemmas.{fewer, stays_settled, unmaps-all}
+use Rattle.page_state.proofs.DropLemmas.{fewer, stays_settled}
 use Rattle.page_state.proofs.JoinLemmas.{joined-pages, joined-tasks}
 
 -- ---- one page
@@ -136,11 +136,11 @@ still-alike tables tables' p None same = refl
 still-alike tables tables' p (Some page) same = ap (λ m. cond (is_anon page.content && ((m == 0) && not (in_transfer_at page.residence))) None (Some page)) same
 
 -- its virtual pages show nothing, and it ends
-pub ends-unmapped : (old : StateOf) (s : Inside) (spaces : Space) (t n : ℕ) (life : Life) → UnmapsBelow old (joined_of s) t n → ((v p : ℕ) → mapped_at old.tables.page_tables t v ≡ Some p → v < n)
-    → SetsTask s.spaces.tasks t (group_of_task s.spaces.tasks t) life spaces.tasks → ((u v : ℕ) → mapped_at spaces.page_tables u v ≡ mapped_at s.spaces.page_tables u v) → EndsTask old (joined_of (record s { spaces = spaces })) t life
-ends-unmapped old s spaces t n life all inside ends same =
+pub ends-unmapped : (old : StateOf) (s : Inside) (spaces : Space) (t : ℕ) (life : Life) → UnmapsAll old (joined_of s) t → SetsTask s.spaces.tasks t (group_of_task s.spaces.tasks t) life spaces.tasks
+    → ((u v : ℕ) → mapped_at spaces.page_tables u v ≡ mapped_at s.spaces.page_tables u v) → EndsTask old (joined_of (record s { spaces = spaces })) t life
+ends-unmapped old s spaces t life all ends same =
     record {
-      shown = (let nothing = unmaps-all old (joined_of s) t n all inside in record { none = λ v. same t v ∙ nothing.none v; others = λ u v other. same u v ∙ nothing.others u v other });
+      shown = record { none = λ v. same t v ∙ all.shown.none v; others = λ u v other. same u v ∙ all.shown.others u v other };
       ends = subst (λ (ts : Tasks). SetsTask ts t (group_of_task ts t) life spaces.tasks) (ap (λ (st : State). st.tasks) all.tables) ends;
       drops = record {
         pages = λ p. all.drops.pages p ∙ sym (still-alike s.spaces.page_tables spaces.page_tables p (page_at old.tables.pages p) (mappers-alike s.spaces.page_tables spaces.page_tables p same));

@@ -1,5 +1,5 @@
 -- How the joined parts change: one record for each change, which is one of the machine's tables in all parts at once.
-use Rattle.std.specs.Prelude.{◌≡◌, ◌≢◌, ℕ, ◌<◌, ◌≤◌, ◌==◌, ◌&&◌, if◌then◌else◌, false, true, List, [], ◌∷◌, ◌++◌, slice_index, slice_set, is_some, Some, None}
+use Rattle.std.specs.Prelude.{◌≡◌, ◌≢◌, ℕ, ◌<◌, ◌==◌, ◌&&◌, if◌then◌else◌, false, true, List, [], ◌∷◌, ◌++◌, slice_index, slice_set, is_some, Some, None}
 use Rattle.machine.specs.declared.record.Key.{Key}
 use Rattle.machine.specs.declared.record.Life.{Life}
 use Rattle.machine.specs.declared.record.Life.TheVariants.{Live}
@@ -14,7 +14,7 @@ use Rattle.machine.specs.Access.{page_size}
 use Rattle.machine.specs.Reclaim.{is_takeable}
 use Rattle.machine.specs.Lists.{GoesOn, TakesNext}
 use Rattle.machine.specs.Step.{IsFreeFrame, IsFreeBlock, still, or_gone, count_of, new_node, new_page}
-use Rattle.pages.specs.PagesOf.{byte_in, anon_page, flight, Stands}
+use Rattle.pages.specs.PagesOf.{byte_in, anon_page, flight, HasResidence}
 use Rattle.machine.specs.declared.record.Direction.TheVariants.{In, Out}
 use Rattle.pages.specs.Tickets.{TicketOf}
 use Rattle.pages.specs.Transfers.{given_ticket}
@@ -90,7 +90,7 @@ pub record BeginsWriteOut (old new : StateOf) (target worker entry : ℕ) (ticke
   pub p : ℕ
   pub g : ℕ
   pub frame : ℕ
-  pub stood : Stands old.tables.pages p g (Held frame)
+  pub stood : HasResidence old.tables.pages p g (Held frame)
   pub takeable : is_takeable old.tables target (anon_page g (Held frame)) ≡ true
   pub block_free : IsFreeBlock old.tables ticket.block
   pub ticket_free : is_ticket_taken old.tables.pages ticket.number ≡ false
@@ -142,11 +142,9 @@ pub record Unmaps (old new : StateOf) (t v : ℕ) : Type 0 where
   pub drops : DropsPages old new
   pub tables : new.tables ≡ record old.tables { pages = new.tables.pages; page_tables = new.tables.page_tables }
 
--- the virtual pages of a task below this one show nothing any more
-pub record UnmapsBelow (old new : StateOf) (t n : ℕ) : Type 0 where
-  pub below : (v : ℕ) → v < n → mapped_at new.tables.page_tables t v ≡ None
-  pub above : (v : ℕ) → n ≤ v → mapped_at new.tables.page_tables t v ≡ mapped_at old.tables.page_tables t v
-  pub others : (u v : ℕ) → u ≢ t → mapped_at new.tables.page_tables u v ≡ mapped_at old.tables.page_tables u v
+-- no virtual page of a task shows anything any more
+pub record UnmapsAll (old new : StateOf) (t : ℕ) : Type 0 where
+  pub shown : ShowsNothing old.tables.page_tables new.tables.page_tables t
   pub drops : DropsPages old new
   pub tables : new.tables ≡ record old.tables { pages = new.tables.pages; page_tables = new.tables.page_tables }
 

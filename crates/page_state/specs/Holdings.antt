@@ -119,14 +119,14 @@ pub record DropsPage (old new : HoldingsOf) (p : ℕ) : Type 0 where
 -- ---- what a reclaim takes
 
 -- the page may be taken for the target
-abbrev pub takes : HoldingsOf → List Node → ℕ → Page → Bool
-takes h tree target page =
+abbrev pub may_take : HoldingsOf → List Node → ℕ → Page → Bool
+may_take h tree target page =
     is_held page && under tree target page.group && is_unprotected_in false tree h.limits (charged tree h.stored.pages) target page.group
     && (not (is_anon page.content) || nat_lt (used_swap h.stored.pages) h.swap)
 
 -- a page of the group may
 abbrev pub gives_of : HoldingsOf → List Node → ℕ → ℕ → Bool
-gives_of h tree target g = any_there (λ page. (page.group == g) && takes h tree target page) h.stored.pages
+gives_of h tree target g = any_there (λ page. (page.group == g) && may_take h tree target page) h.stored.pages
 
 -- it is the group's turn to give a page to the target
 abbrev pub IsTurn : HoldingsOf → List Node → List (Option ℕ) → ℕ → ℕ → Type 0
@@ -137,5 +137,5 @@ pub record IsNext (h : HoldingsOf) (tree : List Node) (cursors : List (Option �
   pub g : ℕ
   pub next : served_by tree (gives_of h tree target) target (cursor_at cursors target) ≡ Some g
   pub first : first_held h.stored.pages h.held g ≡ Some p
-  pub takeable : there_and (takes h tree target) (page_at h.stored.pages p) ≡ true
+  pub takeable : there_and (may_take h tree target) (page_at h.stored.pages p) ≡ true
   pub moves : cursors' ≡ slice_set cursors target (Some g)

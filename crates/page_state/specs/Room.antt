@@ -2,7 +2,7 @@
 use Rattle.std.specs.Prelude.{◌≡◌, ℕ, ◌+◌, ◌<◌, ◌==◌, if◌then◌else◌, List, ◌∷◌, length, None}
 use Rattle.frames.specs.Pool.{PoolOf, free_count}
 use Rattle.block_store.specs.Slots.{SlotsOf, slot_count}
-use Rattle.page_counter.specs.Counts.{Counts, Counted, Charges, over_in}
+use Rattle.page_counter.specs.Counts.{Counts, AreCounts, Charges, over_in}
 
 -- new lacks this frame, which old has free
 pub record LacksFrame (old new : PoolOf) (f : ℕ) : Type 0 where
@@ -24,5 +24,5 @@ pub record TakesRoom (counts counts' : Counts) (pool pool' : PoolOf) (g f charge
   pub under : over_in counts g ≡ None
   pub group : charge ≡ g
   pub charged : Charges counts counts' g
-  pub counted : (charges : List ℕ) → Counted counts charges → Counted counts' (charge ∷ charges)
+  pub counted : (charges : List ℕ) → AreCounts counts charges → AreCounts counts' (charge ∷ charges)
   pub frame : LacksFrame pool pool' f

@@ -6,7 +6,7 @@ ghost use Rattle.machine.specs.Pages as residence;
 ghost use Rattle.machine.specs.Pages.{is_held_in};
 ghost use Rattle.machine.specs.Tasks.{lives, mapped_at};
 ghost use Rattle.machine.specs.Access.{page_size, task_pages};
-ghost use Rattle.pages.specs.PagesOf.{Stands};
+ghost use Rattle.pages.specs.PagesOf.{HasResidence};
 ghost use Rattle.page_state.specs.Changes.{HasRoom, LacksRoom, MakesPage, WritesByte, BeginsReadIn};
 
 use crate::joined::State;
@@ -61,8 +61,8 @@ impl State {
         worker: WorkerId,
         entry: u32,
     ) -> Result<InTicket, AllocError>
-        requires away { (g b : ℕ) × Stands self.old.tables.pages page.0 g (residence.Away b) × HasRoom self.old.tables g }
-        ensures begins { IfOk result (λ ticket. (g b : ℕ) → Stands self.old.tables.pages page.0 g (residence.Away b) → BeginsReadIn self.old self.new page.0 g b worker.0 entry ticket) }
+        requires away { (g b : ℕ) × HasResidence self.old.tables.pages page.0 g (residence.Away b) × HasRoom self.old.tables g }
+        ensures begins { IfOk result (λ ticket. (g b : ℕ) → HasResidence self.old.tables.pages page.0 g (residence.Away b) → BeginsReadIn self.old self.new page.0 g b worker.0 entry ticket) }
         ensures err { OnErr result (self.new ≡ self.old) }
     {
         let ticket = self.holdings.start_in(alloc, page, worker, entry)?;

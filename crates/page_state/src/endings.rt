@@ -5,7 +5,7 @@ ghost use Rattle.machine.specs.Pages as residence;
 ghost use Rattle.machine.specs.declared.record.Direction.TheVariants.{In, Out};
 ghost use Rattle.machine.specs.Pages.{is_in_flight};
 ghost use Rattle.machine.specs.Tasks.{mapped_at};
-ghost use Rattle.pages.specs.PagesOf.{Stands, moving, byte_in};
+ghost use Rattle.pages.specs.PagesOf.{HasResidence, moving, byte_in};
 ghost use Rattle.pages.specs.Transfers.{residence_after};
 ghost use Rattle.page_state.specs.Changes.{EndsTransfer};
 
@@ -21,9 +21,9 @@ impl State {
     /// read, which are handed out. Takes no memory.
     pub fn settle_in(&mut self, ticket: InTicket, end: End) -> PageBytes
         requires { is_in_flight In self.old.tables.pages ticket.number ≡ true }
-        ensures ends { (p g f b : ℕ) → Stands self.old.tables.pages p g (residence.Coming f b ticket.number) → EndsTransfer self.old self.new p g ticket.number (residence_after end f b) }
+        ensures ends { (p g f b : ℕ) → HasResidence self.old.tables.pages p g (residence.Coming f b ticket.number) → EndsTransfer self.old self.new p g ticket.number (residence_after end f b) }
         // What a task sees of the page.
-        ensures arrives { (p g f b : ℕ) → Stands self.old.tables.pages p g (residence.Coming f b ticket.number) → end ≡ End.InFrame
+        ensures arrives { (p g f b : ℕ) → HasResidence self.old.tables.pages p g (residence.Coming f b ticket.number) → end ≡ End.InFrame
             → (t v k : ℕ) → mapped_at self.old.tables.page_tables t v ≡ Some p → byte_in self.new.bytes p k ≡ slice_index ticket.bytes k }
         ensures bytes { result ≡ ticket.bytes }
     {
@@ -37,8 +37,8 @@ impl State {
     /// The write-out of the ticket's page has ended so. In its frame the page is as it was. Takes no memory.
     pub fn settle_out(&mut self, ticket: OutTicket, end: End)
         requires { is_in_flight Out self.old.tables.pages ticket.number ≡ true }
-        ensures ends { (p g f b : ℕ) → Stands self.old.tables.pages p g (residence.Going f b ticket.number) → EndsTransfer self.old self.new p g ticket.number (residence_after end f b) }
-        ensures stays { (p g f b : ℕ) → Stands self.old.tables.pages p g (residence.Going f b ticket.number) → end ≡ End.InFrame
+        ensures ends { (p g f b : ℕ) → HasResidence self.old.tables.pages p g (residence.Going f b ticket.number) → EndsTransfer self.old self.new p g ticket.number (residence_after end f b) }
+        ensures stays { (p g f b : ℕ) → HasResidence self.old.tables.pages p g (residence.Going f b ticket.number) → end ≡ End.InFrame
             → (t v k : ℕ) → mapped_at self.old.tables.page_tables t v ≡ Some p → byte_in self.new.bytes p k ≡ byte_in self.old.bytes p k }
     {
         self.holdings.are_counted();
@@ -51,8 +51,8 @@ impl State {
 /// The page of the transfer in this direction that is in flight under the ticket.
 fn page_in_flight(pages: &Pages, direction: Direction, ticket: TicketId) -> PageId
     requires { is_in_flight direction pages.now.pages ticket.0 ≡ true }
-    ensures stands { (g : ℕ) × (f : ℕ) × (b : ℕ) × Stands pages.now.pages result.0 g (moving direction f b ticket.0) }
-    ensures alone { (p g f b : ℕ) → Stands pages.now.pages p g (moving direction f b ticket.0) → result.0 ≡ p }
+    ensures stands { (g : ℕ) × (f : ℕ) × (b : ℕ) × HasResidence pages.now.pages result.0 g (moving direction f b ticket.0) }
+    ensures alone { (p g f b : ℕ) → HasResidence pages.now.pages p g (moving direction f b ticket.0) → result.0 ≡ p }
 {
     pages.are_in_flight();
     let Some(flight) = pages.flight(ticket) else {

@@ -11,9 +11,9 @@ ghost use Rattle.machine.specs.Protection.{effective, min_of};
 ghost use Rattle.machine.specs.Access.{page_size};
 ghost use Rattle.group_tree.specs.Kin.{AreKin};
 ghost use Rattle.group_tree.specs.Lineages.{bare, IsLineage};
-ghost use Rattle.pages.specs.PagesOf.{byte_in, Stands, is_moving_in, AreInFlight};
+ghost use Rattle.pages.specs.PagesOf.{byte_in, HasResidence, is_moving_in, AreInFlight};
 ghost use Rattle.pages.specs.Transfers.{residence_after};
-ghost use Rattle.page_state.specs.Holdings.{with_stored, IsGranted, Lacks, AddsPage, BeginsIn, BeginsOut, Settles, DropsPage, takes, IsTurn, IsNext};
+ghost use Rattle.page_state.specs.Holdings.{with_stored, IsGranted, Lacks, AddsPage, BeginsIn, BeginsOut, Settles, DropsPage, may_take, IsTurn, IsNext};
 
 use crate::lookup::{group_of, is_any_under};
 use crate::queue::{HeldPages, Queue};
@@ -190,7 +190,7 @@ impl Holdings {
         requires live { is_live tree.now target.0 ≡ true }
         requires cursor { target.0 < length cursors.now.cursors }
         ensures turn { IfSome result (λ g. IsTurn self.now tree.now cursors.now.cursors target.0 g.0) }
-        ensures none { is_none result ≡ not (any_there (takes self.now tree.now target.0) self.now.stored.pages) }
+        ensures none { is_none result ≡ not (any_there (may_take self.now tree.now target.0) self.now.stored.pages) }
     {
         tree.groups_form_a_tree();
         self.pages.are_in_flight();
@@ -290,8 +290,8 @@ impl Holdings {
         worker: WorkerId,
         entry: u32,
     ) -> Result<InTicket, AllocError>
-        requires away { (g b : ℕ) × Stands self.old.stored.pages page.0 g (residence.Away b) × IsGranted self.old g }
-        ensures begins { IfOk result (λ ticket. (g b : ℕ) → Stands self.old.stored.pages page.0 g (residence.Away b) → BeginsIn self.old self.new page.0 g b worker.0 entry ticket) }
+        requires away { (g b : ℕ) × HasResidence self.old.stored.pages page.0 g (residence.Away b) × IsGranted self.old g }
+        ensures begins { IfOk result (λ ticket. (g b : ℕ) → HasResidence self.old.stored.pages page.0 g (residence.Away b) → BeginsIn self.old self.new page.0 g b worker.0 entry ticket) }
         ensures err { OnErr result (self.new ≡ self.old) }
     {
         self.counters.are_counted();
@@ -310,7 +310,7 @@ impl Holdings {
     pub fn start_out(&mut self, page: PageId, worker: WorkerId, entry: u32) -> OutTicket
         requires held { is_held_in self.old.stored.pages page.0 ≡ true }
         requires swap { used_swap self.old.stored.pages < self.old.swap }
-        ensures { (g f : ℕ) → Stands self.old.stored.pages page.0 g (residence.Held f) → BeginsOut self.old self.new page.0 g f worker.0 entry result }
+        ensures { (g f : ℕ) → HasResidence self.old.stored.pages page.0 g (residence.Held f) → BeginsOut self.old self.new page.0 g f worker.0 entry result }
     {
         self.pages.are_in_flight();
         let group = group_of(&self.pages, page);
@@ -326,8 +326,8 @@ impl Holdings {
     /// the last of those that came into theirs; or it is on its block, and its charge is taken back.
     /// Hands out the ticket's bytes. Takes no memory.
     pub fn settle_in(&mut self, page: PageId, ticket: InTicket, end: End) -> PageBytes
-        requires { (g f b : ℕ) × Stands self.old.stored.pages page.0 g (residence.Coming f b ticket.number) }
-        ensures settles { (g f b : ℕ) → Stands self.old.stored.pages page.0 g (residence.Coming f b ticket.number) → Settles self.old self.new page.0 g ticket.number (residence_after end f b) }
+        requires { (g f b : ℕ) × HasResidence self.old.stored.pages page.0 g (residence.Coming f b ticket.number) }
+        ensures settles { (g f b : ℕ) → HasResidence self.old.stored.pages page.0 g (residence.Coming f b ticket.number) → Settles self.old self.new page.0 g ticket.number (residence_after end f b) }
         ensures arrives { end ≡ End.InFrame → (o : ℕ) → byte_in self.new.stored.bytes page.0 o ≡ slice_index ticket.bytes o }
         ensures bytes { result ≡ ticket.bytes }
     {
@@ -348,8 +348,8 @@ impl Holdings {
     /// The write-out of the page has ended so: it is on its block, and its charge is taken back; or it is
     /// in its frame, as it was, and the last of those that came into theirs. Takes no memory.
     pub fn settle_out(&mut self, page: PageId, ticket: OutTicket, end: End)
-        requires { (g f b : ℕ) × Stands self.old.stored.pages page.0 g (residence.Going f b ticket.number) }
-        ensures settles { (g f b : ℕ) → Stands self.old.stored.pages page.0 g (residence.Going f b ticket.number) → Settles self.old self.new page.0 g ticket.number (residence_after end f b) }
+        requires { (g f b : ℕ) × HasResidence self.old.stored.pages page.0 g (residence.Going f b ticket.number) }
+        ensures settles { (g f b : ℕ) → HasResidence self.old.stored.pages page.0 g (residence.Going f b ticket.number) → Settles self.old self.new page.0 g ticket.number (residence_after end f b) }
         ensures stays { end ≡ End.InFrame → (o : ℕ) → byte_in self.new.stored.bytes page.0 o ≡ byte_in self.old.stored.bytes page.0 o }
     {
         let group = group_of(&self.pages, page);

@@ -4,7 +4,7 @@ ghost use Rattle.std.specs.Prelude.{◌≡◌, ℕ};
 ghost use Rattle.std.specs.List.{list_any};
 ghost use Rattle.machine.specs.Tree.{under};
 ghost use Rattle.machine.specs.Pages.{Residence};
-ghost use Rattle.pages.specs.PagesOf.{Stands};
+ghost use Rattle.pages.specs.PagesOf.{HasResidence};
 
 use group_tree::Tree;
 use machine::id::{GroupId, PageId};
@@ -12,8 +12,8 @@ use pages::Pages;
 
 /// The group of a page that is there.
 pub fn group_of(pages: &Pages, page: PageId) -> GroupId
-    requires { (g : ℕ) × (r : Residence) × Stands pages.now.pages page.0 g r }
-    ensures { (g : ℕ) → (r : Residence) → Stands pages.now.pages page.0 g r → result.0 ≡ g }
+    requires { (g : ℕ) × (r : Residence) × HasResidence pages.now.pages page.0 g r }
+    ensures { (g : ℕ) → (r : Residence) → HasResidence pages.now.pages page.0 g r → result.0 ≡ g }
 {
     let Some(group) = pages.group(page) else {
         unreachable!()

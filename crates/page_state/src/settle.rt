@@ -4,7 +4,7 @@ ghost use Rattle.std.specs.Prelude.{◌≡◌, ◌≢◌, ℕ, ◌<◌, length, 
 ghost use Rattle.machine.specs.Pages as residence;
 ghost use Rattle.page_counter.specs.Counts.{SameGroups};
 ghost use Rattle.machine.specs.declared.record.Direction.{Direction};
-ghost use Rattle.pages.specs.PagesOf.{Stands, byte_in, moving};
+ghost use Rattle.pages.specs.PagesOf.{HasResidence, byte_in, moving};
 ghost use Rattle.pages.specs.Transfers.{Ends};
 ghost use Rattle.page_state.specs.Owned.{AreKept};
 ghost use Rattle.page_state.specs.Relists.{JoinsAtEnd, LeavesQueue};
@@ -19,7 +19,7 @@ use pages::{Carries, End, Freed, InTicket, Pages, Ticket};
 
 /// The page has the bytes that the ticket read, where its read-in has ended in its frame.
 pub fn fill(pages: &mut Pages, page: PageId, ticket: &InTicket, end: End)
-    requires { (g f b : ℕ) × Stands pages.old.pages page.0 g (residence.Coming f b ticket.now.number) }
+    requires { (g f b : ℕ) × HasResidence pages.old.pages page.0 g (residence.Coming f b ticket.now.number) }
     ensures filled { end ≡ End.InFrame → (o : ℕ) → byte_in pages.new.bytes page.0 o ≡ slice_index ticket.now.bytes o }
     ensures bytes { (q o : ℕ) → q ≢ page.0 → byte_in pages.new.bytes q o ≡ byte_in pages.old.bytes q o }
     ensures others { pages.new ≡ record pages.old { bytes = pages.new.bytes } }
@@ -40,9 +40,9 @@ pub fn end_transfer<B: Carries>(
     pool: &mut Pool,
     slots: &mut Slots,
 ) -> B
-    requires stands { (d : Direction) × (p g f b : ℕ) × Stands pages.old.pages p g (moving d f b ticket.number) }
+    requires stands { (d : Direction) × (p g f b : ℕ) × HasResidence pages.old.pages p g (moving d f b ticket.number) }
     requires kept { AreKept counters.old pool.old slots.old pages.old.pages }
-    ensures ends { (d : Direction) (p g f b : ℕ) → Stands pages.old.pages p g (moving d f b ticket.number) → Ends pages.old pages.new p g f b ticket.number end }
+    ensures ends { (d : Direction) (p g f b : ℕ) → HasResidence pages.old.pages p g (moving d f b ticket.number) → Ends pages.old pages.new p g f b ticket.number end }
     ensures kept { AreKept counters.new pool.new slots.new pages.new.pages }
     ensures groups { SameGroups counters.old counters.new }
     ensures frames { pool.new.frames ≡ pool.old.frames }

@@ -31,7 +31,6 @@ impl State {
         requires ended { is_live_life life ≡ false }
         ensures { EndsTask self.old self.new task.0 life }
     {
-        self.is_joined();
         self.unmap_all(task);
         self.spaces.exit(task, life);
     }

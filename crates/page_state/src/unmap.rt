@@ -3,9 +3,8 @@
 
 ghost use Rattle.std.specs.Prelude.{◌≡◌, IsSome};
 ghost use Rattle.machine.specs.Pages.{page_at};
-ghost use Rattle.machine.specs.Access.{task_pages};
 ghost use Rattle.pages.specs.PagesOf.{is_moving_in};
-ghost use Rattle.page_state.specs.Changes.{Unmaps, UnmapsBelow};
+ghost use Rattle.page_state.specs.Changes.{Unmaps, UnmapsAll};
 ghost use Rattle.page_state.specs.Drops.{DropsUnmapped, is_transfer};
 
 use crate::holdings::Holdings;
@@ -29,7 +28,7 @@ impl State {
 
     /// No virtual page of the task shows anything from now on. Takes no memory.
     pub(crate) fn unmap_all(&mut self, task: TaskId)
-        ensures { UnmapsBelow self.old self.new task.0 task_pages }
+        ensures { UnmapsAll self.old self.new task.0 }
     {
         self.is_joined();
         for at in 0..TASK_PAGES {

@@ -13,7 +13,7 @@ use Rattle.machine.specs.declared.record.Direction.{Direction}
 use Rattle.machine.specs.declared.record.Direction.TheVariants.{In, Out}
 use Rattle.pages.specs.declared.flight.Flight.{Flight}
 use Rattle.pages.specs.declared.owned_page.OwnedPage.{OwnedPage}
-use Rattle.pages.specs.PagesOf.{anon_page, moving, flight, byte_of, byte_in, Stands, is_under_ticket, IsInTransfer, AreInFlight}
+use Rattle.pages.specs.PagesOf.{anon_page, moving, flight, byte_of, byte_in, HasResidence, is_under_ticket, IsInTransfer, AreInFlight}
 use Rattle.pages.specs.Transfers.{Starts, Ends, residence_after, IsFreed, given_ticket}
 use Rattle.pages.specs.Records.{page_of, bytes_of, view_of, ArePages}
 use Rattle.pages.proofs.TableLemmas.{at-map, is_some-map, map-set, place_within, Changes-map, Changes-set, Changes-twice, byte_in-changes}
@@ -27,7 +27,7 @@ under-owned None n is = absurd (cc)
 under-owned (Some k) n is = refl
 
 -- what is at the place of a page's number
-pub owned-stands : (owned : List (Option OwnedPage)) (p g : ℕ) (residence : Residence) (k : OwnedPage) → at owned p ≡ Some k → Stands (pages_of owned) p g residence → page_of k ≡ anon_page g residence
+pub owned-stands : (owned : List (Option OwnedPage)) (p g : ℕ) (residence : Residence) (k : OwnedPage) → at owned p ≡ Some k → HasResidence (pages_of owned) p g residence → page_of k ≡ anon_page g residence
 owned-stands owned p g residence k was stands =
     let is = sym (ap (option_map page_of) was) ∙ sym (at-map page_of owned p) ∙ stands in
     cc
@@ -59,18 +59,18 @@ module _ (owned : List (Option OwnedPage)) (flights : List (Option Flight)) (n :
   flight-there = under-owned (at owned page.0) n (ap (λ slot. under slot n) (sym (at-map page_of owned page.0)) ∙ flight-under)
 
   -- and it is the only one
-  pub flight-page : (d : Direction) (p g f b : ℕ) → Stands (pages_of owned) p g (moving d f b n) → page.0 ≡ p
+  pub flight-page : (d : Direction) (p g f b : ℕ) → HasResidence (pages_of owned) p g (moving d f b n) → page.0 ≡ p
   flight-page d p g f b stands = page_at_slot (at flights n) p known (in_flight.listed p n (under-moving _ d g f b n stands))
 
-  pub flight-stands : (d : Direction) (p g f b : ℕ) → Stands (pages_of owned) p g (moving d f b n) → Stands (pages_of owned) page.0 g (moving d f b n)
-  flight-stands d p g f b stands = subst (λ q. Stands (pages_of owned) q g (moving d f b n)) (sym (flight-page d p g f b stands)) stands
+  pub flight-stands : (d : Direction) (p g f b : ℕ) → HasResidence (pages_of owned) p g (moving d f b n) → HasResidence (pages_of owned) page.0 g (moving d f b n)
+  flight-stands d p g f b stands = subst (λ q. HasResidence (pages_of owned) q g (moving d f b n)) (sym (flight-page d p g f b stands)) stands
 
   -- what it owns is that of a page in transfer
-  pub flight-moves : (d : Direction) (p g f b : ℕ) → Stands (pages_of owned) p g (moving d f b n) → (k : OwnedPage) → at owned page.0 ≡ Some k → in_transfer_at (page_of k).residence ≡ true
+  pub flight-moves : (d : Direction) (p g f b : ℕ) → HasResidence (pages_of owned) p g (moving d f b n) → (k : OwnedPage) → at owned page.0 ≡ Some k → in_transfer_at (page_of k).residence ≡ true
   flight-moves d p g f b stands k was = ap (λ page. in_transfer_at page.residence) (owned-stands owned page.0 g _ k was (flight-stands d p g f b stands)) ∙ moving-transfer d f b n
 
 -- a ticket that a page is in transfer under is in flight
-pub flight-listed : (owned : List (Option OwnedPage)) (flights : Slab Flight) (d : Direction) (p g f b n : ℕ) → AreInFlight (pages_of owned) flights.slots → Stands (pages_of owned) p g (moving d f b n) → IsSome (get flights n)
+pub flight-listed : (owned : List (Option OwnedPage)) (flights : Slab Flight) (d : Direction) (p g f b n : ℕ) → AreInFlight (pages_of owned) flights.slots → HasResidence (pages_of owned) p g (moving d f b n) → IsSome (get flights n)
 flight-listed owned flights d p g f b n in_flight stands = some_of (at flights.slots n) (in_flight.listed p n (under-moving _ d g f b n stands))
   where
     some_of : (slot : Option Flight) → option_map (λ (f : Flight). f.page.0) slot ≡ Some p → IsSome slot
@@ -177,7 +177,7 @@ module _ {T : Type 0} {numbers : Slab T} {old between new : List (Option OwnedPa
         countable = (let few = is.countable in let same = landing.capacity in omega (arith, few, same));
       }
 
-  module _ (d : Direction) (p g f b : ℕ) (stands : Stands (pages_of old) p g (moving d f b n)) where
+  module _ (d : Direction) (p g f b : ℕ) (stands : HasResidence (pages_of old) p g (moving d f b n)) where
     -- the page of the ticket is the one that is in transfer under it
     Landing-page : number.0 ≡ p
     Landing-page = flight-page old flights.slots n number landing.are.in_flight landing.page d p g f b stands

@@ -34,8 +34,8 @@ abbrev pub anon_page : ℕ → Residence → Page
 anon_page g residence = record { content = Memory; group = g; dirty = false; residence = residence }
 
 -- the page of this number is memory of this group, and is there
-abbrev pub Stands : Pages → ℕ → ℕ → Residence → Type 0
-Stands pages p g residence = page_at pages p ≡ Some (anon_page g residence)
+abbrev pub HasResidence : Pages → ℕ → ℕ → Residence → Type 0
+HasResidence pages p g residence = page_at pages p ≡ Some (anon_page g residence)
 
 -- where a page is, as the code names it
 abbrev pub residence_of : Residence → Code_residence
@@ -74,7 +74,7 @@ pub record IsInTransfer (pages : Pages) (n : ℕ) (flight : Flight) : Type 0 whe
   pub group : ℕ
   pub frame : ℕ
   pub block : ℕ
-  pub stands : Stands pages flight.page.0 group (moving flight.direction frame block n)
+  pub stands : HasResidence pages flight.page.0 group (moving flight.direction frame block n)
 
 -- what always holds: the pages are memory of tasks, and the transfers in flight are those of the pages that are in transfer
 pub record AreInFlight (pages : Pages) (flights : List (Option Flight)) : Type 0 where

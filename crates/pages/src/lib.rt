@@ -10,7 +10,7 @@ ghost use Rattle.machine.specs.Slots.{at, Changes};
 ghost use Rattle.machine.specs.Pages.{Residence as PageResidence, Held, Coming, Away, page_at, is_held_in, is_in_flight};
 ghost use Rattle.machine.specs.Access.{page_size};
 ghost use Rattle.machine.specs.Step.{new_page};
-ghost use Rattle.pages.specs.PagesOf.{pages_there, byte_in, anon_page, Stands, residence_of, moving, is_moving_in, is_flight_to, IsInTransfer, AreInFlight};
+ghost use Rattle.pages.specs.PagesOf.{pages_there, byte_in, anon_page, HasResidence, residence_of, moving, is_moving_in, is_flight_to, IsInTransfer, AreInFlight};
 ghost use Rattle.pages.specs.Transfers.{StartsIn, StartsOut, Ends, IsFreed};
 ghost use Rattle.machine.specs.declared.record.Direction.{Direction};
 ghost use Rattle.pages.specs.Records.{page_of};
@@ -166,9 +166,9 @@ impl Pages {
         entry: u32,
         buffer: Box<[u8; FRAME_BYTES]>,
     ) -> InTicket
-        requires away { (block : ℕ) × Stands self.old.pages page.0 charge (Away block) }
+        requires away { (block : ℕ) × HasResidence self.old.pages page.0 charge (Away block) }
         requires room { 0 < self.old.tickets }
-        ensures { (block : ℕ) → Stands self.old.pages page.0 charge (Away block) → StartsIn self.old self.new page.0 charge frame.number block worker.0 entry result }
+        ensures { (block : ℕ) → HasResidence self.old.pages page.0 charge (Away block) → StartsIn self.old self.new page.0 charge frame.number block worker.0 entry result }
     {
         let slot = into_away(take_at(&mut self.owned, page));
         let block = slot.block();
@@ -200,9 +200,9 @@ impl Pages {
         worker: WorkerId,
         entry: u32,
     ) -> OutTicket
-        requires held { (g f : ℕ) × Stands self.old.pages page.0 g (Held f) }
+        requires held { (g f : ℕ) × HasResidence self.old.pages page.0 g (Held f) }
         requires room { 0 < self.old.tickets }
-        ensures { (g f : ℕ) → Stands self.old.pages page.0 g (Held f) → StartsOut self.old self.new page.0 g f slot worker.0 entry result }
+        ensures { (g f : ℕ) → HasResidence self.old.pages page.0 g (Held f) → StartsOut self.old self.new page.0 g f slot worker.0 entry result }
     {
         let (frame, charge) = into_held(take_at(&mut self.owned, page));
         spare.fill(frame.bytes());
@@ -236,8 +236,8 @@ impl Pages {
 
     /// The page that is being read in has the bytes that the ticket read. Takes no memory.
     pub fn fill(&mut self, ticket: &InTicket)
-        requires { (p g f b : ℕ) × Stands self.old.pages p g (Coming f b ticket.now.number) }
-        ensures bytes { (p g f b : ℕ) → Stands self.old.pages p g (Coming f b ticket.now.number) → (q o : ℕ) → byte_in self.new.bytes q o
+        requires { (p g f b : ℕ) × HasResidence self.old.pages p g (Coming f b ticket.now.number) }
+        ensures bytes { (p g f b : ℕ) → HasResidence self.old.pages p g (Coming f b ticket.now.number) → (q o : ℕ) → byte_in self.new.bytes q o
             ≡ (if q == p then slice_index ticket.now.bytes o else byte_in self.old.bytes q o) }
         ensures others { self.new ≡ record self.old { bytes = self.new.bytes } }
     {
@@ -248,9 +248,9 @@ impl Pages {
     /// The transfer has ended, and its ticket with it: the page is in its frame or on its block. Hands
     /// out what the page owns no more, and what the ticket carried. Takes no memory.
     pub fn settle<B: Carries>(&mut self, ticket: Ticket<B>, end: End) -> (Freed, B)
-        requires { (d : Direction) × (p g f b : ℕ) × Stands self.old.pages p g (moving d f b ticket.number) }
-        ensures ends { (d : Direction) (p g f b : ℕ) → Stands self.old.pages p g (moving d f b ticket.number) → Ends self.old self.new p g f b ticket.number end }
-        ensures freed { (d : Direction) (p g f b : ℕ) → Stands self.old.pages p g (moving d f b ticket.number) → IsFreed g f b end result.0 }
+        requires { (d : Direction) × (p g f b : ℕ) × HasResidence self.old.pages p g (moving d f b ticket.number) }
+        ensures ends { (d : Direction) (p g f b : ℕ) → HasResidence self.old.pages p g (moving d f b ticket.number) → Ends self.old self.new p g f b ticket.number end }
+        ensures freed { (d : Direction) (p g f b : ℕ) → HasResidence self.old.pages p g (moving d f b ticket.number) → IsFreed g f b end result.0 }
         ensures carried { B.bytes result.1 ≡ ticket.bytes }
     {
         let page = unlist(&mut self.flights, ticket.number());
@@ -263,7 +263,7 @@ impl Pages {
     /// The page is gone: what it owned is the caller's to give back. It is in no transfer. Takes no
     /// memory.
     pub fn drop_page(&mut self, page: PageId) -> OwnedPage
-        requires { (g : ℕ) × (r : PageResidence) × (Stands self.old.pages page.0 g r) × (is_moving_in self.old.pages page.0 ≡ false) }
+        requires { (g : ℕ) × (r : PageResidence) × (HasResidence self.old.pages page.0 g r) × (is_moving_in self.old.pages page.0 ≡ false) }
         ensures gone { Changes self.old.pages self.new.pages page.0 None }
         ensures bytes { (q o : ℕ) → byte_in self.new.bytes q o ≡ (if q == page.0 then 0 else byte_in self.old.bytes q o) }
         ensures owned { page_at self.old.pages page.0 ≡ Some (page_of result) }

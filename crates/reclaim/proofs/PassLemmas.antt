@@ -17,7 +17,7 @@ use Rattle.group_tree.specs.Groups.{IsGroupTree}
 use Rattle.group_tree.specs.Tables.{number}
 use Rattle.group_tree.proofs.PreorderLemmas.{preorder-has}
 use Rattle.page_counter.specs.Counts.{Counts}
-use Rattle.reclaim.specs.Pass.{Held, AreHeld, is_unprotected, oldest_of, gives, IsGiver, GivesNone}
+use Rattle.reclaim.specs.Pass.{HeldList, AreHeld, is_unprotected_by_counts, oldest_of, gives_by_counts, IsGiver, GivesNone}
 use Rattle.reclaim.specs.Walk.{is_at, behind, up_to, AreAsked}
 use Rattle.reclaim.proofs.WalkLemmas.{up_to-none, parts}
 
@@ -57,7 +57,7 @@ module _ {X : Type 0} where
       ] refl
 
 -- the page that is found of a group is that group's
-pub oldest-own : (pages : Held) (group : GroupId) (pair : GroupId × PageId) → oldest_of pages group.0 ≡ Some pair → oldest_of pages group.0 ≡ Some (group, pair.1)
+pub oldest-own : (pages : HeldList) (group : GroupId) (pair : GroupId × PageId) → oldest_of pages group.0 ≡ Some pair → oldest_of pages group.0 ≡ Some (group, pair.1)
 oldest-own pages group pair found =
     let passes = (found-passes (λ (p : GroupId × PageId). Unit {0}) (λ p. p.0.0 == group.0) pages pair (λ k d lt. tt) found).1 in
     let same : pair.0.0 ≡ group.0 = grind (arith, nat_tests, passes) in
@@ -180,34 +180,34 @@ around test (g ∷ gs) last =
 
 module _ (tree : List Node) (counts : Counts) (held : List ℕ) (swap_free : Bool) (target : ℕ) where
   -- without room in swap no group gives a page
-  full : swap_free ≡ false → (g : ℕ) → gives tree counts held swap_free target g ≡ false
-  full e g = ap (λ b. b && (is_unprotected tree counts target g && nat_lt 0 (slice_index held g))) e
+  full : swap_free ≡ false → (g : ℕ) → gives_by_counts tree counts held swap_free target g ≡ false
+  full e g = ap (λ b. b && (is_unprotected_by_counts tree counts target g && nat_lt 0 (slice_index held g))) e
 
-  pub none-served : (last : Option ℕ) → swap_free ≡ false → None ≡ served_by tree (gives tree counts held swap_free target) target last
-  none-served last e = sym (find-nothing (gives tree counts held swap_free target) (asking_order tree target last) (full e))
+  pub none-served : (last : Option ℕ) → swap_free ≡ false → None ≡ served_by tree (gives_by_counts tree counts held swap_free target) target last
+  none-served last e = sym (find-nothing (gives_by_counts tree counts held swap_free target) (asking_order tree target last) (full e))
 
   pub none-given : swap_free ≡ false → GivesNone tree counts held swap_free target
   none-given e g live below = full e g
 
   module _ (groups : IsGroupTree tree) (live : is_live tree target ≡ true) (last : Option ℕ) where
-    one_serves : (g : ℕ) → served_by tree (gives tree counts held swap_free target) target last ≡ Some g → IsGiver tree counts held swap_free target g
+    one_serves : (g : ℕ) → served_by tree (gives_by_counts tree counts held swap_free target) target last ≡ Some g → IsGiver tree counts held swap_free target g
     one_serves g found =
-        let is = found-passes (λ a. (is_live tree a ≡ true) × (under tree target a ≡ true)) (gives tree counts held swap_free target) (asking_order tree target last) g (asked-order tree target last groups live) found in
+        let is = found-passes (λ a. (is_live tree a ≡ true) × (under tree target a ≡ true)) (gives_by_counts tree counts held swap_free target) (asking_order tree target last) g (asked-order tree target last groups live) found in
         record { live = is.0.0; below = is.0.1; gives = is.1 }
 
-    none_serves : served_by tree (gives tree counts held swap_free target) target last ≡ None → GivesNone tree counts held swap_free target
+    none_serves : served_by tree (gives_by_counts tree counts held swap_free target) target last ≡ None → GivesNone tree counts held swap_free target
     none_serves nothing g there below =
-        among (gives tree counts held swap_free target) g (preorder tree target)
+        among (gives_by_counts tree counts held swap_free target) g (preorder tree target)
         (preorder-has tree groups target g live ∙ ap (λ b. b && under tree target g) there ∙ below)
-        (sym (around (gives tree counts held swap_free target) (preorder tree target) last) ∙ sym (list_any-append (gives tree counts held swap_free target) (behind (preorder tree target) last) (up_to (preorder tree target) last))
-        ∙ ap (list_any (gives tree counts held swap_free target)) (parts (preorder tree target) last) ∙ none-passes (gives tree counts held swap_free target) (asking_order tree target last) nothing)
+        (sym (around (gives_by_counts tree counts held swap_free target) (preorder tree target) last) ∙ sym (list_any-append (gives_by_counts tree counts held swap_free target) (behind (preorder tree target) last) (up_to (preorder tree target) last))
+        ∙ ap (list_any (gives_by_counts tree counts held swap_free target)) (parts (preorder tree target) last) ∙ none-passes (gives_by_counts tree counts held swap_free target) (asking_order tree target last) nothing)
 
     -- the group that is served has a page to give
-    pub giver-served : (group : Option GroupId) → number group ≡ served_by tree (gives tree counts held swap_free target) target last → IfSome group (λ g. IsGiver tree counts held swap_free target g.0)
+    pub giver-served : (group : Option GroupId) → number group ≡ served_by tree (gives_by_counts tree counts held swap_free target) target last → IfSome group (λ g. IsGiver tree counts held swap_free target g.0)
     giver-served None e = tt
     giver-served (Some g) e = one_serves g.0 (sym e)
 
     -- and where none is served, none has
-    pub none-serves : (group : Option GroupId) → number group ≡ served_by tree (gives tree counts held swap_free target) target last → IfNone group (GivesNone tree counts held swap_free target)
+    pub none-serves : (group : Option GroupId) → number group ≡ served_by tree (gives_by_counts tree counts held swap_free target) target last → IfNone group (GivesNone tree counts held swap_free target)
     none-serves None e = none_serves (sym e)
     none-serves (Some g) e = tt

@@ -4,7 +4,7 @@ ghost use Rattle.std.specs.Prelude.{◌≡◌, ◌+◌, ◌<◌, ◌≤◌, ◌+
 ghost use Rattle.machine.specs.Order.{served_by, cursor_at};
 ghost use Rattle.machine.specs.Tree.{is_live};
 ghost use Rattle.group_tree.specs.Kin.{AreKin};
-ghost use Rattle.reclaim.specs.Pass.{oldest_of, gives, IsGiver, GivesNone};
+ghost use Rattle.reclaim.specs.Pass.{oldest_of, gives_by_counts, IsGiver, GivesNone};
 
 use crate::pass::{oldest_of, served};
 use group_tree::Tree;
@@ -108,7 +108,7 @@ impl Cursors {
         requires places { length tree.now ≤ length held.now }
         // It is the one whose turn it is.
         ensures group { option_map (λ g. g.0) result
-            ≡ served_by tree.now (gives tree.now counters.now held.now swap_free target.0) target.0 (cursor_at self.now.cursors target.0) }
+            ≡ served_by tree.now (gives_by_counts tree.now counters.now held.now swap_free target.0) target.0 (cursor_at self.now.cursors target.0) }
         // There is one exactly where one has a page to give.
         ensures giver { IfSome result (λ g. IsGiver tree.now counters.now held.now swap_free target.0 g.0) }
         ensures none { IfNone result (GivesNone tree.now counters.now held.now swap_free target.0) }

@@ -7,7 +7,7 @@ ghost use Rattle.machine.specs.Order.{served_by};
 ghost use Rattle.machine.specs.Tree.{is_live, under};
 ghost use Rattle.group_tree.specs.Kin.{AreKin};
 ghost use Rattle.group_tree.specs.Tables.{number};
-ghost use Rattle.reclaim.specs.Pass.{oldest_of, gives};
+ghost use Rattle.reclaim.specs.Pass.{oldest_of, gives_by_counts};
 ghost use Rattle.reclaim.specs.Walk.{behind, up_to, AreAsked};
 
 use group_tree::{Preorder, Tree};
@@ -26,7 +26,7 @@ pub fn served(
     requires kin { AreKin counters.now.tree tree.now }
     requires live { is_live tree.now target.0 ≡ true }
     requires places { length tree.now ≤ length held.now }
-    ensures { number result ≡ served_by tree.now (gives tree.now counters.now held.now true target.0) target.0 (number last) }
+    ensures { number result ≡ served_by tree.now (gives_by_counts tree.now counters.now held.now true target.0) target.0 (number last) }
 {
     tree.groups_form_a_tree();
     let mut rest = tree.preorder(target);
@@ -62,7 +62,7 @@ fn first_to_give(
     requires kin { AreKin counters.now.tree tree.now }
     requires asked { AreAsked tree.now target.0 walk }
     requires places { length tree.now ≤ length held.now }
-    ensures { number result ≡ find (gives tree.now counters.now held.now true target.0) (up_to walk.entry (number last)) }
+    ensures { number result ≡ find (gives_by_counts tree.now counters.now held.now true target.0) (up_to walk.entry (number last)) }
 {
     for group in walk {
         if has_page(tree, counters, held, target, group) {
@@ -81,7 +81,7 @@ fn has_page(tree: &Tree, counters: &Counters, held: &[u32], target: GroupId, gro
     requires live { is_live tree.now group.0 ≡ true }
     requires under { under tree.now target.0 group.0 ≡ true }
     requires places { length tree.now ≤ length held.now }
-    ensures { result ≡ gives tree.now counters.now held.now true target.0 group.0 }
+    ensures { result ≡ gives_by_counts tree.now counters.now held.now true target.0 group.0 }
 {
     // The count costs less than the group's protection, which goes up to the target.
     held[group.0 as usize] > 0 && !is_protected(tree, counters, target, group)

@@ -1,6 +1,6 @@
 use Rattle.std.proofs.Common.{Some, None, refl, sym, ap, ◌∙◌, arith}
 use Rattle.machine.specs.Pages.{Held, Coming, Going, Away}
-use Rattle.pages.specs.PagesOf.{Stands, anon_page}
+use Rattle.pages.specs.PagesOf.{HasResidence, anon_page}
 use Rattle.pages.specs.declared.owned_page.OwnedPage.{OwnedPage}
 use Rattle.pages.specs.Records.{page_of}
 use Rattle.page_state.proofs.CountLemmas.{uncharge-usage}
@@ -19,7 +19,7 @@ give_room-requires-clause-charged c = leaves-charge c.args.counters.now c.args.p
 
 pub returns-in-Held-clause-releases : goal.returns-in-Held-clause-releases
 returns-in-Held-clause-releases c pages rest p was gone kept =
-    let stood : Stands pages p c.in-Held.charge (Held c.in-Held.frame.number) = was ∙ ap (λ (k : OwnedPage). Some (page_of k)) c.in-Held.is in
+    let stood : HasResidence pages p c.in-Held.charge (Held c.in-Held.frame.number) = was ∙ ap (λ (k : OwnedPage). Some (page_of k)) c.in-Held.is in
     kept-step c.args.counters.now c.give_room.new.counters c.args.pool.now c.give_room.new.pool c.args.slots.now c.args.slots.now pages rest p (Some (anon_page c.in-Held.charge (Held c.in-Held.frame.number))) None stood gone (sym c.give_room.ensures.frame.frames)
     (record { counts = λ n. (let k = c.give_room.ensures.frame.counts n in omega (arith, k)); len = (let k = c.give_room.ensures.frame.fewer in omega (arith, k)) })
     refl
@@ -44,7 +44,7 @@ give-requires-clause-in_range c = (leaves-block c.args.counters.now c.args.pool.
 
 pub returns-in-Coming-clause-releases : goal.returns-in-Coming-clause-releases
 returns-in-Coming-clause-releases c pages rest p was gone kept =
-    let stood : Stands pages p c.in-Coming.charge (Coming c.in-Coming.frame.number c.in-Coming.slot c.in-Coming.ticket.0) = was ∙ ap (λ (k : OwnedPage). Some (page_of k)) c.in-Coming.is in
+    let stood : HasResidence pages p c.in-Coming.charge (Coming c.in-Coming.frame.number c.in-Coming.slot c.in-Coming.ticket.0) = was ∙ ap (λ (k : OwnedPage). Some (page_of k)) c.in-Coming.is in
     kept-step c.args.counters.now c.give_room-in-Coming.new.counters c.args.pool.now c.give_room-in-Coming.new.pool c.args.slots.now c.give.new.self pages rest p (Some (anon_page c.in-Coming.charge (Coming c.in-Coming.frame.number c.in-Coming.slot c.in-Coming.ticket.0))) None stood gone (sym c.give_room-in-Coming.ensures.frame.frames)
     (record { counts = λ n. (let k = c.give_room-in-Coming.ensures.frame.counts n in omega (arith, k)); len = (let k = c.give_room-in-Coming.ensures.frame.fewer in omega (arith, k)) })
     c.give.ensures.blocks
@@ -69,7 +69,7 @@ give-requires-in-Going-clause-in_range c = (leaves-block c.args.counters.now c.a
 
 pub returns-in-Going-clause-releases : goal.returns-in-Going-clause-releases
 returns-in-Going-clause-releases c pages rest p was gone kept =
-    let stood : Stands pages p c.in-Going.charge (Going c.in-Going.frame.number c.in-Going.slot c.in-Going.ticket.0) = was ∙ ap (λ (k : OwnedPage). Some (page_of k)) c.in-Going.is in
+    let stood : HasResidence pages p c.in-Going.charge (Going c.in-Going.frame.number c.in-Going.slot c.in-Going.ticket.0) = was ∙ ap (λ (k : OwnedPage). Some (page_of k)) c.in-Going.is in
     kept-step c.args.counters.now c.give_room-in-Going.new.counters c.args.pool.now c.give_room-in-Going.new.pool c.args.slots.now c.give-in-Going.new.self pages rest p (Some (anon_page c.in-Going.charge (Going c.in-Going.frame.number c.in-Going.slot c.in-Going.ticket.0))) None stood gone (sym c.give_room-in-Going.ensures.frame.frames)
     (record { counts = λ n. (let k = c.give_room-in-Going.ensures.frame.counts n in omega (arith, k)); len = (let k = c.give_room-in-Going.ensures.frame.fewer in omega (arith, k)) })
     c.give-in-Going.ensures.blocks
@@ -85,7 +85,7 @@ give-requires-in-Away-clause-in_range c = (leaves-block c.args.counters.now c.ar
 
 pub returns-in-Away-clause-releases : goal.returns-in-Away-clause-releases
 returns-in-Away-clause-releases c pages rest p was gone kept =
-    let stood : Stands pages p c.in-Away.group.0 (Away c.in-Away.slot) = was ∙ ap (λ (k : OwnedPage). Some (page_of k)) c.in-Away.is in
+    let stood : HasResidence pages p c.in-Away.group.0 (Away c.in-Away.slot) = was ∙ ap (λ (k : OwnedPage). Some (page_of k)) c.in-Away.is in
     kept-step c.args.counters.now c.args.counters.now c.args.pool.now c.args.pool.now c.args.slots.now c.give-in-Away.new.self pages rest p (Some (anon_page c.in-Away.group.0 (Away c.in-Away.slot))) None stood gone refl
     (record { counts = λ n. refl; len = refl })
     c.give-in-Away.ensures.blocks

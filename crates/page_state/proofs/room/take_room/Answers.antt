@@ -1,5 +1,5 @@
 use Rattle.std.proofs.Common.{◌∷◌, sym, subst}
-use Rattle.page_counter.specs.Counts.{Counted}
+use Rattle.page_counter.specs.Counts.{AreCounts}
 use Rattle.page_state.proofs.room.take_room.Goals as goal
 
 pub returns : goal.returns
@@ -9,6 +9,6 @@ returns c =
       under = c.requires.under;
       group = c.in-Ok.ensures.group;
       charged = c.in-Ok.ensures.charged;
-      counted = λ charges counted. subst (λ g. Counted c.try_charge.new.self (g ∷ charges)) (sym c.in-Ok.ensures.group) (c.in-Ok.ensures.counted charges counted);
+      counted = λ charges counted. subst (λ g. AreCounts c.try_charge.new.self (g ∷ charges)) (sym c.in-Ok.ensures.group) (c.in-Ok.ensures.counted charges counted);
       frame = record { counts = taken.counts; fewer = taken.fewer; frames = taken.frames; spares = taken.spares; out = taken.out; in_range = taken.in_range };
     }

@@ -2,14 +2,14 @@ use Rattle.std.proofs.Common.{vec_capacity, ◌≡◌, ℕ, Some, ap, refl, ◌�
 use Rattle.machine.specs.Pages.{Coming, Away}
 use Rattle.pages.specs.declared.owned_page.OwnedPage.TheVariants as owned_page
 use Rattle.machine.specs.declared.record.Direction.TheVariants.{In}
-use Rattle.pages.specs.PagesOf.{Stands, anon_page}
+use Rattle.pages.specs.PagesOf.{HasResidence, anon_page}
 use Rattle.pages.specs.Transfers.{given_ticket}
 use Rattle.pages.specs.Records.{page_of}
 use Rattle.pages.proofs.FlightLemmas.{IsSettled-is}
 use Rattle.pages.proofs.TransferLemmas.{owned-stands, Takeoff, Takeoff-are, Takeoff-starts, Takeoff-apart, part-slot}
 use Rattle.pages.proofs.Pages.start_in.Goals as goal
 
-was_away : (c : goal.After-new) (block : ℕ) → Stands c.args.self.now.pages c.args.page.0 c.args.charge (Away block) → page_of c.take_at.result ≡ anon_page c.args.charge (Away block)
+was_away : (c : goal.After-new) (block : ℕ) → HasResidence c.args.self.now.pages c.args.page.0 c.args.charge (Away block) → page_of c.take_at.result ≡ anon_page c.args.charge (Away block)
 was_away c block stands = owned-stands c.self.inside.owned.items c.args.page.0 c.args.charge (Away block) c.take_at.result c.take_at.ensures.owned (rw (← c.self.view_is) at stands)
 
 takeoff : (c : goal.After-new) → Takeoff c.self.inside.numbers c.self.inside.owned.items c.take_at.new.slots.items c.place.new.slots.items (vec_capacity c.self.inside.owned) (vec_capacity c.place.new.slots) c.self.inside.flights c.list-ticket.new.flights c.list-ticket.result.0 c.args.page.0 c.args.worker.0 In c.args.charge c.args.frame.number c.into_away-slot.result c.take_at.result (owned_page.Coming c.args.frame c.args.charge c.into_away-slot.result c.list-ticket.result)

@@ -2,14 +2,14 @@ use Rattle.std.proofs.Common.{vec_capacity, ◌≡◌, ℕ, Some, ap, sym, refl,
 use Rattle.machine.specs.Pages.{Going, Held}
 use Rattle.pages.specs.declared.owned_page.OwnedPage.TheVariants as owned_page
 use Rattle.machine.specs.declared.record.Direction.TheVariants.{Out}
-use Rattle.pages.specs.PagesOf.{Stands, anon_page}
+use Rattle.pages.specs.PagesOf.{HasResidence, anon_page}
 use Rattle.pages.specs.Transfers.{given_ticket}
 use Rattle.pages.specs.Records.{page_of}
 use Rattle.pages.proofs.FlightLemmas.{IsSettled-is}
 use Rattle.pages.proofs.TransferLemmas.{owned-stands, Takeoff, Takeoff-are, Takeoff-starts, Takeoff-kept, Takeoff-holds, part-charge, part-frame, anon_page-same}
 use Rattle.pages.proofs.Pages.start_out.Goals as goal
 
-was_held : (c : goal.After-new) (g f : ℕ) → Stands c.args.self.now.pages c.args.page.0 g (Held f) → page_of c.take_at.result ≡ anon_page g (Held f)
+was_held : (c : goal.After-new) (g f : ℕ) → HasResidence c.args.self.now.pages c.args.page.0 g (Held f) → page_of c.take_at.result ≡ anon_page g (Held f)
 was_held c g f stands = owned-stands c.self.inside.owned.items c.args.page.0 g (Held f) c.take_at.result c.take_at.ensures.owned (rw (← c.self.view_is) at stands)
 
 takeoff : (c : goal.After-new) → Takeoff c.self.inside.numbers c.self.inside.owned.items c.take_at.new.slots.items c.place.new.slots.items (vec_capacity c.self.inside.owned) (vec_capacity c.place.new.slots) c.self.inside.flights c.list-ticket.new.flights c.list-ticket.result.0 c.args.page.0 c.args.worker.0 Out c.into_held-frame.result.1 c.into_held-frame.result.0.number c.args.slot c.take_at.result (owned_page.Going c.into_held-frame.result.0 c.into_held-frame.result.1 c.args.slot c.list-ticket.result)

@@ -1,22 +1,27 @@
-use Rattle.std.proofs.Common.{◌++◌, ◌∷◌, [], ap, ◌∙◌}
+use Rattle.std.proofs.Common.{◌+◌, ◌++◌, ◌∷◌, [], ap, ◌∙◌, true, arith, refl, length}
+use Rattle.std.proofs.lemmas.List.{length-map}
 use Rattle.machine.specs.Tree.{find_group}
+use Rattle.group_tree.specs.Tables.{node_of}
 use Rattle.group_tree.proofs.PushLemmas.{Makes, nodes-made, AreTables-made}
 use Rattle.group_tree.proofs.tree.Tree.mkdir.Goals as goal
 
-made : (c : goal.After-push_reserved) → Makes c.args.self.now c.args.path.now c.self.inside.parents.items c.self.inside.by_path c.find-parent.result c.in_ok-path.path c.next_id-id.result c.push_reserved.new.self.items c.insert.new.self.entries
+made : (c : goal.After-self-1) → Makes c.args.self.now c.args.path.now c.self.inside.groups.items c.self.inside.live c.self.inside.by_path c.find-parent.result c.in_ok-key.key c.in_ok-path.path c.next_id-id.result c.push_reserved.new.self.items (c.self.inside.live + 1) c.insert.new.self.entries
 made c = record {
   tables = c.self.invariant;
   view = c.self.view_is;
   free = c.requires;
+  left = (let same = length-map c.self.inside.groups.items node_of in let seen = ap length c.self.view_is in let some = c.if-len-ge-MAX_NUMBERS.false in omega (arith, same, seen, some));
   found = c.find-parent.ensures.group ∙ ap (find_group c.args.self.now) c.parent_path.ensures;
-  copied = c.in_ok-path.ensures.ok;
+  key_is = c.in_ok-key.ensures.ok;
+  text_is = c.in_ok-path.ensures.ok;
   next = c.next_id-id.ensures;
-  pushed = c.push_reserved.ensures.items ∙ ap (λ xs. xs ++ c.find-parent.result ∷ []) c.in_ok-reserve.ensures.items;
+  pushed = c.push_reserved.ensures.items ∙ ap (λ xs. xs ++ record { parent = c.find-parent.result; path = c.in_ok-path.path; live = true } ∷ []) c.in_ok-reserve.ensures.items;
   inserted = c.in_ok-insert.ensures.entries;
+  counted = refl;
 }
 
 pub invariant_of-self-2 : goal.invariant_of-self-2
-invariant_of-self-2 c = AreTables-made _ _ _ _ _ _ _ _ _ (made c)
+invariant_of-self-2 c = AreTables-made _ _ _ _ _ _ _ _ _ _ _ _ (made c)
 
 pub returns-clause-ok : goal.returns-clause-ok
-returns-clause-ok c = nodes-made _ _ _ _ _ _ _ _ _ (made c)
+returns-clause-ok c = nodes-made _ _ _ _ _ _ _ _ _ _ _ _ (made c)

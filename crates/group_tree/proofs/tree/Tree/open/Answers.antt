@@ -1,4 +1,4 @@
-use Rattle.std.proofs.Common.{◌++◌, ◌∷◌, [], ap, ◌∙◌, None, refl}
+use Rattle.std.proofs.Common.{◌++◌, ◌∷◌, [], ap, ◌∙◌, None, true, refl}
 use Rattle.std.specs.String.{string_eq}
 use Rattle.indexmap.specs.IndexMap.{insert_entry}
 use Rattle.group_tree.proofs.PushLemmas.{nodes-root, AreTables-root}
@@ -6,12 +6,14 @@ use Rattle.group_tree.proofs.tree.Tree.open.Goals as goal
 
 pub invariant_of-result : goal.invariant_of-result
 invariant_of-result c =
-    AreTables-root _ _ c.in_ok-from_str.field-0 (record { 0 = 0 }) (c.push_reserved.ensures.items ∙ ap (λ xs. xs ++ None ∷ []) c.in_ok-parents.ensures.items)
+    AreTables-root _ _ c.in_ok-from_str.field-0 c.in_ok-path.path (record { 0 = 0 })
+    (c.push_reserved.ensures.items ∙ ap (λ xs. xs ++ record { parent = None; path = c.in_ok-path.path; live = true } ∷ []) c.in_ok-groups.ensures.items)
     (c.in_ok-insert.ensures.entries ∙ ap (λ xs. insert_entry string_eq xs c.in_ok-from_str.field-0 (record { 0 = 0 })) c.new-by_path.ensures.empty)
-    c.in_ok-from_str.ensures.ok refl
+    c.in_ok-from_str.ensures.ok c.in_ok-path.ensures.ok refl
 
 pub returns : goal.returns
 returns c =
-    nodes-root _ _ c.in_ok-from_str.field-0 (record { 0 = 0 }) (c.push_reserved.ensures.items ∙ ap (λ xs. xs ++ None ∷ []) c.in_ok-parents.ensures.items)
+    nodes-root _ _ c.in_ok-from_str.field-0 c.in_ok-path.path (record { 0 = 0 })
+    (c.push_reserved.ensures.items ∙ ap (λ xs. xs ++ record { parent = None; path = c.in_ok-path.path; live = true } ∷ []) c.in_ok-groups.ensures.items)
     (c.in_ok-insert.ensures.entries ∙ ap (λ xs. insert_entry string_eq xs c.in_ok-from_str.field-0 (record { 0 = 0 })) c.new-by_path.ensures.empty)
-    c.in_ok-from_str.ensures.ok refl
+    c.in_ok-from_str.ensures.ok c.in_ok-path.ensures.ok refl

@@ -1,4 +1,4 @@
-use Rattle.page_counter.proofs.GroupLemmas.{Counted-push, IsCounters-push}
+use Rattle.page_counter.proofs.GroupLemmas.{AreCounts-push, IsCounters-push}
 use Rattle.page_counter.proofs.counters.Counters.add_reserved.Goals as goal
 
 pub invariant_of-self : goal.invariant_of-self
@@ -8,4 +8,4 @@ invariant_of-self c =
 pub returns-clause-counted : goal.returns-clause-counted
 returns-clause-counted c =
     rw (← c.self.view_is)
-    (Counted-push _ _ c.args.parent.0 c.is_lineage.ensures c.self.invariant (rw (← c.self.view_is) at c.requires.parent) c.add.ensures.tree c.push_reserved-2.ensures.items)
+    (AreCounts-push _ _ c.args.parent.0 c.is_lineage.ensures c.self.invariant (rw (← c.self.view_is) at c.requires.parent) c.add.ensures.tree c.push_reserved-2.ensures.items)

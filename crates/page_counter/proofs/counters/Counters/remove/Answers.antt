@@ -1,5 +1,5 @@
 use Rattle.std.proofs.Common.{refl}
-use Rattle.page_counter.proofs.GroupLemmas.{Counted-remove, IsCounters-remove}
+use Rattle.page_counter.proofs.GroupLemmas.{AreCounts-remove, IsCounters-remove}
 use Rattle.page_counter.proofs.counters.Counters.remove.Goals as goal
 
 pub invariant_of-self : goal.invariant_of-self
@@ -10,4 +10,4 @@ pub returns-clause-counted : goal.returns-clause-counted
 returns-clause-counted c =
     rw (← c.self.view_is)
     (λ charges counted.
-    Counted-remove _ c.args.group.0 c.is_lineage.ensures (rw (← c.self.view_is) at c.requires.live) (rw (← c.self.view_is) at c.requires.uncharged) _ charges c.remove.ensures.tree refl counted)
+    AreCounts-remove _ c.args.group.0 c.is_lineage.ensures (rw (← c.self.view_is) at c.requires.live) (rw (← c.self.view_is) at c.requires.uncharged) _ charges c.remove.ensures.tree refl counted)

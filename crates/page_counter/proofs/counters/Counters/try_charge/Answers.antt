@@ -2,7 +2,7 @@ use Rattle.std.proofs.Common.{◌<◌, ◌∷◌, length, refl, ap, arith}
 use Rattle.std.proofs.lemmas.List.{with_items_is}
 use Rattle.page_counter.specs.Counts.{usage_of}
 use Rattle.page_counter.specs.Tables.{counts_of}
-use Rattle.page_counter.proofs.ChargeLemmas.{Counted-charge}
+use Rattle.page_counter.proofs.ChargeLemmas.{AreCounts-charge}
 use Rattle.page_counter.proofs.RootLemmas.{root_counts_most}
 use Rattle.page_counter.proofs.WriteLemmas.{Charges-added, IsCounters-counts}
 use Rattle.page_counter.proofs.counters.Counters.try_charge.Goals as goal
@@ -18,7 +18,7 @@ invariant_of-self-2 c =
     let items = with_items_is c.self.inside.usage c.add_up.new.usage (omega arith) in
     let len = ap length items in
     IsCounters-counts _ _ (c.args.group.0 ∷ c.self.invariant.charges) c.self.invariant (record { tree = refl; limits = refl; room = refl }) (omega (arith, len))
-    (Counted-charge _ _ c.args.group.0 c.self.invariant.charges c.is_lineage.ensures.earlier_parents (rw (← c.self.view_is) at c.requires.live)
+    (AreCounts-charge _ _ c.args.group.0 c.self.invariant.charges c.is_lineage.ensures.earlier_parents (rw (← c.self.view_is) at c.requires.live)
     (Charges-added _ c.add_up.new.usage _ c.args.group.0 items (rw c.as_mut_slice.ensures.value at c.in_ok-add_up.ensures.charged)) c.self.invariant.counted)
 
 pub returns-clause-counted : goal.returns-clause-counted
@@ -26,5 +26,5 @@ returns-clause-counted c =
     let items = with_items_is c.self.inside.usage c.add_up.new.usage (omega arith) in
     rw (← c.self.view_is)
     (λ charges counted.
-    Counted-charge _ _ c.args.group.0 charges c.is_lineage.ensures.earlier_parents (rw (← c.self.view_is) at c.requires.live)
+    AreCounts-charge _ _ c.args.group.0 charges c.is_lineage.ensures.earlier_parents (rw (← c.self.view_is) at c.requires.live)
     (Charges-added _ c.add_up.new.usage _ c.args.group.0 items (rw c.as_mut_slice.ensures.value at c.in_ok-add_up.ensures.charged)) counted)

@@ -1,7 +1,7 @@
 use Rattle.std.proofs.Common.{length, refl, ap, arith}
 use Rattle.std.proofs.lemmas.List.{with_items_is}
 use Rattle.machine.proofs.TreeLemmas.{share-None}
-use Rattle.page_counter.proofs.ChargeLemmas.{Counted-uncharge, share-counted}
+use Rattle.page_counter.proofs.ChargeLemmas.{AreCounts-uncharge, share-counted}
 use Rattle.page_counter.proofs.WriteLemmas.{Charges-taken, IsCounters-counts}
 use Rattle.page_counter.proofs.counters.Counters.uncharge.Goals as goal
 
@@ -19,7 +19,7 @@ invariant_of-self c =
     let items = with_items_is c.self.inside.usage c.take_down.new.usage (omega arith) in
     let len = ap length items in
     IsCounters-counts _ _ out.others c.self.invariant (record { tree = refl; limits = refl; room = refl }) (omega (arith, len))
-    (Counted-uncharge _ _ c.args.charge out.others c.is_lineage.ensures.earlier_parents
+    (AreCounts-uncharge _ _ c.args.charge out.others c.is_lineage.ensures.earlier_parents
     (Charges-taken _ c.take_down.new.usage _ c.args.charge c.is_lineage.ensures.earlier_parents items (rw (c.into_group-group.ensures, c.as_mut_slice.ensures.value) at c.take_down.ensures)) out.counted)
 
 pub returns-clause-uncharged : goal.returns-clause-uncharged
@@ -33,5 +33,5 @@ returns-clause-counted c =
     let items = with_items_is c.self.inside.usage c.take_down.new.usage (omega arith) in
     rw (← c.self.view_is)
     (λ rest counted.
-    Counted-uncharge _ _ c.args.charge rest c.is_lineage.ensures.earlier_parents
+    AreCounts-uncharge _ _ c.args.charge rest c.is_lineage.ensures.earlier_parents
     (Charges-taken _ c.take_down.new.usage _ c.args.charge c.is_lineage.ensures.earlier_parents items (rw (c.into_group-group.ensures, c.as_mut_slice.ensures.value) at c.take_down.ensures)) counted)

@@ -1,7 +1,7 @@
 use Rattle.std.proofs.Common.{Bool, ap, subst, ◌∙◌}
 use Rattle.std.specs.Prelude.{IfNone}
 use Rattle.machine.specs.Order.{served_by, cursor_at}
-use Rattle.reclaim.specs.Pass.{gives, GivesNone}
+use Rattle.reclaim.specs.Pass.{gives_by_counts, GivesNone}
 use Rattle.page_state.proofs.NextLemmas.{turn-is, none-is}
 use Rattle.page_state.proofs.holdings.Holdings.next_group.Goals as goal
 
@@ -16,7 +16,7 @@ returns c =
     let memory = c.are_in_flight.ensures.memory in
     let kin = rw (← c.self.view_is) at c.requires.kin in
     let swap = rw (← c.self.view_is) at c.has_swap.ensures in
-    let serves = c.next_group.ensures.group ∙ ap (λ (b : Bool). served_by tree (gives tree h.counters counts b target) target last) swap in
+    let serves = c.next_group.ensures.group ∙ ap (λ (b : Bool). served_by tree (gives_by_counts tree h.counters counts b target) target last) swap in
     let none = subst (λ (b : Bool). IfNone c.next_group.result (GivesNone tree h.counters counts b target)) swap c.next_group.ensures.none in
     rw (← c.self.view_is)
     (record {

@@ -1,6 +1,6 @@
 use Rattle.std.proofs.Common.{◌∙◌, ap, sym}
 use Rattle.machine.specs.Order.{cursor_at}
-use Rattle.reclaim.specs.Pass.{Held, oldest_of}
+use Rattle.reclaim.specs.Pass.{HeldList, oldest_of}
 use Rattle.page_state.proofs.NextLemmas.{turn-held, next-is}
 use Rattle.page_state.proofs.holdings.Holdings.serve.Goals as goal
 
@@ -11,6 +11,6 @@ serve-requires-clause-held c =
 
 pub returns : goal.returns
 returns c =
-    let oldest = sym (ap (λ (entries : Held). oldest_of entries c.args.group.0) c.as_slice.ensures) ∙ c.serve.ensures.page in
+    let oldest = sym (ap (λ (entries : HeldList). oldest_of entries c.args.group.0) c.as_slice.ensures) ∙ c.serve.ensures.page in
     rw (← c.self.view_is) (λ tree turn.
     next-is c.self.inside c.self.invariant c.are_in_flight.ensures.memory c.args.target.0 c.args.group.0 tree c.args.cursors.now.cursors c.serve.new.self.cursors (c.args.group, c.serve.result) turn oldest c.serve.ensures.cursors)

@@ -1,7 +1,7 @@
 use Rattle.std.proofs.Common.{◌∙◌, ℕ, refl, ap, subst, arith}
 use Rattle.machine.specs.Pages.{Coming, page_at}
 use Rattle.machine.specs.declared.record.Direction.TheVariants.{In}
-use Rattle.pages.specs.PagesOf.{PagesOf, Stands}
+use Rattle.pages.specs.PagesOf.{PagesOf, HasResidence}
 use Rattle.pages.specs.Transfers.{Ends}
 use Rattle.page_state.proofs.SettleLemmas.{Lands, relist-fits, holding-lands, lands-settles}
 use Rattle.page_state.proofs.holdings.Holdings.settle_in.Goals as goal
@@ -17,14 +17,14 @@ relist-requires c =
     let fits = relist-fits c.self.inside c.self.invariant In c.args.page.0 w.0 w.1 w.2 c.args.ticket.number c.group_of-group.result.0 w.3 (c.group_of-group.ensures w.0 (Coming w.1 w.2 c.args.ticket.number) w.3) in
     record { room = fits.0; group = fits.1 }
 
-ends : (c : goal.After-new) (g f b : ℕ) → Stands c.self.inside.pages.pages c.args.page.0 g (Coming f b c.args.ticket.number)
+ends : (c : goal.After-new) (g f b : ℕ) → HasResidence c.self.inside.pages.pages c.args.page.0 g (Coming f b c.args.ticket.number)
     → Ends (record (c.self.inside.pages) { bytes = c.fill.new.pages.bytes }) c.end_transfer-buffer.new.pages c.args.page.0 g f b c.args.ticket.number c.args.end
 ends c g f b stood =
     let p = c.args.page.0 in
     subst (λ (t : PagesOf). Ends t c.end_transfer-buffer.new.pages p g f b c.args.ticket.number c.args.end) c.fill.ensures.others
     (c.end_transfer-buffer.ensures.ends In p g f b (ap (λ (t : PagesOf). page_at t.pages p) c.fill.ensures.others ∙ stood))
 
-lands : (c : goal.After-new) (g f b : ℕ) → Stands c.self.inside.pages.pages c.args.page.0 g (Coming f b c.args.ticket.number)
+lands : (c : goal.After-new) (g f b : ℕ) → HasResidence c.self.inside.pages.pages c.args.page.0 g (Coming f b c.args.ticket.number)
     → Lands c.self.inside (record { pages = c.end_transfer-buffer.new.pages; pool = c.end_transfer-buffer.new.pool; slots = c.end_transfer-buffer.new.slots; counters = c.end_transfer-buffer.new.counters; held = c.relist.new.held; moving = c.relist.new.moving }) c.args.page.0 g f b c.args.ticket.number In c.args.end (c.group_of-group.result, c.args.page)
 lands c g f b stood =
     let settled = c.end_transfer-buffer.ensures in

@@ -2,7 +2,7 @@ use Rattle.std.proofs.Common.{◌∙◌, ℕ, refl, sym, ap, subst, arith}
 use Rattle.machine.specs.Pages.{Going}
 use Rattle.frames.specs.Pool.{PoolOf}
 use Rattle.machine.specs.declared.record.Direction.TheVariants.{Out}
-use Rattle.pages.specs.PagesOf.{Stands}
+use Rattle.pages.specs.PagesOf.{HasResidence}
 use Rattle.page_state.specs.Owned.{AreKept}
 use Rattle.page_state.proofs.SettleLemmas.{Lands, relist-fits, holding-lands, lands-settles}
 use Rattle.page_state.proofs.holdings.Holdings.settle_out.Goals as goal
@@ -18,7 +18,7 @@ relist-requires c =
     let fits = relist-fits c.self.inside c.self.invariant Out c.args.page.0 w.0 w.1 w.2 c.args.ticket.number c.group_of-group.result.0 w.3 (c.group_of-group.ensures w.0 (Going w.1 w.2 c.args.ticket.number) w.3) in
     record { room = fits.0; group = fits.1 }
 
-lands : (c : goal.After-relist) (g f b : ℕ) → Stands c.self.inside.pages.pages c.args.page.0 g (Going f b c.args.ticket.number)
+lands : (c : goal.After-relist) (g f b : ℕ) → HasResidence c.self.inside.pages.pages c.args.page.0 g (Going f b c.args.ticket.number)
     → Lands c.self.inside (record { pages = c.end_transfer-spare.new.pages; pool = c.give_spare.new.self; slots = c.end_transfer-spare.new.slots; counters = c.end_transfer-spare.new.counters; held = c.relist.new.held; moving = c.relist.new.moving }) c.args.page.0 g f b c.args.ticket.number Out c.args.end (c.group_of-group.result, c.args.page)
 lands c g f b stood =
     let settled = c.end_transfer-spare.ensures in

@@ -1,7 +1,7 @@
 use Rattle.std.proofs.Common.{◌≡◌, ◌∙◌, Some, eq-eqb, refl, sym, ap, subst, arith}
 use Rattle.machine.specs.Pages.{Coming, Away, is_held, is_in_transfer}
 use Rattle.page_counter.specs.Counts.{Charges, over_in}
-use Rattle.pages.specs.PagesOf.{Stands, anon_page}
+use Rattle.pages.specs.PagesOf.{HasResidence, anon_page}
 use Rattle.pages.specs.Transfers.{StartsIn}
 use Rattle.page_state.specs.Queue.{queue_of}
 use Rattle.page_state.proofs.CountLemmas.{charge-usage}
@@ -56,7 +56,7 @@ invariant_of-self c =
     let f = c.take_room-frame.result.0.number in
     let room = c.take_room-frame.ensures in
     let same : g ≡ away.0 = room.group ∙ c.group_of-group.ensures away.0 (Away b) away.2 in
-    let stood : Stands h.pages.pages p g (Away b) = subst (λ x. Stands h.pages.pages p x (Away b)) (sym same) away.2 in
+    let stood : HasResidence h.pages.pages p g (Away b) = subst (λ x. HasResidence h.pages.pages p x (Away b)) (sym same) away.2 in
     let starts = (c.start_in-ticket.ensures b stood).starts in
     let n = c.start_in-ticket.result.number in
     let from = Some (anon_page g (Away b)) in
@@ -98,7 +98,7 @@ returns-clause-begins c =
     let owned = c.group_of-group.ensures g (Away b) stood in
     let same : c.take_room-frame.result.1 ≡ g = room.group ∙ owned in
     let begins = subst (λ x. StartsIn h.pages c.start_in-ticket.new.self p x f b c.args.worker.0 c.args.entry c.start_in-ticket.result) same
-    (c.start_in-ticket.ensures b (subst (λ x. Stands h.pages.pages p x (Away b)) (sym same) stood)) in
+    (c.start_in-ticket.ensures b (subst (λ x. HasResidence h.pages.pages p x (Away b)) (sym same) stood)) in
     record {
       frame = f;
       in_range = frame.0;

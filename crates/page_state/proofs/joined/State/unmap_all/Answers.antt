@@ -1,4 +1,5 @@
-use Rattle.page_state.proofs.DropLemmas.{unmaps-none, unmaps-more}
+use Rattle.std.proofs.Common.{arith}
+use Rattle.page_state.proofs.DropLemmas.{unmaps-none, unmaps-more, unmaps-all}
 use Rattle.page_state.proofs.OrderLemmas.{in-order}
 use Rattle.page_state.proofs.joined.State.unmap_all.Goals as goal
 
@@ -7,3 +8,8 @@ loop-at-init c = unmaps-none c.args.self.now c.args.task.0 c.is_joined.ensures.m
 
 pub loop-at-preserved : goal.loop-at-preserved
 loop-at-preserved c = unmaps-more c.args.self.now c.loop-at.self c.unmap.new.self c.args.task.0 c.loop-at.at c.loop-at.invariant c.unmap.ensures
+
+pub returns : goal.returns
+returns c =
+    unmaps-all c.args.self.now c.loop-at.self c.args.task.0 c.loop-at.at c.loop-at.invariant
+    (λ v p e. let over = c.loop-at-test.false in let lt = c.is_joined.ensures.inside c.args.task.0 v p e in omega (arith, lt, over))

@@ -1,4 +1,4 @@
-use Rattle.page_state.specs.Changes.{UnmapsBelow}
+use Rattle.page_state.specs.Drops.{UnmapsBelow}
 use Rattle.page_state.proofs.joined.State.unmap_all.Given as goal
 
 abbrev pub invariant-loop-at : goal.invariant-loop-at

@@ -1,0 +1,124 @@
+-- An example of a finish: a max is set in one turn, and in the next one nothing has to leave.
+use Rattle.std.proofs.Common.{inl, true, false, [], ◌∷◌, ◌++◌, Some, None, refl, arith}
+use Rattle.std.specs.Prelude.{codes}
+use Rattle.machine.specs.declared.amount.Amount.TheVariants as amount
+use Rattle.machine.specs.declared.command.Actor.TheVariants as actor
+use Rattle.machine.specs.declared.command.Command.{Command}
+use Rattle.machine.specs.declared.command.Command.TheVariants as command
+use Rattle.machine.specs.declared.command.Answer.TheVariants as answer
+use Rattle.machine.specs.declared.event.Cause.TheVariants as cause
+use Rattle.machine.specs.declared.event.Event.TheVariants as event
+use Rattle.machine.specs.declared.event.Setting.TheVariants as setting
+use Rattle.machine.specs.declared.reply.Reply.TheVariants as reply
+use Rattle.machine.specs.declared.event.Event.{Event as Plain_event}
+use Rattle.machine.specs.declared.id.GroupId.{GroupId}
+use Rattle.machine.specs.declared.reply.Reply.{Reply as Plain_reply}
+use Rattle.machine.specs.Tree.{root, chain_up, chain, under_at}
+use Rattle.machine.specs.Counts.{no_limits}
+use Rattle.machine.specs.State.{State}
+use Rattle.machine.specs.Lists.{Order}
+use Rattle.machine.specs.Call.{Past, Caller, entries_of}
+use Rattle.block_store.specs.Device.{Disk}
+use Rattle.book.specs.declared.event.Reply.TheVariants as says
+use Rattle.driver.specs.declared.turn.Stage.TheVariants as stage
+use Rattle.driver.specs.declared.turn.Outcome.TheVariants.{Goes, Ends}
+use Rattle.driver.specs.declared.turn.Transition.TheVariants as transition
+use Rattle.driver.specs.declared.turn.Activity.{Activity}
+use Rattle.driver.specs.declared.turn.Activity.TheVariants.{Rests, Begun, Does}
+use Rattle.driver.specs.Schedule.{World, Turn, Finishes, answer_by}
+
+abbrev r : GroupId
+r = record { 0 = 1 }
+
+-- the root, and /r below it, which is group 1. Nobody has a page
+abbrev empty : State
+empty = record {
+  opening = record { frames = 2; swap = 0; files = []; watermarks = record { low = 0; high = 0 }; trace_limit = 8; recursive = false };
+  tree = root ∷ record { parent = Some 0; path = codes "/r"; live = true } ∷ [];
+  limits = no_limits ∷ no_limits ∷ [];
+  pages = [];
+  tasks = [];
+  page_tables = [];
+  counted = [];
+}
+
+abbrev order : Order
+order = record { held = []; cursors = None ∷ None ∷ [] }
+
+abbrev caller : Caller
+caller = record { worker = 0 }
+
+abbrev opened : Past
+opened = record { state = empty; history = []; order = order; passes = 1 }
+
+-- the past after an event that was answered so: its entry, and this state
+abbrev after : Past → Plain_event → Plain_reply → State → Past
+after old what said new = record { state = new; history = entries_of caller old.history what said ++ old.history; order = order; passes = 1 }
+
+abbrev set_max : Command
+set_max = command.Set (codes "/r") (codes "memory.max") (codes "4096")
+
+abbrev disk : Disk
+disk = record { contents = []; failures = 0; fault_limit = 0 }
+
+-- the shell is at this, and nobody else has a command
+abbrev world : Past → Activity → World
+world at what = record { past = at; caller = caller; disk = disk; seats = record { actor = actor.Shell; activity = what } ∷ [] }
+
+abbrev limited : State
+limited = record empty { limits = no_limits ∷ record { max = amount.Pages 1; min = amount.Pages 0 } ∷ [] }
+
+abbrev once_set : Past
+once_set = after opened (event.Set r (setting.Max (amount.Pages 1))) reply.Ok limited
+
+abbrev once_lowered : Past
+once_lowered = after once_set (event.Relieve (cause.Lower r)) reply.Room limited
+
+-- the first turn sets the max, and the command goes on
+sets : Turn (world opened (Begun set_max)) actor.Shell Goes (world once_set (Does (stage.Lower r)))
+unfolding chain_up chain under_at
+sets = record {
+  transition = transition.Goes (stage.Lower r);
+  turns = (
+    record {
+      said = says.Ok;
+      called = record { steps = refl; order = (record { fresh = []; few = omega arith; which = λ p. refl; list = refl }, refl); history = refl; passes = refl };
+      gives = tt;
+      keeps = tt;
+      told = refl;
+    },
+    refl,
+  );
+  shows = refl;
+  leaves = refl;
+  same = refl;
+}
+
+-- the second finds room, and ends it
+lowers : Turn (world once_set (Does (stage.Lower r))) actor.Shell (Ends answer.Done) (world once_lowered Rests)
+unfolding chain_up chain under_at
+lowers = record {
+  transition = transition.Ends answer.Done;
+  turns = (
+    record {
+      said = says.Room;
+      called = record { steps = (refl, refl); order = (record { fresh = []; few = omega arith; which = λ p. refl; list = refl }, refl); history = refl; passes = refl };
+      gives = tt;
+      keeps = tt;
+      told = refl;
+    },
+    refl,
+  );
+  shows = refl;
+  leaves = refl;
+  same = refl;
+}
+
+-- the whole finish: two turns, and the answer of the second
+finishes : Finishes (world opened (Begun set_max)) actor.Shell (answer_by actor.Shell answer.Done) (world once_lowered Rests)
+finishes = (
+  Goes ∷ [],
+  world once_set (Does (stage.Lower r)),
+  (world once_set (Does (stage.Lower r)), sets, refl, refl),
+  inl (record { last = Ends answer.Done; turn = lowers; ends = refl; within = omega arith; answers_are = refl }),
+)
