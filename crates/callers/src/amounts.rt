@@ -1,0 +1,19 @@
+//! A caller of `control_files`.
+
+use control_files::{file_named, has_file, parse_amount, show_text};
+use machine::amount::Amount;
+use machine::control::ControlFile;
+use machine::id::GroupId;
+use machine::reply::Shown;
+use std::test::Fail;
+
+#[test]
+fn an_amount_is_read_in_bytes_and_shown_in_bytes(rt: HostRuntime) -> Result<(), Fail> {
+    assert_eq!(rt; file_named("memory.max"), Some(ControlFile::Max));
+    assert!(rt; !has_file(GroupId::ROOT, ControlFile::Max));
+    assert_eq!(rt; parse_amount("9K"), Some(Amount::Pages(2)));
+    assert_eq!(rt; parse_amount("-1"), None);
+    let text = show_text(rt.alloc(), Shown::Amount(Amount::Pages(2)))?;
+    assert_eq!(rt; text.as_str(), "8192\n");
+    Ok(())
+}

@@ -1,0 +1,20 @@
+//! Callers of libraries, a test each, as the pages of those crates show them. They stand here and not in
+//! the crates, since a crate with tests is proved twice.
+#![tactic(auto)]
+
+#[cfg(test)]
+mod amounts;
+#[cfg(test)]
+mod charges;
+#[cfg(test)]
+mod counted;
+#[cfg(test)]
+mod groups;
+#[cfg(test)]
+mod killed;
+#[cfg(test)]
+mod memory;
+#[cfg(test)]
+mod tasks;
+#[cfg(test)]
+mod words;

@@ -1,0 +1,13 @@
+//! A caller of `text_forms`.
+
+use text_forms::name::is_path;
+use text_forms::number::number_of;
+
+#[test]
+fn a_number_is_digits_alone_and_a_path_names_behind_slashes(rt: HostRuntime) {
+    assert!(rt; is_path("/") && is_path("/a/b"));
+    assert!(rt; !is_path("a/b") && !is_path("/a//b") && !is_path("/a/.."));
+    assert_eq!(rt; number_of("007"), Some(7));
+    assert_eq!(rt; number_of("+7"), None);
+    assert_eq!(rt; number_of("4294967296"), None);
+}

@@ -1,0 +1,290 @@
+-- What a search keeps: which pages are listed, their types, and the marks of other pages.
+use Rattle.std.proofs.Common.{◌≡◌, ℕ, zero, suc, ◌+◌, ◌<◌, ◌≤◌, ◌≢◌, ◌⊎◌, ◌||◌, not, max, nat_le, nat_lt, Bool, true, false, cond, eqb, List, [], ◌∷◌, ◌++◌, length, map, filter, Option, Some, None, option_map, slice_get, MatchBool, refl, sym, ap, ◌∙◌, subst, inl, inr, ⊎_elim, length-set, get_or-set_other}
+use Rattle.std.specs.List.{AllByRecursion}
+use Rattle.std.proofs.Math.Bool.{or-true, or_comm}
+use Rattle.std.proofs.lemmas.Bool.{lt-ltb, le-ltb, leb-true, leb-false, eq-eqb, eqb-true, eqb-false, true≢false}
+use Rattle.machine.specs.declared.record.Kind.{Kind}
+use Rattle.machine.specs.declared.record.Kind.TheVariants.{Anon, File}
+use Rattle.machine.specs.Generations.{Listed, Row, Gens, of_kind, at_seq, entered, without, merged, has_page, is_listed, kind_of, listed, IsGens}
+use Rattle.machine.specs.Aging.{Seen, has_mark, is_marked, at_most_three, aged_row, aged}
+use Rattle.machine.specs.Eviction.{old_pages, front_run, has_usable, to_tail, sent_back, passed_by, settled, aged_times, AgesToOld, Picks}
+use Rattle.lru_gen.specs.Gens.{GensOf, gens_of}
+use Rattle.aging.specs.Groups.{seen_at, ChangesOnly}
+use Rattle.eviction.specs.Kept.{ListsSame}
+use Rattle.machine.proofs.ListedLemmas.{each-weaker, has_page-append, none-in, in-none, without-all}
+use Rattle.machine.proofs.AgingLemmas.{length-cleared}
+use Rattle.aging.proofs.GroupLemmas.{only-other, only-then}
+use Rattle.aging.proofs.AgeLemmas.{cleared-other, apart-lists}
+use Rattle.eviction.proofs.ListLemmas.{each-front_run}
+use Rattle.eviction.proofs.TurnLemmas.{each-old_pages}
+use Rattle.eviction.proofs.AgeLemmas.{at-once, from-settled, picks-some}
+
+-- ---- tests joined
+
+or-behind : (e a b h : Bool) → (a || b) ≡ h → (a || (e || b)) ≡ (e || h)
+or-behind true a b h k = or-true a
+or-behind false a b h k = k
+
+or-front : (e a b h : Bool) → (a || b) ≡ h → ((e || a) || b) ≡ (e || h)
+or-front true a b h k = refl
+or-front false a b h k = k
+
+-- ---- which pages a list has
+
+-- a list in two parts, by a test and its opposite
+has-split : (test other : Listed → Bool) → ((l : Listed) → other l ≡ not (test l)) → (q : ℕ) (xs : List Listed) → (has_page q (filter test xs) || has_page q (filter other xs)) ≡ has_page q xs
+has-split test other opposite q [] = refl
+has-split test other opposite q (x ∷ xs) =
+    let k = has-split test other opposite q xs in
+    let go : (b : Bool) → (has_page q (cond b (x ∷ filter test xs) (filter test xs)) || has_page q (cond (not b) (x ∷ filter other xs) (filter other xs))) ≡ (eqb x.page q || has_page q xs) =
+    λ b. elim b as (λ v. (has_page q (cond v (x ∷ filter test xs) (filter test xs)) || has_page q (cond (not v) (x ∷ filter other xs) (filter other xs))) ≡ (eqb x.page q || has_page q xs)) [
+      | true ↦ or-front (eqb x.page q) (has_page q (filter test xs)) (has_page q (filter other xs)) (has_page q xs) k
+      | false ↦ or-behind (eqb x.page q) (has_page q (filter test xs)) (has_page q (filter other xs)) (has_page q xs) k
+    ] in
+    ap (λ (b : Bool). has_page q (filter test (x ∷ xs)) || has_page q (cond b (x ∷ filter other xs) (filter other xs))) (opposite x) ∙ go (test x)
+
+has-renumbered : (number : Listed → ℕ) (q : ℕ) (xs : List Listed) → has_page q (map (λ l. at_seq (number l) l) xs) ≡ has_page q xs
+has-renumbered number q [] = refl
+has-renumbered number q (x ∷ xs) = ap (λ (b : Bool). eqb x.page q || b) (has-renumbered number q xs)
+
+opposite-numbers : (a b : ℕ) → nat_lt b a ≡ not (nat_le a b)
+opposite-numbers a b =
+    let go : (v : Bool) → nat_le a b ≡ v → nat_lt b a ≡ not v =
+    λ v t. (elim v as (λ w. nat_le a b ≡ w → nat_lt b a ≡ not w) [ true ↦ λ t'. (let le : a ≤ b = leb-true a b t' in rw le-ltb refl) | false ↦ λ t'. (let lt : b < a = leb-false a b t' in rw lt-ltb refl) ]) t in
+    go (nat_le a b) refl
+
+has-entered : (p seq q : ℕ) (xs : List Listed) → has_page q (entered p seq xs) ≡ (eqb p q || has_page q xs)
+has-entered p seq q xs =
+    has_page-append q (filter (λ l. nat_le l.seq seq) xs) (record { page = p; seq = seq } ∷ filter (λ l. nat_lt seq l.seq) xs)
+    ∙ or-behind (eqb p q) (has_page q (filter (λ l. nat_le l.seq seq) xs)) (has_page q (filter (λ l. nat_lt seq l.seq) xs)) (has_page q xs)
+    (has-split (λ l. nat_le l.seq seq) (λ l. nat_lt seq l.seq) (λ l. opposite-numbers l.seq seq) q xs)
+
+without-other : (p q : ℕ) (xs : List Listed) → eqb p q ≡ false → has_page q (without p xs) ≡ has_page q xs
+without-other p q [] ne = refl
+without-other p q (x ∷ xs) ne =
+    let k = without-other p q xs ne in
+    let go : (b : Bool) → eqb x.page p ≡ b → has_page q (cond (not b) (x ∷ without p xs) (without p xs)) ≡ (eqb x.page q || has_page q xs) =
+    λ b t. (elim b as (λ v. eqb x.page p ≡ v → has_page q (cond (not v) (x ∷ without p xs) (without p xs)) ≡ (eqb x.page q || has_page q xs)) [
+      | true ↦ λ t'. k ∙ ap (λ (v : Bool). v || has_page q xs) (sym (ap (λ (n : ℕ). eqb n q) (eqb-true x.page p t') ∙ ne))
+      | false ↦ λ t'. ap (λ (v : Bool). eqb x.page q || v) k
+    ]) t in
+    go (eqb x.page p) refl
+
+-- a page that leaves its row and enters it again
+has-back : (p seq q : ℕ) (xs : List Listed) → has_page p xs ≡ true → has_page q (entered p seq (without p xs)) ≡ has_page q xs
+has-back p seq q xs h =
+    let go : (b : Bool) → eqb p q ≡ b → (b || has_page q (without p xs)) ≡ has_page q xs =
+    λ b t. (elim b as (λ v. eqb p q ≡ v → (v || has_page q (without p xs)) ≡ has_page q xs) [
+      | true ↦ λ t'. sym (subst (λ (n : ℕ). has_page n xs ≡ true) (eqb-true p q t') h)
+      | false ↦ λ t'. without-other p q xs t'
+    ]) t in
+    has-entered p seq q (without p xs) ∙ go (eqb p q) refl
+
+-- the other row does not have it
+has-beside : (p q : ℕ) (xs : List Listed) → has_page p xs ≡ false → has_page q (without p xs) ≡ has_page q xs
+has-beside p q xs h = ap (λ (zs : List Listed). has_page q zs) (without-all p xs (none-in p xs h))
+
+-- ---- what is kept
+
+record Keeps (from to : Seen) : Type 0 where
+  file : (q : ℕ) → has_page q to.gens.file.pages ≡ has_page q from.gens.file.pages
+  anon : (q : ℕ) → has_page q to.gens.anon.pages ≡ has_page q from.gens.anon.pages
+  marks : (q : ℕ) → is_listed from.gens q ≡ false → is_marked to.marks q ≡ is_marked from.marks q
+  size : length to.marks ≡ length from.marks
+
+kept-listed : (from to : Seen) → Keeps from to → (q : ℕ) → is_listed to.gens q ≡ is_listed from.gens q
+kept-listed from to k q = ap (λ (b : Bool). b || has_page q to.gens.anon.pages) (k.file q) ∙ ap (λ (b : Bool). has_page q from.gens.file.pages || b) (k.anon q)
+
+kept-same : (s : Seen) → Keeps s s
+kept-same s = record { file = λ q. refl; anon = λ q. refl; marks = λ q h. refl; size = refl }
+
+kept-then : (a b c : Seen) → Keeps a b → Keeps b c → Keeps a c
+kept-then a b c h k = record {
+  file = λ q. k.file q ∙ h.file q;
+  anon = λ q. k.anon q ∙ h.anon q;
+  marks = λ q n. k.marks q (kept-listed a b h q ∙ n) ∙ h.marks q n;
+  size = k.size ∙ h.size;
+}
+
+kept-settled : (a b : Seen) → Keeps a b → Keeps a (settled b)
+kept-settled a b h = record { file = h.file; anon = h.anon; marks = h.marks; size = h.size }
+
+-- ---- an aging
+
+has-three : (top : ℕ) (q : ℕ) (row : Row) → has_page q (at_most_three top row).pages ≡ has_page q row.pages
+has-three top q row =
+    elim (eqb (row.min_seq + 3) top) as (λ b. has_page q (let r : Row = cond b (merged row) row in r).pages ≡ has_page q row.pages) [
+      | true ↦ has-renumbered (λ l. max (row.min_seq + 1) l.seq) q row.pages
+      | false ↦ refl
+    ]
+
+has-promoted : (seq : ℕ) (m : List Bool) (q : ℕ) (xs : List Listed) → has_page q (filter (λ l. not (has_mark m l)) xs ++ map (at_seq seq) (filter (has_mark m) xs)) ≡ has_page q xs
+has-promoted seq m q xs =
+    let un : List Listed = filter (λ l. not (has_mark m l)) xs in
+    let ma : List Listed = filter (has_mark m) xs in
+    has_page-append q un (map (at_seq seq) ma) ∙ ap (λ (b : Bool). has_page q un || b) (has-renumbered (λ l. seq) q ma) ∙ or_comm (has_page q un) (has_page q ma)
+    ∙ has-split (has_mark m) (λ l. not (has_mark m l)) (λ l. refl) q xs
+
+has-aged_row : (top : ℕ) (m : List Bool) (q : ℕ) (row : Row) → has_page q (aged_row top m row).pages ≡ has_page q row.pages
+has-aged_row top m q row = has-promoted (top + 1) m q (at_most_three top row).pages ∙ has-three top q row
+
+listed-page : (g : Gens) (q : ℕ) → has_page q (listed g) ≡ is_listed g q
+listed-page g q = has_page-append q g.anon.pages g.file.pages ∙ or_comm (has_page q g.anon.pages) (has_page q g.file.pages)
+
+kept-aged : (s : Seen) → Keeps s (aged s)
+kept-aged s = record {
+  file = λ q. has-aged_row s.gens.max_seq s.marks q s.gens.file;
+  anon = λ q. has-aged_row s.gens.max_seq s.marks q s.gens.anon;
+  marks = λ q h. cleared-other (listed s.gens) s.marks q (none-in q (listed s.gens) (listed-page s.gens q ∙ h));
+  size = length-cleared (listed s.gens) s.marks;
+}
+
+kept-aged_times : (n : ℕ) (s : Seen) → Keeps s (aged_times n s)
+kept-aged_times zero s = kept-same s
+kept-aged_times (suc n) s = kept-then s (aged (settled s)) (aged_times n (aged (settled s))) (kept-then s (settled s) (aged (settled s)) (kept-settled s s (kept-same s)) (kept-aged (settled s))) (kept-aged_times n (aged (settled s)))
+
+-- ---- a page that is sent back
+
+-- no page is in both rows
+abbrev AreApart : Gens → Type 0
+AreApart g = (q : ℕ) → has_page q g.file.pages ≡ true → has_page q g.anon.pages ≡ false
+
+apart-in : (gs : List Listed) (q : ℕ) (fs : List Listed) → AllByRecursion (λ f. AllByRecursion (λ l. eqb l.page f.page ≡ false) gs) fs → has_page q fs ≡ true → AllByRecursion (λ l. eqb l.page q ≡ false) gs
+apart-in gs q [] h e = absurd (true≢false (sym e))
+apart-in gs q (f ∷ fs) h e =
+    let go : (b : Bool) → eqb f.page q ≡ b → (b || has_page q fs) ≡ true → AllByRecursion (λ l. eqb l.page q ≡ false) gs =
+    λ b t k. (elim b as (λ v. eqb f.page q ≡ v → (v || has_page q fs) ≡ true → AllByRecursion (λ l. eqb l.page q ≡ false) gs) [
+      | true ↦ λ t' k'. subst (λ (n : ℕ). AllByRecursion (λ l. eqb l.page n ≡ false) gs) (eqb-true f.page q t') h.0
+      | false ↦ λ t' k'. apart-in gs q fs h.1 k'
+    ]) t k in
+    go (eqb f.page q) refl e
+
+sound-apart : (g : Gens) → IsGens g → AreApart g
+sound-apart g s q h = in-none q g.anon.pages (apart-in g.anon.pages q g.file.pages (apart-lists g.anon.pages g.file.pages s.distinct) h)
+
+-- the page stands in one row alone
+abbrev OnOne : Gens → ℕ → Type 0
+OnOne g p = ((has_page p g.file.pages ≡ true) × (has_page p g.anon.pages ≡ false)) ⊎ ((has_page p g.file.pages ≡ false) × (has_page p g.anon.pages ≡ true))
+
+on-one : (g : Gens) (p : ℕ) → AreApart g → is_listed g p ≡ true → OnOne g p
+on-one g p apart h =
+    let go : (b : Bool) → has_page p g.file.pages ≡ b → (b || has_page p g.anon.pages) ≡ true → OnOne g p =
+    λ b t k. (elim b as (λ v. has_page p g.file.pages ≡ v → (v || has_page p g.anon.pages) ≡ true → OnOne g p) [ true ↦ λ t' k'. inl (t', apart p t') | false ↦ λ t' k'. inr (t', k') ]) t k in
+    go (has_page p g.file.pages) refl h
+
+tail-file : (s : Seen) (p : ℕ) → OnOne s.gens p → (q : ℕ) → has_page q (to_tail p s).gens.file.pages ≡ has_page q s.gens.file.pages
+tail-file s p one q =
+    ⊎_elim
+    (λ f. ap (λ (b : Bool). has_page q (of_kind (let k : Kind = cond b File Anon in k) (without p s.gens.file.pages) (entered p s.gens.max_seq (without p s.gens.file.pages)))) f.0 ∙ has-back p s.gens.max_seq q s.gens.file.pages f.0)
+    (λ a. ap (λ (b : Bool). has_page q (of_kind (let k : Kind = cond b File Anon in k) (without p s.gens.file.pages) (entered p s.gens.max_seq (without p s.gens.file.pages)))) a.0 ∙ has-beside p q s.gens.file.pages a.0)
+    one
+
+tail-anon : (s : Seen) (p : ℕ) → OnOne s.gens p → (q : ℕ) → has_page q (to_tail p s).gens.anon.pages ≡ has_page q s.gens.anon.pages
+tail-anon s p one q =
+    ⊎_elim
+    (λ f. ap (λ (b : Bool). has_page q (of_kind (let k : Kind = cond b File Anon in k) (entered p s.gens.max_seq (without p s.gens.anon.pages)) (without p s.gens.anon.pages))) f.0 ∙ has-beside p q s.gens.anon.pages f.1)
+    (λ a. ap (λ (b : Bool). has_page q (of_kind (let k : Kind = cond b File Anon in k) (entered p s.gens.max_seq (without p s.gens.anon.pages)) (without p s.gens.anon.pages))) a.0 ∙ has-back p s.gens.max_seq q s.gens.anon.pages a.1)
+    one
+
+kept-tail : (s : Seen) (p : ℕ) → AreApart s.gens → is_listed s.gens p ≡ true → Keeps s (to_tail p s)
+kept-tail s p apart h =
+    let one = on-one s.gens p apart h in
+    record {
+      file = tail-file s p one;
+      anon = tail-anon s p one;
+      marks = λ q n. (let ne : q ≢ p = λ e. true≢false (sym h ∙ subst (λ (i : ℕ). is_listed s.gens i ≡ false) e n) in get_or-set_other s.marks p q false false ne);
+      size = length-set s.marks p false;
+    }
+
+kept-apart : (a b : Seen) → Keeps a b → AreApart a.gens → AreApart b.gens
+kept-apart a b k apart q h = k.anon q ∙ apart q (sym (k.file q) ∙ h)
+
+kept-sent : (ls : List Listed) (s : Seen) → AreApart s.gens → AllByRecursion (λ l. is_listed s.gens l.page ≡ true) ls → Keeps s (sent_back ls s)
+kept-sent [] s apart h = kept-same s
+kept-sent (l ∷ ls) s apart h =
+    let next : Seen = to_tail l.page s in
+    let k = kept-tail s l.page apart h.0 in
+    kept-then s next (sent_back ls next) k
+    (kept-sent ls next (kept-apart s next k apart) (each-weaker (λ l. is_listed s.gens l.page ≡ true) (λ l. is_listed next.gens l.page ≡ true) (λ l e. kept-listed s next k l.page ∙ e) ls h.1))
+
+each-has : (xs : List Listed) → AllByRecursion (λ l. has_page l.page xs ≡ true) xs
+each-has [] = tt
+each-has (x ∷ xs) = (rw (eq-eqb x.page x.page refl) refl, each-weaker (λ l. has_page l.page xs ≡ true) (λ l. has_page l.page (x ∷ xs) ≡ true) (λ l e. ap (λ (b : Bool). eqb x.page l.page || b) e ∙ or-true (eqb x.page l.page)) xs (each-has xs))
+
+each-listed : (swap : Bool) (g : Gens) → AllByRecursion (λ l. is_listed g l.page ≡ true) (old_pages swap g)
+each-listed swap g =
+    each-old_pages (λ l. is_listed g l.page ≡ true) swap g
+    (each-weaker (λ l. has_page l.page (listed g) ≡ true) (λ l. is_listed g l.page ≡ true) (λ l e. sym (listed-page g l.page) ∙ e) (listed g) (each-has (listed g)))
+
+kept-passed : (swap : Bool) (s : Seen) → IsGens s.gens → Keeps s (passed_by swap s)
+kept-passed swap s g =
+    kept-sent (front_run (has_mark s.marks) (old_pages swap s.gens)) s (sound-apart s.gens g)
+    (each-front_run (λ l. is_listed s.gens l.page ≡ true) (has_mark s.marks) (old_pages swap s.gens) (each-listed swap s.gens))
+
+-- ---- the whole search
+
+kept-ages : (swap : Bool) (from : Seen) (answer : Option ℕ) (to : Seen) → AgesToOld swap from answer to → Keeps from to
+kept-ages swap from answer to a = subst (λ (x : Seen). Keeps from x) (sym a.leaves) (kept-settled from (aged_times a.times from) (kept-aged_times a.times from))
+
+kept-picks : (swap : Bool) (from : Seen) (answer : Option ℕ) (to : Seen) → IsGens from.gens → Picks swap from answer to → Keeps from to
+kept-picks swap from answer to g =
+    elim (has_usable swap from.gens) as (λ b. MatchBool b (AgesToOld swap (passed_by swap from) answer to) ((answer ≡ None) × (to ≡ from)) → Keeps from to) [
+      | true ↦ λ a. kept-then from (passed_by swap from) to (kept-passed swap from g) (kept-ages swap (passed_by swap from) answer to a)
+      | false ↦ λ n. subst (λ (x : Seen). Keeps from x) (sym n.1) (kept-same from)
+    ]
+
+-- the answer of a search is listed
+answer-listed : (swap : Bool) (from : Seen) (p : ℕ) (to : Seen) → AgesToOld swap from (Some p) to → is_listed to.gens p ≡ true
+answer-listed swap from p to a =
+    let end : Seen = aged_times a.times from in
+    let all : AllByRecursion (λ l. is_listed end.gens l.page ≡ true) (a.first ∷ a.others) = subst (λ (zs : List Listed). AllByRecursion (λ l. is_listed end.gens l.page ≡ true) zs) a.old (each-listed swap end.gens) in
+    let same : p ≡ a.first.page = (let e : Some p ≡ Some a.first.page = a.answers in cc) in
+    subst (λ (x : Seen). is_listed x.gens p ≡ true) (sym a.leaves) (subst (λ (i : ℕ). is_listed end.gens i ≡ true) (sym same) all.0)
+
+same-kind : (from to : Seen) → Keeps from to → (p : ℕ) → kind_of to.gens p ≡ kind_of from.gens p
+same-kind from to k p = ap (λ (b : Bool). let r : Kind = cond b File Anon in r) (k.file p)
+
+-- the lists of each group have the pages that they had
+kept-same_pages : (g : ℕ) (s t : GensOf) (m m' : List Bool) → ChangesOnly g s t → Keeps (seen_at g s m) (seen_at g t m') → (h : ℕ) → ListsSame (gens_of s h) (gens_of t h)
+kept-same_pages g s t m m' only k h =
+    let here : ListsSame (gens_of s g) (gens_of t g) = record { listed = kept-listed (seen_at g s m) (seen_at g t m') k; kind = same-kind (seen_at g s m) (seen_at g t m') k } in
+    let go : (b : Bool) → eqb h g ≡ b → ListsSame (gens_of s h) (gens_of t h) =
+    λ b e. (elim b as (λ v. eqb h g ≡ v → ListsSame (gens_of s h) (gens_of t h)) [
+      | true ↦ λ e'. subst (λ (i : ℕ). ListsSame (gens_of s i) (gens_of t i)) (sym (eqb-true h g e')) here
+      | false ↦ λ e'. (let same : gens_of t h ≡ gens_of s h = only-other g s t only h (λ q. eqb-false h g e' q) in record { listed = λ p. ap (λ (x : Gens). is_listed x p) same; kind = λ p. ap (λ (x : Gens). kind_of x p) same })
+    ]) e in
+    go (eqb h g) refl
+
+-- ---- an answer of the search
+
+-- what holds of the page that a search answers
+pub record Found (g : ℕ) (swap : Bool) (s t : GensOf) (m m' : List Bool) (p : ℕ) : Type 0 where
+  pub picks : Picks swap (seen_at g s m) (Some p) (seen_at g t m')
+  pub listed : is_listed (gens_of t g) p ≡ true
+  pub pages : (h : ℕ) → ListsSame (gens_of s h) (gens_of t h)
+  pub marks : (q : ℕ) → is_listed (gens_of s g) q ≡ false → is_marked m' q ≡ is_marked m q
+  pub size : length m' ≡ length m
+
+found : (g : ℕ) (swap : Bool) (s t : GensOf) (m m' : List Bool) (p : ℕ) → IsGens (gens_of s g) → has_usable swap (gens_of s g) ≡ true → ChangesOnly g s t → AgesToOld swap (passed_by swap (seen_at g s m)) (Some p) (seen_at g t m') → Found g swap s t m m' p
+found g swap s t m m' p sound some only a =
+    let picks = picks-some swap (seen_at g s m) (Some p) (seen_at g t m') some a in
+    let keeps = kept-picks swap (seen_at g s m) (Some p) (seen_at g t m') sound picks in
+    record {
+      picks = picks;
+      listed = answer-listed swap (passed_by swap (seen_at g s m)) p (seen_at g t m') a;
+      pages = kept-same_pages g s t m m' only keeps;
+      marks = keeps.marks;
+      size = keeps.size;
+    }
+
+-- it was old at once
+pub found-at-once : (g : ℕ) (swap : Bool) (s t : GensOf) (m m' : List Bool) (p : ℕ) → IsGens (gens_of s g) → has_usable swap (gens_of s g) ≡ true → ChangesOnly g s t
+    → seen_at g t m' ≡ settled (passed_by swap (seen_at g s m)) → Some p ≡ option_map (λ (l : Listed). l.page) (slice_get (old_pages swap (gens_of t g)) 0) → Found g swap s t m m' p
+found-at-once g swap s t m m' p sound some only e first = found g swap s t m m' p sound some only (at-once swap (passed_by swap (seen_at g s m)) (seen_at g t m') p e first)
+
+-- or the group was aged for it, after the search among the old pages
+pub found-aged : (g : ℕ) (swap : Bool) (s s1 t : GensOf) (m m1 m' : List Bool) (p : ℕ) → IsGens (gens_of s g) → has_usable swap (gens_of s g) ≡ true → ChangesOnly g s s1 → ChangesOnly g s1 t
+    → seen_at g s1 m1 ≡ settled (passed_by swap (seen_at g s m)) → AgesToOld swap (seen_at g s1 m1) (Some p) (seen_at g t m') → Found g swap s t m m' p
+found-aged g swap s s1 t m m1 m' p sound some only then e a =
+    found g swap s t m m' p sound some (only-then g s s1 t only then)
+    (from-settled swap (passed_by swap (seen_at g s m)) (Some p) (seen_at g t m') (subst (λ (x : Seen). AgesToOld swap x (Some p) (seen_at g t m')) e a))

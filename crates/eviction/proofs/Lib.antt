@@ -1,0 +1,5 @@
+pub mod ListLemmas
+pub mod SettleLemmas
+pub mod TurnLemmas
+pub mod AgeLemmas
+pub mod KeptLemmas

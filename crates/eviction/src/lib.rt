@@ -1,0 +1,11 @@
+//! Which page of a group is evicted next (mm/multigen_lru: "Eviction").
+#![tactic(auto)]
+
+mod choice;
+mod found;
+mod search;
+#[cfg(test)]
+mod tests;
+
+pub use choice::pick;
+pub use found::Pick;

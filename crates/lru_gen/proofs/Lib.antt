@@ -1,0 +1,7 @@
+pub mod SlotLemmas
+pub mod RowLemmas
+pub mod GroupLemmas
+pub mod ChangeLemmas
+pub mod SoundLemmas
+pub mod SearchLemmas
+pub mod LinkLemmas

@@ -1,0 +1,262 @@
+//! The generations of all groups.
+
+ghost use Rattle.std.specs.Prelude.{◌≡◌, ◌+◌, ◌<◌, ◌≤◌, ◌^◌, ◌∷◌, ◌++◌, [], ℕ, true, false, None, length, slice_get, is_some, option_map, option_copied, IfSome, IfOk, OnOk, IsOk};
+ghost use Rattle.machine.specs.Generations.{new_gens, row_of, on_row, has_page, is_listed, is_listed_in, after_in, added, isolated, front_of, merged, raised, advanced};
+ghost use Rattle.rings.specs.declared.ring_node.Link.{Link};
+ghost use Rattle.rings.specs.RingNodes.{head_node};
+ghost use Rattle.rings.specs.Rings.{list_at, is_there, last_node, IsLinkOf, KeepsLinksBut};
+ghost use Rattle.lru_gen.specs.Gens.{gens_of, sets, IsSound};
+ghost use Rattle.lru_gen.specs.Lists.{slot, lists_of, KeepsLinksOfMerge};
+
+use crate::numbers::{Numbers, list_of};
+use crate::search::{behind, first_from, next_turn};
+use machine::id::{GroupId, PageId};
+use machine::record::Kind;
+use rings::{Link, RingNode, Rings};
+use std::alloc::{AllocError, Global};
+use std::marker::Model;
+
+// Lists are counted in 32 bits, and each group has eight.
+const MAX_GROUPS: usize = (1 << 29) - 1;
+
+/// The pages of all groups, on a list for each group, type and generation (kernel: `struct lru_gen_folio`).
+///
+/// A contract sees the lists of each type of a group as one row by rising sequence number. No call walks a list, and
+/// none but [`Gens::open`] and [`Gens::reserve_group`] takes memory.
+#[derive(Drop)]
+pub struct Gens {
+    rings: Rings,
+    // By group.
+    numbers: Vec<Numbers>,
+}
+
+impl Model for Gens {
+    ghost use Rattle.std.specs.Prelude.{◌-◌, vec_len, vec_capacity};
+    ghost use Rattle.lru_gen.specs.Gens.{GensOf};
+
+    ghost Value = { GensOf };
+
+    ghost use Rattle.lru_gen.specs.Rows.{groups_from, room_of, IsTable};
+
+    ghost view = { λ s. record {
+      groups = groups_from s.rings.lists 0 s.numbers.items;
+      pages = s.rings.numbers;
+      room = room_of s.rings.room (vec_capacity s.numbers - vec_len s.numbers) (vec_len s.numbers);
+    } };
+
+    ghost invariant = { λ s. IsTable s.rings.lists s.numbers.items };
+}
+
+impl Gens {
+    /// No group, and pages with numbers below this. `AllocError` where there is no memory for their links, or where
+    /// they are 2^32 or more.
+    pub fn open(alloc: Global, pages: usize) -> Result<Self, AllocError>
+        ensures { IfOk result (λ s. s ≡ record { groups = []; pages = pages; room = 0 }) }
+    {
+        let Ok(numbers) = u32::try_from(pages) else {
+            return Err(AllocError);
+        };
+        Ok(Gens {
+            rings: Rings::open(alloc, numbers)?,
+            numbers: Vec::new(alloc),
+        })
+    }
+
+    /// Asks for the memory of one group more. `AllocError` where there is none, or where there are 2^29 - 1 groups; the
+    /// lists are the same either way.
+    pub fn reserve_group(&mut self) -> Result<(), AllocError>
+        ensures room { OnOk result (0 < self.new.room) }
+        ensures groups { self.new.groups ≡ self.old.groups }
+        ensures pages { self.new.pages ≡ self.old.pages }
+        ensures succeeds { 0 < self.old.room → IsOk result }
+        ensures kept { self.old.room ≤ self.new.room }
+    {
+        if self.numbers.len() == MAX_GROUPS {
+            return Err(AllocError);
+        }
+        self.rings.reserve(8)?;
+        self.numbers.reserve(1)?;
+        Ok(())
+    }
+
+    /// A group more, with no page. Its memory was asked for by [`Gens::reserve_group`].
+    pub fn add_group_reserved(&mut self)
+        requires room { 0 < self.old.room }
+        ensures groups { self.new.groups ≡ self.old.groups ++ new_gens ∷ [] }
+        ensures pages { self.new.pages ≡ self.old.pages }
+        ensures room { self.new.room + 1 ≡ self.old.room }
+    {
+        self.rings.add(8);
+        self.numbers.push_reserved(Numbers {
+            max_seq: 3,
+            anon_min_seq: 0,
+            file_min_seq: 0,
+        });
+    }
+
+    /// How many groups there are.
+    pub fn groups(&self) -> usize
+        ensures { result ≡ length self.now.groups }
+    {
+        self.numbers.len()
+    }
+
+    /// How many page numbers there are.
+    pub fn pages(&self) -> usize
+        ensures { result ≡ self.now.pages }
+    {
+        self.rings.numbers() as usize
+    }
+
+    /// Nothing is done: what always holds of the lists.
+    pub fn is_sound(&self)
+        ensures { IsSound self.now }
+    {
+        self.rings.lists_are_apart();
+    }
+
+    /// Whether the page is on a list.
+    pub fn is_listed(&self, page: PageId) -> bool
+        ensures { result ≡ is_listed_in self.now.groups page.0 }
+    {
+        self.rings.is_listed(page)
+    }
+
+    /// The stored link of a page, or of the head of a list. `None` for a page that is on no list, and for a list that is
+    /// not there. The list of a generation has the number that [`list_of`] gives.
+    pub fn link(&self, node: RingNode) -> Option<&Link>
+        ensures there { is_some result ≡ is_there (lists_of self.now.groups) node }
+        ensures link { IfSome (option_copied result) (λ link. IsLinkOf (lists_of self.now.groups) node link) }
+    {
+        self.rings.link(node)
+    }
+
+    /// The number of the group's youngest generation.
+    pub fn max_seq(&self, group: GroupId) -> u64
+        requires { group.0 < length self.now.groups }
+        ensures { result ≡ (gens_of self.now group.0).max_seq }
+    {
+        self.numbers[group.0 as usize].max_seq
+    }
+
+    /// The number of a type's oldest generation.
+    pub fn min_seq(&self, group: GroupId, kind: Kind) -> u64
+        requires { group.0 < length self.now.groups }
+        ensures { result ≡ (row_of kind (gens_of self.now group.0)).min_seq }
+    {
+        self.numbers[group.0 as usize].min_seq(kind)
+    }
+
+    /// The first page of a type's oldest generation.
+    pub fn front(&self, group: GroupId, kind: Kind) -> Option<PageId>
+        requires { group.0 < length self.now.groups }
+        ensures { option_map (λ p. p.0) result ≡ front_of (row_of kind (gens_of self.now group.0)) }
+    {
+        let oldest = self.numbers[group.0 as usize].min_seq(kind);
+        self.rings.front(list_of(group, kind, oldest))
+    }
+
+    /// The first page of a type, in the oldest generation that has one.
+    pub fn first(&self, group: GroupId, kind: Kind) -> Option<PageId>
+        requires { group.0 < length self.now.groups }
+        ensures { option_map (λ p. p.0) result ≡ option_map (λ l. l.page) (slice_get (row_of kind (gens_of self.now group.0)).pages 0) }
+    {
+        let oldest = self.numbers[group.0 as usize].min_seq(kind);
+        first_from(&self.rings, group, kind, oldest, 0)
+    }
+
+    /// The page that stands behind this one among those of its type: on its list, or the first of a younger
+    /// generation.
+    pub fn after(&self, group: GroupId, kind: Kind, page: PageId) -> Option<PageId>
+        requires group { group.0 < length self.now.groups }
+        requires listed { has_page page.0 (row_of kind (gens_of self.now group.0)).pages ≡ true }
+        ensures { option_map (λ p. p.0) result ≡ after_in page.0 (row_of kind (gens_of self.now group.0)).pages }
+    {
+        self.rings.lists_are_apart();
+        let oldest = self.numbers[group.0 as usize].min_seq(kind);
+        match behind(&self.rings, page) {
+            RingNode::Page(next) => Some(next),
+            RingNode::Head(list) => {
+                let turn = next_turn(list, oldest);
+                first_from(&self.rings, group, kind, oldest, turn)
+            }
+        }
+    }
+
+    /// A page that is on no list enters a generation of the group, behind those that are there (kernel:
+    /// lru_gen_add_folio). Takes no memory.
+    pub fn add(&mut self, group: GroupId, page: PageId, kind: Kind, seq: u64)
+        requires group { group.0 < length self.old.groups }
+        requires number { page.0 < self.old.pages }
+        requires unlisted { is_listed_in self.old.groups page.0 ≡ false }
+        requires low { (row_of kind (gens_of self.old group.0)).min_seq ≤ seq }
+        requires high { seq ≤ (gens_of self.old group.0).max_seq }
+        ensures groups { self.new ≡ sets self.old group.0 (added page.0 kind seq (gens_of self.old group.0)) }
+        // At most three nodes' links change: those of the page, of the list's head, and of the page that was last.
+        ensures few { KeepsLinksBut
+            (RingNode.Page page ∷ head_node (slot group.0 kind seq)
+            ∷ last_node (slot group.0 kind seq) (list_at (lists_of self.old.groups) (slot group.0 kind seq)) ∷ [])
+            (lists_of self.old.groups) (lists_of self.new.groups) }
+    {
+        self.rings.push_back(list_of(group, kind, seq), page);
+    }
+
+    /// A page leaves its list (kernel: lru_gen_del_folio).
+    pub fn isolate(&mut self, page: PageId)
+        requires { is_listed_in self.old.groups page.0 ≡ true }
+        ensures groups { (g : ℕ) → is_listed (gens_of self.old g) page.0 ≡ true → self.new ≡ sets self.old g (isolated page.0 (gens_of self.old g)) }
+        // At most three nodes' links change: those of the page and of its neighbours.
+        ensures few { (link : Link) → IsLinkOf (lists_of self.old.groups) (RingNode.Page page) link
+            → KeepsLinksBut (RingNode.Page page ∷ link.prev ∷ link.next ∷ []) (lists_of self.old.groups) (lists_of self.new.groups) }
+    {
+        self.rings.lists_are_apart();
+        self.rings.remove(page);
+    }
+
+    /// The oldest generation of a type that has four becomes the front of the next (kernel: inc_min_seq).
+    pub fn merge_oldest(&mut self, group: GroupId, kind: Kind)
+        requires group { group.0 < length self.old.groups }
+        requires four { (row_of kind (gens_of self.old group.0)).min_seq + 3 ≡ (gens_of self.old group.0).max_seq }
+        ensures groups { self.new ≡ sets self.old group.0 (on_row kind merged (gens_of self.old group.0)) }
+        // At most five nodes' links change: those of the two heads, of the first and the last page that come, and of the
+        // page in front of which they come.
+        ensures few { KeepsLinksOfMerge (lists_of self.old.groups) (lists_of self.new.groups)
+            (slot group.0 kind (row_of kind (gens_of self.old group.0)).min_seq)
+            (slot group.0 kind ((row_of kind (gens_of self.old group.0)).min_seq + 1)) }
+    {
+        let numbers = &mut self.numbers[group.0 as usize];
+        // The youngest number is read as well: since it fits, so does the oldest and one.
+        let (oldest, _youngest) = (numbers.min_seq(kind), numbers.max_seq);
+        numbers.set_min_seq(kind, oldest + 1);
+        self.rings.splice_front(
+            list_of(group, kind, oldest),
+            list_of(group, kind, oldest + 1),
+        );
+    }
+
+    /// The oldest generation of a type, which is empty, is no more (kernel: try_to_inc_min_seq).
+    pub fn raise_min(&mut self, group: GroupId, kind: Kind)
+        requires group { group.0 < length self.old.groups }
+        requires three { (row_of kind (gens_of self.old group.0)).min_seq + 2 ≤ (gens_of self.old group.0).max_seq }
+        requires empty { front_of (row_of kind (gens_of self.old group.0)) ≡ None }
+        ensures groups { self.new ≡ sets self.old group.0 (on_row kind raised (gens_of self.old group.0)) }
+        ensures links { lists_of self.new.groups ≡ lists_of self.old.groups }
+    {
+        let numbers = &mut self.numbers[group.0 as usize];
+        // The youngest number is read as well: since it fits, so does the oldest and one.
+        let (oldest, _youngest) = (numbers.min_seq(kind), numbers.max_seq);
+        numbers.set_min_seq(kind, oldest + 1);
+    }
+
+    /// A younger generation begins, of no page yet (kernel: inc_max_seq).
+    pub fn advance(&mut self, group: GroupId)
+        requires group { group.0 < length self.old.groups }
+        requires anon { (gens_of self.old group.0).max_seq ≤ (gens_of self.old group.0).anon.min_seq + 2 }
+        requires file { (gens_of self.old group.0).max_seq ≤ (gens_of self.old group.0).file.min_seq + 2 }
+        requires fits { (gens_of self.old group.0).max_seq + 1 < 2 ^ 64 }
+        ensures groups { self.new ≡ sets self.old group.0 (advanced (gens_of self.old group.0)) }
+        ensures links { lists_of self.new.groups ≡ lists_of self.old.groups }
+    {
+        self.numbers[group.0 as usize].max_seq += 1;
+    }
+}

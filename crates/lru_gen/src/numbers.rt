@@ -1,0 +1,52 @@
+//! The sequence numbers of a group's generations, and the list of each.
+
+ghost use Rattle.std.specs.Prelude.{◌≡◌, ◌<◌, ◌^◌};
+ghost use Rattle.machine.specs.Generations.{of_kind};
+ghost use Rattle.lru_gen.specs.Lists.{slot};
+ghost use Rattle.lru_gen.specs.Rows.{oldest, with_oldest};
+
+use machine::id::GroupId;
+use machine::record::Kind;
+use rings::ListId;
+
+/// The sequence numbers of a group's generations: those of each type go from its oldest to the youngest.
+#[derive(Clone, Copy, Debug, PartialEq, Eq)]
+pub struct Numbers {
+    pub max_seq: u64,
+    pub anon_min_seq: u64,
+    pub file_min_seq: u64,
+}
+
+impl Numbers {
+    /// The number of a type's oldest generation.
+    pub fn min_seq(&self, kind: Kind) -> u64
+        ensures { result ≡ oldest kind self.now }
+    {
+        match kind {
+            Kind::Anon => self.anon_min_seq,
+            Kind::File => self.file_min_seq,
+        }
+    }
+
+    /// A type's oldest generation has this number from now on.
+    pub fn set_min_seq(&mut self, kind: Kind, to: u64)
+        ensures { self.new ≡ with_oldest kind to self.old }
+    {
+        match kind {
+            Kind::Anon => self.anon_min_seq = to,
+            Kind::File => self.file_min_seq = to,
+        }
+    }
+}
+
+/// The list of a generation. Each type of each group has four, which its generations take in turn.
+pub fn list_of(group: GroupId, kind: Kind, seq: u64) -> ListId
+    requires { group.0 < 2 ^ 29 }
+    ensures { result.0 ≡ slot group.0 kind seq }
+{
+    let first = match kind {
+        Kind::Anon => 0,
+        Kind::File => 4,
+    };
+    ListId(group.0 * 8 + first + (seq % 4) as u32)
+}

@@ -1,0 +1,52 @@
+//! Where the next page of a type is.
+
+ghost use Rattle.std.specs.Prelude.{◌≡◌, ◌+◌, ◌-◌, ◌*◌, ◌<◌, ◌≤◌, ◌%◌, ◌^◌, true, length, option_map, slice_get};
+ghost use Rattle.rings.specs.Rings.{is_listed};
+ghost use Rattle.lru_gen.specs.Rows.{rows_from, IsBehind};
+
+use crate::numbers::list_of;
+use machine::id::{GroupId, PageId};
+use machine::record::Kind;
+use rings::{ListId, RingNode, Rings};
+
+/// The first page of a type's generations from a turn on, of which the oldest's is the first of four.
+pub fn first_from(
+    rings: &Rings,
+    group: GroupId,
+    kind: Kind,
+    oldest: u64,
+    turn: u64,
+) -> Option<PageId>
+    requires group { group.0 < 2 ^ 29 }
+    requires lists { group.0 * 8 + 8 ≤ length rings.now.lists }
+    requires turn { turn ≤ 4 }
+    ensures { option_map (λ p. p.0) result ≡ option_map (λ l. l.page) (slice_get (rows_from rings.now.lists group.0 kind (oldest + turn) (4 - turn)) 0) }
+{
+    for later in turn..4 {
+        let page = rings.front(list_of(group, kind, oldest % 4 + later));
+        if page.is_some() {
+            return page;
+        }
+    }
+    None
+}
+
+/// What comes behind a page on its list.
+pub fn behind(rings: &Rings, page: PageId) -> RingNode
+    requires { is_listed rings.now.lists page.0 ≡ true }
+    ensures { IsBehind rings.now.lists page.0 result }
+{
+    match rings.link(RingNode::Page(page)) {
+        Some(link) => link.next,
+        None => unreachable!(),
+    }
+}
+
+/// The turn after that of the generation on this list.
+pub fn next_turn(list: ListId, oldest: u64) -> u64
+    ensures later { 1 ≤ result }
+    ensures last { result ≤ 4 }
+    ensures next { (oldest + result) % 4 ≡ (list.0 + 1) % 4 }
+{
+    (u64::from(list.0 % 4) + 4 - oldest % 4) % 4 + 1
+}

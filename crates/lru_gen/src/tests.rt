@@ -1,0 +1,269 @@
+ghost use Rattle.std.specs.Prelude.{◌≡◌, length, nat_lt};
+
+use super::*;
+use crate::numbers::Numbers;
+use machine::id::{GroupId, PageId};
+use machine::record::Kind;
+use std::alloc::{AllocError, Global};
+use std::mem::size_of;
+use std::test::Fail;
+
+// The example of the README.
+#[test]
+fn the_merged_pages_come_first(rt: HostRuntime) -> Result<(), Fail> {
+    let mut gens = Gens::open(rt.alloc(), 16)?;
+    gens.reserve_group()?;
+    gens.add_group_reserved();
+    let root = GroupId::ROOT;
+    add(&mut gens, root, PageId(7), Kind::File, 1);
+    add(&mut gens, root, PageId(4), Kind::File, 0);
+    add(&mut gens, root, PageId(5), Kind::File, 0);
+    merge_oldest(&mut gens, root, Kind::File);
+    isolate(&mut gens, PageId(4));
+    assert_eq!(rt;
+        walk(rt.alloc(), &gens, root, Kind::File)?.as_slice(),
+        [5, 7].as_slice()
+    );
+    raise_min(&mut gens, root, Kind::Anon);
+    advance(&mut gens, root);
+    assert_eq!(rt; min_seq(&gens, root, Kind::File), 1);
+    Ok(())
+}
+
+// What the crate's first lines tell, beside the eight lists of a group, of 16 bytes each.
+#[test]
+fn numbers_are_small(rt: HostRuntime) {
+    assert_eq!(rt; size_of::<Numbers>(), 24);
+}
+
+const GROUPS: u32 = 3;
+
+const PAGES: usize = 64;
+
+// No generation of the next test has a number from this on.
+const SEQS: u64 = 200;
+
+// After each of so many calls the pages of a type stand as in plain vectors, one for each generation that ever was,
+// after the same calls.
+#[test]
+fn mixed_calls_match_plain_vectors(rt: HostRuntime) -> Result<(), Fail> {
+    let mut gens = Gens::open(rt.alloc(), PAGES)?;
+    let mut plain = Plain {
+        lists: Vec::new(rt.alloc()),
+    };
+    for _ in 0..GROUPS {
+        gens.reserve_group()?;
+        gens.add_group_reserved();
+        for _ in 0..2 * SEQS {
+            plain.lists.push(Vec::new(rt.alloc()))?;
+        }
+    }
+    let mut seed: u64 = 1;
+    for _ in 0..4_000 {
+        seed = seed
+            .wrapping_mul(6364136223846793005)
+            .wrapping_add(1442695040888963407);
+        let page = PageId(((seed >> 40) % 64) as u32);
+        let group = GroupId(((seed >> 30) % 3) as u32);
+        let kind = kind_of(seed >> 33);
+        let oldest = min_seq(&gens, group, kind);
+        match seed >> 60 {
+            0 => {
+                if merge_oldest(&mut gens, group, kind) {
+                    plain.merge(rt.alloc(), group, kind, oldest)?;
+                }
+            }
+            1 => raise_min(&mut gens, group, kind),
+            2 => advance(&mut gens, group),
+            _ => {
+                let seq = oldest.wrapping_add((seed >> 50) % 4);
+                if gens.is_listed(page) {
+                    isolate(&mut gens, page);
+                    plain.remove(page);
+                } else if add(&mut gens, group, page, kind, seq) {
+                    plain.push(group, kind, seq, page)?;
+                }
+            }
+        }
+        assert_eq!(rt;
+            walk(rt.alloc(), &gens, group, kind)?.as_slice(),
+            plain
+                .row(rt.alloc(), group, kind, min_seq(&gens, group, kind), 4)?
+                .as_slice()
+        );
+    }
+    assert!(rt; min_seq(&gens, GroupId(0), Kind::File) > 10);
+    Ok(())
+}
+
+fn kind_of(bits: u64) -> Kind {
+    if bits % 2 == 0 {
+        Kind::Anon
+    } else {
+        Kind::File
+    }
+}
+
+// A vector for each sequence number of each type of each group.
+#[derive(Drop)]
+struct Plain {
+    lists: Vec<Vec<u32>>,
+}
+
+fn place(group: GroupId, kind: Kind, seq: u64) -> usize {
+    let first = match kind {
+        Kind::Anon => 0,
+        Kind::File => 1,
+    };
+    (group.0 as usize * 2 + first) * SEQS as usize + (seq % SEQS) as usize
+}
+
+impl Plain {
+    fn push(
+        &mut self,
+        group: GroupId,
+        kind: Kind,
+        seq: u64,
+        page: PageId,
+    ) -> Result<(), AllocError> {
+        if let Some(pages) = self.lists.get_mut(place(group, kind, seq)) {
+            pages.push(page.0)?;
+        }
+        Ok(())
+    }
+
+    fn remove(&mut self, page: PageId) {
+        for pages in self.lists.iter_mut() {
+            pages.retain(|other| *other != page.0);
+        }
+    }
+
+    // The pages of this generation come in front of those of the next.
+    fn merge(
+        &mut self,
+        alloc: Global,
+        group: GroupId,
+        kind: Kind,
+        seq: u64,
+    ) -> Result<(), AllocError> {
+        let joined = self.row(alloc, group, kind, seq, 2)?;
+        if let Some(pages) = self.lists.get_mut(place(group, kind, seq)) {
+            pages.clear();
+        }
+        if let Some(pages) = self.lists.get_mut(place(group, kind, seq.wrapping_add(1))) {
+            *pages = joined;
+        }
+        Ok(())
+    }
+
+    fn row(
+        &self,
+        alloc: Global,
+        group: GroupId,
+        kind: Kind,
+        oldest: u64,
+        generations: u64,
+    ) -> Result<Vec<u32>, AllocError> {
+        let mut row = Vec::new(alloc);
+        for turn in 0..generations {
+            if let Some(pages) = self
+                .lists
+                .get(place(group, kind, oldest.wrapping_add(turn)))
+            {
+                row.extend_from_slice(pages.as_slice())?;
+            }
+        }
+        Ok(row)
+    }
+}
+
+fn has_group(gens: &Gens, group: GroupId) -> bool
+    ensures { result ≡ nat_lt group.0 (length gens.now.groups) }
+{
+    (group.0 as usize) < gens.groups()
+}
+
+// The calls, where they may be made.
+fn add(gens: &mut Gens, group: GroupId, page: PageId, kind: Kind, seq: u64) -> bool {
+    if !has_group(gens, group) || page.0 as usize >= gens.pages() || gens.is_listed(page) {
+        return false;
+    }
+    if seq < gens.min_seq(group, kind) || gens.max_seq(group) < seq {
+        return false;
+    }
+    gens.add(group, page, kind, seq);
+    true
+}
+
+fn isolate(gens: &mut Gens, page: PageId) {
+    if gens.is_listed(page) {
+        gens.isolate(page);
+    }
+}
+
+fn merge_oldest(gens: &mut Gens, group: GroupId, kind: Kind) -> bool {
+    if !has_group(gens, group) {
+        return false;
+    }
+    let youngest = gens.max_seq(group);
+    if youngest < 3 || gens.min_seq(group, kind) != youngest - 3 {
+        return false;
+    }
+    gens.merge_oldest(group, kind);
+    true
+}
+
+fn raise_min(gens: &mut Gens, group: GroupId, kind: Kind) {
+    if !has_group(gens, group) {
+        return;
+    }
+    let youngest = gens.max_seq(group);
+    if youngest < 2
+        || gens.min_seq(group, kind) > youngest - 2
+        || gens.front(group, kind).is_some()
+    {
+        return;
+    }
+    gens.raise_min(group, kind);
+}
+
+fn advance(gens: &mut Gens, group: GroupId) {
+    if !has_group(gens, group) {
+        return;
+    }
+    let youngest = gens.max_seq(group);
+    if youngest < 2 || youngest >= SEQS - 1 {
+        return;
+    }
+    if gens.min_seq(group, Kind::Anon) < youngest - 2
+        || gens.min_seq(group, Kind::File) < youngest - 2
+    {
+        return;
+    }
+    gens.advance(group);
+}
+
+fn min_seq(gens: &Gens, group: GroupId, kind: Kind) -> u64 {
+    if has_group(gens, group) {
+        gens.min_seq(group, kind)
+    } else {
+        0
+    }
+}
+
+// The pages of a type, by the first and what comes after each.
+fn walk(alloc: Global, gens: &Gens, group: GroupId, kind: Kind) -> Result<Vec<u32>, AllocError> {
+    let mut pages = Vec::new(alloc);
+    if !has_group(gens, group) {
+        return Ok(pages);
+    }
+    let mut next = gens.first(group, kind);
+    for _ in 0..gens.pages() {
+        let Some(page) = next else {
+            break;
+        };
+        pages.push(page.0)?;
+        next = gens.after(group, kind, page);
+    }
+    Ok(pages)
+}

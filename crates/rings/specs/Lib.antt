@@ -1,0 +1,4 @@
+pub mod RingNodes
+pub mod Rings
+pub mod Links
+pub mod Chains

@@ -1,0 +1,17 @@
+//! Lists of pages, any number of them over one table of links. A page has its neighbours by their
+//! numbers, so that it leaves the middle of a list without a walk (kernel: `struct list_head`,
+//! `include/linux/list.h`).
+//!
+//! Each list is a ring: it goes from its head through its pages back to the head. A page is in one
+//! list at most. The links take 20 bytes for each page number, from the opening on, and 16 bytes for
+//! each list.
+#![tactic(auto)]
+
+pub use ring_node::{Link, ListId, RingNode};
+pub use table::Rings;
+
+mod links;
+mod ring_node;
+mod table;
+#[cfg(test)]
+mod tests;

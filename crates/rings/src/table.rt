@@ -1,0 +1,246 @@
+//! The lists of pages.
+
+ghost use Rattle.std.specs.Prelude.{◌≡◌, ◌≢◌, ℕ, ◌+◌, ◌<◌, ◌≤◌, ◌^◌, ◌==◌, ◌++◌, ◌∷◌, [], not, map, true, false, length, option_map, option_copied, slice_get, slice_set, is_none, is_some, None, replicate, IfSome, IfOk, OnOk, IsOk};
+ghost use Rattle.rings.specs.declared.ring_node.Link.{Link};
+ghost use Rattle.rings.specs.Rings.{list_at, is_listed, without, is_there, AreApart, IsLinkOf, IsAfter, IsBefore, KeepsLinksBut, first_node, last_node};
+
+use crate::links::Links;
+use crate::ring_node::{Link, ListId, RingNode};
+use machine::id::PageId;
+use std::alloc::{AllocError, Global};
+use std::marker::Model;
+
+/// Lists of pages. A page is in one list at most, and once (kernel: lists of folios by their `lru`).
+///
+/// A contract sees each list as the numbers of its pages in order. No call walks a list, and none but
+/// [`Rings::open`] and [`Rings::reserve`] takes memory.
+#[derive(Drop)]
+pub struct Rings {
+    links: Links,
+}
+
+impl Model for Rings {
+    ghost use Rattle.std.specs.Prelude.{◌-◌, length, vec_len, vec_capacity};
+    ghost use Rattle.rings.specs.Rings.{RingsOf};
+
+    ghost Value = { RingsOf };
+
+    ghost use Rattle.rings.specs.Chains.{lists_of, IsRings};
+
+    ghost view = { λ r. record {
+      lists = lists_of r.links;
+      numbers = length r.links.pages.items;
+      room = vec_capacity r.links.heads - vec_len r.links.heads;
+    } };
+
+    ghost invariant = { λ r. IsRings r.links (lists_of r.links) };
+}
+
+fn no_links(alloc: Global, numbers: usize) -> Result<Vec<Option<Link>>, AllocError>
+    ensures { IfOk result (λ links. links.items ≡ replicate numbers None) }
+{
+    vec![in alloc; None; numbers]
+}
+
+impl Rings {
+    /// No list, and links for so many page numbers. `AllocError` where there is no memory for them.
+    pub fn open(alloc: Global, numbers: u32) -> Result<Self, AllocError>
+        ensures lists { IfOk result (λ r. r.lists ≡ []) }
+        ensures numbers { IfOk result (λ r. r.numbers ≡ numbers) }
+    {
+        Ok(Rings {
+            links: Links {
+                pages: no_links(alloc, numbers as usize)?,
+                heads: Vec::new(alloc),
+            },
+        })
+    }
+
+    /// Asks for the memory of so many lists more. `AllocError` where there is none; the lists are the
+    /// same either way.
+    pub fn reserve(&mut self, lists: u32) -> Result<(), AllocError>
+        ensures room { OnOk result (lists ≤ self.new.room) }
+        ensures others { self.new ≡ record self.old { room = self.new.room } }
+        ensures succeeds { lists ≤ self.old.room → IsOk result }
+        ensures kept { self.old.room ≤ self.new.room }
+    {
+        self.links.heads.reserve(lists as usize)
+    }
+
+    /// So many lists more, which are empty (kernel: `INIT_LIST_HEAD`). Their memory was asked for by
+    /// [`Rings::reserve`].
+    pub fn add(&mut self, lists: u32)
+        requires room { lists ≤ self.old.room }
+        requires fits { length self.old.lists + lists < 2 ^ 32 }
+        ensures lists { self.new.lists ≡ self.old.lists ++ replicate lists [] }
+        ensures numbers { self.new.numbers ≡ self.old.numbers }
+        ensures room { self.new.room + lists ≡ self.old.room }
+    {
+        for added in 0..lists {
+            self.add_list();
+        }
+    }
+
+    fn add_list(&mut self)
+        requires room { 0 < self.old.room }
+        requires fits { length self.old.lists + 1 < 2 ^ 32 }
+        ensures lists { self.new.lists ≡ self.old.lists ++ [] ∷ [] }
+        ensures numbers { self.new.numbers ≡ self.old.numbers }
+        ensures room { self.new.room + 1 ≡ self.old.room }
+    {
+        let list = ListId(self.links.heads.len() as u32);
+        let head = RingNode::Head(list);
+        self.links.heads.push_reserved(Link {
+            prev: head,
+            next: head,
+        });
+    }
+
+    /// How many lists there are.
+    pub fn len(&self) -> u32
+        ensures { result ≡ length self.now.lists }
+    {
+        self.links.heads.len() as u32
+    }
+
+    /// How many page numbers there are.
+    pub fn numbers(&self) -> u32
+        ensures { result ≡ self.now.numbers }
+    {
+        self.links.pages.len() as u32
+    }
+
+    /// The stored link of a page, or of the head of a list. `None` for a page that is in no list, and
+    /// for a list that is not there.
+    pub fn link(&self, node: RingNode) -> Option<&Link>
+        ensures there { is_some result ≡ is_there self.now.lists node }
+        ensures link { IfSome (option_copied result) (λ link. IsLinkOf self.now.lists node link) }
+    {
+        self.links.get(node)
+    }
+
+    /// Whether the page is in a list (kernel: `list_empty` of the folio's `lru` says that it is not).
+    pub fn is_listed(&self, page: PageId) -> bool
+        ensures { result ≡ is_listed self.now.lists page.0 }
+    {
+        self.links.get(RingNode::Page(page)).is_some()
+    }
+
+    /// The first page of a list, if there is one (kernel: `list_first_entry_or_null`).
+    pub fn front(&self, list: ListId) -> Option<PageId>
+        requires { list.0 < length self.now.lists }
+        ensures { option_map (λ page. page.0) result ≡ slice_get (list_at self.now.lists list.0) 0 }
+    {
+        self.links.link(RingNode::Head(list)).next.page()
+    }
+
+    /// Whether a list has no page (kernel: `list_empty`).
+    pub fn is_empty(&self, list: ListId) -> bool
+        requires { list.0 < length self.now.lists }
+        ensures { result ≡ (length (list_at self.now.lists list.0) == 0) }
+    {
+        self.front(list).is_none()
+    }
+
+    /// The page that comes next in the list of this one, if there is one (kernel:
+    /// `list_next_entry`).
+    pub fn after(&self, page: PageId) -> Option<PageId>
+        requires { is_listed self.now.lists page.0 ≡ true }
+        ensures { IsAfter self.now.lists page.0 (option_map (λ page. page.0) result) }
+    {
+        self.links.link(RingNode::Page(page)).next.page()
+    }
+
+    /// The page that comes just before this one in its list, if there is one (kernel:
+    /// `list_prev_entry`).
+    pub fn before(&self, page: PageId) -> Option<PageId>
+        requires { is_listed self.now.lists page.0 ≡ true }
+        ensures { IsBefore self.now.lists page.0 (option_map (λ page. page.0) result) }
+    {
+        self.links.link(RingNode::Page(page)).prev.page()
+    }
+
+    /// A page that is in no list comes to the end of this one (kernel: `list_add_tail`). The links of
+    /// three nodes change at most: the page, the head, and the page that was last.
+    pub fn push_back(&mut self, list: ListId, page: PageId)
+        requires list { list.0 < length self.old.lists }
+        requires page { page.0 < self.old.numbers }
+        requires unlisted { is_listed self.old.lists page.0 ≡ false }
+        ensures lists { self.new.lists ≡ slice_set self.old.lists list.0 (list_at self.old.lists list.0 ++ page.0 ∷ []) }
+        ensures few { KeepsLinksBut (RingNode.Page page ∷ RingNode.Head list ∷ last_node list.0 (list_at self.old.lists list.0) ∷ []) self.old.lists self.new.lists }
+        ensures others { self.new ≡ record self.old { lists = self.new.lists } }
+    {
+        self.links.add_before(page, RingNode::Head(list));
+    }
+
+    /// The page leaves the list that it is in, whichever that is (kernel: `list_del_init`). The links
+    /// of three nodes change at most: the page and its two neighbours.
+    pub fn remove(&mut self, page: PageId)
+        requires { is_listed self.old.lists page.0 ≡ true }
+        ensures lists { self.new.lists ≡ map (without page.0) self.old.lists }
+        ensures few { (link : Link) → IsLinkOf self.old.lists (RingNode.Page page) link
+            → KeepsLinksBut (RingNode.Page page ∷ link.prev ∷ link.next ∷ []) self.old.lists self.new.lists }
+        ensures others { self.new ≡ record self.old { lists = self.new.lists } }
+    {
+        self.links.remove(page);
+    }
+
+    /// All pages of one list come, in their order, in front of those of another, and the list that
+    /// they were in is empty (kernel: `list_splice_init`). The links of five nodes change at most: the
+    /// two heads, the first and the last of the pages that come, and the page in front of which they
+    /// come.
+    pub fn splice_front(&mut self, source: ListId, target: ListId)
+        requires source { source.0 < length self.old.lists }
+        requires target { target.0 < length self.old.lists }
+        requires apart { source.0 ≢ target.0 }
+        ensures lists { self.new.lists ≡ slice_set
+            (slice_set self.old.lists target.0 (list_at self.old.lists source.0 ++ list_at self.old.lists target.0))
+            source.0 [] }
+        ensures few { KeepsLinksBut
+            (RingNode.Head source ∷ RingNode.Head target ∷ first_node source.0 (list_at self.old.lists source.0)
+            ∷ last_node source.0 (list_at self.old.lists source.0) ∷ first_node target.0 (list_at self.old.lists target.0) ∷ [])
+            self.old.lists self.new.lists }
+        ensures others { self.new ≡ record self.old { lists = self.new.lists } }
+    {
+        if self.is_empty(source) {
+            return;
+        }
+        let head = RingNode::Head(target);
+        let first = self.links.link(head).next;
+        self.links.splice(RingNode::Head(source), head, first);
+    }
+
+    /// All pages of one list come, in their order, behind those of another, and the list that they
+    /// were in is empty (kernel: `list_splice_tail_init`). The links of five nodes change at most: the
+    /// two heads, the first and the last of the pages that come, and the page behind which they come.
+    pub fn splice_back(&mut self, source: ListId, target: ListId)
+        requires source { source.0 < length self.old.lists }
+        requires target { target.0 < length self.old.lists }
+        requires apart { source.0 ≢ target.0 }
+        ensures lists { self.new.lists ≡ slice_set
+            (slice_set self.old.lists target.0 (list_at self.old.lists target.0 ++ list_at self.old.lists source.0))
+            source.0 [] }
+        ensures few { KeepsLinksBut
+            (RingNode.Head source ∷ RingNode.Head target ∷ first_node source.0 (list_at self.old.lists source.0)
+            ∷ last_node source.0 (list_at self.old.lists source.0) ∷ last_node target.0 (list_at self.old.lists target.0) ∷ [])
+            self.old.lists self.new.lists }
+        ensures others { self.new ≡ record self.old { lists = self.new.lists } }
+    {
+        if self.is_empty(source) {
+            return;
+        }
+        let head = RingNode::Head(target);
+        let last = self.links.link(head).prev;
+        self.links.splice(RingNode::Head(source), last, head);
+    }
+
+    /// Nothing is done: what always holds. No page is in two lists, or twice in one; the number of each
+    /// that is in one is among the page numbers; and a number of 32 bits counts the lists.
+    pub fn lists_are_apart(&self)
+        ensures apart { AreApart self.now.lists }
+        ensures within { (p : ℕ) → is_listed self.now.lists p ≡ true → p < self.now.numbers }
+        ensures countable { length self.now.lists < 2 ^ 32 }
+    {
+        let _ = &self.links;
+    }
+}
