@@ -19,6 +19,8 @@ mod device_words;
 #[cfg(test)]
 mod event_files;
 #[cfg(test)]
+mod explanations;
+#[cfg(test)]
 mod min_file;
 #[cfg(test)]
 mod read_ins;

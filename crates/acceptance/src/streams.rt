@@ -169,6 +169,30 @@ fn a_write_that_fails_ends_with_status_1(rt: HostRuntime) {
     }
 }
 
+// As a pipe whose reader has ended.
+struct Closed;
+
+impl Write for Closed {
+    fn write(&mut self, _buf: &[u8]) -> io::Result<usize> {
+        Err(Error::from(ErrorKind::BrokenPipe))
+    }
+
+    fn flush(&mut self) -> io::Result<()> {
+        Ok(())
+    }
+}
+
+#[test]
+fn nothing_is_said_where_nobody_reads_any_more(rt: HostRuntime) {
+    let alloc = rt.alloc();
+    let mut out = Closed;
+    let mut err = Vec::new(alloc);
+    let mut script = OVER_LIMIT.as_bytes();
+    assert_eq!(rt; schedule(alloc, &mut script, &mut out, &mut err), 1);
+    assert!(rt; err.is_empty());
+    let Closed = out;
+}
+
 #[test]
 fn a_flush_that_fails_ends_with_status_1(rt: HostRuntime) {
     let alloc = rt.alloc();

@@ -1,28 +1,38 @@
 //! `memcgrun schedule FILE` runs a script of memory control groups and prints its answers.
 #![tactic(auto)]
 
+mod told;
 mod words;
 
 ghost use Rattle.std.specs.Prelude.{◌≡◌, ◌≤◌};
 
-use std::fs::File;
-use std::io::Write;
+use std::fs::{File, OpenFile};
+use std::io::{ErrorKind, Write};
 use std::process::ExitCode;
 use std::rt::{Env, Files};
 use std::{env, io};
+use told::{tell_no_script, tell_no_text};
 use words::{Refused, Request, Subcommand};
 
 const FAILED: u8 = 1;
 
 const BAD_WORDS: u8 = 2;
 
-/// The status of a run that has no other reason than this one.
-fn failed<E: Write>(err: &mut E, what: &str, error: &io::Error) -> u8
-    ensures failure { result ≡ 1 }
-{
-    // The status tells of the failure even where its line can't be written.
-    let _ = writeln!(err, "{what}: {error}");
-    FAILED
+/// The file of this name. Where there is none, or it is a directory, a line says so.
+fn open<R: Files, E: Write>(rt: &R, name: &str, err: &mut E) -> Option<R::File> {
+    match File::open(rt, name) {
+        Ok(file) => match file.metadata() {
+            Ok(data) if data.is_dir() => {
+                tell_no_script(err, name, &io::Error::from(ErrorKind::IsADirectory));
+                None
+            }
+            _ => Some(file),
+        },
+        Err(error) => {
+            tell_no_script(err, name, &error);
+            None
+        }
+    }
 }
 
 fn serve<R: Files + AllocGlobal, O: Write, E: Write>(
@@ -33,12 +43,13 @@ fn serve<R: Files + AllocGlobal, O: Write, E: Write>(
 ) -> u8
     ensures success_or_failure { result ≤ 1 }
 {
-    let mut script = match File::open(rt, request.file) {
-        Ok(script) => script,
-        Err(error) => return failed(err, request.file, &error),
+    let Some(mut script) = open(rt, request.file, err) else {
+        return FAILED;
     };
     match request.subcommand {
-        Subcommand::Schedule => subcommands::schedule(rt.alloc(), &mut script, out, err),
+        Subcommand::Schedule => {
+            subcommands::schedule_with(rt.alloc(), request.detail, &mut script, out, err)
+        }
     }
 }
 
@@ -46,18 +57,40 @@ fn given_words<R: Env + AllocGlobal>(rt: &R) -> io::Result<Vec<String>> {
     Ok(env::args(rt)?.collect(rt.alloc())?)
 }
 
-/// The status: 0 for a script that was run, 1 for one that wasn't, 2 for words that ask for none.
+/// Writes what was asked for. The status is 0, or 1 where it can't be written.
+fn show<O: Write, E: Write>(out: &mut O, err: &mut E, text: &clap::Error) -> u8
+    ensures success_or_failure { result ≤ 1 }
+{
+    let Err(error) = write!(out, "{text}") else {
+        return 0;
+    };
+    if error.kind() != ErrorKind::BrokenPipe {
+        let _ = writeln!(err, "memcgrun: the text can't be written: {error}");
+    }
+    FAILED
+}
+
+/// The status: 0 for a script that was run and for help and the version, 1 for a script that wasn't
+/// run, 2 for words that ask for nothing.
 fn start<R: Env + Files + AllocGlobal, O: Write, E: Write>(rt: &R, out: &mut O, err: &mut E) -> u8
     ensures a_known_status { result ≤ 2 }
 {
     let words = match given_words(rt) {
         Ok(words) => words,
-        Err(error) => return failed(err, "memcgrun", &error),
+        Err(error) if error.kind() == ErrorKind::InvalidData => {
+            tell_no_text(rt, err);
+            return BAD_WORDS;
+        }
+        Err(error) => {
+            let _ = writeln!(err, "memcgrun: {error}");
+            return FAILED;
+        }
     };
     match words::read_words(rt.alloc(), &words) {
         Ok(request) => serve(rt, request, out, err),
-        Err(Refused::Usage(text)) => {
-            // Asking for help runs nothing either, so its text goes the same way.
+        Err(Refused::Text(text)) if !text.use_stderr() => show(out, err, &text),
+        Err(Refused::Text(text)) => {
+            // The status tells of the failure even where its text can't be written.
             let _ = write!(err, "{text}");
             BAD_WORDS
         }

@@ -19,7 +19,7 @@ use Rattle.scripts.specs.Words.{words_of}
 use Rattle.scripts.specs.Faults.{first_of, line_faults}
 use Rattle.scripts.specs.Script.{steps_of_item}
 use Rattle.scripts.specs.Meaning.{meaning}
-use Rattle.scripts.specs.Header.{goes_on, frames_asked, header_frames}
+use Rattle.scripts.specs.Header.{is_header_line, frames_asked, header_frames}
 use Rattle.scripts.proofs.HeaderLemmas.{frames_line-other, frames_line-frames, frames_line-behind}
 
 -- ---- faults of a line of text
@@ -156,16 +156,16 @@ number_before_late : behind true (word.Frames ∷ []) (codes "frames 0") ≡ Som
 number_before_late = refl
 
 -- a comment does not end the header
-goes_on-comment : goes_on (words_of (codes " # x")) ≡ true
-goes_on-comment = refl
+is_header_line-comment : is_header_line (words_of (codes " # x")) ≡ true
+is_header_line-comment = refl
 
 -- nor does a faulty line of it
-goes_on-faulty : goes_on (words_of (codes "fault foo")) ≡ true
-goes_on-faulty = refl
+is_header_line-faulty : is_header_line (words_of (codes "fault foo")) ≡ true
+is_header_line-faulty = refl
 
 -- but a task's line does, whatever its word
-goes_on-task : goes_on (words_of (codes "7 frames")) ≡ false
-goes_on-task = refl
+is_header_line-task : is_header_line (words_of (codes "7 frames")) ≡ false
+is_header_line-task = refl
 
 -- ---- what lines say
 

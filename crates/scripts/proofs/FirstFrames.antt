@@ -19,7 +19,7 @@ use Rattle.scripts.specs.Forms.{word_named}
 use Rattle.scripts.specs.Context.{Around}
 use Rattle.scripts.specs.Meaning.{meaning}
 use Rattle.scripts.specs.Faults.{fault, first_of, line_faults, word_faults}
-use Rattle.scripts.specs.Header.{word_of, goes_on, is_of_header, is_frames, at_frames, frames_line, header_frames}
+use Rattle.scripts.specs.Header.{word_of, is_header_line, is_of_header, is_frames, at_frames, frames_line, header_frames}
 use Rattle.scripts.specs.Script.{items_of, is_command, header_word, around_of, fault_at}
 use Rattle.scripts.specs.Reading.{IsPart, option_list}
 use Rattle.scripts.proofs.HeaderLemmas.{frames_line-other, frames_line-frames, frames_line-behind}
@@ -45,7 +45,7 @@ quiet_by first ws false (Some word.Trace) false f g h = (refl, refl)
 quiet_by first ws false (Some word.Fault) false f g h = (refl, refl)
 quiet_by first ws false (Some _) false f g h = absurd cc
 
-quiet_words : (ws : List (List ℕ)) → goes_on ws ≡ true → is_frames (word_of ws) ≡ false → IsQuiet (meaning ws)
+quiet_words : (ws : List (List ℕ)) → is_header_line ws ≡ true → is_frames (word_of ws) ≡ false → IsQuiet (meaning ws)
 quiet_words [] g h = (refl, refl)
 quiet_words (first ∷ ws) g h = quiet_by first ws (is_comment first) (word_named speaker.Shell first) (is_numeral first) (no_number first) g h
 
@@ -114,7 +114,7 @@ further ls done [] l e c h = absurd cc
 further ls done (x ∷ rest) l e c h =
     elim (is_utf8 x) as (λ b. is_utf8 x ≡ b → IsFound ls l) [
       | false ↦ λ u. absurd (none_is (frames_line (x ∷ rest)) l (frames_line-behind x rest (rw u refl)) h)
-      | true ↦ λ u. elim (goes_on (words_of x)) as (λ b. goes_on (words_of x) ≡ b → IsFound ls l) [
+      | true ↦ λ u. elim (is_header_line (words_of x)) as (λ b. is_header_line (words_of x) ≡ b → IsFound ls l) [
         | false ↦ λ g. absurd (none_is (frames_line (x ∷ rest)) l (frames_line-behind x rest (rw (u, g) refl)) h)
         | true ↦ λ g. elim (is_frames (word_of (words_of x))) as (λ b. is_frames (word_of (words_of x)) ≡ b → IsFound ls l) [
           | true ↦ λ f. (let same : x ≡ l = some_inj (sym (frames_line-frames x rest (u, g, f)) ∙ h) in subst (λ (y : List ℕ). IsFound ls y) same (here ls done rest x e c (u, g, f)))

@@ -5,11 +5,11 @@ use Rattle.std.proofs.lemmas.List.Sums.{take_while-cons}
 use Rattle.scripts.specs.declared.header.Part.{Part}
 use Rattle.scripts.specs.declared.header.Part.TheVariants as part
 use Rattle.scripts.specs.Words.{words_of}
-use Rattle.scripts.specs.Header.{goes_on, frames_line, frames_asked, header_frames}
+use Rattle.scripts.specs.Header.{is_header_line, frames_line, frames_asked, header_frames}
 use Rattle.scripts.specs.Reading.{IsPart}
 
 abbrev stays : List ℕ → Bool
-stays l = is_utf8 l && goes_on (words_of l)
+stays l = is_utf8 l && is_header_line (words_of l)
 
 pub frames_line-other : (l : List ℕ) (ls : List (List ℕ)) → IsPart part.Other l → frames_line (l ∷ ls) ≡ frames_line ls
 frames_line-other l ls h = rw (take_while-cons stays l ls, h.0, h.1, h.2) refl

@@ -15,7 +15,7 @@ use Rattle.scripts.specs.Words.{words_of}
 use Rattle.scripts.specs.Forms.{same_word}
 use Rattle.scripts.specs.Meaning.{meaning}
 use Rattle.scripts.specs.Faults.{fault, is_within}
-use Rattle.scripts.specs.Header.{word_of, goes_on, is_frames, at_frames, default_config, frames_line, frames_asked, header_frames}
+use Rattle.scripts.specs.Header.{word_of, is_header_line, is_frames, at_frames, default_config, frames_line, frames_asked, header_frames}
 use Rattle.scripts.specs.Reading.{Known, at_start, after}
 use Rattle.scripts.proofs.HeaderLemmas.{frames_line-other, frames_line-frames, frames_line-behind}
 use Rattle.scripts.proofs.TellLemmas.{Tells, tells}
@@ -62,7 +62,7 @@ first ls left more m n b c given l e f g h (inr (inr p)) =
 -- ---- one line more
 
 abbrev Line : Known → List ℕ → Item → Type 0
-Line k l i = (is_utf8 l ≡ true) × Tells k.around (goes_on (words_of l)) (is_frames (word_of (words_of l))) (fault at_frames l) i
+Line k l i = (is_utf8 l ≡ true) × Tells k.around (is_header_line (words_of l)) (is_frames (word_of (words_of l))) (fault at_frames l) i
 
 step : (ls left more : List (List ℕ)) (k : Known) (l : List ℕ) (i : Item) → left ≡ l ∷ more → meaning (words_of l) ≡ i → Line k l i → Fits ls left k → Fits ls more (after k i)
 step ls left more k l (item.Frames n) e m (u, t) f =

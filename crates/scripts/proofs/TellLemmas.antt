@@ -23,9 +23,9 @@ use Rattle.scripts.specs.declared.forms.Manner.TheVariants as manner
 use Rattle.scripts.specs.Words.{words_of, is_comment}
 use Rattle.scripts.specs.Forms.{form_of, words, word_named, is_named, same_speaker, same_word, takes_line}
 use Rattle.scripts.specs.Context.{Around}
-use Rattle.scripts.specs.Meaning.{meaning, word_means, named_means, task_means, bare_means, begun, number_value, marks_of, at}
+use Rattle.scripts.specs.Meaning.{meaning, word_means, named_means, task_means, bare_means, only_begun, number_value, marks_of, at}
 use Rattle.scripts.specs.Faults.{first_of, word_faults, named_faults, task_faults, bare_faults, line_faults, task_fits, all_fit, number_fits, marks_fit, is_within, fault}
-use Rattle.scripts.specs.Header.{word_of, is_of_header, is_frames, goes_on, at_frames}
+use Rattle.scripts.specs.Header.{word_of, is_of_header, is_frames, is_header_line, at_frames}
 use Rattle.scripts.specs.Script.{is_command}
 
 -- ---- the words' names
@@ -169,7 +169,7 @@ begun_command : (a : Around) (ws : List (List ℕ)) → first_of (bare_faults a 
 begun_command a [] h = absurd cc
 begun_command a (first ∷ ws) h = begun_named a first ws (is_numeral first) (word_named speaker.Shell first) h
 
-stays_command : (i : Item) → is_command i ≡ true → is_command (begun i) ≡ true
+stays_command : (i : Item) → is_command i ≡ true → is_command (only_begun i) ≡ true
 stays_command (item.Does actor.Shell what) h = refl
 stays_command (item.Does who what) h = refl
 stays_command _ h = h
@@ -201,7 +201,7 @@ faults_by a first ws comment o number =
 abbrev pub meaning_by : List ℕ → List (List ℕ) → Bool → Option Word → Bool → Item
 meaning_by first ws comment o number =
     if comment then item.Nothing
-    else if takes_line o then begun (bare_means ws)
+    else if takes_line o then only_begun (bare_means ws)
     else if number then task_means first ws
     else named_means None o ws
 
@@ -215,7 +215,7 @@ by_first : (a : Around) (first : List ℕ) (ws : List (List ℕ)) (comment : Boo
     → Tells a (comment || is_of_header o) (is_frames o) (first_of (faults_by at_frames first ws comment o number)) (meaning_by first ws comment o number)
 by_first a first ws true o number f g h = (refl, no_frames o (λ e. let no : true ≡ false = f e in absurd cc))
 by_first a first ws false (Some word.Begin) number f g h =
-    of_command a false false (first_of (bare_faults at_frames manner.Begun ws)) (begun (bare_means ws)) (stays_command (bare_means ws) (begun_command a ws h)) refl
+    of_command a false false (first_of (bare_faults at_frames manner.Begun ws)) (only_begun (bare_means ws)) (stays_command (bare_means ws) (begun_command a ws h)) refl
 by_first a first ws false None true f g h = of_command a false false (first_of (task_faults at_frames manner.Whole first ws)) (task_means first ws) (task_command a manner.Whole first ws h) refl
 by_first a first ws false None false f g h = absurd cc
 by_first a first ws false (Some w) true f g h =
@@ -223,14 +223,14 @@ by_first a first ws false (Some w) true f g h =
 by_first a first ws false (Some w) false f g h = by_word a w ws refl h
 
 -- what the words of a faultless line tell
-by_words : (a : Around) (ws : List (List ℕ)) → first_of (line_faults a ws) ≡ None → Tells a (goes_on ws) (is_frames (word_of ws)) (first_of (line_faults at_frames ws)) (meaning ws)
+by_words : (a : Around) (ws : List (List ℕ)) → first_of (line_faults a ws) ≡ None → Tells a (is_header_line ws) (is_frames (word_of ws)) (first_of (line_faults at_frames ws)) (meaning ws)
 by_words a [] h = (refl, refl)
 by_words a (first ∷ ws) h =
     by_first a first ws (is_comment first) (word_named speaker.Shell first) (is_numeral first) (not_skipped first) (no_number first) h
 
 -- what a faultless line tells
 pub tells : (a : Around) (l : List ℕ) → fault a l ≡ None
-    → (is_utf8 l ≡ true) × Tells a (goes_on (words_of l)) (is_frames (word_of (words_of l))) (fault at_frames l) (meaning (words_of l))
+    → (is_utf8 l ≡ true) × Tells a (is_header_line (words_of l)) (is_frames (word_of (words_of l))) (fault at_frames l) (meaning (words_of l))
 tells a l h =
     let p = fails (not (is_utf8 l)) NotText (line_faults a (words_of l)) h in
     let u : is_utf8 l ≡ true = not_false (is_utf8 l) p.0 in

@@ -55,12 +55,12 @@ is_frames None = false
 is_frames (Some w) = same_word w word.Frames
 
 -- the header does not end before a line with these words
-abbrev pub goes_on : List (List ℕ) → Bool
-goes_on ws = is_skipped ws || is_of_header (word_of ws)
+abbrev pub is_header_line : List (List ℕ) → Bool
+is_header_line ws = is_skipped ws || is_of_header (word_of ws)
 
 -- the lines of the header, and those that are skipped among them
 abbrev pub header_lines : List (List ℕ) → List (List ℕ)
-header_lines ls = take_while (λ l. is_utf8 l && goes_on (words_of l)) ls
+header_lines ls = take_while (λ l. is_utf8 l && is_header_line (words_of l)) ls
 
 -- the first of them that begins with `frames`
 abbrev pub frames_line : List (List ℕ) → Option (List ℕ)

@@ -86,15 +86,15 @@ bare_means (first ∷ more) =
     else named_means None (word_named speaker.Shell first) more
 
 -- what is begun is not finished, and control does what the shell would do
-abbrev pub begun : Item → Item
-begun (item.Does actor.Shell what) = item.Begins actor.Control what
-begun (item.Does who what) = item.Begins who what
-begun i = i
+abbrev pub only_begun : Item → Item
+only_begun (item.Does actor.Shell what) = item.Begins actor.Control what
+only_begun (item.Does who what) = item.Begins who what
+only_begun i = i
 
 -- what the words of a faultless line say
 abbrev pub meaning : List (List ℕ) → Item
 meaning [] = item.Nothing
 meaning (first ∷ more) =
     if is_comment first then item.Nothing
-    else if takes_line (word_named speaker.Shell first) then begun (bare_means more)
+    else if takes_line (word_named speaker.Shell first) then only_begun (bare_means more)
     else bare_means (first ∷ more)

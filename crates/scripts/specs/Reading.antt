@@ -12,7 +12,7 @@ use Rattle.scripts.specs.declared.header.Part.TheVariants as part
 use Rattle.std.specs.Str.{is_utf8}
 use Rattle.scripts.specs.Words.{words_of}
 use Rattle.scripts.specs.Context.{Around, around}
-use Rattle.scripts.specs.Header.{config_after, config_of, word_of, goes_on, is_frames}
+use Rattle.scripts.specs.Header.{config_after, config_of, word_of, is_header_line, is_frames}
 use Rattle.scripts.specs.Script.{fails, faults_of, steps_of_item, steps_of, is_command, header_word, around_of}
 
 -- what the lines read so far leave to be known: for the faults of the next line, and for the script
@@ -58,6 +58,6 @@ after k i = record {
 
 -- what a line is to the header
 abbrev pub IsPart : Part → List ℕ → Type 0
-IsPart part.Frames l = (is_utf8 l ≡ true) × (goes_on (words_of l) ≡ true) × (is_frames (word_of (words_of l)) ≡ true)
-IsPart part.Other l = (is_utf8 l ≡ true) × (goes_on (words_of l) ≡ true) × (is_frames (word_of (words_of l)) ≡ false)
-IsPart part.Behind l = (is_utf8 l && goes_on (words_of l)) ≡ false
+IsPart part.Frames l = (is_utf8 l ≡ true) × (is_header_line (words_of l) ≡ true) × (is_frames (word_of (words_of l)) ≡ true)
+IsPart part.Other l = (is_utf8 l ≡ true) × (is_header_line (words_of l) ≡ true) × (is_frames (word_of (words_of l)) ≡ false)
+IsPart part.Behind l = (is_utf8 l && is_header_line (words_of l)) ≡ false

@@ -13,7 +13,7 @@ use crate::meaning::marks_of;
 use crate::words::Token;
 use text_forms::name::is_path;
 
-fn word_fits(kind: Kind, word: &Token<'_>) -> bool
+pub fn word_fits(kind: Kind, word: &Token<'_>) -> bool
     ensures { result ≡ word_fits kind word.now }
 {
     match kind {
@@ -23,7 +23,7 @@ fn word_fits(kind: Kind, word: &Token<'_>) -> bool
     }
 }
 
-fn number_fits(kind: Kind, word: &Token<'_>) -> bool
+pub fn number_fits(kind: Kind, word: &Token<'_>) -> bool
     ensures { result ≡ number_fits kind word.now }
 {
     match kind {
@@ -36,7 +36,7 @@ fn number_fits(kind: Kind, word: &Token<'_>) -> bool
     }
 }
 
-fn name_fits(kind: Kind, word: &Token<'_>) -> bool
+pub fn name_fits(kind: Kind, word: &Token<'_>) -> bool
     ensures { result ≡ name_fits kind word.now }
 {
     match kind {

@@ -33,7 +33,7 @@ enum Part {
     Behind,
 }
 
-fn word_of(words: &[Token<'_>]) -> Option<Word>
+pub fn word_of(words: &[Token<'_>]) -> Option<Word>
     ensures { result ≡ word_of words.now }
 {
     match words.first() {
@@ -42,7 +42,7 @@ fn word_of(words: &[Token<'_>]) -> Option<Word>
     }
 }
 
-fn is_skipped(words: &[Token<'_>]) -> bool
+pub fn is_skipped(words: &[Token<'_>]) -> bool
     ensures { result ≡ is_skipped words.now }
 {
     match words.first() {
@@ -51,7 +51,7 @@ fn is_skipped(words: &[Token<'_>]) -> bool
     }
 }
 
-fn is_of_header(word: Option<Word>) -> bool
+pub fn is_of_header(word: Option<Word>) -> bool
     ensures { result ≡ is_of_header word }
 {
     match word {

@@ -8,6 +8,7 @@
 
 mod check;
 mod context;
+mod explanation;
 mod fault;
 mod forms;
 mod header;
@@ -15,8 +16,10 @@ mod line;
 mod lines;
 mod meaning;
 mod script;
+mod why;
 mod words;
 
+pub use explanation::explain;
 pub use fault::{Cause, ScriptFault};
 pub use forms::{DeviceCall, Form, Kind, Speaker, Word, each_word_is_found};
 pub use script::{Mode, Script, frames_line_has_its_own_fault, one_answer, read};

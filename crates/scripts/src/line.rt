@@ -6,7 +6,7 @@ ghost use Rattle.scripts.specs.declared.forms.Manner.TheVariants.{Begun};
 ghost use Rattle.scripts.specs.Words.{words_of};
 ghost use Rattle.scripts.specs.Context.{around};
 ghost use Rattle.scripts.specs.Faults.{now, first_of, named_faults, task_faults, bare_faults, line_faults, fault};
-ghost use Rattle.scripts.specs.Meaning.{named_means, task_means, bare_means, begun, meaning};
+ghost use Rattle.scripts.specs.Meaning.{named_means, task_means, bare_means, only_begun, meaning};
 ghost use Rattle.scripts.specs.Lines.{Reads};
 
 use crate::check::fault_of_word;
@@ -14,7 +14,7 @@ use crate::context::Context;
 use crate::fault::{Cause, LineError};
 use crate::forms::{Manner, Speaker, Word, takes_line, word_named};
 use crate::lines::as_text;
-use crate::meaning::{Item, begun, item_of_word};
+use crate::meaning::{Item, item_of_word, only_begun};
 use crate::words::{Token, words_of};
 use std::alloc::Global;
 
@@ -62,7 +62,7 @@ fn read_task(
 fn read_begun(alloc: Global, context: &Context, words: &[Token<'_>]) -> Result<Item, LineError>
     ensures { Reads result
         (first_of (bare_faults (around context.now) Begun words.now))
-        (begun (bare_means words.now)) }
+        (only_begun (bare_means words.now)) }
 {
     let Some((first, more)) = words.split_first() else {
         return Err(LineError::Fault(Cause::MissingArgument));
@@ -73,7 +73,7 @@ fn read_begun(alloc: Global, context: &Context, words: &[Token<'_>]) -> Result<I
         let word = word_named(Speaker::Shell, first.text());
         read_named(alloc, context, Manner::Begun, None, word, more)?
     };
-    Ok(begun(item))
+    Ok(only_begun(item))
 }
 
 fn read_words(alloc: Global, context: &Context, words: &[Token<'_>]) -> Result<Item, LineError>

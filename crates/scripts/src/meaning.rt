@@ -5,7 +5,7 @@ ghost use Rattle.std.specs.Option.{option_map};
 ghost use Rattle.machine.specs.declared.command.Command.TheVariants.{Protection};
 ghost use Rattle.scripts.specs.Forms.{form_of};
 ghost use Rattle.scripts.specs.Faults.{now};
-ghost use Rattle.scripts.specs.Meaning.{number_value, byte_value, actor_of, actor_value, call_value, marks_of, access_to, word_means, begun};
+ghost use Rattle.scripts.specs.Meaning.{number_value, byte_value, actor_of, actor_value, call_value, marks_of, access_to, word_means, only_begun};
 
 use crate::forms::{DeviceCall, Word, actor_named, call_named};
 use crate::words::Token;
@@ -160,8 +160,8 @@ pub fn item_of_word(
 }
 
 /// What is only begun of what a line says. What the shell would do, control begins.
-pub fn begun(item: Item) -> Item
-    ensures { result ≡ begun item }
+pub fn only_begun(item: Item) -> Item
+    ensures { result ≡ only_begun item }
 {
     match item {
         Item::Does(Actor::Shell, command) => Item::Begins(Actor::Control, command),

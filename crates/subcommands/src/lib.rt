@@ -6,10 +6,10 @@ mod fault;
 ghost use Rattle.std.specs.Prelude.{◌≤◌};
 
 use block_store::MemDevice;
-use fault::Fault;
+use fault::{Fault, Wanted};
 use machine::command::Reply;
 use machine::refusal::Refusal;
-use scripts::{Mode, Script};
+use scripts::{Mode, Script, ScriptFault};
 use std::alloc::Global;
 use std::io::{BufWriter, Read, Write};
 
@@ -18,6 +18,15 @@ use std::io::{BufWriter, Read, Write};
 pub const SCRIPT_BYTES: u64 = 1 << 26;
 
 const FAILED: u8 = 1;
+
+/// How much is said of a script's fault.
+#[derive(Clone, Copy, Debug, PartialEq, Eq)]
+pub enum Detail {
+    /// The line and the cause.
+    Cause,
+    /// A second line says which word is wrong, and what its place asks for.
+    Explained,
+}
 
 fn read_bytes<R: Read>(alloc: Global, script: &mut R) -> Result<Vec<u8>, Fault> {
     let mut bytes = Vec::new(alloc);
@@ -32,6 +41,14 @@ fn read_bytes<R: Read>(alloc: Global, script: &mut R) -> Result<Vec<u8>, Fault> 
     Ok(bytes)
 }
 
+/// Why a run gave no answers.
+fn refused(script: &Script, refusal: Refusal) -> Fault {
+    match refusal {
+        Refusal::NoMemory => Fault::Memory(Wanted::of(script.config)),
+        refusal => Fault::Run(refusal),
+    }
+}
+
 /// The run of a script over a new device, which has the blocks that the script asks for, and its
 /// faults.
 fn run(alloc: Global, script: &Script) -> Result<Vec<Reply>, Fault> {
@@ -41,14 +58,29 @@ fn run(alloc: Global, script: &Script) -> Result<Vec<Reply>, Fault> {
         &script.read_faults,
         &script.write_faults,
     )
-    .map_err(|_| Fault::Run(Refusal::NoMemory))?;
-    driver::run(alloc, script.config, &mut device, &script.steps).map_err(Fault::Run)
+    .map_err(|_| refused(script, Refusal::NoMemory))?;
+    driver::run(alloc, script.config, &mut device, &script.steps).map_err(|refusal| refused(
+        script, refusal,
+    ))
 }
 
-fn answers<R: Read>(alloc: Global, script: &mut R) -> Result<Vec<Reply>, Fault> {
+/// The fault of a script. Where there is no memory to say more of it, its line is said alone.
+fn faulty(alloc: Global, detail: Detail, bytes: &[u8], fault: ScriptFault) -> Fault {
+    if detail == Detail::Cause {
+        return Fault::Script(fault);
+    }
+    match scripts::explain(alloc, bytes, fault) {
+        Ok(Some(more)) => Fault::Explained(fault, more),
+        Ok(None) | Err(_) => Fault::Script(fault),
+    }
+}
+
+fn answers<R: Read>(alloc: Global, detail: Detail, script: &mut R) -> Result<Vec<Reply>, Fault> {
     let bytes = read_bytes(alloc, script)?;
-    let script = scripts::read(alloc, &bytes, Mode::Schedule).map_err(Fault::Script)?;
-    run(alloc, &script)
+    match scripts::read(alloc, &bytes, Mode::Schedule) {
+        Ok(script) => run(alloc, &script),
+        Err(fault) => Err(faulty(alloc, detail, &bytes, fault)),
+    }
 }
 
 fn print_all<W: Write>(alloc: Global, answers: &[Reply], out: &mut W) -> Result<(), Fault> {
@@ -62,10 +94,11 @@ fn print_all<W: Write>(alloc: Global, answers: &[Reply], out: &mut W) -> Result<
 
 fn schedule_or_fault<R: Read, O: Write>(
     alloc: Global,
+    detail: Detail,
     script: &mut R,
     out: &mut O,
 ) -> Result<(), Fault> {
-    let answers = answers(alloc, script)?;
+    let answers = answers(alloc, detail, script)?;
     print_all(alloc, &answers, out)
 }
 
@@ -73,8 +106,9 @@ fn schedule_or_fault<R: Read, O: Write>(
 ///
 /// The exit status is 0, or 1 where the run fails: the script can't be read or has more than
 /// [`SCRIPT_BYTES`], a line of it is faulty, the run wants memory, or an answer can't be written.
-/// Then `err` gets one line, which for a faulty line is `line L: CAUSE`. Nothing is run, and `out`
-/// gets nothing, unless the script as a whole is sound.
+/// Then `err` gets one line, which for a faulty line is `line L: CAUSE`; but none where `out` is a
+/// pipe that nobody reads any more. Nothing is run, and `out` gets nothing, unless the script as a
+/// whole is sound.
 pub fn schedule<R: Read, O: Write, E: Write>(
     alloc: Global,
     script: &mut R,
@@ -83,10 +117,25 @@ pub fn schedule<R: Read, O: Write, E: Write>(
 ) -> u8
     ensures success_or_failure { result ≤ 1 }
 {
-    let Err(fault) = schedule_or_fault(alloc, script, out) else {
+    schedule_with(alloc, Detail::Cause, script, out, err)
+}
+
+/// The same. With [`Detail::Explained`] a second line to `err` says more of a faulty line.
+pub fn schedule_with<R: Read, O: Write, E: Write>(
+    alloc: Global,
+    detail: Detail,
+    script: &mut R,
+    out: &mut O,
+    err: &mut E,
+) -> u8
+    ensures success_or_failure { result ≤ 1 }
+{
+    let Err(fault) = schedule_or_fault(alloc, detail, script, out) else {
         return 0;
     };
-    // The status tells of the failure even where its line can't be written.
-    let _ = writeln!(err, "{fault}");
+    if !fault.is_silent() {
+        // The status tells of the failure even where its line can't be written.
+        let _ = writeln!(err, "{fault}");
+    }
     FAILED
 }

@@ -1,0 +1,55 @@
+//! What more is said of a fault, of scripts that no line of a file can be.
+
+use crate::case::explains;
+
+#[test]
+fn a_byte_that_is_no_text_is_named(rt: HostRuntime) {
+    explains(
+        &rt,
+        "a byte that no character has",
+        b"group /a\nfoo\xff\n",
+        "line 2: not text\nbyte 4 of the line, 0xff, is part of no character of UTF-8\n",
+    );
+    explains(
+        &rt,
+        "a character that is cut off",
+        b"# \xc3\n",
+        "line 1: not text\nbyte 3 of the line, 0xc3, is part of no character of UTF-8\n",
+    );
+}
+
+#[test]
+fn a_mark_of_the_encoding_is_named(rt: HostRuntime) {
+    explains(
+        &rt,
+        "of UTF-8",
+        b"\xef\xbb\xbfgroup /a\n",
+        "line 1: unknown word\nword 1, \"\\u{feff}group\", begins with a byte order mark, which no script may have\n",
+    );
+    let utf16 =
+        "line 1: not text\nthe script begins with a byte order mark of UTF-16, and has to be UTF-8\n";
+    explains(&rt, "of UTF-16, low byte first", b"\xff\xfeg\0\n\0", utf16);
+    explains(&rt, "of UTF-16, high byte first", b"\xfe\xff\0g\0\n", utf16);
+}
+
+#[test]
+fn control_characters_are_written_out(rt: HostRuntime) {
+    explains(
+        &rt,
+        "a carriage return at the end of the last line",
+        b"frames 4\r",
+        "line 1: bad number\nword 2, \"4\\r\", is not of decimal digits alone: it has to be a number from 1 to 65536\n",
+    );
+    explains(
+        &rt,
+        "a vertical tab",
+        b"group\x0b/a\n",
+        "line 1: unknown word\nword 1, \"group\\u{b}/a\", is none that a line begins with\n",
+    );
+    explains(
+        &rt,
+        "an escape sequence",
+        b"group /\x1b[1m\n",
+        "line 1: bad name\nword 2, \"/\\u{1b}[1m\", is no path: it has the character '\\u{1b}', which no name has\n",
+    );
+}

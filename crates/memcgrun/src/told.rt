@@ -1,0 +1,147 @@
+//! The lines of standard error for what was given on the command line. Each names it, in quotes and with
+//! its control characters written out.
+
+use std::env::FillError;
+use std::io::{ErrorKind, Write};
+use std::rt::Env;
+use std::{io, str};
+
+/// As many bytes of a word that is not UTF-8 are shown at most.
+const WORD_BYTES: usize = 4096;
+
+/// A file that gives no script.
+pub fn tell_no_script<E: Write>(err: &mut E, name: &str, error: &io::Error) {
+    // The status tells of the failure even where its line can't be written.
+    let _ = match error.kind() {
+        ErrorKind::NotFound if name.is_empty() => {
+            writeln!(err, "memcgrun: {name:?} is no name of a file")
+        }
+        ErrorKind::NotFound => writeln!(err, "memcgrun: there is no file {name:?}"),
+        ErrorKind::IsADirectory => writeln!(err, "memcgrun: {name:?} is a directory"),
+        _ => writeln!(err, "memcgrun: {name:?} can't be opened: {error}"),
+    };
+}
+
+/// The first word of the command line that is not UTF-8, if there is one that is not longer than the
+/// buffer: its place, the program's own name not counted, and how many of the buffer's bytes it has.
+fn first_no_text<R: Env>(rt: &R, buffer: &mut [u8]) -> Option<(usize, usize)> {
+    for at in 0..usize::MAX {
+        match rt.arg(at, buffer) {
+            Ok(length) => {
+                let word = buffer.get(..length)?;
+                if str::from_utf8(word).is_err() {
+                    return Some((at, length));
+                }
+            }
+            Err(FillError::TooLong) => {}
+            Err(FillError::NotPresent) => return None,
+        }
+    }
+    None
+}
+
+/// A word of the command line that is not UTF-8.
+pub fn tell_no_text<R: Env, E: Write>(rt: &R, err: &mut E) {
+    let mut buffer = [0; WORD_BYTES];
+    let found = first_no_text(rt, &mut buffer);
+    let _ = match found.and_then(|(at, length)| Some((at, buffer.get(..length)?))) {
+        Some((at, word)) => writeln!(
+            err,
+            "memcgrun: word {at} of the command line, \"{}\", is not UTF-8",
+            word.escape_ascii()
+        ),
+        None => writeln!(err, "memcgrun: a word of the command line is not UTF-8"),
+    };
+}
+
+#[cfg(test)]
+mod tests {
+    use super::*;
+    use std::test::Fail;
+
+    #[test]
+    fn a_name_stands_in_quotes(rt: HostRuntime) -> Result<(), Fail> {
+        let rows = [
+            (
+                "",
+                ErrorKind::NotFound,
+                "memcgrun: \"\" is no name of a file\n",
+            ),
+            (
+                "a b",
+                ErrorKind::NotFound,
+                "memcgrun: there is no file \"a b\"\n",
+            ),
+            (
+                "a\nb",
+                ErrorKind::NotFound,
+                "memcgrun: there is no file \"a\\nb\"\n",
+            ),
+            (
+                "a\u{1b}[1m",
+                ErrorKind::NotFound,
+                "memcgrun: there is no file \"a\\u{1b}[1m\"\n",
+            ),
+            (
+                "a",
+                ErrorKind::IsADirectory,
+                "memcgrun: \"a\" is a directory\n",
+            ),
+            (
+                "a",
+                ErrorKind::PermissionDenied,
+                "memcgrun: \"a\" can't be opened: permission denied\n",
+            ),
+        ];
+        for (name, kind, line) in rows {
+            let mut err = Vec::new(rt.alloc());
+            tell_no_script(&mut err, name, &io::Error::from(kind));
+            assert_eq!(rt; str::from_utf8(&err), Ok(line));
+        }
+        Ok(())
+    }
+
+    // A command line.
+    struct Line {
+        words: [&'static [u8]; 3],
+    }
+
+    impl Env for Line {
+        fn arg(&self, i: usize, buf: &mut [u8]) -> Result<usize, FillError> {
+            let word = self.words.get(i).ok_or(FillError::NotPresent)?;
+            let room = buf.get_mut(..word.len()).ok_or(FillError::TooLong)?;
+            room.copy_from_slice(word);
+            Ok(word.len())
+        }
+
+        fn var(&self, _name: &str, _buf: &mut [u8]) -> Result<usize, FillError> {
+            Err(FillError::NotPresent)
+        }
+
+        fn var_at(&self, _i: usize, _buf: &mut [u8]) -> Result<usize, FillError> {
+            Err(FillError::NotPresent)
+        }
+    }
+
+    #[test]
+    fn a_word_that_is_no_text_is_named(rt: HostRuntime) -> Result<(), Fail> {
+        let rows: [([&'static [u8]; 3], &str); 2] = [
+            (
+                [b"memcgrun", b"schedule", b"a\xff\n"],
+                "memcgrun: word 2 of the command line, \"a\\xff\\n\", is not UTF-8\n",
+            ),
+            (
+                [b"memcgrun", b"schedule", b"a"],
+                "memcgrun: a word of the command line is not UTF-8\n",
+            ),
+        ];
+        for (words, line) in rows {
+            let given = Line { words };
+            let mut err = Vec::new(rt.alloc());
+            tell_no_text(&given, &mut err);
+            assert_eq!(rt; str::from_utf8(&err), Ok(line));
+            let Line { words: _ } = given;
+        }
+        Ok(())
+    }
+}

@@ -1,0 +1,366 @@
+//! What more there is to say of a fault: which word of the line is wrong, and what its place asks for.
+//!
+//! Nothing is judged anew: the tests are those by which the reader found the fault, and the word that is
+//! named is the first of the line that fails the test of the cause. No clause speaks of the texts.
+
+use crate::check::{name_fits, number_fits, word_fits};
+use crate::fault::{Cause, ScriptFault};
+use crate::forms::{Kind, Manner, Speaker, Word, may_stand, takes_line, word_named};
+use crate::header::{header_frames, is_of_header, is_skipped, word_of};
+use crate::lines::{as_text, first_line};
+use crate::why::{BadPath, Placed, Why};
+use crate::words::{Token, words_of};
+use machine::limit::LAST_NUMBER;
+use std::alloc::{AllocError, Global};
+use std::str;
+use text_forms::name::is_name;
+use text_forms::number::{is_digits, number_of};
+
+const BYTE_ORDER_MARK: char = '\u{feff}';
+
+/// The words of a line, taken apart as the reader does it.
+#[derive(Clone, Copy)]
+struct Parts<'w, 't> {
+    manner: Manner,
+    /// The task's number, of a task's line.
+    task: Option<Placed<'w>>,
+    /// How many words stand before the one that says what the line does.
+    before: usize,
+    /// The word that says what the line does, and those behind it.
+    rest: &'w [Token<'t>],
+}
+
+impl<'w, 't> Parts<'w, 't> {
+    /// The word of the rest at this place, counted from 0.
+    fn placed(&self, at: usize) -> Option<Placed<'w>> {
+        let word = self.rest.get(at)?;
+        Some(Placed {
+            number: self.number(at),
+            text: word.text(),
+        })
+    }
+
+    /// The number of that word in the line, counted from 1.
+    fn number(&self, at: usize) -> usize {
+        self.before.saturating_add(at).saturating_add(1)
+    }
+
+    fn word(&self) -> Option<Word> {
+        let speaker = match self.task {
+            Some(_) => Speaker::Task,
+            None => Speaker::Shell,
+        };
+        word_named(speaker, self.rest.first()?.text())
+    }
+
+    /// The first argument that fails the test of the cause, with what its place asks for.
+    fn misfit(&self, word: Word, cause: Cause) -> Option<(Kind, Placed<'w>)> {
+        let (_, arguments) = self.rest.split_first()?;
+        let kinds = word.form().arguments;
+        let mut pairs = kinds.iter().zip(arguments);
+        let at = pairs.position(|(kind, word)| !fits(cause, *kind, word))?;
+        Some((*kinds.get(at)?, self.placed(at.saturating_add(1))?))
+    }
+}
+
+fn fits(cause: Cause, kind: Kind, word: &Token<'_>) -> bool {
+    match cause {
+        Cause::UnknownWord => word_fits(kind, word),
+        Cause::BadNumber => number_fits(kind, word),
+        Cause::BadName => name_fits(kind, word),
+        _ => true,
+    }
+}
+
+/// Of a line without one, or of what stands behind `begin`.
+fn bare_parts<'w, 't>(manner: Manner, before: usize, words: &'w [Token<'t>]) -> Parts<'w, 't> {
+    match words.split_first() {
+        Some((first, rest)) if first.is_digits() => {
+            let number = before.saturating_add(1);
+            let task = Some(Placed {
+                number,
+                text: first.text(),
+            });
+            Parts {
+                manner,
+                task,
+                before: number,
+                rest,
+            }
+        }
+        _ => Parts {
+            manner,
+            task: None,
+            before,
+            rest: words,
+        },
+    }
+}
+
+fn parts_of<'w, 't>(words: &'w [Token<'t>]) -> Parts<'w, 't> {
+    match words.split_first() {
+        Some((first, rest)) if takes_line(word_named(Speaker::Shell, first.text())) => {
+            bare_parts(Manner::Begun, 1, rest)
+        }
+        _ => bare_parts(Manner::Whole, 0, words),
+    }
+}
+
+fn no_text<'a>(text: &[u8], line: &[u8]) -> Option<Why<'a>> {
+    if text.starts_with(b"\xff\xfe") || text.starts_with(b"\xfe\xff") {
+        return Some(Why::Utf16);
+    }
+    let Err(error) = str::from_utf8(line) else {
+        return None;
+    };
+    let at = error.valid_up_to();
+    Some(Why::NoCharacter {
+        place: at.saturating_add(1),
+        byte: *line.get(at)?,
+    })
+}
+
+fn unknown_word<'w>(parts: &Parts<'w, '_>) -> Option<Why<'w>> {
+    let name = parts.placed(0)?;
+    if let Some(word) = parts.word() {
+        if !may_stand(parts.manner, word) {
+            return Some(Why::NotBegun(name));
+        }
+        let (kind, argument) = parts.misfit(word, Cause::UnknownWord)?;
+        return Some(Why::Misfit(argument, kind));
+    }
+    if parts.task.is_some() {
+        return Some(Why::NoTaskWord(name));
+    }
+    if name.text.starts_with(BYTE_ORDER_MARK) {
+        return Some(Why::ByteOrderMark(name));
+    }
+    if word_named(Speaker::Task, name.text).is_some() {
+        return Some(Why::TaskWord(name));
+    }
+    Some(Why::NoWord(name))
+}
+
+fn missing_argument<'w>(parts: &Parts<'w, '_>) -> Option<Why<'w>> {
+    let number = parts.number(parts.rest.len());
+    match parts.word() {
+        Some(word) => {
+            let form = word.form();
+            let (_, arguments) = parts.rest.split_first()?;
+            let kind = *form.arguments.get(arguments.len())?;
+            Some(Why::Missing { number, form, kind })
+        }
+        None if parts.task.is_some() => Some(Why::NoTaskWordAt(number)),
+        None => Some(Why::NoLineAt(number)),
+    }
+}
+
+fn extra_argument<'w>(parts: &Parts<'w, '_>) -> Option<Why<'w>> {
+    let form = parts.word()?.form();
+    let extra = parts.placed(form.arguments.len().saturating_add(1))?;
+    Some(Why::Extra(extra, form))
+}
+
+/// A word that is no number as this kind asks for.
+fn no_number<'w>(placed: Placed<'w>, kind: Kind) -> Why<'w> {
+    if !is_digits(placed.text) {
+        return Why::NotDigits(placed, kind);
+    }
+    match (kind, number_of(placed.text)) {
+        (Kind::Number { least, .. }, Some(number)) if number < least => Why::Below(placed, least),
+        (Kind::Number { most, .. }, _) => Why::Above(placed, most),
+        _ => Why::Above(placed, LAST_NUMBER),
+    }
+}
+
+/// The daemon's marks are out of order, or above the frames.
+fn bad_marks<'w>(
+    alloc: Global,
+    text: &[u8],
+    parts: &Parts<'w, '_>,
+) -> Result<Option<Why<'w>>, AllocError> {
+    let frames = header_frames(alloc, text)?;
+    let (Some(low), Some(high)) = (parts.placed(1), parts.placed(2)) else {
+        return Ok(None);
+    };
+    if number_of(low.text) > number_of(high.text) {
+        return Ok(Some(Why::MarksTurned(low, high)));
+    }
+    Ok(Some(Why::MarkAboveFrames(high, frames)))
+}
+
+fn bad_number<'w>(
+    alloc: Global,
+    text: &[u8],
+    parts: &Parts<'w, '_>,
+) -> Result<Option<Why<'w>>, AllocError> {
+    if let Some(task) = parts.task
+        && number_of(task.text).is_none()
+    {
+        return Ok(Some(Why::Above(task, LAST_NUMBER)));
+    }
+    let Some(word) = parts.word() else {
+        return Ok(None);
+    };
+    match parts.misfit(word, Cause::BadNumber) {
+        Some((kind, placed)) => Ok(Some(no_number(placed, kind))),
+        None => bad_marks(alloc, text, parts),
+    }
+}
+
+fn is_name_character(found: char) -> bool {
+    found.is_ascii_alphanumeric() || found == '.' || found == '_' || found == '-'
+}
+
+fn bad_part(name: &str) -> BadPath<'_> {
+    if name.is_empty() {
+        return BadPath::EmptyName;
+    }
+    if name == "." || name == ".." {
+        return BadPath::Dots(name);
+    }
+    match name.chars().find(|found| !is_name_character(*found)) {
+        Some(found) => BadPath::Character(found),
+        None => BadPath::LongName,
+    }
+}
+
+fn bad_path(path: &str) -> Option<BadPath<'_>> {
+    let Some(names) = path.strip_prefix('/') else {
+        return Some(BadPath::NoSlash);
+    };
+    if names.ends_with('/') {
+        return Some(BadPath::SlashAtTheEnd);
+    }
+    Some(bad_part(names.split('/').find(|name| !is_name(name))?))
+}
+
+fn bad_name<'w>(parts: &Parts<'w, '_>) -> Option<Why<'w>> {
+    let (_, placed) = parts.misfit(parts.word()?, Cause::BadName)?;
+    Some(Why::Path(placed, bad_path(placed.text)?))
+}
+
+/// Which of the earlier lines is looked for.
+#[derive(Clone, Copy)]
+enum Earlier {
+    /// One behind which no line of the header may stand.
+    EndOfHeader,
+    /// One with this word.
+    With(Word),
+}
+
+fn is_earlier(alloc: Global, line: &[u8], earlier: Earlier) -> Result<bool, AllocError> {
+    let Some(text) = as_text(line) else {
+        return Ok(false);
+    };
+    let words = words_of(alloc, text)?;
+    let word = word_of(words.as_slice());
+    Ok(match earlier {
+        Earlier::EndOfHeader => !is_skipped(words.as_slice()) && !is_of_header(word),
+        Earlier::With(wanted) => word == Some(wanted),
+    })
+}
+
+/// The number of the first such line before the line of this number.
+fn earlier_line(
+    alloc: Global,
+    text: &[u8],
+    line: usize,
+    earlier: Earlier,
+) -> Result<Option<usize>, AllocError> {
+    let mut rest = text;
+    for number in 1..line {
+        if rest.is_empty() {
+            return Ok(None);
+        }
+        let (bytes, after) = first_line(rest);
+        if is_earlier(alloc, bytes, earlier)? {
+            return Ok(Some(number));
+        }
+        rest = after;
+    }
+    Ok(None)
+}
+
+fn header_after_commands<'w>(
+    alloc: Global,
+    text: &[u8],
+    line: usize,
+    word: Option<Word>,
+) -> Result<Option<Why<'w>>, AllocError> {
+    let Some(word) = word else {
+        return Ok(None);
+    };
+    let name = word.form().name;
+    Ok(earlier_line(alloc, text, line, Earlier::EndOfHeader)?.map(|line| Why::HeaderEnded {
+        line,
+        name,
+    }))
+}
+
+fn header_twice<'w>(
+    alloc: Global,
+    text: &[u8],
+    line: usize,
+    word: Option<Word>,
+) -> Result<Option<Why<'w>>, AllocError> {
+    let Some(word) = word else {
+        return Ok(None);
+    };
+    let name = word.form().name;
+    Ok(earlier_line(alloc, text, line, Earlier::With(word))?.map(|line| Why::Twice { line, name }))
+}
+
+fn line_at(text: &[u8], line: usize) -> &[u8] {
+    let mut rest = text;
+    for _ in 1..line {
+        if rest.is_empty() {
+            return rest;
+        }
+        rest = first_line(rest).1;
+    }
+    if rest.is_empty() {
+        return rest;
+    }
+    first_line(rest).0
+}
+
+/// What is wrong with the line of this number, which has this cause.
+fn why<'w>(
+    alloc: Global,
+    text: &[u8],
+    line: usize,
+    cause: Cause,
+    words: &'w [Token<'_>],
+) -> Result<Option<Why<'w>>, AllocError> {
+    let parts = parts_of(words);
+    match cause {
+        Cause::NotText => Ok(no_text(text, line_at(text, line))),
+        Cause::UnknownWord => Ok(unknown_word(&parts)),
+        Cause::MissingArgument => Ok(missing_argument(&parts)),
+        Cause::ExtraArgument => Ok(extra_argument(&parts)),
+        Cause::BadNumber => bad_number(alloc, text, &parts),
+        Cause::BadName => Ok(bad_name(&parts)),
+        Cause::HeaderAfterCommands => header_after_commands(alloc, text, line, parts.word()),
+        Cause::HeaderTwice => header_twice(alloc, text, line, parts.word()),
+    }
+}
+
+/// One line, without its end, that says more of the fault for which [`read`](crate::read) refused this
+/// text: the word that is wrong, in quotes, and what its place asks for. Of a lack of memory there is
+/// no more to say. No clause speaks of what it says.
+pub fn explain(
+    alloc: Global,
+    text: &[u8],
+    fault: ScriptFault,
+) -> Result<Option<String>, AllocError> {
+    let ScriptFault::At { line, cause } = fault else {
+        return Ok(None);
+    };
+    let readable = as_text(line_at(text, line)).unwrap_or("");
+    let words = words_of(alloc, readable)?;
+    match why(alloc, text, line, cause, words.as_slice())? {
+        Some(why) => Ok(Some(format!(in alloc; "{why}")?)),
+        None => Ok(None),
+    }
+}
