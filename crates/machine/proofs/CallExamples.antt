@@ -1,5 +1,6 @@
 -- Examples of whole calls: a charge over a limit, want of memory, and what nothing answers. What is not an answer is shown not to be.
-use Rattle.std.proofs.Common.{◌≡◌, ℕ, ◌&&◌, not, Bool, true, false, [], ◌∷◌, ◌++◌, Option, Some, None, refl, ap, arith}
+use Rattle.std.proofs.Common.{◌≡◌, ℕ, zero, suc, ◌<◌, ◌==◌, ◌&&◌, not, Bool, true, false, [], ◌∷◌, ◌++◌, Option, Some, None, refl, ap, ne_eqb, arith}
+use Rattle.std.specs.Prelude.{replicate}
 use Rattle.machine.specs.declared.event.Op.TheVariants.{Write}
 use Rattle.machine.specs.declared.event.Place.TheVariants.{Virtual}
 use Rattle.machine.specs.declared.event.Event.{Event}
@@ -13,6 +14,7 @@ use Rattle.machine.specs.Pages.{is_held_in}
 use Rattle.machine.specs.Counts.{over_at}
 use Rattle.machine.specs.State.{State}
 use Rattle.machine.specs.Step.{count_of}
+use Rattle.machine.specs.Aging.{is_marked}
 use Rattle.machine.specs.Lists.{Order}
 use Rattle.machine.specs.Call.{Past, Caller, Called, entries_of}
 use Rattle.machine.proofs.ExampleStates.{group, task, shows, pages, busy, busy_order}
@@ -39,6 +41,21 @@ pub not_new : (b : Bool) → false ≡ (b && not b)
 not_new false = refl
 not_new true = refl
 
+-- a greater number is another
+pub other_number : (p q : ℕ) → p < q → (p == q) ≡ false
+other_number p q less = ne_eqb p q (λ e. omega (arith, less, e))
+
+-- where no page is marked, whatever stays stays unmarked
+pub none_marked : (n p : ℕ) → is_marked (replicate n false) p ≡ false
+none_marked zero p = refl
+none_marked (suc n) zero = refl
+none_marked (suc n) (suc p) = none_marked n p
+
+pub stay_unmarked : (n : ℕ) (b c : Bool) (p : ℕ) → is_marked (replicate n false) p ≡ (b && c && is_marked (replicate n false) p)
+stay_unmarked n true true p = refl
+stay_unmarked n true false p = none_marked n p
+stay_unmarked n false c p = none_marked n p
+
 -- ---- Over: a write of task 1 to a new page, whose group /p/a is full as well as its parent /p
 
 abbrev write : Event
@@ -49,7 +66,7 @@ over : Called (past busy busy_order) caller write (reply.Over (group 2)) (after 
 unfolding chain_up chain under_at over_at
 over = record {
   steps = (refl, refl);
-  order = (record { fresh = []; few = omega arith; which = λ p. not_new (is_held_in pages p); list = refl }, refl);
+  order = (record { fresh = None; which = λ p. not_new (is_held_in pages p); groups = refl; size = refl; marks = λ p. stay_unmarked 10 (is_held_in pages p) (is_held_in pages p) p }, refl);
   history = refl;
   passes = refl;
 }

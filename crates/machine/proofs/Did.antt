@@ -1,5 +1,5 @@
 -- What a step did to the state, as one of few cases. Whoever asks what steps leave as it was goes by these.
-use Rattle.std.proofs.Common.{◌≡◌, inl, inr, ℕ, Bool, true, false, List, [], ◌∷◌, ◌++◌, Option, Some, None, refl, sym, ap, ◌∙◌, subst}
+use Rattle.std.proofs.Common.{◌≡◌, inl, inr, ℕ, ◌<◌, Bool, true, false, List, [], ◌∷◌, ◌++◌, Option, Some, None, refl, sym, ap, ◌∙◌, subst}
 use Rattle.std.specs.Prelude.{MatchBool}
 use Rattle.machine.specs.declared.id.TaskId.{TaskId}
 use Rattle.machine.specs.declared.id.GroupId.{GroupId}
@@ -19,7 +19,7 @@ use Rattle.machine.specs.Slots.{Changes, there_and}
 use Rattle.machine.specs.Pages.{Content, Memory, OfFile, Residence, Held, Coming, Going, Away, Page, page_at, is_anon, frame_at, block_at, is_frame_taken, is_ticket_taken}
 use Rattle.machine.specs.Counts.{Counted, no_limits}
 use Rattle.machine.specs.Tasks.{PageTables, Shows, ShowsNothing, SetsTask, task_at, is_live_life, is_live_task, lives, group_of, group_of_task}
-use Rattle.machine.specs.State.{State, over_in, is_frame_free}
+use Rattle.machine.specs.State.{State, page_numbers, over_in, is_frame_free}
 use Rattle.machine.specs.Access.{Meeting, Unmapped, Hits, Transferring, NeedsPage, NeedsCopy, NeedsSwapIn, Dangling, meets}
 use Rattle.machine.specs.Reclaim.{has_takeable, has_transfer, stands, target_of}
 use Rattle.machine.specs.Step.{ChargeStep, IsFreeBlock, MakesPage, StartsFetch, HitStep, UnmappedStep, MeetStep, LifeStep, TaskStep, Takes, StartsLeave, LeavesBy, LeavesFrom, ReclaimStep, KillStep, RelieveStep, EndsTask, EndsTransfer, in_frame, on_block, new_node, new_page, Step}
@@ -58,7 +58,7 @@ pub data Did (old : State) (what : Event) (answer : Reply) (new : State) : Type 
   -- nothing, but for a setting and for what stands counted
   Kept : (limits : List Limits) (counted : List Counted) → new ≡ record old { limits = limits; counted = counted } → Did old what answer new
   -- an access of a live task made a page, charged to its group, and a virtual page of the task shows it
-  Made : (t v p frame : ℕ) → is_access what ≡ true → is_out answer ≡ false → lives old.tasks t ≡ true → page_at old.pages p ≡ None → is_frame_taken old.pages frame ≡ false
+  Made : (t v p frame : ℕ) → is_access what ≡ true → is_out answer ≡ false → lives old.tasks t ≡ true → p < page_numbers old.opening → page_at old.pages p ≡ None → is_frame_taken old.pages frame ≡ false
       → Changes old.pages new.pages p (Some (new_page (group_of_task old.tasks t) frame)) → Shows old.page_tables new.page_tables t v (Some p)
       → new ≡ record old { pages = new.pages; page_tables = new.page_tables } → Did old what answer new
   -- one page was written to, or stands elsewhere
@@ -106,7 +106,7 @@ module _ (old new : State) (what : Event) where
     hit p frame page op answer there h = absurd h
 
     makes : (t v : ℕ) (op : Op) (answer : Reply) → lives old.tasks t ≡ true → MakesPage old t v (group_of_task old.tasks t) op answer new → Did old what answer new
-    makes t v op answer alive h = Made t v h.page h.frame access (ap is_out h.answers) alive h.slot_free h.frame_free.unused h.placed h.shown h.state
+    makes t v op answer alive h = Made t v h.page h.frame access (ap is_out h.answers) alive h.in_range h.slot_free h.frame_free.unused h.placed h.shown h.state
 
     fetches : (p : ℕ) (page : Page) (block : ℕ) (answer : Reply) → page_at old.pages p ≡ Some page → page.residence ≡ Away block → StartsFetch old p page.group page.content block answer new → Did old what answer new
     fetches p page block answer there away h =

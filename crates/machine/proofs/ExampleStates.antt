@@ -1,5 +1,5 @@
 -- The groups, tasks, pages and states that the examples are about.
-use Rattle.std.proofs.Common.{ℕ, Bool, true, false, List, [], ◌∷◌, Option, Some, None}
+use Rattle.std.proofs.Common.{ℕ, ◌-◌, Bool, true, false, List, [], ◌∷◌, Option, Some, None}
 use Rattle.std.specs.Prelude.{codes}
 use Rattle.machine.specs.declared.amount.Amount.TheVariants as amount
 use Rattle.machine.specs.declared.id.GroupId.{GroupId}
@@ -14,6 +14,7 @@ use Rattle.machine.specs.Pages.{Memory, OfFile, Residence, Held, Coming, Going, 
 use Rattle.machine.specs.Counts.{no_limits}
 use Rattle.machine.specs.Tasks.{Tasks, PageTables, task_of}
 use Rattle.machine.specs.State.{Opening, State}
+use Rattle.machine.specs.Generations.{Listed, Gens, new_gens}
 use Rattle.machine.specs.Lists.{Order}
 
 -- ---- numbers
@@ -88,9 +89,43 @@ busy = record {
   counted = [];
 }
 
+-- ---- lists
+
+-- page p, of the generation with this number
+abbrev pub listed_at : ℕ → ℕ → Listed
+listed_at p seq = record { page = p; seq = seq }
+
+-- the lists of a group that has only had pages of memory: its youngest number, its oldest, and the pages
+abbrev pub of_memory : ℕ → ℕ → List Listed → Gens
+of_memory max_seq min_seq pages = record { max_seq = max_seq; anon = record { min_seq = min_seq; pages = pages }; file = record { min_seq = 0; pages = [] } }
+
+-- the lists of a new group with these pages in its youngest generation
+abbrev pub young : List Listed → Gens
+young pages = of_memory 3 0 pages
+
+-- the same after a search for a page: of the other type the two youngest generations are left
+abbrev pub searched : ℕ → ℕ → List Listed → Gens
+searched max_seq min_seq pages = record { max_seq = max_seq; anon = record { min_seq = min_seq; pages = pages }; file = record { min_seq = max_seq - 1; pages = [] } }
+
+-- of groups 2 and 3 these lists, and of no other group a page
+abbrev pub lists_of : Gens → Gens → List Gens
+lists_of two three = new_gens ∷ new_gens ∷ two ∷ three ∷ new_gens ∷ new_gens ∷ []
+
+-- ten page numbers, none of them marked
+abbrev pub no_marks : List Bool
+no_marks = false ∷ false ∷ false ∷ false ∷ false ∷ false ∷ false ∷ false ∷ false ∷ false ∷ []
+
+-- no target for which a group was served
+abbrev pub none_served : List (Option ℕ)
+none_served = None ∷ None ∷ None ∷ None ∷ None ∷ None ∷ []
+
+-- of groups 2 and 3 these lists, no page marked, and no group served
+abbrev pub ordered : Gens → Gens → Order
+ordered two three = record { held = record { groups = lists_of two three; marks = no_marks }; cursors = none_served }
+
 -- page 1 came into its frame before page 0, and no group was served
 abbrev pub busy_order : Order
-busy_order = record { held = 1 ∷ 0 ∷ []; cursors = None ∷ None ∷ None ∷ None ∷ None ∷ None ∷ [] }
+busy_order = ordered (young (listed_at 1 3 ∷ listed_at 0 3 ∷ [])) new_gens
 
 -- ---- a state in which nothing can be taken
 
@@ -107,4 +142,8 @@ stuck = record {
 }
 
 abbrev pub stuck_order : Order
-stuck_order = record { held = 0 ∷ 1 ∷ 2 ∷ []; cursors = None ∷ None ∷ None ∷ None ∷ None ∷ None ∷ [] }
+stuck_order =
+    record {
+      held = record { groups = lists_of (young (listed_at 0 3 ∷ [])) (young (listed_at 1 3 ∷ listed_at 2 3 ∷ [])); marks = false ∷ false ∷ false ∷ false ∷ false ∷ false ∷ [] };
+      cursors = none_served;
+    }

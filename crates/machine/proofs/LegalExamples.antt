@@ -112,6 +112,7 @@ writes = record {
   steps = record {
     page = 1;
     frame = 3;
+    in_range = omega arith;
     slot_free = refl;
     frame_free = record { in_range = omega arith; unused = refl };
     placed = record { changed = refl; others = others };

@@ -12,6 +12,11 @@ pub mod ShownLemmas
 pub mod SettledLemmas
 pub mod ListedLemmas
 pub mod AgingLemmas
+pub mod HeldChanges
+pub mod HeldLemmas
+pub mod PicksLemmas
+pub mod OrdersLemmas
+pub mod StepLemmas
 mod ExampleStates
 mod TreeExamples
 mod AccessExamples
@@ -19,8 +24,13 @@ mod ProtectionExamples
 mod ReclaimExamples
 mod StepExamples
 mod CallExamples
+mod TurnExamples
 mod ReliefExamples
 mod LegalExamples
 mod HistoryExamples
 mod ControlExamples
 mod GenerationExamples
+mod HeldExamples
+mod UsedExamples
+mod ListedExamples
+mod MarkedExamples

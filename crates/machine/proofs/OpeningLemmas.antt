@@ -26,7 +26,7 @@ step_opening old what answer new step = by_case (step_did old new what answer st
   where
     by_case : Did old what answer new → new.opening ≡ old.opening
     by_case (Kept limits counted e) = ap (λ (s : State). s.opening) e
-    by_case (Made t v p frame access out alive free unused placed shown e) = ap (λ (s : State). s.opening) e
+    by_case (Made t v p frame access out alive within free unused placed shown e) = ap (λ (s : State). s.opening) e
     by_case (Moved p page dirty now counted there placed moves e) = ap (λ (s : State). s.opening) e
     by_case (Dropped p page counted out there may_go gone e) = ap (λ (s : State). s.opening) e
     by_case (Ended t ending counted out dead ends) = ap (λ (s : State). s.opening) ends.state
@@ -35,7 +35,7 @@ step_opening old what answer new step = by_case (step_did old new what answer st
 
 same_tree : (old new : State) (what : Event) (answer : Reply) → is_mkdir what ≡ false → Did old what answer new → new.tree ≡ old.tree
 same_tree old new what answer other (Kept limits counted e) = ap (λ (s : State). s.tree) e
-same_tree old new what answer other (Made t v p frame access out alive free unused placed shown e) = ap (λ (s : State). s.tree) e
+same_tree old new what answer other (Made t v p frame access out alive within free unused placed shown e) = ap (λ (s : State). s.tree) e
 same_tree old new what answer other (Moved p page dirty now counted there placed moves e) = ap (λ (s : State). s.tree) e
 same_tree old new what answer other (Dropped p page counted out there may_go gone e) = ap (λ (s : State). s.tree) e
 same_tree old new what answer other (Ended t ending counted out dead ends) = ap (λ (s : State). s.tree) ends.state

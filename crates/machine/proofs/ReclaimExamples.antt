@@ -1,5 +1,5 @@
 -- Examples: what can be reclaimed, from whom, and who is killed where nothing can be.
-use Rattle.std.proofs.Common.{◌≡◌, ℕ, true, false, [], ◌∷◌, Some, None, refl}
+use Rattle.std.proofs.Common.{◌≡◌, ℕ, zero, suc, ◌<◌, true, false, [], ◌∷◌, Some, None, refl, arith}
 use Rattle.machine.specs.declared.event.Cause.TheVariants as cause
 use Rattle.machine.specs.Tree.{chain_up, chain, under_at, chain_below, preorder_to}
 use Rattle.machine.specs.Pages.{Held}
@@ -8,8 +8,9 @@ use Rattle.machine.specs.Protection.{effective_along}
 use Rattle.machine.specs.State.{State}
 use Rattle.machine.specs.Reclaim.{is_unprotected, is_takeable, has_takeable, is_idle, stands}
 use Rattle.machine.specs.Victim.{is_candidate, is_worse}
-use Rattle.machine.specs.Lists.{served, first_held}
-use Rattle.machine.proofs.ExampleStates.{group, tree, max_of, min_of, memory, of_file, opening, busy, busy_order, stuck, stuck_order}
+use Rattle.machine.specs.Eviction.{old_pages, aged_times}
+use Rattle.machine.specs.Lists.{Order, served, seen_of, PicksOf}
+use Rattle.machine.proofs.ExampleStates.{group, tree, max_of, min_of, memory, of_file, opening, listed_at, young, searched, ordered, busy, busy_order, stuck, stuck_order}
 
 -- ---- what is takeable
 
@@ -116,9 +117,22 @@ serves-none : served stuck stuck_order 0 ≡ None
 unfolding chain_up chain under_at chain_below effective_along preorder_to
 serves-none = refl
 
--- of /p/a's pages the first that came into its frame: page 1 came before, and is /p/b's
-first : first_held both.pages (1 ∷ 0 ∷ []) 2 ≡ Some 0
-first = refl
+-- each is in its group's youngest generation
+abbrev both_order : Order
+both_order = ordered (young (listed_at 0 3 ∷ [])) (young (listed_at 1 3 ∷ []))
+
+too_early : (n : ℕ) → n < 2 → old_pages true (aged_times n (seen_of both_order.held 2)).gens ≡ []
+too_early zero less = refl
+too_early (suc zero) less = refl
+too_early (suc (suc n)) less = absurd (omega (arith, less))
+
+-- of /p/a's lists page 0 is picked, after two agings. The lists of /p/b do not age
+picks : PicksOf true both_order.held 2 (Some 0) (ordered (searched 5 3 (listed_at 0 3 ∷ [])) (young (listed_at 1 3 ∷ []))).held
+picks = record {
+  seen = _;
+  picks = record { times = 2; none_before = too_early; first = listed_at 0 3; others = []; old = refl; answers = refl; leaves = refl };
+  lists = refl;
+}
 
 -- ---- victims
 

@@ -1,5 +1,5 @@
 -- Examples of whole calls: a reclaim that takes a page, and a relief that kills. What is not an answer is shown not to be.
-use Rattle.std.proofs.Common.{◌≡◌, ◌≢◌, ℕ, zero, suc, Bool, true, false, List, [], ◌∷◌, Some, None, refl, sym, ap, subst, arith}
+use Rattle.std.proofs.Common.{◌≡◌, ◌≢◌, ℕ, zero, suc, Bool, true, false, List, [], ◌∷◌, Some, None, refl, ap, arith}
 use Rattle.std.specs.Prelude.{MatchBool}
 use Rattle.machine.specs.declared.event.Cause.TheVariants as cause
 use Rattle.machine.specs.declared.event.Event.{Event}
@@ -9,7 +9,7 @@ use Rattle.machine.specs.declared.record.Life.TheVariants.{Live, Killed}
 use Rattle.machine.specs.declared.reply.Reply.{Reply}
 use Rattle.machine.specs.declared.reply.Reply.TheVariants as reply
 use Rattle.machine.specs.Tree.{chain_up, chain, under_at, chain_below, preorder_to}
-use Rattle.machine.specs.Pages.{Content, Memory, OfFile, Residence, Held, Coming, Going, Away, Page, Pages, page_at, is_held_in, home_block}
+use Rattle.machine.specs.Pages.{Content, Memory, OfFile, Residence, Held, Going, Page, page_at, is_held_in, home_block}
 use Rattle.machine.specs.Counts.{Counted}
 use Rattle.machine.specs.Tasks.{task_of, mapped_at}
 use Rattle.machine.specs.Protection.{effective_along}
@@ -17,11 +17,12 @@ use Rattle.machine.specs.State.{State}
 use Rattle.machine.specs.Step.{count_of, still, Drops, StartsLeave, LeavesBy, LeavesFrom}
 use Rattle.machine.specs.Slots.{at}
 use Rattle.machine.specs.Victim.{is_candidate, is_worse}
-use Rattle.machine.specs.Lists.{Order, first_held, is_fresh}
-use Rattle.machine.proofs.Values.{some_inj}
+use Rattle.machine.specs.Lists.{Order, is_fresh}
+use Rattle.machine.proofs.Values.{unlike}
 use Rattle.machine.specs.Call.{Past, Called}
-use Rattle.machine.proofs.ExampleStates.{group, task, ticket, tree, shows, memory, pages, busy, busy_order, stuck, stuck_order}
-use Rattle.machine.proofs.CallExamples.{caller, past, after, not_new}
+use Rattle.machine.proofs.ExampleStates.{group, task, ticket, tree, shows, memory, pages, listed_at, young, lists_of, busy, busy_order, stuck, stuck_order}
+use Rattle.machine.proofs.CallExamples.{caller, past, after, stay_unmarked}
+use Rattle.machine.proofs.TurnExamples.{taken, taken_order, takes, takes-not_newer}
 
 -- no reply but those two says that a page is taken
 abbrev is_taking : Reply → Bool
@@ -53,16 +54,8 @@ module _ (s new : State) (p : ℕ) (page : Page) (counted : List Counted) (answe
 abbrev reclaim : Event
 reclaim = event.ReclaimOne (group 1)
 
--- page 1 goes to block 0, which was free, under ticket 9, which was too
-abbrev taken : Pages
-taken = Some (memory 2 (Held 4)) ∷ Some (memory 2 (Going 5 0 9)) ∷ Some (memory 2 (Coming 0 1 7)) ∷ Some (memory 3 (Going 1 2 8)) ∷ Some (memory 3 (Away 3)) ∷ []
-
--- it leaves the list of the held pages, and /p/a was served last for /p
-abbrev taken_order : Order
-taken_order = record { held = 0 ∷ []; cursors = None ∷ Some 2 ∷ None ∷ None ∷ None ∷ None ∷ [] }
-
 -- it leaves frame 5 only when it is written out
-out : Called (past busy busy_order) caller reclaim (reply.Out (ticket 9)) (after (past busy busy_order) reclaim (reply.Out (ticket 9)) (record busy { pages = taken }) taken_order)
+out : Called (past busy busy_order) caller reclaim (reply.Out (ticket 9)) (after (past busy busy_order) reclaim (reply.Out (ticket 9)) taken taken_order)
 unfolding chain_up chain under_at chain_below effective_along preorder_to
 out = record {
   steps = record {
@@ -76,34 +69,20 @@ out = record {
       leave = record { ticket = 9; ticket_free = refl; placed = record { changed = refl; others = others }; answers = refl; state = refl };
     };
   };
-  order = (
-    record { fresh = []; few = omega arith; which = which; list = refl },
-    record { g = 2; next = refl; takes = record { p = 1; first = refl; was = refl; taken = refl }; moves = refl },
-  );
+  order = takes;
   history = refl;
   passes = refl;
 }
   where
-    others : (m : ℕ) → m ≢ 1 → at taken m ≡ at pages m
+    others : (m : ℕ) → m ≢ 1 → at taken.pages m ≡ at pages m
     others zero other = refl
     others (suc zero) other = absurd (other refl)
     others (suc (suc m)) other = refl
 
-    which : (p : ℕ) → false ≡ is_fresh pages taken p
-    which zero = refl
-    which (suc zero) = refl
-    which (suc (suc p)) = not_new (is_held_in pages (suc (suc p)))
-
 -- a reclaim takes no page that came into its frame later
 out-not_newer : (new : Past) → is_held_in new.state.pages 1 ≡ true → Called (past busy busy_order) caller reclaim (reply.Out (ticket 9)) new → ⊥
 unfolding chain_up chain under_at chain_below effective_along preorder_to
-out-not_newer new stays call =
-    let next = call.order.1 in
-    let g : next.g ≡ 2 = some_inj (sym next.next) in
-    let first : first_held pages (1 ∷ 0 ∷ []) 2 ≡ Some next.takes.p = subst (λ (g : ℕ). first_held pages (1 ∷ 0 ∷ []) g ≡ Some next.takes.p) g next.takes.first in
-    let p : next.takes.p ≡ 1 = some_inj (sym first) in
-    let gone : is_held_in new.state.pages 1 ≡ false = subst (λ (p : ℕ). is_held_in new.state.pages p ≡ false) p next.takes.taken in
-    cc
+out-not_newer new stays call = unlike (is_held_in new.state.pages 1) stays (takes-not_newer new.state new.order call.order)
 
 -- it does not wait for the pages in transfer while it can take one, and does not find nothing
 out-not_wait : (new : Past) → Called (past busy busy_order) caller reclaim reply.Wait new → ⊥
@@ -124,15 +103,19 @@ killed = record stuck {
   counted = count_of 1 key.Oom ∷ count_of 3 key.OomKill ∷ [];
 }
 
+-- they leave their list, and no list ages
+abbrev killed_order : Order
+killed_order = record stuck_order { held = record { groups = lists_of (young (listed_at 0 3 ∷ [])) (young []); marks = stuck_order.held.marks } }
+
 -- the reply names it, and what stands in `killed` comes after
-kill : Called (past stuck stuck_order) caller relieve (reply.KilledTask (task 2)) (after (past stuck stuck_order) relieve (reply.KilledTask (task 2)) killed (record stuck_order { held = 0 ∷ [] }))
+kill : Called (past stuck stuck_order) caller relieve (reply.KilledTask (task 2)) (after (past stuck stuck_order) relieve (reply.KilledTask (task 2)) killed killed_order)
 unfolding chain_up chain under_at chain_below effective_along
 kill = record {
   steps = (
     record { among = refl; none_worse = none_worse },
     record { shown = record { none = λ v. refl; others = others }; pages = stays; ends = record { changed = refl; others = other_tasks }; state = refl },
   );
-  order = (record { fresh = []; few = omega arith; which = which; list = refl }, refl);
+  order = (record { fresh = None; which = which; groups = refl; size = refl; marks = λ p. stay_unmarked 6 (is_held_in stuck.pages p) (is_held_in killed.pages p) p }, refl);
   history = refl;
   passes = refl;
 }
@@ -180,8 +163,13 @@ kill-not_first : (t : ℕ) (new : Past) → Called (past busy busy_order) caller
 unfolding chain_up chain under_at chain_below effective_along
 kill-not_first t new call = not_taken busy new.state call.steps.p call.steps.page [] (reply.KilledTask (task t)) refl call.steps.page.residence call.steps.leaves
 
+-- page 1 is going, and so is on no list
+abbrev going : Past
+going =
+    past (record stuck { pages = Some (memory 2 (Held 0)) ∷ Some (memory 3 (Going 1 0 0)) ∷ Some (memory 3 (Held 2)) ∷ [] })
+    (record stuck_order { held = record { groups = lists_of (young (listed_at 0 3 ∷ [])) (young (listed_at 2 3 ∷ [])); marks = stuck_order.held.marks } })
+
 -- nor while a page is in transfer that may come free
-kill-not_before_end : (t : ℕ) (new : Past)
-    → Called (past (record stuck { pages = Some (memory 2 (Held 0)) ∷ Some (memory 3 (Going 1 0 0)) ∷ Some (memory 3 (Held 2)) ∷ [] }) (record stuck_order { held = 0 ∷ 2 ∷ [] })) caller relieve (reply.KilledTask (task t)) new → ⊥
+kill-not_before_end : (t : ℕ) (new : Past) → Called going caller relieve (reply.KilledTask (task t)) new → ⊥
 unfolding chain_up chain under_at chain_below effective_along
 kill-not_before_end t new call = let e : reply.KilledTask (task t) ≡ reply.Wait = call.steps.0 in cc

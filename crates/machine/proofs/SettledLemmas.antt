@@ -24,17 +24,19 @@ use Rattle.machine.specs.Slots.{there_and}
 use Rattle.machine.specs.Tree.{Node}
 use Rattle.machine.specs.Pages.{Content, Memory, OfFile, Residence, Held, Coming, Going, Away, Page, page_at, is_anon, is_held, is_held_in, home_block}
 use Rattle.machine.specs.Tasks.{Tasks, PageTables, task_at, size_of}
-use Rattle.machine.specs.State.{State}
+use Rattle.machine.specs.State.{State, is_swap_free}
 use Rattle.machine.specs.Access.{Meeting, Unmapped, Hits, Transferring, NeedsPage, NeedsCopy, NeedsSwapIn, Dangling, meets, meets_mapped}
 use Rattle.machine.specs.Reclaim.{has_takeable, has_transfer, stands, target_of}
 use Rattle.machine.specs.Victim.{is_candidate, is_worse, IsWorst}
-use Rattle.machine.specs.Lists.{Order, served, first_held, TakesNext, CursorsGoOn}
+use Rattle.machine.specs.Eviction.{Picks}
+use Rattle.machine.specs.Lists.{HeldLists, Order, served, seen_of, PicksOf, TakesNext, Orders}
 use Rattle.machine.specs.Step.{ChargeStep, MakesPage, StartsFetch, HitStep, UnmappedStep, MeetStep, LifeStep, TaskStep, Takes, StartsLeave, Drops, LeavesBy, LeavesFrom, ReclaimStep, KillStep, EndsTransfer, Step}
 use Rattle.machine.specs.Refusals.{refusal}
 use Rattle.machine.specs.Call.{Past, Caller, Refuses, Answers, Answered, JudgedBy, Called, knows_pass, is_trace_full, AreBytesAlike, AreAlike}
 use Rattle.machine.proofs.Values.{some_inj, unlike}
 use Rattle.machine.proofs.TreeLemmas.{eq_cases}
 use Rattle.machine.proofs.MoveLemmas.{Met, met}
+use Rattle.machine.proofs.PicksLemmas.{picks_alike}
 
 -- ---- replies that are alike
 
@@ -94,7 +96,8 @@ record Taken (old : State) (order : Order) (target : ℕ) (answer : Reply) : Typ
   p : ℕ
   page : Page
   next : served old order target ≡ Some g
-  first : first_held old.pages order.held g ≡ Some p
+  looked : HeldLists
+  picked : PicksOf (is_swap_free old) order.held g (Some p) looked
   there : page_at old.pages p ≡ Some page
   answers : LeftWith (is_clean_file page) answer
 
@@ -132,9 +135,18 @@ module _ (old new : State) (answer : Reply) where
 
       by_turn : TakesNext old order target new order' → Taken old order target answer
       by_turn turn =
-          elim (eq_cases turn.takes.p h.p) [
-            | inl same ↦ record { g = turn.g; p = h.p; page = h.page; next = turn.next; first = turn.takes.first ∙ ap Some same; there = h.there; answers = gone.answers }
-            | inr differs ↦ unlike (is_held_in old.pages turn.takes.p) turn.takes.was (ap (there_and is_held) (sym (gone.others turn.takes.p differs)) ∙ turn.takes.taken)
+          elim (eq_cases turn.p h.p) [
+            | inl same ↦ record {
+              g = turn.g;
+              p = h.p;
+              page = h.page;
+              next = turn.next;
+              looked = turn.looked;
+              picked = subst (λ (p : ℕ). PicksOf (is_swap_free old) order.held turn.g (Some p) turn.looked) same turn.picked;
+              there = h.there;
+              answers = gone.answers;
+            }
+            | inr differs ↦ unlike (is_held_in old.pages turn.p) turn.was (ap (there_and is_held) (sym (gone.others turn.p differs)) ∙ turn.taken)
           ]
 
 -- two pages that one order says are one, and so answer alike
@@ -145,8 +157,12 @@ takes_alike what old order target answer answer' h h' =
     one_group : h.g ≡ h'.g
     one_group = some_inj (sym h.next ∙ h'.next)
 
+    -- what the other picked, of the one group
+    picked' : Picks (is_swap_free old) (seen_of order.held h.g) (Some h'.p) h'.picked.seen
+    picked' = subst (λ (g : ℕ). Picks (is_swap_free old) (seen_of order.held g) (Some h'.p) h'.picked.seen) (sym one_group) h'.picked.picks
+
     one_number : h.p ≡ h'.p
-    one_number = some_inj (sym h.first ∙ ap (first_held old.pages order.held) one_group ∙ h'.first)
+    one_number = some_inj (picks_alike (is_swap_free old) (seen_of order.held h.g) (Some h.p) (Some h'.p) h.picked.seen h'.picked.seen h.picked.picks picked').0
 
     one_page : h.page ≡ h'.page
     one_page = some_inj (sym h.there ∙ ap (page_at old.pages) one_number ∙ h'.there)
@@ -164,20 +180,20 @@ writes_meet s t v o b is =
     let makes : meets s t (Virtual v o) (Write b) ≡ NeedsPage v = ap (λ m. meets_mapped s v m (Write b)) found in
     cc
 
--- the page that left was taken in turn: what the order's cursors say of an event with this target
+-- the page that left was taken in turn: what the order says of an event with this target
 abbrev InTurn : State → Order → Event → ℕ → Type 0
 InTurn old order what target =
-    (new : State) (order' : Order) (answer : Reply) → CursorsGoOn old order what answer new order' → (b : Bool) → LeftWith b answer → TakesNext old order target new order'
+    (new : State) (order' : Order) (answer : Reply) → Orders old order what answer new order' → (b : Bool) → LeftWith b answer → TakesNext old order target new order'
 
 -- so it is for a relief
 relief_in_turn : (old : State) (order : Order) (why : Cause) → InTurn old order (event.Relieve why) (target_of why)
-relief_in_turn old order why new order' answer on true is = subst (λ a. CursorsGoOn old order (event.Relieve why) a new order') is on
-relief_in_turn old order why new order' answer on false is = subst (λ a. CursorsGoOn old order (event.Relieve why) a new order') is.1 on
+relief_in_turn old order why new order' answer on true is = subst (λ a. Orders old order (event.Relieve why) a new order') is on
+relief_in_turn old order why new order' answer on false is = subst (λ a. Orders old order (event.Relieve why) a new order') is.1 on
 
 -- and for a reclaim that is asked for
 reclaim_in_turn : (old : State) (order : Order) (g : GroupId) → InTurn old order (event.ReclaimOne g) g.0
-reclaim_in_turn old order g new order' answer on true is = subst (λ a. CursorsGoOn old order (event.ReclaimOne g) a new order') is on
-reclaim_in_turn old order g new order' answer on false is = subst (λ a. CursorsGoOn old order (event.ReclaimOne g) a new order') is.1 on
+reclaim_in_turn old order g new order' answer on true is = subst (λ a. Orders old order (event.ReclaimOne g) a new order') is on
+reclaim_in_turn old order g new order' answer on false is = subst (λ a. Orders old order (event.ReclaimOne g) a new order') is.1 on
 
 module _ (old new new' : State) (order order' order'' : Order) where
   module _ (what : Event) (answer answer' : Reply) where
@@ -213,7 +229,7 @@ module _ (old new new' : State) (order order' order'' : Order) where
     of_task (Some task) Live_step Live_step' living h h' = of_life task.life _ _ (living task) h h'
 
     -- a page is taken by both, or by none
-    reclaims : (target : ℕ) (Idle Idle' : Type 0) → InTurn old order what target → CursorsGoOn old order what answer new order' → CursorsGoOn old order what answer' new' order''
+    reclaims : (target : ℕ) (Idle Idle' : Type 0) → InTurn old order what target → Orders old order what answer new order' → Orders old order what answer' new' order''
         → (Idle → Idle' → AreAlike what answer answer') → ReclaimStep old target Idle answer new → ReclaimStep old target Idle' answer' new' → AreAlike what answer answer'
     reclaims target Idle Idle' in_turn on on' idle h h' =
         both_ways (has_takeable old target)
@@ -263,7 +279,7 @@ module _ (old new new' : State) (order order' order'' : Order) where
   kills what limit answer answer' h h' = absurd h
 
   -- by the event
-  steps_alike : (what : Event) (answer answer' : Reply) → CursorsGoOn old order what answer new order' → CursorsGoOn old order what answer' new' order'' → Step old what answer new → Step old what answer' new'
+  steps_alike : (what : Event) (answer answer' : Reply) → Orders old order what answer new order' → Orders old order what answer' new' order'' → Step old what answer new → Step old what answer' new'
       → AreAlike what answer answer'
   steps_alike (event.Access t (Virtual v o) op) answer answer' on on' h h' =
       of_task (event.Access t (Virtual v o) op) answer answer' (task_at old.tasks t.0) _ _ (λ task. meeting t v o task.group.0 op answer answer' (meets old t.0 (Virtual v o) op) refl) h h'
@@ -306,7 +322,7 @@ replies_are_settled old new new' caller what answer answer' called called' memor
     refuses why h h' = both what answer answer' _ h.0 h'.0
 
     serves : Answers old caller what answer new → Answers old caller what answer' new' → AreAlike what answer answer'
-    serves h h' = steps_alike old.state new.state new'.state old.order new.order new'.order what answer answer' h.order.1 h'.order.1 h.steps h'.steps
+    serves h h' = steps_alike old.state new.state new'.state old.order new.order new'.order what answer answer' h.order h'.order h.steps h'.steps
 
     by_cause : (cause : Option Refusal) → JudgedBy old caller what cause answer new → JudgedBy old caller what cause answer' new' → AreAlike what answer answer'
     by_cause (Some why) h h' = refuses why h h'

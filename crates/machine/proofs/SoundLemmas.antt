@@ -334,7 +334,7 @@ module _ (opening : Opening) (old new : State) (sound : sound_in opening old) wh
 
   did_sound : (what : Event) (answer : Reply) → refusal old what ≡ None → Did old what answer new → sound_in opening new
   did_sound what answer none (Kept limits counted e) = subst (sound_in opening) (sym e) (sound.0, sound.1)
-  did_sound what answer none (Made t v p frame access out alive free unused placed shown e) =
+  did_sound what answer none (Made t v p frame access out alive within free unused placed shown e) =
       pages_sound e (sound-placed opening.swap old.pages new.pages old.tasks old.tree p sound.1 (group_of_task old.tasks t) frame (sound.1.homes t alive) unused placed)
   did_sound what answer none (Moved p page dirty now counted there placed moves e) = pages_sound e (moved_sound what answer p page dirty now there placed moves)
   did_sound what answer none (Dropped p page counted out there may_go gone e) = pages_sound e (sound-gone opening.swap old.pages new.pages old.tasks old.tree p sound.1 gone)

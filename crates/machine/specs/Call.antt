@@ -33,7 +33,7 @@ pub record Past : Type 0 where
   pub passes : ℕ
 
 abbrev pub first_past : Opening → Past
-first_past opening = record { state = first_state opening; history = []; order = first_order; passes = 0 }
+first_past opening = record { state = first_state opening; history = []; order = first_order opening; passes = 0 }
 
 -- ---- the caller, and strangers
 

@@ -1,24 +1,38 @@
--- Which page a reclaim takes: the list of the held pages, and the group that was served last (mm/vmscan.c: shrink_node_memcgs).
-use Rattle.std.specs.Prelude.{◌≡◌, ℕ, ◌≤◌, ◌==◌, ◌&&◌, not, if◌then◌else◌, Bool, true, false, List, [], ◌∷◌, ◌++◌, length, count_by, filter, find, slice_set, Option, Some, None}
-use Rattle.std.specs.List.{list_any}
+-- The pages that are held, in generation lists by group, and the page that a reclaim takes of them (mm/vmscan.c: shrink_node_memcgs; mm/multigen_lru).
+use Rattle.std.specs.Prelude.{◌≡◌, ℕ, ◌-◌, ◌==◌, ◌&&◌, not, Bool, true, false, List, [], ◌∷◌, ◌++◌, length, map, filter, replicate, slice_set, Option, Some, None}
+use Rattle.machine.specs.declared.record.Direction.{Direction}
+use Rattle.machine.specs.declared.record.Direction.TheVariants.{In, Out}
+use Rattle.machine.specs.declared.record.Kind.{Kind}
+use Rattle.machine.specs.declared.record.Kind.TheVariants.{Anon, File}
+use Rattle.machine.specs.declared.event.Place.{Place}
+use Rattle.machine.specs.declared.event.Place.TheVariants.{Virtual}
 use Rattle.machine.specs.declared.event.Event.{Event}
 use Rattle.machine.specs.declared.event.Event.TheVariants as event
 use Rattle.machine.specs.declared.reply.Reply.{Reply}
 use Rattle.machine.specs.declared.reply.Reply.TheVariants as reply
 use Rattle.machine.specs.Slots.{there_and, any_there}
-use Rattle.machine.specs.Pages.{Page, Pages, page_at, is_held_in}
+use Rattle.machine.specs.Pages.{Content, Memory, OfFile, Page, Pages, page_at, is_anon, is_held, is_held_in, is_number}
+use Rattle.machine.specs.Tasks.{PageTables, mapped_at}
 use Rattle.machine.specs.Order.{served_by, cursor_at}
-use Rattle.machine.specs.State.{State}
+use Rattle.machine.specs.State.{Opening, State, page_numbers, is_swap_free}
 use Rattle.machine.specs.Reclaim.{is_takeable, target_of}
+use Rattle.machine.specs.Generations.{Row, Gens, of_kind, row_of, has_page, new_gens, added, gens_at, with_gens, IsGens}
+use Rattle.machine.specs.Aging.{Seen, is_marked}
+use Rattle.machine.specs.Eviction.{Picks}
 
--- the pages in frames that are in no transfer, in the order in which they came there; and by target the group that was served last for it
+-- the pages in frames that are in no transfer: by group number the generation lists that they are on, and by page number whether a page is marked as accessed
+pub record HeldLists : Type 0 where
+  pub groups : List Gens
+  pub marks : List Bool
+
+-- these; and by target the group that was served last for it
 pub record Order : Type 0 where
-  pub held : List ℕ
+  pub held : HeldLists
   pub cursors : List (Option ℕ)
 
--- no page, and the root for which no group was served
-abbrev pub first_order : Order
-first_order = record { held = []; cursors = None ∷ [] }
+-- the root without a page; a page number for each frame and each swap block, none of them marked; and the root for which no group was served
+abbrev pub first_order : Opening → Order
+first_order opening = record { held = record { groups = new_gens ∷ []; marks = replicate (page_numbers opening) false }; cursors = None ∷ [] }
 
 -- ---- the group and the page
 
@@ -33,52 +47,137 @@ gives s target g = any_there (is_takeable_of s target g) s.pages
 abbrev pub served : State → Order → ℕ → Option ℕ
 served s order target = served_by s.tree (gives s target) target (cursor_at order.cursors target)
 
-abbrev pub is_page_of : Pages → ℕ → ℕ → Bool
-is_page_of pages g p = there_and (λ page. page.group == g) (page_at pages p)
+-- the lists of one group, beside the marks
+abbrev pub seen_of : HeldLists → ℕ → Seen
+seen_of held g = record { gens = gens_at held.groups g; marks = held.marks }
 
--- of a group's held pages the first that came to be held, counted from the last time
-abbrev pub first_held : Pages → List ℕ → ℕ → Option ℕ
-first_held pages held g = find (is_page_of pages g) held
+-- one group has other lists, and there are other marks
+abbrev pub with_seen : HeldLists → ℕ → Seen → HeldLists
+with_seen held g seen = record { groups = with_gens held.groups g seen.gens; marks = seen.marks }
 
--- each page that is in a frame and in no transfer is in the list once, and no other page is
-abbrev pub ListsHeld : Pages → List ℕ → Type 0
-ListsHeld pages held = (p : ℕ) → count_by (λ q. q == p) held ≡ (if is_held_in pages p then 1 else 0)
+-- the page of the group that is evicted next, and the lists after the search for it. (Excludes a search that ages the lists of other groups, or of the target.)
+pub record PicksOf (swap_free : Bool) (held : HeldLists) (g : ℕ) (answer : Option ℕ) (held' : HeldLists) : Type 0 where
+  pub seen : Seen
+  pub picks : Picks swap_free (seen_of held g) answer seen
+  pub lists : held' ≡ with_seen held g seen
 
--- of a group's pages the first that came to be held is held no more. (Excludes a newer page that leaves before an older one.)
-pub record TakesFirst (old : State) (order : Order) (g : ℕ) (new : State) : Type 0 where
-  pub p : ℕ
-  pub first : first_held old.pages order.held g ≡ Some p
-  pub was : is_held_in old.pages p ≡ true
-  pub taken : is_held_in new.pages p ≡ false
+-- ---- which pages are listed
 
--- a page of the group that is served is taken, and the target's cursor names the group. (Excludes one cursor for all targets.)
-pub record TakesNext (old : State) (order : Order) (target : ℕ) (new : State) (order' : Order) : Type 0 where
-  pub g : ℕ
-  pub next : served old order target ≡ Some g
-  pub takes : TakesFirst old order g new
-  pub moves : order'.cursors ≡ slice_set order.cursors target (Some g)
+-- by what a page holds, the type of the lists that it is on
+abbrev pub kind_at : Content → Kind
+kind_at Memory = Anon
+kind_at (OfFile file page) = File
 
--- ---- how the order goes on
+-- the page is held, is of this group, and of this type
+abbrev pub is_held_of : ℕ → Kind → Page → Bool
+is_held_of g kind page = is_held page && ((page.group == g) && of_kind kind (is_anon page.content) (not (is_anon page.content)))
+
+-- each page that is held is in the row of its group and type, and no other page is there; and no page is marked but one that is held
+pub record ListsHeld (pages : Pages) (held : HeldLists) : Type 0 where
+  pub rows : (g : ℕ) (kind : Kind) (p : ℕ) → has_page p (row_of kind (gens_at held.groups g)).pages ≡ there_and (is_held_of g kind) (page_at pages p)
+  pub marked : (p : ℕ) → is_marked held.marks p ≡ true → is_held_in pages p ≡ true
+
+-- each group's lists are sound: two to four generations of a type, by rising number, and no page twice
+abbrev pub AreGenerations : HeldLists → Type 0
+AreGenerations held = (g : ℕ) → IsGens (gens_at held.groups g)
+
+-- ---- how the lists go on
 
 -- held from now on
 abbrev pub is_fresh : Pages → Pages → ℕ → Bool
 is_fresh before after p = is_held_in after p && not (is_held_in before p)
 
--- what is held no more leaves the list, all others stay in their order, and what is held from now on, at most one page an event, comes behind them
-pub record GoesOn (before : Pages) (held : List ℕ) (after : Pages) (held' : List ℕ) : Type 0 where
-  pub fresh : List ℕ
-  pub few : length fresh ≤ 1
-  pub which : (p : ℕ) → list_any (λ q. q == p) fresh ≡ is_fresh before after p
-  pub list : held' ≡ filter (is_held_in after) held ++ fresh
+-- the lists without the pages that are held no more. The others keep their places
+abbrev pub kept_row : Pages → Row → Row
+kept_row after row = record { min_seq = row.min_seq; pages = filter (λ l. is_held_in after l.page) row.pages }
 
--- a cursor moves where a page is taken, and a new group has one. (Excludes a cursor that moves though no page was taken.)
-abbrev pub CursorsGoOn : State → Order → Event → Reply → State → Order → Type 0
-CursorsGoOn old order (event.Relieve cause) (reply.Out ticket) new order' = TakesNext old order (target_of cause) new order'
-CursorsGoOn old order (event.Relieve cause) reply.Dropped new order' = TakesNext old order (target_of cause) new order'
-CursorsGoOn old order (event.ReclaimOne g) (reply.Out ticket) new order' = TakesNext old order g.0 new order'
-CursorsGoOn old order (event.ReclaimOne g) reply.Dropped new order' = TakesNext old order g.0 new order'
-CursorsGoOn old order (event.Mkdir path) answer new order' = order'.cursors ≡ order.cursors ++ None ∷ []
-CursorsGoOn old order what answer new order' = order'.cursors ≡ order.cursors
+abbrev pub kept_gens : Pages → Gens → Gens
+kept_gens after gens = record { max_seq = gens.max_seq; anon = kept_row after gens.anon; file = kept_row after gens.file }
 
+-- a generation that pages enter
+pub data Generation : Type 0 where
+  Youngest : Generation
+  SecondYoungest : Generation
+
+abbrev pub seq_in : Generation → Gens → ℕ
+seq_in Youngest gens = gens.max_seq
+seq_in SecondYoungest gens = gens.max_seq - 1
+
+-- where a page enters whose transfer ends in its frame. (Excludes a page that was read in among those that were made, and one that failed to leave among those read in.)
+abbrev pub entry_after : Direction → Generation
+entry_after In = SecondYoungest
+entry_after Out = Youngest
+
+-- where the page enters that an event brings to be held: one that is made or copied the youngest generation. A read-in that fails brings none
+abbrev pub generation_for : Event → Generation
+generation_for (event.Arrived ticket bytes) = entry_after In
+generation_for (event.FetchFailed ticket) = entry_after In
+generation_for what = Youngest
+
+-- a page enters a generation of its group and type, behind those that are there
+abbrev pub with_page : Generation → ℕ → Option Page → List Gens → List Gens
+with_page generation p None groups = groups
+with_page generation p (Some page) groups =
+    with_gens groups page.group (added p (kind_at page.content) (seq_in generation (gens_at groups page.group)) (gens_at groups page.group))
+
+abbrev pub with_fresh : Generation → Pages → Option ℕ → List Gens → List Gens
+with_fresh generation after None groups = groups
+with_fresh generation after (Some p) groups = with_page generation p (page_at after p) groups
+
+-- the pages change: what is held no more leaves its list, and all others stay where they stood; what is held from now on, one page at most, enters this generation; and no page
+-- keeps its mark but those that stay. (Excludes a page that comes marked, and a mark that its page leaves behind.)
+pub record GoesOn (generation : Generation) (before : Pages) (held : HeldLists) (after : Pages) (held' : HeldLists) : Type 0 where
+  pub fresh : Option ℕ
+  pub which : (p : ℕ) → is_number fresh p ≡ is_fresh before after p
+  pub groups : held'.groups ≡ with_fresh generation after fresh (map (kept_gens after) held.groups)
+  pub size : length held'.marks ≡ length held.marks
+  pub marks : (p : ℕ) → is_marked held'.marks p ≡ (is_held_in before p && is_held_in after p && is_marked held.marks p)
+
+-- the page that a place of a task's memory shows
+abbrev pub shown_at : PageTables → ℕ → Place → Option ℕ
+shown_at tables t (Virtual v offset) = mapped_at tables t v
+
+-- the page that an access used as it was. (Excludes a page that counts as used since it was made or copied. One that was read in is used by the access that wanted it, which is tried again.)
+abbrev pub hit_of : State → Event → Reply → Option ℕ
+hit_of s (event.Access t place op) (reply.Done byte (Some frame)) = shown_at s.page_tables t.0 place
+hit_of s what answer = None
+
+-- this page, if there is one, is marked
+abbrev pub with_mark : Option ℕ → HeldLists → HeldLists
+with_mark None held = held
+with_mark (Some p) held = record { groups = held.groups; marks = slice_set held.marks p true }
+
+-- a group more, with no page
+abbrev pub with_group : HeldLists → HeldLists
+with_group held = record { groups = held.groups ++ new_gens ∷ []; marks = held.marks }
+
+-- ---- how the order goes on
+
+-- of the group that is served the page that is evicted next is held no more, and the target's cursor names the group. (Excludes one cursor for all targets, and the page of a group taken out of its turn.)
+pub record TakesNext (old : State) (order : Order) (target : ℕ) (new : State) (order' : Order) : Type 0 where
+  pub g : ℕ
+  pub next : served old order target ≡ Some g
+  pub p : ℕ
+  pub looked : HeldLists
+  pub picked : PicksOf (is_swap_free old) order.held g (Some p) looked
+  pub was : is_held_in old.pages p ≡ true
+  pub taken : is_held_in new.pages p ≡ false
+  pub leaves : GoesOn Youngest old.pages looked new.pages order'.held
+  pub moves : order'.cursors ≡ slice_set order.cursors target (Some g)
+
+-- a group more, with a cursor of its own
+abbrev pub AddsLists : Order → Order → Type 0
+AddsLists order order' = order' ≡ record { held = with_group order.held; cursors = order.cursors ++ None ∷ [] }
+
+-- no list is aged, a hit marks its page, and no cursor moves. (Excludes lists that age though no page is taken.)
+abbrev pub Keeps : State → Order → Event → Reply → State → Order → Type 0
+Keeps old order what answer new order' = GoesOn (generation_for what) old.pages (with_mark (hit_of old what answer) order.held) new.pages order'.held × (order'.cursors ≡ order.cursors)
+
+-- only a page that is taken ages lists and moves a cursor
 abbrev pub Orders : State → Order → Event → Reply → State → Order → Type 0
-Orders old order what answer new order' = GoesOn old.pages order.held new.pages order'.held × CursorsGoOn old order what answer new order'
+Orders old order (event.Relieve cause) (reply.Out ticket) new order' = TakesNext old order (target_of cause) new order'
+Orders old order (event.Relieve cause) reply.Dropped new order' = TakesNext old order (target_of cause) new order'
+Orders old order (event.ReclaimOne g) (reply.Out ticket) new order' = TakesNext old order g.0 new order'
+Orders old order (event.ReclaimOne g) reply.Dropped new order' = TakesNext old order g.0 new order'
+Orders old order (event.Mkdir path) answer new order' = AddsLists order order'
+Orders old order what answer new order' = Keeps old order what answer new order'

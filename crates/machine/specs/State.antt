@@ -1,5 +1,5 @@
 -- The state of the plain machine: what the opening fixed, and its tables. Nothing in it is counted, linked or kept twice.
-use Rattle.std.specs.Prelude.{ℕ, ◌-◌, ◌&&◌, nat_lt, nat_le, Bool, false, List, [], ◌∷◌, Option}
+use Rattle.std.specs.Prelude.{ℕ, ◌+◌, ◌-◌, ◌&&◌, nat_lt, nat_le, Bool, false, List, [], ◌∷◌, Option}
 use Rattle.machine.specs.declared.amount.Amount.{Amount}
 use Rattle.machine.specs.declared.config.Config.{Config}
 use Rattle.machine.specs.declared.config.Watermarks.{Watermarks}
@@ -18,6 +18,10 @@ pub record Opening : Type 0 where
   pub watermarks : Watermarks
   pub trace_limit : ℕ
   pub recursive : Bool
+
+-- how many page numbers there are: as many as pages at most, of which each has a frame or a swap block
+abbrev pub page_numbers : Opening → ℕ
+page_numbers opening = opening.frames + opening.swap
 
 -- the opening that a configuration asks for
 abbrev pub opening_of : Config → Opening

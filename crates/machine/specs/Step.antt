@@ -27,7 +27,7 @@ use Rattle.machine.specs.Pages.{Content, Memory, OfFile, Residence, Held, Coming
 use Rattle.machine.specs.declared.record.Limits.{Limits}
 use Rattle.machine.specs.Counts.{no_limits, limits_at, Counted, local, total, counts_by}
 use Rattle.machine.specs.Tasks.{PageTables, task_at, SetsTask, group_of_task, mappers, Shows, ShowsNothing}
-use Rattle.machine.specs.State.{State, usage, over_in, is_frame_free, effective_min}
+use Rattle.machine.specs.State.{State, page_numbers, usage, over_in, is_frame_free, effective_min}
 use Rattle.machine.specs.Access.{Meeting, Unmapped, Hits, Transferring, NeedsPage, NeedsCopy, NeedsSwapIn, Dangling, meets}
 use Rattle.machine.specs.Reclaim.{is_takeable, has_takeable, has_transfer, stands, target_of}
 use Rattle.machine.specs.Victim.{IsVictim}
@@ -68,10 +68,12 @@ written (Write b) = b
 abbrev pub new_page : ℕ → ℕ → Page
 new_page g frame = record { content = Memory; group = g; dirty = false; residence = Held frame }
 
--- a virtual page of a task shows a new page, charged to the task's group: zeros, or a copy of what it showed, with the byte written
+-- a virtual page of a task shows a new page, charged to the task's group: zeros, or a copy of what it showed, with the byte written. There are as many page numbers as
+-- frames and swap blocks, of which each page has one
 pub record MakesPage (old : State) (t v g : ℕ) (op : Op) (answer : Reply) (new : State) : Type 0 where
   pub page : ℕ
   pub frame : ℕ
+  pub in_range : page < page_numbers old.opening
   pub slot_free : page_at old.pages page ≡ None
   pub frame_free : IsFreeFrame old frame
   pub placed : Changes old.pages new.pages page (Some (new_page g frame))

@@ -41,7 +41,7 @@ module _ {T : Type 0} where
   -- the transfers are those of the pages that are in transfer; and the number of each page and of each transfer fits 32 bits
   pub record ArePages (numbers : Slab T) (owned : List (Option OwnedPage)) (places : ℕ) (transfers : Slab Flight) : Type 0 where
     pub taken : (n : ℕ) → is_some (get numbers n) ≡ is_some (at owned n)
-    pub within : numbers.capacity ≤ places
+    pub within : numbers.capacity ≡ places
     pub in_flight : AreInFlight (map (option_map page_of) owned) transfers.slots
     pub few : numbers.capacity < 4294967296
     pub countable : transfers.capacity < 4294967296

@@ -67,13 +67,13 @@ impl Model for Pages {
 }
 
 impl Pages {
-    /// No page, and memory for so many pages, and for so many transfers in flight at once. `AllocError`
+    /// No page, so many page numbers, and memory for so many transfers in flight at once. `AllocError`
     /// where there is none.
     pub fn new(alloc: Global, numbers: u32, transfers: u32) -> Result<Self, AllocError>
         ensures pages { IfOk result (λ t. t.pages ≡ []) }
         ensures bytes { IfOk result (λ t. t.bytes ≡ []) }
         ensures flights { IfOk result (λ t. t.flights ≡ []) }
-        ensures numbers { IfOk result (λ t. numbers ≤ t.numbers) }
+        ensures numbers { IfOk result (λ t. t.numbers ≡ numbers) }
         ensures tickets { IfOk result (λ t. transfers ≤ t.tickets) }
     {
         let numbers = open_numbers(alloc, numbers)?;
@@ -278,6 +278,13 @@ impl Pages {
         ensures { AreInFlight self.now.pages self.now.flights }
     {
         let _ = &self.flights;
+    }
+
+    /// Nothing is done: the number of each page is below [`Pages::numbers`].
+    pub fn are_numbered(&self)
+        ensures { (p : ℕ) → IfSome (page_at self.now.pages p) (λ page. p < self.now.numbers) }
+    {
+        let _ = &self.owned;
     }
 
     /// Spends the pages: what they own, by page number.

@@ -206,14 +206,13 @@ pub(crate) fn into_away(owned: OwnedPage) -> Slot
     }
 }
 
-/// Memory for so many numbers, or for more, but not past 32 bits. `AllocError` where there is none.
-pub(crate) fn open_numbers<T: Drop>(alloc: Global, least: u32) -> Result<Slab<T>, AllocError>
+/// Memory for so many numbers. `AllocError` where there is none.
+pub(crate) fn open_numbers<T: Drop>(alloc: Global, many: u32) -> Result<Slab<T>, AllocError>
     ensures empty { IfOk result (λ s. s.slots ≡ []) }
-    ensures least { IfOk result (λ s. least ≤ s.capacity) }
-    ensures countable { IfOk result (λ s. s.capacity ≤ u32.MAX) }
+    ensures many { IfOk result (λ s. s.capacity ≡ many) }
 {
-    let slab = Slab::with_capacity(alloc, least as usize)?;
-    if u32::try_from(slab.capacity()).is_err() {
+    let slab = Slab::with_capacity(alloc, many as usize)?;
+    if slab.capacity() != many as usize {
         return Err(AllocError);
     }
     Ok(slab)
