@@ -63,7 +63,7 @@ listed-in [] g p h = absurd (true≢false (sym h))
 listed-in (x ∷ xs) zero p h = ap (λ (b : Bool). b || is_listed_in xs p) h
 listed-in (x ∷ xs) (suc g) p h = ap (λ (b : Bool). is_listed x p || b) (listed-in xs g p h) ∙ or-true (is_listed x p)
 
-unlisted-all : (groups : List Gens) (p : ℕ) → ((g : ℕ) → is_listed (gens_at groups g) p ≡ false) → is_listed_in groups p ≡ false
+pub unlisted-all : (groups : List Gens) (p : ℕ) → ((g : ℕ) → is_listed (gens_at groups g) p ≡ false) → is_listed_in groups p ≡ false
 unlisted-all [] p h = refl
 unlisted-all (x ∷ xs) p h = ap (λ (b : Bool). b || is_listed_in xs p) (h 0) ∙ unlisted-all xs p (λ g. h (suc g))
 

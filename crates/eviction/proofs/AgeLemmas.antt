@@ -66,7 +66,7 @@ pub record Holds (swap : Bool) (top : ℕ) (s : Seen) : Type 0 where
   pub still : (s.gens.max_seq + 1 ≤ top) ⊎ AllByRecursion (λ l. has_mark s.marks l ≡ false) (listed s.gens)
   pub usable : has_usable swap s.gens ≡ true
 
-each-both : (P Q : Listed → Type 0) (xs : List Listed) → AllByRecursion P xs → AllByRecursion Q xs → AllByRecursion (λ l. P l × Q l) xs
+pub each-both : (P Q : Listed → Type 0) (xs : List Listed) → AllByRecursion P xs → AllByRecursion Q xs → AllByRecursion (λ l. P l × Q l) xs
 each-both P Q [] h k = tt
 each-both P Q (x ∷ xs) h k = ((h.0, k.0), each-both P Q xs h.1 k.1)
 

@@ -1,17 +1,17 @@
 -- What a search keeps: which pages are listed, their types, and the marks of other pages.
-use Rattle.std.proofs.Common.{◌≡◌, ℕ, zero, suc, ◌+◌, ◌<◌, ◌≤◌, ◌≢◌, ◌⊎◌, ◌||◌, not, max, nat_le, nat_lt, Bool, true, false, cond, eqb, List, [], ◌∷◌, ◌++◌, length, map, filter, Option, Some, None, option_map, slice_get, MatchBool, refl, sym, ap, ◌∙◌, subst, inl, inr, ⊎_elim, length-set, get_or-set_other}
+use Rattle.std.proofs.Common.{◌≡◌, ℕ, zero, suc, ◌+◌, ◌≢◌, ◌⊎◌, ◌||◌, not, max, Bool, true, false, cond, eqb, List, [], ◌∷◌, ◌++◌, length, map, filter, Option, Some, None, option_map, slice_get, MatchBool, refl, sym, ap, ◌∙◌, subst, inl, inr, ⊎_elim, length-set, get_or-set_other}
 use Rattle.std.specs.List.{AllByRecursion}
-use Rattle.std.proofs.Math.Bool.{or-true, or_comm}
-use Rattle.std.proofs.lemmas.Bool.{lt-ltb, le-ltb, leb-true, leb-false, eq-eqb, eqb-true, eqb-false, true≢false}
+use Rattle.std.proofs.Math.Bool.{or_comm}
+use Rattle.std.proofs.lemmas.Bool.{eqb-true, eqb-false, true≢false}
 use Rattle.machine.specs.declared.record.Kind.{Kind}
 use Rattle.machine.specs.declared.record.Kind.TheVariants.{Anon, File}
-use Rattle.machine.specs.Generations.{Listed, Row, Gens, of_kind, at_seq, entered, without, merged, has_page, is_listed, kind_of, listed, IsGens}
+use Rattle.machine.specs.Generations.{Listed, Row, Gens, of_kind, at_seq, entered, without, merged, has_page, is_listed, listed, IsGens}
 use Rattle.machine.specs.Aging.{Seen, has_mark, is_marked, at_most_three, aged_row, aged}
 use Rattle.machine.specs.Eviction.{old_pages, front_run, has_usable, to_tail, sent_back, passed_by, settled, aged_times, AgesToOld, Picks}
 use Rattle.lru_gen.specs.Gens.{GensOf, gens_of}
 use Rattle.aging.specs.Groups.{seen_at, ChangesOnly}
 use Rattle.eviction.specs.Kept.{ListsSame}
-use Rattle.machine.proofs.ListedLemmas.{each-weaker, has_page-append, none-in, in-none, without-all}
+use Rattle.machine.proofs.ListedLemmas.{each-weaker, has_page-append, none-in, in-none, has-split, has-renumbered, has-back, has-beside, each-has, listed-page}
 use Rattle.machine.proofs.AgingLemmas.{length-cleared}
 use Rattle.aging.proofs.GroupLemmas.{only-other, only-then}
 use Rattle.aging.proofs.AgeLemmas.{cleared-other, apart-lists}
@@ -19,81 +19,23 @@ use Rattle.eviction.proofs.ListLemmas.{each-front_run}
 use Rattle.eviction.proofs.TurnLemmas.{each-old_pages}
 use Rattle.eviction.proofs.AgeLemmas.{at-once, from-settled, picks-some}
 
--- ---- tests joined
-
-or-behind : (e a b h : Bool) → (a || b) ≡ h → (a || (e || b)) ≡ (e || h)
-or-behind true a b h k = or-true a
-or-behind false a b h k = k
-
-or-front : (e a b h : Bool) → (a || b) ≡ h → ((e || a) || b) ≡ (e || h)
-or-front true a b h k = refl
-or-front false a b h k = k
-
--- ---- which pages a list has
-
--- a list in two parts, by a test and its opposite
-has-split : (test other : Listed → Bool) → ((l : Listed) → other l ≡ not (test l)) → (q : ℕ) (xs : List Listed) → (has_page q (filter test xs) || has_page q (filter other xs)) ≡ has_page q xs
-has-split test other opposite q [] = refl
-has-split test other opposite q (x ∷ xs) =
-    let k = has-split test other opposite q xs in
-    let go : (b : Bool) → (has_page q (cond b (x ∷ filter test xs) (filter test xs)) || has_page q (cond (not b) (x ∷ filter other xs) (filter other xs))) ≡ (eqb x.page q || has_page q xs) =
-    λ b. elim b as (λ v. (has_page q (cond v (x ∷ filter test xs) (filter test xs)) || has_page q (cond (not v) (x ∷ filter other xs) (filter other xs))) ≡ (eqb x.page q || has_page q xs)) [
-      | true ↦ or-front (eqb x.page q) (has_page q (filter test xs)) (has_page q (filter other xs)) (has_page q xs) k
-      | false ↦ or-behind (eqb x.page q) (has_page q (filter test xs)) (has_page q (filter other xs)) (has_page q xs) k
-    ] in
-    ap (λ (b : Bool). has_page q (filter test (x ∷ xs)) || has_page q (cond b (x ∷ filter other xs) (filter other xs))) (opposite x) ∙ go (test x)
-
-has-renumbered : (number : Listed → ℕ) (q : ℕ) (xs : List Listed) → has_page q (map (λ l. at_seq (number l) l) xs) ≡ has_page q xs
-has-renumbered number q [] = refl
-has-renumbered number q (x ∷ xs) = ap (λ (b : Bool). eqb x.page q || b) (has-renumbered number q xs)
-
-opposite-numbers : (a b : ℕ) → nat_lt b a ≡ not (nat_le a b)
-opposite-numbers a b =
-    let go : (v : Bool) → nat_le a b ≡ v → nat_lt b a ≡ not v =
-    λ v t. (elim v as (λ w. nat_le a b ≡ w → nat_lt b a ≡ not w) [ true ↦ λ t'. (let le : a ≤ b = leb-true a b t' in rw le-ltb refl) | false ↦ λ t'. (let lt : b < a = leb-false a b t' in rw lt-ltb refl) ]) t in
-    go (nat_le a b) refl
-
-has-entered : (p seq q : ℕ) (xs : List Listed) → has_page q (entered p seq xs) ≡ (eqb p q || has_page q xs)
-has-entered p seq q xs =
-    has_page-append q (filter (λ l. nat_le l.seq seq) xs) (record { page = p; seq = seq } ∷ filter (λ l. nat_lt seq l.seq) xs)
-    ∙ or-behind (eqb p q) (has_page q (filter (λ l. nat_le l.seq seq) xs)) (has_page q (filter (λ l. nat_lt seq l.seq) xs)) (has_page q xs)
-    (has-split (λ l. nat_le l.seq seq) (λ l. nat_lt seq l.seq) (λ l. opposite-numbers l.seq seq) q xs)
-
-without-other : (p q : ℕ) (xs : List Listed) → eqb p q ≡ false → has_page q (without p xs) ≡ has_page q xs
-without-other p q [] ne = refl
-without-other p q (x ∷ xs) ne =
-    let k = without-other p q xs ne in
-    let go : (b : Bool) → eqb x.page p ≡ b → has_page q (cond (not b) (x ∷ without p xs) (without p xs)) ≡ (eqb x.page q || has_page q xs) =
-    λ b t. (elim b as (λ v. eqb x.page p ≡ v → has_page q (cond (not v) (x ∷ without p xs) (without p xs)) ≡ (eqb x.page q || has_page q xs)) [
-      | true ↦ λ t'. k ∙ ap (λ (v : Bool). v || has_page q xs) (sym (ap (λ (n : ℕ). eqb n q) (eqb-true x.page p t') ∙ ne))
-      | false ↦ λ t'. ap (λ (v : Bool). eqb x.page q || v) k
-    ]) t in
-    go (eqb x.page p) refl
-
--- a page that leaves its row and enters it again
-has-back : (p seq q : ℕ) (xs : List Listed) → has_page p xs ≡ true → has_page q (entered p seq (without p xs)) ≡ has_page q xs
-has-back p seq q xs h =
-    let go : (b : Bool) → eqb p q ≡ b → (b || has_page q (without p xs)) ≡ has_page q xs =
-    λ b t. (elim b as (λ v. eqb p q ≡ v → (v || has_page q (without p xs)) ≡ has_page q xs) [
-      | true ↦ λ t'. sym (subst (λ (n : ℕ). has_page n xs ≡ true) (eqb-true p q t') h)
-      | false ↦ λ t'. without-other p q xs t'
-    ]) t in
-    has-entered p seq q (without p xs) ∙ go (eqb p q) refl
-
--- the other row does not have it
-has-beside : (p q : ℕ) (xs : List Listed) → has_page p xs ≡ false → has_page q (without p xs) ≡ has_page q xs
-has-beside p q xs h = ap (λ (zs : List Listed). has_page q zs) (without-all p xs (none-in p xs h))
-
 -- ---- what is kept
 
-record Keeps (from to : Seen) : Type 0 where
-  file : (q : ℕ) → has_page q to.gens.file.pages ≡ has_page q from.gens.file.pages
-  anon : (q : ℕ) → has_page q to.gens.anon.pages ≡ has_page q from.gens.anon.pages
-  marks : (q : ℕ) → is_listed from.gens q ≡ false → is_marked to.marks q ≡ is_marked from.marks q
-  size : length to.marks ≡ length from.marks
+pub record Keeps (from to : Seen) : Type 0 where
+  pub file : (q : ℕ) → has_page q to.gens.file.pages ≡ has_page q from.gens.file.pages
+  pub anon : (q : ℕ) → has_page q to.gens.anon.pages ≡ has_page q from.gens.anon.pages
+  pub marks : (q : ℕ) → is_listed from.gens q ≡ false → is_marked to.marks q ≡ is_marked from.marks q
+  pub size : length to.marks ≡ length from.marks
 
-kept-listed : (from to : Seen) → Keeps from to → (q : ℕ) → is_listed to.gens q ≡ is_listed from.gens q
-kept-listed from to k q = ap (λ (b : Bool). b || has_page q to.gens.anon.pages) (k.file q) ∙ ap (λ (b : Bool). has_page q from.gens.file.pages || b) (k.anon q)
+-- so each page is listed that was
+pub same-listed : (old new : Gens) → ListsSame old new → (p : ℕ) → is_listed new p ≡ is_listed old p
+same-listed old new same p = ap (λ (b : Bool). b || has_page p new.anon.pages) (same.file p) ∙ ap (λ (b : Bool). has_page p old.file.pages || b) (same.anon p)
+
+kept-pages : (from to : Seen) → Keeps from to → ListsSame from.gens to.gens
+kept-pages from to k = record { anon = k.anon; file = k.file }
+
+pub kept-listed : (from to : Seen) → Keeps from to → (q : ℕ) → is_listed to.gens q ≡ is_listed from.gens q
+kept-listed from to k = same-listed from.gens to.gens (kept-pages from to k)
 
 kept-same : (s : Seen) → Keeps s s
 kept-same s = record { file = λ q. refl; anon = λ q. refl; marks = λ q h. refl; size = refl }
@@ -125,11 +67,8 @@ has-promoted seq m q xs =
     has_page-append q un (map (at_seq seq) ma) ∙ ap (λ (b : Bool). has_page q un || b) (has-renumbered (λ l. seq) q ma) ∙ or_comm (has_page q un) (has_page q ma)
     ∙ has-split (has_mark m) (λ l. not (has_mark m l)) (λ l. refl) q xs
 
-has-aged_row : (top : ℕ) (m : List Bool) (q : ℕ) (row : Row) → has_page q (aged_row top m row).pages ≡ has_page q row.pages
+pub has-aged_row : (top : ℕ) (m : List Bool) (q : ℕ) (row : Row) → has_page q (aged_row top m row).pages ≡ has_page q row.pages
 has-aged_row top m q row = has-promoted (top + 1) m q (at_most_three top row).pages ∙ has-three top q row
-
-listed-page : (g : Gens) (q : ℕ) → has_page q (listed g) ≡ is_listed g q
-listed-page g q = has_page-append q g.anon.pages g.file.pages ∙ or_comm (has_page q g.anon.pages) (has_page q g.file.pages)
 
 kept-aged : (s : Seen) → Keeps s (aged s)
 kept-aged s = record {
@@ -207,10 +146,6 @@ kept-sent (l ∷ ls) s apart h =
     kept-then s next (sent_back ls next) k
     (kept-sent ls next (kept-apart s next k apart) (each-weaker (λ l. is_listed s.gens l.page ≡ true) (λ l. is_listed next.gens l.page ≡ true) (λ l e. kept-listed s next k l.page ∙ e) ls h.1))
 
-each-has : (xs : List Listed) → AllByRecursion (λ l. has_page l.page xs ≡ true) xs
-each-has [] = tt
-each-has (x ∷ xs) = (rw (eq-eqb x.page x.page refl) refl, each-weaker (λ l. has_page l.page xs ≡ true) (λ l. has_page l.page (x ∷ xs) ≡ true) (λ l e. ap (λ (b : Bool). eqb x.page l.page || b) e ∙ or-true (eqb x.page l.page)) xs (each-has xs))
-
 each-listed : (swap : Bool) (g : Gens) → AllByRecursion (λ l. is_listed g l.page ≡ true) (old_pages swap g)
 each-listed swap g =
     each-old_pages (λ l. is_listed g l.page ≡ true) swap g
@@ -226,7 +161,7 @@ kept-passed swap s g =
 kept-ages : (swap : Bool) (from : Seen) (answer : Option ℕ) (to : Seen) → AgesToOld swap from answer to → Keeps from to
 kept-ages swap from answer to a = subst (λ (x : Seen). Keeps from x) (sym a.leaves) (kept-settled from (aged_times a.times from) (kept-aged_times a.times from))
 
-kept-picks : (swap : Bool) (from : Seen) (answer : Option ℕ) (to : Seen) → IsGens from.gens → Picks swap from answer to → Keeps from to
+pub kept-picks : (swap : Bool) (from : Seen) (answer : Option ℕ) (to : Seen) → IsGens from.gens → Picks swap from answer to → Keeps from to
 kept-picks swap from answer to g =
     elim (has_usable swap from.gens) as (λ b. MatchBool b (AgesToOld swap (passed_by swap from) answer to) ((answer ≡ None) × (to ≡ from)) → Keeps from to) [
       | true ↦ λ a. kept-then from (passed_by swap from) to (kept-passed swap from g) (kept-ages swap (passed_by swap from) answer to a)
@@ -234,24 +169,21 @@ kept-picks swap from answer to g =
     ]
 
 -- the answer of a search is listed
-answer-listed : (swap : Bool) (from : Seen) (p : ℕ) (to : Seen) → AgesToOld swap from (Some p) to → is_listed to.gens p ≡ true
+pub answer-listed : (swap : Bool) (from : Seen) (p : ℕ) (to : Seen) → AgesToOld swap from (Some p) to → is_listed to.gens p ≡ true
 answer-listed swap from p to a =
     let end : Seen = aged_times a.times from in
     let all : AllByRecursion (λ l. is_listed end.gens l.page ≡ true) (a.first ∷ a.others) = subst (λ (zs : List Listed). AllByRecursion (λ l. is_listed end.gens l.page ≡ true) zs) a.old (each-listed swap end.gens) in
     let same : p ≡ a.first.page = (let e : Some p ≡ Some a.first.page = a.answers in cc) in
     subst (λ (x : Seen). is_listed x.gens p ≡ true) (sym a.leaves) (subst (λ (i : ℕ). is_listed end.gens i ≡ true) (sym same) all.0)
 
-same-kind : (from to : Seen) → Keeps from to → (p : ℕ) → kind_of to.gens p ≡ kind_of from.gens p
-same-kind from to k p = ap (λ (b : Bool). let r : Kind = cond b File Anon in r) (k.file p)
-
 -- the lists of each group have the pages that they had
 kept-same_pages : (g : ℕ) (s t : GensOf) (m m' : List Bool) → ChangesOnly g s t → Keeps (seen_at g s m) (seen_at g t m') → (h : ℕ) → ListsSame (gens_of s h) (gens_of t h)
 kept-same_pages g s t m m' only k h =
-    let here : ListsSame (gens_of s g) (gens_of t g) = record { listed = kept-listed (seen_at g s m) (seen_at g t m') k; kind = same-kind (seen_at g s m) (seen_at g t m') k } in
+    let here : ListsSame (gens_of s g) (gens_of t g) = kept-pages (seen_at g s m) (seen_at g t m') k in
     let go : (b : Bool) → eqb h g ≡ b → ListsSame (gens_of s h) (gens_of t h) =
     λ b e. (elim b as (λ v. eqb h g ≡ v → ListsSame (gens_of s h) (gens_of t h)) [
       | true ↦ λ e'. subst (λ (i : ℕ). ListsSame (gens_of s i) (gens_of t i)) (sym (eqb-true h g e')) here
-      | false ↦ λ e'. (let same : gens_of t h ≡ gens_of s h = only-other g s t only h (λ q. eqb-false h g e' q) in record { listed = λ p. ap (λ (x : Gens). is_listed x p) same; kind = λ p. ap (λ (x : Gens). kind_of x p) same })
+      | false ↦ λ e'. (let same : gens_of t h ≡ gens_of s h = only-other g s t only h (λ q. eqb-false h g e' q) in record { anon = λ p. ap (λ (x : Gens). has_page p x.anon.pages) same; file = λ p. ap (λ (x : Gens). has_page p x.file.pages) same })
     ]) e in
     go (eqb h g) refl
 

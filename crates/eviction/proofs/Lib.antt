@@ -3,3 +3,4 @@ pub mod SettleLemmas
 pub mod TurnLemmas
 pub mod AgeLemmas
 pub mod KeptLemmas
+pub mod SoundLemmas

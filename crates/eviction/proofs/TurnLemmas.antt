@@ -102,7 +102,7 @@ from-anon-row top amin l pages gs fmin fs m rest d t e r =
     subst (λ (zs : List Listed). Turned true (two_rows top amin zs fmin fs m) l rest) (sym e)
     (subst (λ (zs : List Listed). Turned true (two_rows top amin (l ∷ gs) fmin fs m) l zs) (sym r) (from-anon top amin l gs fmin fs m apart.0 apart.1 t'.1))
 
-turned : (swap : Bool) (s : Seen) (l : Listed) (rest : List Listed) → IsGens s.gens → old_pages swap s.gens ≡ l ∷ rest → Turned swap s l rest
+pub turned : (swap : Bool) (s : Seen) (l : Listed) (rest : List Listed) → IsGens s.gens → old_pages swap s.gens ≡ l ∷ rest → Turned swap s l rest
 turned true s l rest g e =
     ⊎_elim
     (λ w.
@@ -125,7 +125,7 @@ turned false s l rest g e =
 
 -- ---- the marks of other pages
 
-front_run-clear : (p : ℕ) (m : List Bool) (xs : List Listed) → AllByRecursion (λ l. eqb l.page p ≡ false) xs → front_run (has_mark (set m p false)) xs ≡ front_run (has_mark m) xs
+pub front_run-clear : (p : ℕ) (m : List Bool) (xs : List Listed) → AllByRecursion (λ l. eqb l.page p ≡ false) xs → front_run (has_mark (set m p false)) xs ≡ front_run (has_mark m) xs
 front_run-clear p m [] h = refl
 front_run-clear p m (x ∷ xs) h =
     let ne : x.page ≢ p = λ q. eqb-false x.page p h.0 q in

@@ -1,8 +1,8 @@
 -- What a search keeps of a group's lists.
 use Rattle.std.specs.Prelude.{◌≡◌, ℕ}
-use Rattle.machine.specs.Generations.{Gens, is_listed, kind_of}
+use Rattle.machine.specs.Generations.{Gens, has_page}
 
--- the same pages are listed, each with the type that it had
+-- each type lists the pages that it listed. (Excludes a page that is lost, and one that changes its type.)
 pub record ListsSame (old new : Gens) : Type 0 where
-  pub listed : (p : ℕ) → is_listed new p ≡ is_listed old p
-  pub kind : (p : ℕ) → kind_of new p ≡ kind_of old p
+  pub anon : (p : ℕ) → has_page p new.anon.pages ≡ has_page p old.anon.pages
+  pub file : (p : ℕ) → has_page p new.file.pages ≡ has_page p old.file.pages

@@ -4,7 +4,7 @@ ghost use Rattle.std.specs.Prelude.{◌≡◌, ℕ, ◌+◌, ◌*◌, ◌≤◌,
 ghost use Rattle.machine.specs.Generations.{listed, is_listed};
 ghost use Rattle.machine.specs.Aging.{has_mark, is_marked};
 ghost use Rattle.machine.specs.Eviction.{old_pages, has_usable, front_run, settled_gens, AgesToOld, Picks};
-ghost use Rattle.lru_gen.specs.Gens.{gens_of, sets};
+ghost use Rattle.lru_gen.specs.Gens.{gens_of};
 ghost use Rattle.aging.specs.Groups.{seen_at, ChangesOnly};
 ghost use Rattle.eviction.specs.Kept.{ListsSame};
 
@@ -13,16 +13,6 @@ use crate::search::first_unmarked;
 use aging::{MarkSet, age};
 use lru_gen::Gens;
 use machine::id::GroupId;
-use machine::record::Kind;
-
-/// Whether there is a page that may be taken: a file page, or an anonymous one and a swap block for it.
-fn has_usable(gens: &Gens, group: GroupId, swap_free: bool) -> bool
-    requires { group.0 < length gens.now.groups }
-    ensures { result ≡ has_usable swap_free (gens_of gens.now group.0) }
-{
-    gens.first(group, Kind::File).is_some()
-        || (swap_free && gens.first(group, Kind::Anon).is_some())
-}
 
 /// Ages the group just until a page is old, and takes the first such.
 fn age_until_old(gens: &mut Gens, marks: &mut MarkSet, group: GroupId, swap_free: bool) -> Pick
@@ -77,7 +67,7 @@ pub fn pick(gens: &mut Gens, marks: &mut MarkSet, group: GroupId, swap_free: boo
     ensures other_marks { (p : ℕ) → is_listed (gens_of gens.old group.0) p ≡ false → is_marked marks.new p ≡ is_marked marks.old p }
     ensures size { length marks.new ≡ length marks.old }
 {
-    if !has_usable(gens, group, swap_free) {
+    if !gens.has_usable(group, swap_free) {
         return None;
     }
     gens.is_sound();

@@ -2,6 +2,7 @@
 
 ghost use Rattle.std.specs.Prelude.{◌≡◌, ◌+◌, ◌<◌, ◌≤◌, ◌^◌, ◌∷◌, ◌++◌, [], ℕ, true, false, None, length, slice_get, is_some, option_map, option_copied, IfSome, IfOk, OnOk, IsOk};
 ghost use Rattle.machine.specs.Generations.{new_gens, row_of, on_row, has_page, is_listed, is_listed_in, after_in, added, isolated, front_of, merged, raised, advanced};
+ghost use Rattle.machine.specs.Eviction.{has_usable};
 ghost use Rattle.rings.specs.declared.ring_node.Link.{Link};
 ghost use Rattle.rings.specs.RingNodes.{head_node};
 ghost use Rattle.rings.specs.Rings.{list_at, is_there, last_node, IsLinkOf, KeepsLinksBut};
@@ -163,6 +164,16 @@ impl Gens {
     {
         let oldest = self.numbers[group.0 as usize].min_seq(kind);
         first_from(&self.rings, group, kind, oldest, 0)
+    }
+
+    /// Whether the group has a page that may be taken: a file page, or an anonymous one and a swap block for it. It takes
+    /// constant time.
+    pub fn has_usable(&self, group: GroupId, swap_free: bool) -> bool
+        requires { group.0 < length self.now.groups }
+        ensures { result ≡ has_usable swap_free (gens_of self.now group.0) }
+    {
+        self.first(group, Kind::File).is_some()
+            || (swap_free && self.first(group, Kind::Anon).is_some())
     }
 
     /// The page that stands behind this one among those of its type: on its list, or the first of a younger

@@ -30,6 +30,22 @@ fn the_merged_pages_come_first(rt: HostRuntime) -> Result<(), Fail> {
     Ok(())
 }
 
+// A group may give a file page always, and an anonymous one where a swap block is free.
+#[test]
+fn anonymous_pages_are_usable_with_a_swap_block(rt: HostRuntime) -> Result<(), Fail> {
+    let mut gens = Gens::open(rt.alloc(), 16)?;
+    gens.reserve_group()?;
+    gens.add_group_reserved();
+    let root = GroupId::ROOT;
+    assert!(rt; !has_usable(&gens, root, true));
+    add(&mut gens, root, PageId(7), Kind::Anon, 3);
+    assert!(rt; has_usable(&gens, root, true));
+    assert!(rt; !has_usable(&gens, root, false));
+    add(&mut gens, root, PageId(4), Kind::File, 1);
+    assert!(rt; has_usable(&gens, root, false));
+    Ok(())
+}
+
 // What the crate's first lines tell, beside the eight lists of a group, of 16 bytes each.
 #[test]
 fn numbers_are_small(rt: HostRuntime) {
@@ -241,6 +257,10 @@ fn advance(gens: &mut Gens, group: GroupId) {
         return;
     }
     gens.advance(group);
+}
+
+fn has_usable(gens: &Gens, group: GroupId, swap_free: bool) -> bool {
+    has_group(gens, group) && gens.has_usable(group, swap_free)
 }
 
 fn min_seq(gens: &Gens, group: GroupId, kind: Kind) -> u64 {

@@ -1,23 +1,21 @@
 -- Which group gives a page, and that one does wherever one has a page to give.
-use Rattle.std.proofs.Common.{inl, inr, ◌≡◌, ℕ, ◌+◌, ◌<◌, ◌==◌, ◌&&◌, ◌||◌, Bool, true, false, if◌then◌else◌, List, [], ◌∷◌, get_or, drop, take, Option, Some, None, refl, sym, ap, ◌∙◌, subst, arith, rules}
-use Rattle.std.specs.Prelude.{find, is_some, All, IsSome, IfSome, IfNone, nat_lt, slice_index, count_by}
+use Rattle.std.proofs.Common.{inl, inr, ◌≡◌, ℕ, ◌+◌, ◌==◌, ◌&&◌, ◌||◌, Bool, true, false, if◌then◌else◌, List, [], ◌∷◌, get_or, drop, take, Option, Some, None, refl, sym, ap, ◌∙◌, subst, arith}
+use Rattle.std.specs.Prelude.{find, is_some, All, IfSome, IfNone}
 use Rattle.std.specs.Option.{option_or}
 use Rattle.std.specs.List.{list_any}
 use Rattle.std.proofs.lemmas.Bool.{cases_Bool, and_parts}
 use Rattle.std.proofs.lemmas.Bool.Decides.{nat_tests}
 use Rattle.std.proofs.lemmas.List.Elements.{All-head, All-tail, All-append, All-take, All-drop}
-use Rattle.std.proofs.lemmas.List.Sums.{sum_by-cons}
 use Rattle.std.proofs.lemmas.List.Folds.{find-append, list_any-append, list_any_at, Any-from_list_any}
 use Rattle.machine.specs.declared.id.GroupId.{GroupId}
-use Rattle.machine.specs.declared.id.PageId.{PageId}
+use Rattle.machine.specs.Generations.{Gens}
 use Rattle.machine.specs.Order.{round_from, place_in, asking_order, served_by}
 use Rattle.machine.specs.Tree.{Node, is_live, under, preorder}
-use Rattle.machine.proofs.SlotLemmas.{one_if}
 use Rattle.group_tree.specs.Groups.{IsGroupTree}
 use Rattle.group_tree.specs.Tables.{number}
 use Rattle.group_tree.proofs.PreorderLemmas.{preorder-has}
 use Rattle.page_counter.specs.Counts.{Counts}
-use Rattle.reclaim.specs.Pass.{HeldList, AreHeld, is_unprotected_by_counts, oldest_of, gives_by_counts, IsGiver, GivesNone}
+use Rattle.reclaim.specs.Pass.{gives_by_lists, IsGiver, GivesNone}
 use Rattle.reclaim.specs.Walk.{is_at, behind, up_to, AreAsked}
 use Rattle.reclaim.proofs.WalkLemmas.{up_to-none, parts}
 
@@ -41,27 +39,6 @@ module _ {X : Type 0} where
       by_test : (find f xs ≡ None → list_any f xs ≡ false) → (b : Bool) → f x ≡ b → (if b then Some x else find f xs) ≡ None → (f x || list_any f xs) ≡ false
       by_test rest true is none = absurd cc
       by_test rest false is none = ap (λ b. b || list_any f xs) is ∙ rest none
-
-  find-nothing : (f : X → Bool) (xs : List X) → ((x : X) → f x ≡ false) → find f xs ≡ None
-  find-nothing f [] none = refl
-  find-nothing f (x ∷ xs) none = ap (λ b. if b then Some x else find f xs) (none x) ∙ find-nothing f xs none
-
-  -- what is counted is found
-  pub counted-found : (f : X → Bool) (xs : List X) → 0 < count_by f xs → IsSome (find f xs)
-  counted-found f [] some = absurd (omega arith)
-  counted-found f (x ∷ xs) some =
-      let more = sum_by-cons (λ y. one_if (f y)) x xs in
-      elim (f x) as (λ b. f x ≡ b → IsSome (if b then Some x else find f xs)) [
-        | true ↦ λ is. search rules
-        | false ↦ λ is. counted-found f xs (let here = ap one_if is in omega (arith, some, more, here))
-      ] refl
-
--- the page that is found of a group is that group's
-pub oldest-own : (pages : HeldList) (group : GroupId) (pair : GroupId × PageId) → oldest_of pages group.0 ≡ Some pair → oldest_of pages group.0 ≡ Some (group, pair.1)
-oldest-own pages group pair found =
-    let passes = (found-passes (λ (p : GroupId × PageId). Unit {0}) (λ p. p.0.0 == group.0) pages pair (λ k d lt. tt) found).1 in
-    let same : pair.0.0 ≡ group.0 = grind (arith, nat_tests, passes) in
-    found ∙ ap (λ (g : GroupId). Some (g, pair.1)) (ap (λ (n : ℕ). record group { 0 = n }) same)
 
 -- a group of the list fails a test that none of the list passes
 among : (f : ℕ → Bool) (g : ℕ) (gs : List ℕ) → list_any (λ a. a == g) gs ≡ true → list_any f gs ≡ false → f g ≡ false
@@ -178,36 +155,26 @@ around test (g ∷ gs) last =
           ∙ ap (λ b. test g || b) (around test gs last)
     ]
 
-module _ (tree : List Node) (counts : Counts) (held : List ℕ) (swap_free : Bool) (target : ℕ) where
-  -- without room in swap no group gives a page
-  full : swap_free ≡ false → (g : ℕ) → gives_by_counts tree counts held swap_free target g ≡ false
-  full e g = ap (λ b. b && (is_unprotected_by_counts tree counts target g && nat_lt 0 (slice_index held g))) e
-
-  pub none-served : (last : Option ℕ) → swap_free ≡ false → None ≡ served_by tree (gives_by_counts tree counts held swap_free target) target last
-  none-served last e = sym (find-nothing (gives_by_counts tree counts held swap_free target) (asking_order tree target last) (full e))
-
-  pub none-given : swap_free ≡ false → GivesNone tree counts held swap_free target
-  none-given e g live below = full e g
-
+module _ (tree : List Node) (counts : Counts) (lists : List Gens) (swap_free : Bool) (target : ℕ) where
   module _ (groups : IsGroupTree tree) (live : is_live tree target ≡ true) (last : Option ℕ) where
-    one_serves : (g : ℕ) → served_by tree (gives_by_counts tree counts held swap_free target) target last ≡ Some g → IsGiver tree counts held swap_free target g
+    one_serves : (g : ℕ) → served_by tree (gives_by_lists tree counts lists swap_free target) target last ≡ Some g → IsGiver tree counts lists swap_free target g
     one_serves g found =
-        let is = found-passes (λ a. (is_live tree a ≡ true) × (under tree target a ≡ true)) (gives_by_counts tree counts held swap_free target) (asking_order tree target last) g (asked-order tree target last groups live) found in
+        let is = found-passes (λ a. (is_live tree a ≡ true) × (under tree target a ≡ true)) (gives_by_lists tree counts lists swap_free target) (asking_order tree target last) g (asked-order tree target last groups live) found in
         record { live = is.0.0; below = is.0.1; gives = is.1 }
 
-    none_serves : served_by tree (gives_by_counts tree counts held swap_free target) target last ≡ None → GivesNone tree counts held swap_free target
+    none_serves : served_by tree (gives_by_lists tree counts lists swap_free target) target last ≡ None → GivesNone tree counts lists swap_free target
     none_serves nothing g there below =
-        among (gives_by_counts tree counts held swap_free target) g (preorder tree target)
+        among (gives_by_lists tree counts lists swap_free target) g (preorder tree target)
         (preorder-has tree groups target g live ∙ ap (λ b. b && under tree target g) there ∙ below)
-        (sym (around (gives_by_counts tree counts held swap_free target) (preorder tree target) last) ∙ sym (list_any-append (gives_by_counts tree counts held swap_free target) (behind (preorder tree target) last) (up_to (preorder tree target) last))
-        ∙ ap (list_any (gives_by_counts tree counts held swap_free target)) (parts (preorder tree target) last) ∙ none-passes (gives_by_counts tree counts held swap_free target) (asking_order tree target last) nothing)
+        (sym (around (gives_by_lists tree counts lists swap_free target) (preorder tree target) last) ∙ sym (list_any-append (gives_by_lists tree counts lists swap_free target) (behind (preorder tree target) last) (up_to (preorder tree target) last))
+        ∙ ap (list_any (gives_by_lists tree counts lists swap_free target)) (parts (preorder tree target) last) ∙ none-passes (gives_by_lists tree counts lists swap_free target) (asking_order tree target last) nothing)
 
     -- the group that is served has a page to give
-    pub giver-served : (group : Option GroupId) → number group ≡ served_by tree (gives_by_counts tree counts held swap_free target) target last → IfSome group (λ g. IsGiver tree counts held swap_free target g.0)
+    pub giver-served : (group : Option GroupId) → number group ≡ served_by tree (gives_by_lists tree counts lists swap_free target) target last → IfSome group (λ g. IsGiver tree counts lists swap_free target g.0)
     giver-served None e = tt
     giver-served (Some g) e = one_serves g.0 (sym e)
 
     -- and where none is served, none has
-    pub none-serves : (group : Option GroupId) → number group ≡ served_by tree (gives_by_counts tree counts held swap_free target) target last → IfNone group (GivesNone tree counts held swap_free target)
+    pub none-serves : (group : Option GroupId) → number group ≡ served_by tree (gives_by_lists tree counts lists swap_free target) target last → IfNone group (GivesNone tree counts lists swap_free target)
     none-serves None e = none_serves (sym e)
     none-serves (Some g) e = tt

@@ -1,14 +1,15 @@
 //! The cursors of all targets.
 
-ghost use Rattle.std.specs.Prelude.{◌≡◌, ◌+◌, ◌<◌, ◌≤◌, ◌++◌, ◌∷◌, [], true, length, option_map, slice_set, Some, None, IsSome, IfSome, IfNone, IfOk, OnOk, OnErr, IsOk};
+ghost use Rattle.std.specs.Prelude.{◌≡◌, ◌+◌, ◌<◌, ◌≤◌, ◌++◌, ◌∷◌, [], true, length, option_map, slice_set, Some, None, IfSome, IfNone, IfOk, OnOk, OnErr, IsOk};
 ghost use Rattle.machine.specs.Order.{served_by, cursor_at};
 ghost use Rattle.machine.specs.Tree.{is_live};
 ghost use Rattle.group_tree.specs.Kin.{AreKin};
-ghost use Rattle.reclaim.specs.Pass.{oldest_of, gives_by_counts, IsGiver, GivesNone};
+ghost use Rattle.reclaim.specs.Pass.{gives_by_lists, IsGiver, GivesNone};
 
-use crate::pass::{oldest_of, served};
+use crate::pass::served;
 use group_tree::Tree;
-use machine::id::{GroupId, PageId};
+use lru_gen::Gens;
+use machine::id::GroupId;
 use page_counter::Counters;
 use std::alloc::{AllocError, Global};
 use std::marker::Model;
@@ -92,48 +93,39 @@ impl Cursors {
 
     /// The group that gives the next page to a reclaim of the target. Nothing changes.
     ///
-    /// `held` is, by group number, how many pages in frames each group has. `None` where no group at
-    /// or below the target has a page to give.
+    /// `gens` has the pages that may be taken, by group. `None` where no group at or below the target
+    /// has a page to give.
     pub fn next_group(
         &self,
         tree: &Tree,
         counters: &Counters,
-        held: &[u32],
+        gens: &Gens,
         swap_free: bool,
         target: GroupId,
     ) -> Option<GroupId>
         requires kin { AreKin counters.now.tree tree.now }
         requires live { is_live tree.now target.0 ≡ true }
         requires cursor { target.0 < length self.now.cursors }
-        requires places { length tree.now ≤ length held.now }
+        requires places { length tree.now ≤ length gens.now.groups }
         // It is the one whose turn it is.
         ensures group { option_map (λ g. g.0) result
-            ≡ served_by tree.now (gives_by_counts tree.now counters.now held.now swap_free target.0) target.0 (cursor_at self.now.cursors target.0) }
+            ≡ served_by tree.now (gives_by_lists tree.now counters.now gens.now.groups swap_free target.0) target.0 (cursor_at self.now.cursors target.0) }
         // There is one exactly where one has a page to give.
-        ensures giver { IfSome result (λ g. IsGiver tree.now counters.now held.now swap_free target.0 g.0) }
-        ensures none { IfNone result (GivesNone tree.now counters.now held.now swap_free target.0) }
+        ensures giver { IfSome result (λ g. IsGiver tree.now counters.now gens.now.groups swap_free target.0 g.0) }
+        ensures none { IfNone result (GivesNone tree.now counters.now gens.now.groups swap_free target.0) }
     {
         tree.groups_form_a_tree();
-        if !swap_free {
-            return None;
-        }
         let last = self.last[target.0 as usize];
-        served(tree, counters, held, target, last)
+        served(tree, counters, gens, swap_free, target, last)
     }
 
-    /// The page that the group gives to a reclaim of the target: the first that came to be held, counted
-    /// from the last time. The target's cursor goes to the group. It takes no memory.
-    ///
-    /// `held` has the held pages, each after its group, in the order in which they came to be held. The
-    /// group has one there.
-    pub fn serve(&mut self, held: &[(GroupId, PageId)], target: GroupId, group: GroupId) -> PageId
+    /// The group gives a page to a reclaim of the target: the target's cursor goes to it. It takes no
+    /// memory.
+    pub fn serve(&mut self, target: GroupId, group: GroupId)
         requires cursor { target.0 < length self.old.cursors }
-        requires held { IsSome (oldest_of held.now group.0) }
-        ensures page { oldest_of held.now group.0 ≡ Some (group, result) }
         ensures cursors { self.new.cursors ≡ slice_set self.old.cursors target.0 (Some group.0) }
         ensures room { self.new.room ≡ self.old.room }
     {
         self.last[target.0 as usize] = Some(group);
-        oldest_of(held, group)
     }
 }

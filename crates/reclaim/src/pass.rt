@@ -1,41 +1,43 @@
 //! One pass over the target and the groups below it.
 
-ghost use Rattle.std.specs.Prelude.{◌≡◌, ◌≤◌, ◌&&◌, true, Some, IsSome, length, nat_lt, slice_index};
-ghost use Rattle.std.specs.Option.{option_copied};
+ghost use Rattle.std.specs.Prelude.{◌≡◌, ◌≤◌, ◌&&◌, true, length};
 ghost use Rattle.std.specs.List.{find};
 ghost use Rattle.machine.specs.Order.{served_by};
 ghost use Rattle.machine.specs.Tree.{is_live, under};
 ghost use Rattle.group_tree.specs.Kin.{AreKin};
 ghost use Rattle.group_tree.specs.Tables.{number};
-ghost use Rattle.reclaim.specs.Pass.{oldest_of, gives_by_counts};
+ghost use Rattle.reclaim.specs.Pass.{gives_by_lists};
 ghost use Rattle.reclaim.specs.Walk.{behind, up_to, AreAsked};
 
 use group_tree::{Preorder, Tree};
-use machine::id::{GroupId, PageId};
+use lru_gen::Gens;
+use machine::id::GroupId;
 use page_counter::Counters;
 use protection::is_protected;
 
-/// The group that gives a page to the target, where `last` was served last. A block in swap is free.
+/// The group that gives a page to the target, where `last` was served last.
 pub fn served(
     tree: &Tree,
     counters: &Counters,
-    held: &[u32],
+    gens: &Gens,
+    swap_free: bool,
     target: GroupId,
     last: Option<GroupId>,
 ) -> Option<GroupId>
     requires kin { AreKin counters.now.tree tree.now }
     requires live { is_live tree.now target.0 ≡ true }
-    requires places { length tree.now ≤ length held.now }
-    ensures { number result ≡ served_by tree.now (gives_by_counts tree.now counters.now held.now true target.0) target.0 (number last) }
+    requires places { length tree.now ≤ length gens.now.groups }
+    ensures { number result ≡ served_by tree.now (gives_by_lists tree.now counters.now gens.now.groups swap_free target.0) target.0 (number last) }
 {
     tree.groups_form_a_tree();
     let mut rest = tree.preorder(target);
     go_behind(&mut rest, last);
-    let found = first_to_give(tree, counters, held, target, rest, None);
+    let found = first_to_give(tree, counters, gens, swap_free, target, rest, None);
     if found.is_some() {
         return found;
     }
-    first_to_give(tree, counters, held, target, tree.preorder(target), last)
+    let walk = tree.preorder(target);
+    first_to_give(tree, counters, gens, swap_free, target, walk, last)
 }
 
 /// Passes by all groups up to one and by that one, and so by all where the walk does not come to it.
@@ -54,18 +56,19 @@ fn go_behind(walk: &mut Preorder<'_>, last: Option<GroupId>)
 fn first_to_give(
     tree: &Tree,
     counters: &Counters,
-    held: &[u32],
+    gens: &Gens,
+    swap_free: bool,
     target: GroupId,
     walk: Preorder<'_>,
     last: Option<GroupId>,
 ) -> Option<GroupId>
     requires kin { AreKin counters.now.tree tree.now }
     requires asked { AreAsked tree.now target.0 walk }
-    requires places { length tree.now ≤ length held.now }
-    ensures { number result ≡ find (gives_by_counts tree.now counters.now held.now true target.0) (up_to walk.entry (number last)) }
+    requires places { length tree.now ≤ length gens.now.groups }
+    ensures { number result ≡ find (gives_by_lists tree.now counters.now gens.now.groups swap_free target.0) (up_to walk.entry (number last)) }
 {
     for group in walk {
-        if has_page(tree, counters, held, target, group) {
+        if gives(tree, counters, gens, swap_free, target, group) {
             return Some(group);
         }
         if Some(group) == last {
@@ -75,32 +78,21 @@ fn first_to_give(
     None
 }
 
-/// Whether the group has a page to give to the target. A block in swap is free.
-fn has_page(tree: &Tree, counters: &Counters, held: &[u32], target: GroupId, group: GroupId) -> bool
+/// Whether the group has a page to give to the target.
+fn gives(
+    tree: &Tree,
+    counters: &Counters,
+    gens: &Gens,
+    swap_free: bool,
+    target: GroupId,
+    group: GroupId,
+) -> bool
     requires kin { AreKin counters.now.tree tree.now }
     requires live { is_live tree.now group.0 ≡ true }
     requires under { under tree.now target.0 group.0 ≡ true }
-    requires places { length tree.now ≤ length held.now }
-    ensures { result ≡ gives_by_counts tree.now counters.now held.now true target.0 group.0 }
+    requires places { length tree.now ≤ length gens.now.groups }
+    ensures { result ≡ gives_by_lists tree.now counters.now gens.now.groups swap_free target.0 group.0 }
 {
-    // The count costs less than the group's protection, which goes up to the target.
-    held[group.0 as usize] > 0 && !is_protected(tree, counters, target, group)
-}
-
-/// Of a group that has held pages the first that came to be held, counted from the last time.
-pub fn oldest_of(held: &[(GroupId, PageId)], group: GroupId) -> PageId
-    requires { IsSome (oldest_of held.now group.0) }
-    ensures { oldest_of held.now group.0 ≡ Some (group, result) }
-{
-    let Some(pair) = first_of(held, group) else {
-        unreachable!()
-    };
-    pair.1
-}
-
-/// The first page of a group.
-fn first_of(held: &[(GroupId, PageId)], group: GroupId) -> Option<&(GroupId, PageId)>
-    ensures { option_copied result ≡ oldest_of held.now group.0 }
-{
-    held.iter().find(|pair| pair.0 == group)
+    // The lists cost less than the group's protection, which goes up to the target.
+    gens.has_usable(group, swap_free) && !is_protected(tree, counters, target, group)
 }

@@ -1,21 +1,21 @@
-use Rattle.std.proofs.Common.{true, refl, sym, ◌∙◌}
+use Rattle.std.proofs.Common.{refl, sym, ◌∙◌}
 use Rattle.group_tree.specs.Tables.{number}
-use Rattle.reclaim.specs.Pass.{gives_by_counts}
+use Rattle.reclaim.specs.Pass.{gives_by_lists}
 use Rattle.reclaim.proofs.WalkLemmas.{is_at-same}
 use Rattle.reclaim.proofs.PassLemmas.{find-step, asked-rest}
 use Rattle.reclaim.proofs.pass.first_to_give.Goals as goal
 
-pub returns-then-has_page : goal.returns-then-has_page
-returns-then-has_page c =
+pub returns-then-gives : goal.returns-then-gives
+returns-then-gives c =
     sym
-    (find-step (gives_by_counts c.args.tree.now c.args.counters.now c.args.held.now true c.args.target.0) c.in-Some.group.0 c.loop-group.group-iterator c.next.new.self (number c.args.last) c.in-Some.ensures.steps (sym c.has_page.ensures ∙ c.if-has_page.true)
+    (find-step (gives_by_lists c.args.tree.now c.args.counters.now c.args.gens.now.groups c.args.swap_free c.args.target.0) c.in-Some.group.0 c.loop-group.group-iterator c.next.new.self (number c.args.last) c.in-Some.ensures.steps (sym c.gives.ensures ∙ c.if-gives.true)
     (is_at-same _ (λ a b. refl) c.in-Some.group c.args.last))
     ∙ c.loop-group.invariant.same
 
 pub returns-then-eq : goal.returns-then-eq
 returns-then-eq c =
     sym
-    (find-step (gives_by_counts c.args.tree.now c.args.counters.now c.args.held.now true c.args.target.0) c.in-Some.group.0 c.loop-group.group-iterator c.next.new.self (number c.args.last) c.in-Some.ensures.steps (sym c.has_page.ensures ∙ c.if-has_page.false)
+    (find-step (gives_by_lists c.args.tree.now c.args.counters.now c.args.gens.now.groups c.args.swap_free c.args.target.0) c.in-Some.group.0 c.loop-group.group-iterator c.next.new.self (number c.args.last) c.in-Some.ensures.steps (sym c.gives.ensures ∙ c.if-gives.false)
     (is_at-same _ (λ a b. refl) c.in-Some.group c.args.last ∙ sym c.eq.ensures ∙ c.if-eq.true))
     ∙ c.loop-group.invariant.same
 
@@ -25,7 +25,7 @@ loop-group-preserved c =
       asked = asked-rest c.args.tree.now c.args.target.0 c.loop-group.group-iterator c.next.new.self c.in-Some.group.0 c.in-Some.ensures.steps c.loop-group.invariant.asked;
       same =
           sym
-          (find-step (gives_by_counts c.args.tree.now c.args.counters.now c.args.held.now true c.args.target.0) c.in-Some.group.0 c.loop-group.group-iterator c.next.new.self (number c.args.last) c.in-Some.ensures.steps (sym c.has_page.ensures ∙ c.if-has_page.false)
+          (find-step (gives_by_lists c.args.tree.now c.args.counters.now c.args.gens.now.groups c.args.swap_free c.args.target.0) c.in-Some.group.0 c.loop-group.group-iterator c.next.new.self (number c.args.last) c.in-Some.ensures.steps (sym c.gives.ensures ∙ c.if-gives.false)
           (is_at-same _ (λ a b. refl) c.in-Some.group c.args.last ∙ sym c.eq.ensures ∙ c.if-eq.false))
           ∙ c.loop-group.invariant.same;
     }

@@ -1,7 +1,7 @@
-use Rattle.std.proofs.Common.{true, sym, ap, ◌∙◌, subst}
+use Rattle.std.proofs.Common.{sym, ap, ◌∙◌, subst}
 use Rattle.machine.specs.Tree.{preorder}
 use Rattle.group_tree.specs.Tables.{number}
-use Rattle.reclaim.specs.Pass.{gives_by_counts}
+use Rattle.reclaim.specs.Pass.{gives_by_lists}
 use Rattle.reclaim.specs.Walk.{behind, AreAsked}
 use Rattle.reclaim.proofs.PassLemmas.{asked-all, asked-behind, first_part, second_part}
 use Rattle.reclaim.proofs.pass.served.Goals as goal
@@ -14,14 +14,14 @@ first_to_give-found-requires-clause-asked c =
 
 pub first_to_give-requires-clause-asked : goal.first_to_give-requires-clause-asked
 first_to_give-requires-clause-asked c =
-    subst (AreAsked c.args.tree.now c.args.target.0) (sym c.preorder.ensures) (asked-all c.args.tree.now c.args.target.0 c.groups_form_a_tree.ensures c.requires.live)
+    subst (AreAsked c.args.tree.now c.args.target.0) (sym c.preorder-walk.ensures) (asked-all c.args.tree.now c.args.target.0 c.groups_form_a_tree.ensures c.requires.live)
 
 pub returns-then-is_some : goal.returns-then-is_some
 returns-then-is_some c =
-    first_part c.args.tree.now (gives_by_counts c.args.tree.now c.args.counters.now c.args.held.now true c.args.target.0) c.args.target.0 (number c.args.last) c.go_behind.new.walk c.first_to_give-found.result
+    first_part c.args.tree.now (gives_by_lists c.args.tree.now c.args.counters.now c.args.gens.now.groups c.args.swap_free c.args.target.0) c.args.target.0 (number c.args.last) c.go_behind.new.walk c.first_to_give-found.result
     (c.go_behind.ensures ∙ ap (λ gs. behind gs (number c.args.last)) c.preorder-rest.ensures) c.first_to_give-found.ensures (sym c.is_some.ensures ∙ c.if-is_some.true)
 
 pub returns : goal.returns
 returns c =
-    second_part c.args.tree.now (gives_by_counts c.args.tree.now c.args.counters.now c.args.held.now true c.args.target.0) c.args.target.0 (number c.args.last) c.go_behind.new.walk c.preorder.result c.first_to_give-found.result c.first_to_give.result
-    (c.go_behind.ensures ∙ ap (λ gs. behind gs (number c.args.last)) c.preorder-rest.ensures) c.preorder.ensures c.first_to_give-found.ensures (sym c.is_some.ensures ∙ c.if-is_some.false) c.first_to_give.ensures
+    second_part c.args.tree.now (gives_by_lists c.args.tree.now c.args.counters.now c.args.gens.now.groups c.args.swap_free c.args.target.0) c.args.target.0 (number c.args.last) c.go_behind.new.walk c.preorder-walk.result c.first_to_give-found.result c.first_to_give.result
+    (c.go_behind.ensures ∙ ap (λ gs. behind gs (number c.args.last)) c.preorder-rest.ensures) c.preorder-walk.ensures c.first_to_give-found.ensures (sym c.is_some.ensures ∙ c.if-is_some.false) c.first_to_give.ensures
