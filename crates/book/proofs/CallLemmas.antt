@@ -1,5 +1,5 @@
 -- One call: what it answers, and the book after it.
-use Rattle.std.proofs.Common.{◌≡◌, ℕ, ◌+◌, ◌<◌, ◌≤◌, Bool, true, false, List, [], ◌∷◌, ◌++◌, None, refl, sym, ap, ◌∙◌, subst, arith, length, length-append, add-one}
+use Rattle.std.proofs.Common.{◌≡◌, ℕ, ◌+◌, ◌<◌, ◌≤◌, Bool, true, false, List, [], ◌∷◌, ◌++◌, None, refl, sym, ap, ◌∙◌, subst, arith, Some, length, length-append, add-one}
 use Rattle.std.specs.Prelude.{slice_index, slice_set, reverse, nat_lt, vec_len, vec_capacity}
 use Rattle.std.proofs.lemmas.List.{reverse-append, length-reverse, length-set}
 use Rattle.std.proofs.lemmas.List.Sums.{length-filter, count_by-le-length}
@@ -24,7 +24,7 @@ use Rattle.machine.specs.State.{Opening, State}
 use Rattle.machine.specs.Refusals.{refusal}
 use Rattle.machine.specs.Reclaim.{target_of}
 use Rattle.machine.specs.Step.{Step}
-use Rattle.machine.specs.Lists.{Order, TakesNext, CursorsGoOn, Orders}
+use Rattle.machine.specs.Lists.{Order, TakesNext, Orders}
 use Rattle.machine.specs.History.{is_by, entries_by}
 use Rattle.machine.specs.Call.{Past, Caller, took, knows_pass, need, is_trace_full, entry_of, Answers, Answered, Called}
 use Rattle.book.specs.declared.book.Book.TheInside.{Inside}
@@ -66,18 +66,18 @@ need-counting s c what = refl
 
 -- and so with the page that is next
 next-counting : (old new : State) (c d : List Counted) (order order' : Order) (target : ℕ) → TakesNext old order target new order' → TakesNext (counting old c) order target (counting new d) order'
-next-counting old new c d order order' target h = record { g = h.g; next = h.next; takes = record { p = h.takes.p; first = h.takes.first; was = h.takes.was; taken = h.takes.taken }; moves = h.moves }
+next-counting old new c d order order' target h = record { g = h.g; next = h.next; p = h.p; looked = h.looked; picked = h.picked; was = h.was; taken = h.taken; leaves = h.leaves; moves = h.moves }
 
-cursors-counting : (old new : State) (c d : List Counted) (order order' : Order) (what : Event) (answer : Reply) → CursorsGoOn old order what answer new order' → CursorsGoOn (counting old c) order what answer (counting new d) order'
-cursors-counting old new c d order order' (event.Relieve cause) (reply.Out ticket) h = next-counting old new c d order order' (target_of cause) h
-cursors-counting old new c d order order' (event.Relieve cause) reply.Dropped h = next-counting old new c d order order' (target_of cause) h
-cursors-counting old new c d order order' (event.ReclaimOne g) (reply.Out ticket) h = next-counting old new c d order order' g.0 h
-cursors-counting old new c d order order' (event.ReclaimOne g) reply.Dropped h = next-counting old new c d order order' g.0 h
-cursors-counting old new c d order order' (event.Mkdir path) answer h = h
-cursors-counting old new c d order order' what answer h = h
-
+-- and so with the order
 pub orders-counting : (old new : State) (c d : List Counted) (order order' : Order) (what : Event) (answer : Reply) → Orders old order what answer new order' → Orders (counting old c) order what answer (counting new d) order'
-orders-counting old new c d order order' what answer h = (h.0, cursors-counting old new c d order order' what answer h.1)
+orders-counting old new c d order order' (event.Relieve cause) (reply.Out ticket) h = next-counting old new c d order order' (target_of cause) h
+orders-counting old new c d order order' (event.Relieve cause) reply.Dropped h = next-counting old new c d order order' (target_of cause) h
+orders-counting old new c d order order' (event.ReclaimOne g) (reply.Out ticket) h = next-counting old new c d order order' g.0 h
+orders-counting old new c d order order' (event.ReclaimOne g) reply.Dropped h = next-counting old new c d order order' g.0 h
+orders-counting old new c d order order' (event.Access t place op) (reply.Done byte (Some frame)) h = h
+orders-counting old new c d order order' (event.Access t place op) (reply.Done byte None) h = h
+orders-counting old new c d order order' (event.Mkdir path) answer h = h
+orders-counting old new c d order order' what answer h = h
 
 -- ---- answers of a call
 

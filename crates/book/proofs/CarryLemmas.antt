@@ -20,6 +20,7 @@ use Rattle.machine.specs.Tasks.{group_of_task}
 use Rattle.machine.specs.State.{over_in}
 use Rattle.machine.specs.Reclaim.{has_takeable, has_transfer}
 use Rattle.machine.specs.Victim.{IsVictim}
+use Rattle.machine.specs.Lists.{with_mark}
 use Rattle.machine.specs.Step.{count_of, shown_of, with_setting}
 use Rattle.pages.specs.PagesOf.{byte_in, HasResidence}
 use Rattle.pages.specs.Tickets.{TicketOf}
@@ -28,8 +29,7 @@ use Rattle.memory_events.specs.Tallies.{Tallies, Tells}
 use Rattle.page_state.specs.declared.room.NoRoom.TheVariants as lacks
 use Rattle.page_state.specs.States.{StateOf}
 use Rattle.page_state.specs.Mapped.{AreMapped}
-use Rattle.page_state.specs.Changes.{CountsEvent, MakesPage, WritesByte, BeginsReadIn, BeginsWriteOut, StartsTask, EndsTask, AddsGroup, sets_limits}
-use Rattle.page_state.proofs.OrderLemmas.{InOrder}
+use Rattle.page_state.specs.Changes.{CountsEvent, MakesPage, MarksPage, WritesByte, BeginsReadIn, BeginsWriteOut, StartsTask, EndsTask, AddsGroup, sets_limits}
 use Rattle.page_state.proofs.TallyLemmas.{tells-two}
 use Rattle.book.specs.declared.event.Reply.{Reply as Given}
 use Rattle.book.specs.declared.event.Reply.TheVariants as given
@@ -42,7 +42,7 @@ use Rattle.book.specs.Replies.{IsAccessReply}
 use Rattle.book.specs.Effects.{counting}
 use Rattle.book.specs.MakesStep.{MakesStep, GivesTicket}
 use Rattle.book.specs.Decisions.{IsTouch, NeedsCharge, ForNew, ForAway, MeetsSo, IsIdleFor, IsOfKilled, AsksPage, WantsRoom, HasItsRoom, FindsNothing, AnswersTo, Carries}
-use Rattle.book.proofs.StepLemmas.{makes_step-mkdir, makes_step-set, makes_step-show, makes_step-killed, makes_step-unmapped, makes_step-hit_read, makes_step-busy, makes_step-over, makes_step-no_frame, unmapped-over, unmapped-no_frame, away-over, away-no_frame, makes_step-room, makes_step-wait, makes_step-no_victim, makes_step-reclaim_wait, makes_step-nothing, makes_step-exit_killed}
+use Rattle.book.proofs.StepLemmas.{InOrder, makes_step-mkdir, makes_step-set, makes_step-show, makes_step-killed, makes_step-unmapped, makes_step-hit_read, makes_step-busy, makes_step-over, makes_step-no_frame, unmapped-over, unmapped-no_frame, away-over, away-no_frame, makes_step-room, makes_step-wait, makes_step-no_victim, makes_step-reclaim_wait, makes_step-nothing, makes_step-exit_killed}
 use Rattle.book.proofs.MoveLemmas.{makes_step-fetch, makes_step-taken, replies-out}
 use Rattle.book.proofs.TouchLemmas.{makes_step-hit_write, makes_step-made, makes_step-spawn}
 use Rattle.book.proofs.EndLemmas.{makes_step-kill, makes_step-exit}
@@ -81,23 +81,28 @@ carries-unmapped s worker entry touch listed is meets =
     (makes_step-unmapped s worker touch.task.0 touch.at touch.offset is.task is.known is.live meets.1 is.within listed))
     tt tt
 
-pub carries-hit_read : (s : StateOf) (worker entry : ℕ) (touch : Touch) (page : PageId) (frame : FrameId) (byte : ℕ) → InOrder s → IsTouch s.tables touch → MeetsSo s.tables touch (meeting.Hits page frame) → touch.op ≡ Read
-    → byte ≡ byte_in s.bytes page.0 touch.offset → Carries s worker entry (decision.Access touch (meeting.Hits page frame)) (given.Done byte (Some frame)) s
-carries-hit_read s worker entry touch page frame byte listed is meets read same =
-    carries-access s s worker entry touch (meeting.Hits page frame) (given.Done byte (Some frame))
-    (subst (λ (op : Op). MakesStep s worker (event.Access touch.task (Virtual touch.at touch.offset) op) (reply_of (given.Done byte (Some frame))) s) (sym read)
-    (subst (λ (b : ℕ). MakesStep s worker (event.Access touch.task (Virtual touch.at touch.offset) Read) (reply_of (given.Done b (Some frame))) s) (sym same)
-    (makes_step-hit_read s worker touch.task.0 touch.at touch.offset page.0 meets.0 frame.0 is.task is.known is.live meets.1 meets.2 is.within listed)))
+pub carries-hit_read : (old new : StateOf) (worker entry : ℕ) (touch : Touch) (page : PageId) (frame : FrameId) (byte : ℕ) → InOrder old → IsTouch old.tables touch → MeetsSo old.tables touch (meeting.Hits page frame) → MarksPage old new page.0
+    → touch.op ≡ Read → byte ≡ byte_in new.bytes page.0 touch.offset → Carries old worker entry (decision.Access touch (meeting.Hits page frame)) (given.Done byte (Some frame)) new
+carries-hit_read old new worker entry touch page frame byte listed is meets marks read same =
+    carries-access old new worker entry touch (meeting.Hits page frame) (given.Done byte (Some frame))
+    (subst (λ (op : Op). MakesStep old worker (event.Access touch.task (Virtual touch.at touch.offset) op) (reply_of (given.Done byte (Some frame))) new) (sym read)
+    (subst (λ (b : ℕ). MakesStep old worker (event.Access touch.task (Virtual touch.at touch.offset) Read) (reply_of (given.Done b (Some frame))) new) (sym (same ∙ ap (λ (s : StateOf). byte_in s.bytes page.0 touch.offset) marks))
+    (makes_step-hit_read old new worker touch.task.0 touch.at touch.offset page.0 meets.0 frame.0 is.task is.known is.live meets.1 meets.2 is.within listed marks)))
     tt tt
 
-pub carries-hit_write : (old new : StateOf) (worker entry : ℕ) (touch : Touch) (page : PageId) (frame : FrameId) (byte : ℕ) → AreMapped old.tables.pages old.tables.page_tables → InOrder old → IsTouch old.tables touch
-    → MeetsSo old.tables touch (meeting.Hits page frame) → touch.op ≡ Write byte → WritesByte old new page.0 touch.offset byte → Carries old worker entry (decision.Access touch (meeting.Hits page frame)) (given.Done byte (Some frame)) new
-carries-hit_write old new worker entry touch page frame byte mapped listed is meets write writes =
+-- the page is marked, and then written
+pub carries-hit_write : (old marked new : StateOf) (worker entry : ℕ) (touch : Touch) (page : PageId) (frame : FrameId) (byte : ℕ) → AreMapped old.tables.pages old.tables.page_tables → InOrder old → IsTouch old.tables touch
+    → MeetsSo old.tables touch (meeting.Hits page frame) → MarksPage old marked page.0 → touch.op ≡ Write byte → WritesByte marked new page.0 touch.offset byte
+    → Carries old worker entry (decision.Access touch (meeting.Hits page frame)) (given.Done byte (Some frame)) new
+carries-hit_write old marked new worker entry touch page frame byte mapped listed is meets marks write writes =
     carries-access old new worker entry touch (meeting.Hits page frame) (given.Done byte (Some frame))
     (subst (λ (op : Op). MakesStep old worker (event.Access touch.task (Virtual touch.at touch.offset) op) (reply_of (given.Done byte (Some frame))) new) (sym write)
     (makes_step-hit_write old new worker touch.task.0 touch.at touch.offset byte page.0 meets.0 frame.0 is.task mapped is.known is.live meets.1 meets.2
-    writes.tables writes.bytes writes.flights listed writes.order (tallies-kept old.tallies new.tallies writes.tallies)))
+    written.tables written.bytes written.flights listed written.order (tallies-kept old.tallies new.tallies written.tallies)))
     tt tt
+  where
+    written : WritesByte (record old { order = record { held = with_mark (Some page.0) old.order.held; cursors = old.order.cursors } }) new page.0 touch.offset byte
+    written = subst (λ (s : StateOf). WritesByte s new page.0 touch.offset byte) marks writes
 
 pub carries-busy : (s : StateOf) (worker entry : ℕ) (touch : Touch) → InOrder s → IsTouch s.tables touch → MeetsSo s.tables touch meeting.Transferring
     → Carries s worker entry (decision.Access touch meeting.Transferring) given.Busy s
@@ -110,7 +115,7 @@ carries-made old new worker entry touch byte mapped is meets makes =
     carries-access old new worker entry touch (meeting.NeedsPage byte) (given.Done byte None)
     (subst (λ (op : Op). MakesStep old worker (event.Access touch.task (Virtual touch.at touch.offset) op) (reply_of (given.Done byte None)) new) (sym meets.0)
     (makes_step-made old new worker touch.task.0 touch.at touch.offset byte own.page own.frame is.task mapped is.known is.live meets.1
-    (ap (λ (g : GroupId). over_in old.tables g.0) is.group ∙ meets.2.under) meets.2.free own.frame_free own.number_free own.placed own.shown own.tables own.bytes own.flights own.held own.cursors (tallies-kept old.tallies new.tallies own.tallies)))
+    (ap (λ (g : GroupId). over_in old.tables g.0) is.group ∙ meets.2.under) meets.2.free own.frame_free own.in_range own.number_free own.placed own.shown own.tables own.bytes own.flights own.held own.cursors (tallies-kept old.tallies new.tallies own.tallies)))
     tt tt
   where
     own : MakesPage old new touch.task.0 touch.at is.task.group.0 touch.offset byte
@@ -269,10 +274,10 @@ carries-exit old new worker entry t mapped ends what is =
     answers-to old new worker entry what (event.Exit t) given.Ok is.fits
     (record { makes_step = makes_step-exit old new worker t.0 is.sound.0 is.sound.1 is.sound.2 mapped ends (tallies-kept old.tallies new.tallies ends.drops.tallies); gives = tt; replies = tt })
 
-pub carries-mkdir : (old new : StateOf) (worker entry : ℕ) (parent : GroupId) (path : List ℕ) (what : Event) → InOrder old → AddsGroup old new path → what ≡ event.Mkdir path → AnswersTo old worker entry what given.Ok new
-carries-mkdir old new worker entry parent path what listed adds same =
+pub carries-mkdir : (old new : StateOf) (worker entry : ℕ) (parent : GroupId) (path : List ℕ) (what : Event) → AddsGroup old new path → what ≡ event.Mkdir path → AnswersTo old worker entry what given.Ok new
+carries-mkdir old new worker entry parent path what adds same =
     answers-to old new worker entry what (event.Mkdir path) given.Ok same
-    (record { makes_step = makes_step-mkdir old new worker path adds.tables adds.bytes adds.flights listed adds.held adds.cursors adds.tallied; gives = tt; replies = tt })
+    (record { makes_step = makes_step-mkdir old new worker path adds.tables adds.bytes adds.flights adds.order adds.tallied; gives = tt; replies = tt })
 
 pub carries-set : (old new : StateOf) (worker entry : ℕ) (g : GroupId) (setting : Setting) → InOrder old → new ≡ sets_limits old g.0 (with_setting (limits_at old.tables.limits g.0) setting) → Carries old worker entry (decision.Set g setting) given.Ok new
 carries-set old new worker entry g setting listed sets what is =

@@ -17,7 +17,7 @@ use Rattle.machine.specs.Tasks.{task_at, is_live_life, is_live_task, lives, grou
 use Rattle.machine.specs.State.{State}
 use Rattle.machine.specs.Call.{need}
 use Rattle.machine.specs.Reclaim.{stands, target_of, has_takeable, has_transfer}
-use Rattle.machine.specs.Lists.{Orders}
+use Rattle.machine.specs.Lists.{Youngest, Orders}
 use Rattle.machine.specs.Victim.{IsVictim}
 use Rattle.machine.specs.Step.{EndsTask as EndsTask_of, count_of}
 use Rattle.machine.specs.History.{InTask, Says, follow}
@@ -29,8 +29,8 @@ use Rattle.book.specs.Effects.{counting, Steps, Tallied, byte_at_spot, is_in_mem
 use Rattle.page_state.specs.Mapped.{AreMapped}
 use Rattle.page_state.specs.Changes.{EndsTask}
 use Rattle.page_state.proofs.DropLemmas.{mapped_stays, bytes_stay, moving_alike}
-use Rattle.book.specs.MakesStep.{MakesStep, starts}
-use Rattle.book.proofs.StepLemmas.{IsQuiet, flights-kept, live_step, relieve_step, stands_counting, relief-needs}
+use Rattle.book.specs.MakesStep.{AgesByThree, MakesStep, starts}
+use Rattle.book.proofs.StepLemmas.{IsQuiet, order-on, flights-kept, live_step, relieve_step, stands_counting, relief-needs}
 
 -- the events counted for the end, if any, are counted before it
 module _ (old new : StateOf) (counts : Tallies) (t : ℕ) (life : Life) (dead : is_live_life life ≡ false) (mapped : AreMapped old.tables.pages old.tables.page_tables) (ends : EndsTask (record old { tallies = counts }) new t life) where
@@ -63,12 +63,13 @@ module _ (old new : StateOf) (counts : Tallies) (t : ℕ) (life : Life) (dead : 
       ap (λ (m : Option ℕ). byte_shown new.bytes m o) (ends.shown.others u v other) ∙ bytes_stay (record old { tallies = counts }) new ends.drops mapped u v o (ends.shown.others u v other)
 
   -- an end of a task, whatever it was for
-  pub makes_step-ended : (worker : ℕ) (what : Event) (answer : Reply) → IsQuiet what answer → Steps old what answer new → Orders old.tables old.order what answer new.tables new.order → Tallied old what answer new → ReadsByte old what answer
+  pub makes_step-ended : (worker : ℕ) (what : Event) (answer : Reply) → IsQuiet what answer → Steps old what answer new → Orders old.tables old.order what answer new.tables new.order × AgesByThree old new → Tallied old what answer new → ReadsByte old what answer
       → 1 ≤ need old.tables what → MakesStep old worker what answer new
   makes_step-ended worker what answer quiet steps orders tallied reads needs =
       record {
         steps = steps;
-        orders = orders;
+        orders = orders.0;
+        ages = orders.1;
         tallied = tallied;
         groups = λ u. groups_kept u ∙ sym (quiet.groups u (group_of_task old.tables.tasks u));
         reads = reads;
@@ -108,7 +109,7 @@ makes_step-kill old new counts worker why t wants untakeable settled victim mapp
     makes_step-ended old new counts t Killed refl mapped ends worker (event.Relieve why) (reply.KilledTask (record { 0 = t })) (record { says = λ spot. refl; ticket = refl; groups = λ u g. refl; given = refl })
     (λ c told. relieve_step (counting old.tables c) why _ _ (stands_counting old.tables c why ∙ wants) untakeable settled
     (victim, machine-ended old new counts t Killed refl mapped ends c (c ++ (count_of (target_of why) key.Oom ∷ count_of (group_of_task old.tables.tasks t) key.OomKill ∷ []))))
-    (ends.drops.held, ends.drops.cursors) tells tt (relief-needs old.tables why)
+    (order-on Youngest old old.order.held new refl ends.drops.held ends.drops.cursors) tells tt (relief-needs old.tables why)
 
 pub makes_step-exit : (old new : StateOf) (worker t : ℕ) (task : Task) → task_at old.tables.tasks t ≡ Some task → task.life ≡ Live
     → AreMapped old.tables.pages old.tables.page_tables → EndsTask old new t Exited → ((c : List Counted) → Tells old.tallies c → Tells new.tallies c)
@@ -116,4 +117,4 @@ pub makes_step-exit : (old new : StateOf) (worker t : ℕ) (task : Task) → tas
 makes_step-exit old new worker t task is living mapped exits tells =
     makes_step-ended old new old.tallies t Exited refl mapped exits worker (event.Exit (record { 0 = t })) reply.Ok (record { says = λ spot. refl; ticket = refl; groups = λ u g. refl; given = refl })
     (λ c told. live_step (counting old.tables c) _ task _ _ _ is living (refl, machine-ended old new old.tallies t Exited refl mapped exits c c))
-    (exits.drops.held, exits.drops.cursors) tells tt (omega arith)
+    (order-on Youngest old old.order.held new refl exits.drops.held exits.drops.cursors) tells tt (omega arith)

@@ -1,5 +1,5 @@
 -- One entry more: what a history tells goes on to hold.
-use Rattle.std.proofs.Common.{◌≡◌, inl, inr, ℕ, ◌+◌, ◌<◌, ◌==◌, ◌||◌, Bool, true, false, cond, List, ◌∷◌, Option, Some, None, eq-eqb, ne_eqb, refl, sym, ap, ◌∙◌, subst, length, add-one}
+use Rattle.std.proofs.Common.{◌≡◌, inl, inr, ℕ, zero, suc, ◌+◌, ◌*◌, ◌<◌, ◌≤◌, ◌==◌, ◌||◌, Bool, true, false, cond, List, [], ◌∷◌, Option, Some, None, eq-eqb, ne_eqb, refl, sym, ap, ◌∙◌, subst, length, add-one, arith}
 use Rattle.std.specs.Prelude.{slice_index, slice_set, IfSome}
 use Rattle.std.proofs.lemmas.List.{get_or-set_same, get_or-set_other}
 use Rattle.machine.specs.declared.entry.Entry.{Entry}
@@ -19,7 +19,9 @@ use Rattle.machine.specs.Slots.{at, there_and}
 use Rattle.machine.specs.Pages.{Coming, is_number}
 use Rattle.machine.specs.Counts.{Counted}
 use Rattle.machine.specs.Tasks.{is_live_task, is_live_life, lives, task_at, group_of_task, mapped_at}
-use Rattle.machine.specs.State.{State}
+use Rattle.machine.specs.State.{Opening, State, first_state}
+use Rattle.machine.specs.Generations.{new_gens, gens_at}
+use Rattle.machine.specs.Lists.{Order, first_order}
 use Rattle.machine.specs.Access.{page_size}
 use Rattle.machine.specs.Refusals.{refusal}
 use Rattle.machine.specs.Step.{Step, TaskStep, LifeStep}
@@ -205,6 +207,13 @@ module _ (old new : StateOf) (history : List Entry) (counts : List ℕ) (worker 
             ∙ ap (λ b. length (cond b (entry_of (record { worker = worker }) history what answer ∷ entries_by w history) (entries_by w history))) (sym miss))
       ]
 
+  young_on : (g : ℕ) → (gens_at new.order.held.groups g).max_seq ≤ 3 + 3 * length more
+  young_on g =
+      let before = h.told.young g in
+      let ages = h.makes_step.ages g in
+      let one = add-one (length history) in
+      omega (arith, before, ages, one)
+
   pub extends : IsHistory new more (slice_set counts worker (slice_index counts worker + 1))
   extends =
       record {
@@ -217,4 +226,27 @@ module _ (old new : StateOf) (history : List Entry) (counts : List ℕ) (worker 
         groups = λ t. h.makes_step.groups t ∙ ap (group_after what answer t) (h.told.groups t);
         tallied = subst (λ (c : List Counted). Tells new.tallies c) (counted-same (group_of_task old.tables.tasks) (group_in history) h.told.groups (counted_in history) what answer) (h.makes_step.tallied (counted_in history) h.told.tallied);
         counted = counted_on;
+        young = young_on;
       }
+
+-- ---- the beginning
+
+-- at the opening nothing is told
+pub told-first : (c : StateOf) (opening : Opening) → c.tables ≡ first_state opening → c.order ≡ first_order opening → c.flights ≡ [] → Tells c.tallies [] → ((t v o : ℕ) → byte_at c t v o ≡ 0) → IsHistory c [] []
+told-first c opening tables order flights tells zeros =
+    record {
+      legal = subst (λ (s : State). let empty : State = record s { counted = [] } in empty ≡ first_state s.opening) (sym tables) refl;
+      right = λ honest. tt;
+      numbered = tt;
+      bytes = λ honest t v o alive within known. zeros t v o;
+      coming = λ t v p g f b n alive shown stands. absurd (let wrong : false ≡ true = sym (ap (λ (s : State). lives s.tasks t) tables) ∙ alive in cc);
+      takers = λ n. subst (λ (fs : List (Option Flight)). IfSome (at fs n) (λ f. taker n [] ≡ Some f.worker.0)) (sym flights) tt;
+      groups = λ t. ap (λ (s : State). group_of_task s.tasks t) tables;
+      tallied = tells;
+      counted = λ w. refl;
+      young = λ g. subst (λ (o : Order). (gens_at o.held.groups g).max_seq ≤ 3 + 3 * 0) (sym order) (first g);
+    }
+  where
+    first : (g : ℕ) → (gens_at (new_gens ∷ []) g).max_seq ≤ 3 + 3 * 0
+    first zero = omega arith
+    first (suc g) = omega arith

@@ -21,7 +21,7 @@ use Rattle.machine.specs.State.{State, over_in, is_frame_free}
 use Rattle.machine.specs.Access.{meets}
 use Rattle.machine.specs.Call.{fetches, need}
 use Rattle.machine.specs.Reclaim.{stands, target_of, is_takeable, has_takeable}
-use Rattle.machine.specs.Lists.{GoesOn, TakesNext, CursorsGoOn, Orders}
+use Rattle.machine.specs.Lists.{Youngest, entry_after, TakesNext, Orders}
 use Rattle.machine.specs.Step.{MeetStep, StartsFetch, Takes, RelieveStep, ReclaimOneStep, EndsTransfer, or_gone, in_frame, on_block, IsFreeFrame}
 use Rattle.machine.specs.History.{Spot, InTask, Says, Nothing, says, follow, ticket_given, taker_or}
 use Rattle.machine.proofs.Values.{unlike}
@@ -36,17 +36,17 @@ use Rattle.memory_events.specs.Tallies.{Tallies, Tells}
 use Rattle.page_state.specs.States.{StateOf, byte_shown}
 use Rattle.page_state.specs.Mapped.{AreMapped}
 use Rattle.book.specs.Effects.{counting, Steps, Tallied, group_after, byte_at_spot, is_in_memory, is_known, ReadsByte, Arrives, Follows, ChangesBytes, IsFetchOf, ChangesComing, ChangesFlights, worker_of}
-use Rattle.book.specs.MakesStep.{MakesStep, RepliesTo, starts, is_refused}
+use Rattle.book.specs.MakesStep.{AgesByThree, MakesStep, RepliesTo, starts, is_refused}
 use Rattle.book.specs.declared.event.Reply.TheVariants as given
 use Rattle.pages.specs.Tickets.{TicketOf}
 use Rattle.pages.specs.declared.end.End.{End}
 use Rattle.pages.specs.declared.end.End.TheVariants.{InFrame, OnBlock}
 use Rattle.pages.specs.Transfers.{residence_after}
-use Rattle.page_state.specs.Changes.{BeginsWriteOut, EndsTransfer as Settles}
+use Rattle.page_state.specs.Changes.{KeepsLists, BeginsWriteOut, EndsTransfer as Settles}
 use Rattle.book.specs.Events.{ended}
 use Rattle.book.specs.Decisions.{AsksPage}
 use Rattle.page_state.proofs.TransferLemmas.{free-other, any-some, under-taken, coming-under, in_transfer-changes}
-use Rattle.book.proofs.StepLemmas.{flight-kept, live_step, granted_step, stands_counting}
+use Rattle.book.proofs.StepLemmas.{order-on, flight-kept, live_step, granted_step, stands_counting}
 
 abbrev residence_or : Option Page → Residence
 residence_or None = Held 0
@@ -115,12 +115,13 @@ module _ (old new : StateOf) (what : Event) (answer : Reply) (p : ℕ) (to : Opt
             inr (record { shown = before; stands = stood; quiet = λ o. move.silent (InTask t v o); other = move.fresh n (under-taken old.tables.pages q n (coming-under old.tables.pages q g f b n stood)) }))
       ]
 
-  pub makes_step-move : (worker : ℕ) → Steps old what answer new → Orders old.tables old.order what answer new.tables new.order → Tallied old what answer new → ReadsByte old what answer → ChangesFlights old worker answer new
+  pub makes_step-move : (worker : ℕ) → Steps old what answer new → Orders old.tables old.order what answer new.tables new.order × AgesByThree old new → Tallied old what answer new → ReadsByte old what answer → ChangesFlights old worker answer new
       → in_transfer new.tables.pages + 1 ≤ in_transfer old.tables.pages + need old.tables what → MakesStep old worker what answer new
   makes_step-move worker steps orders tallied reads flights kept =
       record {
         steps = steps;
-        orders = orders;
+        orders = orders.0;
+        ages = orders.1;
         tallied = tallied;
         groups = λ u. ap (λ (s : State). group_of_task s.tasks u) move.tables ∙ sym (move.groups u (group_of_task old.tables.tasks u));
         reads = reads;
@@ -191,7 +192,7 @@ pub makes_step-fetch : (old new : StateOf) (worker t v o p g f b n : ℕ) (op : 
     → Changes old.tables.pages new.tables.pages p (Some (anon_page g (Coming f b n)))
     → new.tables ≡ record old.tables { pages = new.tables.pages }
     → ((q k : ℕ) → q ≢ p → byte_in new.bytes q k ≡ byte_in old.bytes q k) → Changes old.flights new.flights n (Some (flight p worker In))
-    → GoesOn old.tables.pages old.order.held new.tables.pages new.order.held → new.order.cursors ≡ old.order.cursors → ((c : List Counted) → Tells old.tallies c → Tells new.tallies c)
+    → KeepsLists Youngest old new → new.order.cursors ≡ old.order.cursors → ((c : List Counted) → Tells old.tallies c → Tells new.tallies c)
     → MakesStep old worker (event.Access (record { 0 = t }) (Virtual v o) op) (reply.Fetch (record { 0 = n })) new
 makes_step-fetch old new worker t v o p g f b n op task mapped known live shown away under free frame fresh placed tables bytes listed goes cursors tells =
     makes_step-move old new (event.Access (record { 0 = t }) (Virtual v o) op) (reply.Fetch (record { 0 = n })) p (Some (anon_page g (Coming f b n)))
@@ -208,7 +209,7 @@ makes_step-fetch old new worker t v o p g f b n op task mapped known live shown 
     })
     worker
     (λ c told. live_step (counting old.tables c) _ task _ _ _ known live (fetches c))
-    (goes, cursors) tells (reads-fetch old t n (Virtual v o) op)
+    (order-on Youngest old old.order.held new refl goes cursors) tells (reads-fetch old t n (Virtual v o) op)
     (flights-begun old new worker p n In (reply.Fetch (record { 0 = n })) refl listed)
     (let more = in_transfer-changes old.tables.pages new.tables.pages p (Some (anon_page g (Coming f b n))) placed in
     let was : one_if (there_and is_in_transfer (page_at old.tables.pages p)) ≡ 0 = ap (λ (slot : Option Page). one_if (there_and is_in_transfer slot)) away in
@@ -266,11 +267,11 @@ module _ (old new : StateOf) (target worker entry : ℕ) (ticket : TicketOf) (ta
       }
 
   -- whatever asks for it
-  makes_step-out : (what : Event) → Steps old what (reply.Out (record { 0 = ticket.number })) new → CursorsGoOn old.tables old.order what (reply.Out (record { 0 = ticket.number })) new.tables new.order
+  makes_step-out : (what : Event) → Steps old what (reply.Out (record { 0 = ticket.number })) new → Orders old.tables old.order what (reply.Out (record { 0 = ticket.number })) new.tables new.order
       → Tallied old what (reply.Out (record { 0 = ticket.number })) new → ReadsByte old what (reply.Out (record { 0 = ticket.number }))
       → ((spot : Spot) → says what (reply.Out (record { 0 = ticket.number })) spot ≡ Nothing) → ((u h : ℕ) → group_after what (reply.Out (record { 0 = ticket.number })) u h ≡ h) → need old.tables what ≡ 2
       → MakesStep old worker what (reply.Out (record { 0 = ticket.number })) new
-  makes_step-out what steps cursors tallied reads silent groups two =
+  makes_step-out what steps orders tallied reads silent groups two =
       makes_step-move old new what (reply.Out (record { 0 = ticket.number })) taken.p (Some (anon_page taken.g (Going taken.frame ticket.block ticket.number)))
       (record {
         tables = taken.tables;
@@ -283,7 +284,7 @@ module _ (old new : StateOf) (target worker entry : ℕ) (ticket : TicketOf) (ta
         coming = λ u w g' f' b' m is same. no_coming g' f' b' m same;
         fresh = λ m given. free-other old.tables.pages ticket.number m taken.ticket_free given;
       })
-      worker steps (taken.held, cursors) tallied reads
+      worker steps (orders, taken.ages) tallied reads
       (flights-begun old new worker taken.p ticket.number Out (reply.Out (record { 0 = ticket.number })) refl taken.listed)
       (let more = in_transfer-changes old.tables.pages new.tables.pages taken.p (Some (anon_page taken.g (Going taken.frame ticket.block ticket.number))) taken.placed in
       let was : one_if (there_and is_in_transfer (page_at old.tables.pages taken.p)) ≡ 0 = ap (λ (slot : Option Page). one_if (there_and is_in_transfer slot)) taken.stood in
@@ -353,7 +354,7 @@ no_coming-after false g g' f' b' n' r rests e =
 module _ (old new : StateOf) (worker p g n : ℕ) (from to : Residence) (what : Event) (stood : HasResidence old.tables.pages p g from) (moves : is_in_transfer (anon_page g from) ≡ true)
     (rests : is_in_transfer (anon_page g to) ≡ false) (tables : new.tables ≡ record old.tables { pages = new.tables.pages }) (placed : Changes old.tables.pages new.tables.pages p (or_gone old.tables.page_tables p (anon_page g to)))
     (unlisted : Changes old.flights new.flights n None) (bytes : (q k : ℕ) → q ≢ p → byte_in new.bytes q k ≡ byte_in old.bytes q k) where
-  pub makes_step-end : Steps old what reply.Ok new → Orders old.tables old.order what reply.Ok new.tables new.order → Tallied old what reply.Ok new → ReadsByte old what reply.Ok → ((spot : Spot) → says what reply.Ok spot ≡ Nothing) → ((u g : ℕ) → group_after what reply.Ok u g ≡ g)
+  pub makes_step-end : Steps old what reply.Ok new → Orders old.tables old.order what reply.Ok new.tables new.order × AgesByThree old new → Tallied old what reply.Ok new → ReadsByte old what reply.Ok → ((spot : Spot) → says what reply.Ok spot ≡ Nothing) → ((u g : ℕ) → group_after what reply.Ok u g ≡ g)
       → ((t v o : ℕ) → mapped_at old.tables.page_tables t v ≡ Some p → is_in_memory to ≡ true
       → Arrives old what t v o (byte_in new.bytes p o) ⊎ ((there_and (λ (page : Page). is_in_memory page.residence) (page_at old.tables.pages p) ≡ true) × (byte_in new.bytes p o ≡ byte_in old.bytes p o)))
       → MakesStep old worker what reply.Ok new
@@ -396,28 +397,28 @@ ends-on_block old new p g f b from stood placed same = record { p = p; page = an
 not_away : {P : Type 0} (b : ℕ) → is_in_memory (Away b) ≡ true → P
 not_away b e = absurd (cc)
 
-pub makes_step-settled_in : (old new : StateOf) (worker p g f b : ℕ) (ticket : TicketOf) (end : End) → HasResidence old.tables.pages p g (Coming f b ticket.number) → Settles old new p g ticket.number (residence_after end f b)
+pub makes_step-settled_in : (old new : StateOf) (worker p g f b : ℕ) (ticket : TicketOf) (end : End) → HasResidence old.tables.pages p g (Coming f b ticket.number) → Settles old new In p g ticket.number (residence_after end f b)
     → (end ≡ InFrame → (t v k : ℕ) → mapped_at old.tables.page_tables t v ≡ Some p → byte_in new.bytes p k ≡ slice_index ticket.bytes k) → MakesStep old worker (ended In end ticket) reply.Ok new
 makes_step-settled_in old new worker p g f b ticket InFrame stood ends own =
     makes_step-end old new worker p g ticket.number (Coming f b ticket.number) (Held f) (event.Arrived (record { 0 = ticket.number }) ticket.bytes) stood refl refl ends.tables ends.placed ends.unlisted ends.others
     (λ c told. ends-in_frame (counting old.tables c) _ p g f b (λ f b. Coming f b ticket.number) stood ends.placed (ap (λ (s : State). counting s c) ends.tables))
-    (ends.held, ends.cursors) (λ c told. subst (λ (t : Tallies). Tells t c) (sym ends.tallies) told) tt (λ spot. refl) (λ u g. refl)
+    (order-on (entry_after In) old old.order.held new refl ends.held ends.cursors) (λ c told. subst (λ (t : Tallies). Tells t c) (sym ends.tallies) told) tt (λ spot. refl) (λ u g. refl)
     (λ t v k shown there. inl (p, g, f, b, shown, stood, own refl t v k shown))
 makes_step-settled_in old new worker p g f b ticket OnBlock stood ends own =
     makes_step-end old new worker p g ticket.number (Coming f b ticket.number) (Away b) (event.FetchFailed (record { 0 = ticket.number })) stood refl refl ends.tables ends.placed ends.unlisted ends.others
     (λ c told. ends-on_block (counting old.tables c) _ p g f b (λ f b. Coming f b ticket.number) stood ends.placed (ap (λ (s : State). counting s c) ends.tables))
-    (ends.held, ends.cursors) (λ c told. subst (λ (t : Tallies). Tells t c) (sym ends.tallies) told) tt (λ spot. refl) (λ u g. refl)
+    (order-on (entry_after In) old old.order.held new refl ends.held ends.cursors) (λ c told. subst (λ (t : Tallies). Tells t c) (sym ends.tallies) told) tt (λ spot. refl) (λ u g. refl)
     (λ t v k shown there. not_away b there)
 
-pub makes_step-settled_out : (old new : StateOf) (worker p g f b : ℕ) (ticket : TicketOf) (end : End) → HasResidence old.tables.pages p g (Going f b ticket.number) → Settles old new p g ticket.number (residence_after end f b)
+pub makes_step-settled_out : (old new : StateOf) (worker p g f b : ℕ) (ticket : TicketOf) (end : End) → HasResidence old.tables.pages p g (Going f b ticket.number) → Settles old new Out p g ticket.number (residence_after end f b)
     → (end ≡ InFrame → (t v k : ℕ) → mapped_at old.tables.page_tables t v ≡ Some p → byte_in new.bytes p k ≡ byte_in old.bytes p k) → MakesStep old worker (ended Out end ticket) reply.Ok new
 makes_step-settled_out old new worker p g f b ticket InFrame stood ends own =
     makes_step-end old new worker p g ticket.number (Going f b ticket.number) (Held f) (event.LeaveFailed (record { 0 = ticket.number })) stood refl refl ends.tables ends.placed ends.unlisted ends.others
     (λ c told. ends-in_frame (counting old.tables c) _ p g f b (λ f b. Going f b ticket.number) stood ends.placed (ap (λ (s : State). counting s c) ends.tables))
-    (ends.held, ends.cursors) (λ c told. subst (λ (t : Tallies). Tells t c) (sym ends.tallies) told) tt (λ spot. refl) (λ u g. refl)
+    (order-on (entry_after Out) old old.order.held new refl ends.held ends.cursors) (λ c told. subst (λ (t : Tallies). Tells t c) (sym ends.tallies) told) tt (λ spot. refl) (λ u g. refl)
     (λ t v k shown there. inr (going-known old.tables.pages p g f b ticket.number stood, own refl t v k shown))
 makes_step-settled_out old new worker p g f b ticket OnBlock stood ends own =
     makes_step-end old new worker p g ticket.number (Going f b ticket.number) (Away b) (event.Left (record { 0 = ticket.number })) stood refl refl ends.tables ends.placed ends.unlisted ends.others
     (λ c told. ends-on_block (counting old.tables c) _ p g f b (λ f b. Going f b ticket.number) stood ends.placed (ap (λ (s : State). counting s c) ends.tables))
-    (ends.held, ends.cursors) (λ c told. subst (λ (t : Tallies). Tells t c) (sym ends.tallies) told) tt (λ spot. refl) (λ u g. refl)
+    (order-on (entry_after Out) old old.order.held new refl ends.held ends.cursors) (λ c told. subst (λ (t : Tallies). Tells t c) (sym ends.tallies) told) tt (λ spot. refl) (λ u g. refl)
     (λ t v k shown there. not_away b there)

@@ -1,11 +1,12 @@
 -- What each change of the parts is to the plain machine: changes that move no page.
-use Rattle.std.proofs.Common.{◌≡◌, inr, ℕ, ◌<◌, ◌≤◌, ◌&&◌, Bool, true, false, cond, List, [], ◌∷◌, ◌++◌, Option, Some, None, refl, sym, ap, subst, ◌∙◌, arith}
+use Rattle.std.proofs.Common.{◌≡◌, inr, ℕ, zero, suc, ◌<◌, ◌≤◌, ◌&&◌, Bool, true, false, cond, List, [], ◌∷◌, ◌++◌, Option, Some, None, refl, sym, ap, subst, ◌∙◌, arith}
 use Rattle.std.specs.Prelude.{IfSome, slice_set}
 use Rattle.std.proofs.lemmas.Bool.{or_right}
 use Rattle.machine.specs.declared.record.Key.TheVariants as key
 use Rattle.machine.specs.declared.record.Life.{Life}
 use Rattle.machine.specs.declared.record.Life.TheVariants.{Live, Exited, Killed}
 use Rattle.machine.specs.declared.record.Task.{Task}
+use Rattle.machine.specs.declared.id.FrameId.{FrameId}
 use Rattle.machine.specs.declared.event.Place.{Place}
 use Rattle.machine.specs.declared.event.Place.TheVariants.{Virtual}
 use Rattle.machine.specs.declared.event.Op.{Op}
@@ -20,14 +21,15 @@ use Rattle.machine.specs.declared.reply.Shown.{Shown}
 use Rattle.machine.specs.declared.reply.Reply.{Reply}
 use Rattle.machine.specs.declared.reply.Reply.TheVariants as reply
 use Rattle.machine.specs.Slots.{at, there_and}
-use Rattle.machine.specs.Pages.{Held, Away, Page, Pages, page_at, is_number, in_transfer}
+use Rattle.machine.specs.Pages.{Held, Away, Page, Pages, page_at, is_number, is_held, is_held_in, in_transfer}
 use Rattle.machine.specs.Counts.{no_limits, limits_at, Counted}
 use Rattle.machine.specs.Tasks.{Tasks, PageTables, task_at, lives, group_of_task, mapped_at}
 use Rattle.machine.specs.State.{State, over_in, is_frame_free}
 use Rattle.machine.specs.Access.{page_size, meets}
 use Rattle.machine.specs.Call.{fetches, need}
 use Rattle.machine.specs.Reclaim.{stands, target_of, has_takeable, has_transfer}
-use Rattle.machine.specs.Lists.{Order, GoesOn, Orders}
+use Rattle.machine.specs.Generations.{Gens, new_gens, gens_at}
+use Rattle.machine.specs.Lists.{HeldLists, Order, ListsHeld, Generation, Youngest, GoesOn, with_mark, AddsLists, Orders}
 use Rattle.machine.specs.Victim.{IsVictim}
 use Rattle.machine.specs.Step.{Step, ChargeStep, MeetStep, TaskStep, LifeStep, RelieveStep, ReclaimOneStep, KillStep, count_of, new_node, with_setting, shown_of}
 use Rattle.machine.specs.History.{Spot, InTask, Says, Nothing, says, follow, ticket_given, taker_or}
@@ -37,9 +39,10 @@ use Rattle.pages.specs.PagesOf.{byte_in, moving, HasResidence}
 use Rattle.pages.specs.declared.flight.Flight.{Flight}
 use Rattle.memory_events.specs.Tallies.{Tells}
 use Rattle.page_state.specs.States.{StateOf, byte_shown, byte_at}
+use Rattle.page_state.specs.Changes.{MarksPage}
 use Rattle.book.specs.Effects.{counting, Steps, Tallied, group_after, byte_at_spot, is_in_memory, is_known, knows, ReadsByte, ChangesFlights, worker_of}
-use Rattle.book.specs.MakesStep.{MakesStep, starts, is_refused}
-use Rattle.page_state.proofs.OrderLemmas.{InOrder, goes-on-still}
+use Rattle.book.specs.MakesStep.{AgesByThree, MakesStep, starts, is_refused}
+use Rattle.machine.proofs.HeldLemmas.{goes-still, goes-max, held-marked}
 
 -- ---- where nothing changes that an event may tell of
 
@@ -62,9 +65,67 @@ pub record IsQuiet (what : Event) (answer : Reply) : Type 0 where
 pub still-self : (s : StateOf) → IsStill s s
 still-self s = record { pages = refl; tasks = refl; page_tables = refl; bytes = refl; flights = refl; opening = refl }
 
+-- ---- the order
+
+-- each page that is held stands in its list, and no other
+abbrev pub InOrder : StateOf → Type 0
+InOrder s = ListsHeld s.tables.pages s.order.held
+
+-- the lists go on, no cursor moves, and no group ages by more than three generations
+abbrev pub GoesOnIn : Generation → StateOf → HeldLists → StateOf → Type 0
+GoesOnIn generation old held new = (GoesOn generation old.tables.pages held new.tables.pages new.order.held × (new.order.cursors ≡ old.order.cursors)) × AgesByThree old new
+
+-- lists that go on have the generations that they had
+pub order-on : (generation : Generation) (old : StateOf) (held : HeldLists) (new : StateOf) → held.groups ≡ old.order.held.groups → GoesOn generation old.tables.pages held new.tables.pages new.order.held → new.order.cursors ≡ old.order.cursors
+    → GoesOnIn generation old held new
+order-on generation old held new same goes cursors = (
+  (goes, cursors),
+  λ g.
+      (let on = goes-max generation old.tables.pages new.tables.pages held new.order.held goes g in
+      let were : (gens_at held.groups g).max_seq ≡ (gens_at old.order.held.groups g).max_seq = ap (λ (groups : List Gens). (gens_at groups g).max_seq) same in
+      omega (arith, on, were)),
+)
+
 -- where no page and no cursor changes
-pub order-still : (old new : StateOf) → InOrder old → new.tables.pages ≡ old.tables.pages → new.order ≡ old.order → GoesOn old.tables.pages old.order.held new.tables.pages new.order.held × (new.order.cursors ≡ old.order.cursors)
-order-still old new listed pages order = (goes-on-still old.tables.pages new.tables.pages old.order.held new.order.held listed pages (ap (λ (o : Order). o.held) order), ap (λ (o : Order). o.cursors) order)
+pub order-still : (old new : StateOf) → InOrder old → new.tables.pages ≡ old.tables.pages → new.order ≡ old.order → GoesOnIn Youngest old old.order.held new
+order-still old new listed pages order =
+    order-on Youngest old old.order.held new refl
+    (subst (λ (held : HeldLists). GoesOn Youngest old.tables.pages old.order.held new.tables.pages held) (sym (ap (λ (o : Order). o.held) order)) (goes-still Youngest old.tables.pages new.tables.pages old.order.held listed pages))
+    (ap (λ (o : Order). o.cursors) order)
+
+-- where a page in a frame is marked
+pub order-marked : (old new : StateOf) (p : ℕ) → InOrder old → is_held_in old.tables.pages p ≡ true → new.tables.pages ≡ old.tables.pages → new.order ≡ record { held = with_mark (Some p) old.order.held; cursors = old.order.cursors }
+    → GoesOnIn Youngest old (with_mark (Some p) old.order.held) new
+order-marked old new p listed held pages order =
+    order-on Youngest old (with_mark (Some p) old.order.held) new refl
+    (subst (λ (lists : HeldLists). GoesOn Youngest old.tables.pages (with_mark (Some p) old.order.held) new.tables.pages lists) (sym (ap (λ (o : Order). o.held) order))
+    (goes-still Youngest old.tables.pages new.tables.pages (with_mark (Some p) old.order.held) (held-marked old.tables.pages old.order.held p held listed) pages))
+    (ap (λ (o : Order). o.cursors) order)
+
+-- an access that finds its page in a frame marks it
+pub hit-marked : (old new : StateOf) (t v o p byte : ℕ) (frame : FrameId) (op : Op) → mapped_at old.tables.page_tables t v ≡ Some p → GoesOnIn Youngest old (with_mark (Some p) old.order.held) new
+    → Orders old.tables old.order (event.Access (record { 0 = t }) (Virtual v o) op) (reply.Done byte (Some frame)) new.tables new.order × AgesByThree old new
+hit-marked old new t v o p byte frame op shown on =
+    ((subst (λ (m : Option ℕ). GoesOn Youngest old.tables.pages (with_mark m old.order.held) new.tables.pages new.order.held) (sym shown) on.0.0, on.0.1), on.1)
+
+-- a group that comes begins as what is no group's
+begins-new : (groups : List Gens) (g : ℕ) → gens_at (groups ++ new_gens ∷ []) g ≡ gens_at groups g
+begins-new [] zero = refl
+begins-new [] (suc g) = refl
+begins-new (gens ∷ groups) zero = refl
+begins-new (gens ∷ groups) (suc g) = begins-new groups g
+
+-- where a group comes, with no page
+pub order-more : (old new : StateOf) → AddsLists old.order new.order → AddsLists old.order new.order × AgesByThree old new
+order-more old new adds = (
+  adds,
+  λ g.
+      (let more : (gens_at new.order.held.groups g).max_seq ≡ (gens_at old.order.held.groups g).max_seq =
+      ap (λ (o : Order). (gens_at o.held.groups g).max_seq) adds ∙ ap (λ (x : Gens). x.max_seq) (begins-new old.order.held.groups g) in
+      omega (arith, more)),
+)
+
+-- ---- an event after which all is still
 
 pub flight-kept : (slot before : Option Flight) → slot ≡ before → IfSome slot (λ f. Some f.worker.0 ≡ worker_of before)
 flight-kept None before e = tt
@@ -76,11 +137,12 @@ flights-kept old new worker answer none same n =
     (flight-kept (at new.flights n) (at old.flights n) (ap (λ (fs : List (Option Flight)). at fs n) same))
 
 pub makes_step-still : (old new : StateOf) (worker : ℕ) (what : Event) (answer : Reply) → IsStill old new → IsQuiet what answer
-    → Steps old what answer new → Orders old.tables old.order what answer new.tables new.order → Tallied old what answer new → ReadsByte old what answer → 1 ≤ need old.tables what → MakesStep old worker what answer new
+    → Steps old what answer new → Orders old.tables old.order what answer new.tables new.order × AgesByThree old new → Tallied old what answer new → ReadsByte old what answer → 1 ≤ need old.tables what → MakesStep old worker what answer new
 makes_step-still old new worker what answer still quiet steps orders tallied reads needs =
     record {
       steps = steps;
-      orders = orders;
+      orders = orders.0;
+      ages = orders.1;
       tallied = tallied;
       groups = λ u. ap (λ (ts : Tasks). group_of_task ts u) still.tasks ∙ sym (quiet.groups u (group_of_task old.tables.tasks u));
       reads = reads;
@@ -146,9 +208,8 @@ frameless_step s over free Granted none is = rw none (rw is (refl, refl))
 
 pub makes_step-mkdir : (old new : StateOf) (worker : ℕ) (path : List ℕ)
     → new.tables ≡ record old.tables { tree = old.tables.tree ++ new_node old.tables.tree path ∷ []; limits = old.tables.limits ++ no_limits ∷ [] } → new.bytes ≡ old.bytes → new.flights ≡ old.flights
-    → InOrder old → new.order.held ≡ old.order.held → new.order.cursors ≡ old.order.cursors ++ None ∷ []
-    → ((c : List Counted) → Tells old.tallies c → Tells new.tallies c) → MakesStep old worker (event.Mkdir path) reply.Ok new
-makes_step-mkdir old new worker path tables bytes flights listed held cursors tells =
+    → AddsLists old.order new.order → ((c : List Counted) → Tells old.tallies c → Tells new.tallies c) → MakesStep old worker (event.Mkdir path) reply.Ok new
+makes_step-mkdir old new worker path tables bytes flights adds tells =
     makes_step-still old new worker (event.Mkdir path) reply.Ok
     (record {
       pages = ap (λ (s : State). s.pages) tables;
@@ -160,7 +221,7 @@ makes_step-mkdir old new worker path tables bytes flights listed held cursors te
     })
     (record { says = λ spot. refl; ticket = refl; groups = λ u g. refl; given = refl })
     (λ c told. ap (λ (s : State). counting s c) tables)
-    (goes-on-still old.tables.pages new.tables.pages old.order.held new.order.held listed (ap (λ (s : State). s.pages) tables) held, cursors) tells tt (omega arith)
+    (order-more old new adds) tells tt (omega arith)
 
 pub makes_step-set : (old new : StateOf) (worker g : ℕ) (setting : Setting)
     → new.tables ≡ record old.tables { limits = slice_set old.tables.limits g (with_setting (limits_at old.tables.limits g) setting) } → new.bytes ≡ old.bytes → new.flights ≡ old.flights
@@ -205,13 +266,25 @@ makes_step-unmapped s worker t v o task is living none within listed =
     (λ c told. live_step (counting s.tables c) _ task _ _ _ is living (rw none (refl, refl))) (order-still s s listed refl refl) (λ c told. told)
     (sym (ap (λ m. byte_shown s.bytes m o) none), (ap (is_known s.tables.pages) none, within)) (access-needs s.tables t (Virtual v o) Read)
 
-pub makes_step-hit_read : (s : StateOf) (worker t v o p g f : ℕ) (task : Task) → task_at s.tables.tasks t ≡ Some task → task.life ≡ Live → mapped_at s.tables.page_tables t v ≡ Some p
-    → HasResidence s.tables.pages p g (Held f) → o < page_size → InOrder s
-    → MakesStep s worker (event.Access (record { 0 = t }) (Virtual v o) Read) (reply.Done (byte_in s.bytes p o) (Some (record { 0 = f }))) s
-makes_step-hit_read s worker t v o p g f task is living shown page within listed =
-    makes_step-still s s worker (event.Access (record { 0 = t }) (Virtual v o) Read) (reply.Done (byte_in s.bytes p o) (Some (record { 0 = f }))) (still-self s) (record { says = λ spot. refl; ticket = refl; groups = λ u g. refl; given = refl })
-    (λ c told. live_step (counting s.tables c) _ task _ _ _ is living (rw shown (rw page (refl, refl)))) (order-still s s listed refl refl) (λ c told. told)
-    (sym (ap (λ m. byte_shown s.bytes m o) shown), (ap (is_known s.tables.pages) shown ∙ ap (there_and (λ (page : Page). is_in_memory page.residence)) page, within)) (access-needs s.tables t (Virtual v o) Read)
+pub makes_step-hit_read : (old new : StateOf) (worker t v o p g f : ℕ) (task : Task) → task_at old.tables.tasks t ≡ Some task → task.life ≡ Live → mapped_at old.tables.page_tables t v ≡ Some p
+    → HasResidence old.tables.pages p g (Held f) → o < page_size → InOrder old → MarksPage old new p
+    → MakesStep old worker (event.Access (record { 0 = t }) (Virtual v o) Read) (reply.Done (byte_in old.bytes p o) (Some (record { 0 = f }))) new
+makes_step-hit_read old new worker t v o p g f task is living shown page within listed marks =
+    makes_step-still old new worker (event.Access (record { 0 = t }) (Virtual v o) Read) (reply.Done (byte_in old.bytes p o) (Some (record { 0 = f })))
+    (record {
+      pages = ap (λ (s : StateOf). s.tables.pages) marks;
+      tasks = ap (λ (s : StateOf). s.tables.tasks) marks;
+      page_tables = ap (λ (s : StateOf). s.tables.page_tables) marks;
+      bytes = ap (λ (s : StateOf). s.bytes) marks;
+      flights = ap (λ (s : StateOf). s.flights) marks;
+      opening = ap (λ (s : StateOf). s.tables.opening) marks;
+    })
+    (record { says = λ spot. refl; ticket = refl; groups = λ u g. refl; given = refl })
+    (λ c told. live_step (counting old.tables c) _ task _ _ _ is living (rw shown (rw page (refl, ap (λ (s : StateOf). counting s.tables c) marks))))
+    (hit-marked old new t v o p (byte_in old.bytes p o) (record { 0 = f }) Read shown
+    (order-marked old new p listed (ap (there_and is_held) page) (ap (λ (s : StateOf). s.tables.pages) marks) (ap (λ (s : StateOf). s.order) marks)))
+    (λ c told. subst (λ (s : StateOf). Tells s.tallies c) (sym marks) told)
+    (sym (ap (λ m. byte_shown old.bytes m o) shown), (ap (is_known old.tables.pages) shown ∙ ap (there_and (λ (page : Page). is_in_memory page.residence)) page, within)) (access-needs old.tables t (Virtual v o) Read)
 
 -- replies to any access that neither reads nor writes
 pub quiet-busy : (t : ℕ) (place : Place) (op : Op) → IsQuiet (event.Access (record { 0 = t }) place op) reply.Busy

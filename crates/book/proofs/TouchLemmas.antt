@@ -1,5 +1,5 @@
 -- What a task's write to its page, a page made for it, and its begin are to the plain machine.
-use Rattle.std.proofs.Common.{◌≡◌, ◌≢◌, inl, inr, ℕ, ◌≤◌, ◌==◌, ◌&&◌, ◌||◌, Bool, true, false, cond, if◌then◌else◌, List, Option, Some, None, eqb-true, eq-eqb, ne_eqb, refl, sym, ap, ◌∙◌, arith}
+use Rattle.std.proofs.Common.{◌≡◌, ◌≢◌, inl, inr, ℕ, ◌<◌, ◌≤◌, ◌==◌, ◌&&◌, ◌||◌, Bool, true, false, cond, if◌then◌else◌, List, Option, Some, None, eqb-true, eq-eqb, ne_eqb, refl, sym, ap, ◌∙◌, arith}
 use Rattle.std.specs.Prelude.{nat_lt}
 use Rattle.std.proofs.lemmas.Bool.{and_parts}
 use Rattle.std.proofs.lemmas.Bool.Decides.{nat_tests}
@@ -10,12 +10,12 @@ use Rattle.machine.specs.declared.event.Op.TheVariants.{Write}
 use Rattle.machine.specs.declared.event.Event.TheVariants as event
 use Rattle.machine.specs.declared.reply.Reply.TheVariants as reply
 use Rattle.machine.specs.Slots.{at, Changes, there_and}
-use Rattle.machine.specs.Pages.{Held, Coming, Page, Pages, page_at, is_in_transfer, in_transfer}
+use Rattle.machine.specs.Pages.{Held, Coming, Page, Pages, page_at, is_held, is_in_transfer, in_transfer}
 use Rattle.machine.specs.Counts.{Counted}
 use Rattle.machine.specs.Tasks.{task_at, is_live_task, lives, group_of, group_of_task, mapped_at, mappers, Shows}
-use Rattle.machine.specs.State.{State, over_in, is_frame_free}
+use Rattle.machine.specs.State.{State, page_numbers, over_in, is_frame_free}
 use Rattle.machine.specs.Access.{meets}
-use Rattle.machine.specs.Lists.{GoesOn}
+use Rattle.machine.specs.Lists.{Youngest, with_mark, Orders}
 use Rattle.machine.specs.Step.{MeetStep, MakesPage, IsFreeFrame, new_page}
 use Rattle.machine.specs.History.{Spot, InTask, Byte, Nothing, follow, says_if}
 use Rattle.machine.proofs.Values.{some_inj, unlike}
@@ -25,13 +25,12 @@ use Rattle.machine.proofs.MappingLemmas.{mapped_at-mappers, mapped_at-one}
 use Rattle.pages.specs.PagesOf.{byte_in, HasResidence, anon_page}
 use Rattle.memory_events.specs.Tallies.{Tells}
 use Rattle.page_state.specs.States.{StateOf, byte_shown, byte_at}
-use Rattle.page_state.specs.Changes.{StartsTask}
+use Rattle.page_state.specs.Changes.{KeepsLists, StartsTask}
 use Rattle.page_state.specs.Mapped.{AreMapped}
 use Rattle.book.specs.Effects.{counting, byte_at_spot, is_in_memory, is_known, knows, StaysComing}
-use Rattle.book.specs.MakesStep.{MakesStep}
+use Rattle.book.specs.MakesStep.{AgesByThree, MakesStep}
 use Rattle.page_state.proofs.TransferLemmas.{in_transfer-changes}
-use Rattle.book.proofs.StepLemmas.{order-still, flights-kept, live_step, granted_step, access-needs}
-use Rattle.page_state.proofs.OrderLemmas.{InOrder}
+use Rattle.book.proofs.StepLemmas.{InOrder, order-on, order-still, order-marked, hit-marked, flights-kept, live_step, granted_step, access-needs}
 
 -- tests that hold together are one
 alike : (a b : Bool) → (a ≡ true → b ≡ true) → (b ≡ true → a ≡ true) → a ≡ b
@@ -69,12 +68,13 @@ unlike_held slot g f g' f' b' n' is also = unlike (there_and is_in_transfer slot
 pub makes_step-hit_write : (old new : StateOf) (worker t v o b p g f : ℕ) (task : Task) → AreMapped old.tables.pages old.tables.page_tables
     → task_at old.tables.tasks t ≡ Some task → task.life ≡ Live → mapped_at old.tables.page_tables t v ≡ Some p → HasResidence old.tables.pages p g (Held f)
     → new.tables ≡ old.tables → ((q k : ℕ) → byte_in new.bytes q k ≡ (if (q == p) && (o == k) then b else byte_in old.bytes q k)) → new.flights ≡ old.flights
-    → InOrder old → new.order ≡ old.order → ((c : List Counted) → Tells old.tallies c → Tells new.tallies c)
+    → InOrder old → new.order ≡ record { held = with_mark (Some p) old.order.held; cursors = old.order.cursors } → ((c : List Counted) → Tells old.tallies c → Tells new.tallies c)
     → MakesStep old worker (event.Access (record { 0 = t }) (Virtual v o) (Write b)) (reply.Done b (Some (record { 0 = f }))) new
 makes_step-hit_write old new worker t v o b p g f task mapped is living shown page tables bytes flights listed order tells =
     record {
       steps = λ c told. live_step (counting old.tables c) _ task _ _ _ is living (meets_page c);
-      orders = order-still old new listed (ap (λ (s : State). s.pages) tables) order;
+      orders = marked.0;
+      ages = marked.1;
       tallied = tells;
       groups = λ u. ap (λ (s : State). group_of_task s.tasks u) tables;
       reads = tt;
@@ -111,6 +111,9 @@ makes_step-hit_write old new worker t v o b p g f task mapped is living shown pa
     same_pages : new.tables.pages ≡ old.tables.pages
     same_pages = ap (λ (s : State). s.pages) tables
 
+    marked : Orders old.tables old.order (event.Access (record { 0 = t }) (Virtual v o) (Write b)) (reply.Done b (Some (record { 0 = f }))) new.tables new.order × AgesByThree old new
+    marked = hit-marked old new t v o p b (record { 0 = f }) (Write b) shown (order-marked old new p listed (ap (there_and is_held) page) same_pages order)
+
     written : Changes old.tables.pages new.tables.pages p (Some (anon_page g (Held f)))
     written = record { changed = ap (λ (ps : Pages). page_at ps p) same_pages ∙ page; others = λ q other. ap (λ (ps : Pages). page_at ps q) same_pages }
 
@@ -137,16 +140,17 @@ makes_step-hit_write old new worker t v o b p g f task mapped is living shown pa
 
 pub makes_step-made : (old new : StateOf) (worker t v o b p f : ℕ) (task : Task) → AreMapped old.tables.pages old.tables.page_tables
     → task_at old.tables.tasks t ≡ Some task → task.life ≡ Live → mapped_at old.tables.page_tables t v ≡ None
-    → over_in old.tables task.group.0 ≡ None → is_frame_free old.tables ≡ true → IsFreeFrame old.tables f → page_at old.tables.pages p ≡ None
+    → over_in old.tables task.group.0 ≡ None → is_frame_free old.tables ≡ true → IsFreeFrame old.tables f → p < page_numbers old.tables.opening → page_at old.tables.pages p ≡ None
     → Changes old.tables.pages new.tables.pages p (Some (new_page task.group.0 f))
     → Shows old.tables.page_tables new.tables.page_tables t v (Some p) → new.tables ≡ record old.tables { pages = new.tables.pages; page_tables = new.tables.page_tables }
     → ((q k : ℕ) → byte_in new.bytes q k ≡ (if q == p then (if o == k then b else 0) else byte_in old.bytes q k)) → new.flights ≡ old.flights
-    → GoesOn old.tables.pages old.order.held new.tables.pages new.order.held → new.order.cursors ≡ old.order.cursors → ((c : List Counted) → Tells old.tallies c → Tells new.tallies c)
+    → KeepsLists Youngest old new → new.order.cursors ≡ old.order.cursors → ((c : List Counted) → Tells old.tallies c → Tells new.tallies c)
     → MakesStep old worker (event.Access (record { 0 = t }) (Virtual v o) (Write b)) (reply.Done b None) new
-makes_step-made old new worker t v o b p f task mapped is living none under free frame slot placed shown tables bytes flights goes cursors tells =
+makes_step-made old new worker t v o b p f task mapped is living none under free frame within slot placed shown tables bytes flights goes cursors tells =
     record {
       steps = λ c told. live_step (counting old.tables c) _ task _ _ _ is living (makes c);
       orders = (goes, cursors);
+      ages = (order-on Youngest old old.order.held new refl goes cursors).1;
       tallied = tells;
       groups = λ u. ap (λ (s : State). group_of_task s.tasks u) tables;
       reads = tt;
@@ -166,7 +170,7 @@ makes_step-made old new worker t v o b p f task mapped is living none under free
     }
   where
     made : (c : List Counted) → MakesPage (counting old.tables c) t v task.group.0 (Write b) (reply.Done b None) (counting new.tables c)
-    made c = record { page = p; frame = f; slot_free = slot; frame_free = record { in_range = frame.in_range; unused = frame.unused }; placed = placed; shown = shown; answers = refl; state = ap (λ (s : State). counting s c) tables }
+    made c = record { page = p; frame = f; in_range = within; slot_free = slot; frame_free = record { in_range = frame.in_range; unused = frame.unused }; placed = placed; shown = shown; answers = refl; state = ap (λ (s : State). counting s c) tables }
 
     makes : (c : List Counted) → MeetStep (counting old.tables c) t task.group.0 (Write b) (meets (counting old.tables c) t (Virtual v o) (Write b)) (reply.Done b None) (counting new.tables c)
     makes c = rw none (granted_step (counting old.tables c) _ _ _ _ _ under free (made c))
@@ -230,7 +234,8 @@ pub makes_step-spawn : (old new : StateOf) (worker t g : ℕ) → StartsTask old
 makes_step-spawn old new worker t g starts listed tells =
     record {
       steps = λ c told. (starts.starts, record { none = starts.none; others = λ u v other. starts.same u v }, ap (λ (s : State). counting s c) starts.tables);
-      orders = order-still old new listed same_pages starts.order;
+      orders = (order-still old new listed same_pages starts.order).0;
+      ages = (order-still old new listed same_pages starts.order).1;
       tallied = tells;
       groups = λ u.
           elim (eq_cases t u) [

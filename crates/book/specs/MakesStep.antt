@@ -7,6 +7,7 @@ use Rattle.machine.specs.declared.reply.Reply.TheVariants as reply
 use Rattle.machine.specs.Pages.{Coming, Going, in_transfer}
 use Rattle.machine.specs.Tasks.{lives}
 use Rattle.machine.specs.Access.{page_size}
+use Rattle.machine.specs.Generations.{gens_at}
 use Rattle.machine.specs.Lists.{Orders}
 use Rattle.machine.specs.Call.{need}
 use Rattle.pages.specs.PagesOf.{byte_in, HasResidence}
@@ -26,10 +27,15 @@ abbrev pub is_refused : Reply → Bool
 is_refused (reply.Refused why) = true
 is_refused answer = false
 
--- the machine's step with this reply, asked by a worker; where a page is taken it is the one in order; a read gives the byte that stood there; and tasks' groups, bytes and transfers change as the event says
+-- no group begins more than three generations
+abbrev pub AgesByThree : StateOf → StateOf → Type 0
+AgesByThree old new = (g : ℕ) → (gens_at new.order.held.groups g).max_seq ≤ (gens_at old.order.held.groups g).max_seq + 3
+
+-- the machine's step with this reply, asked by a worker; where a page is taken it is the one that is evicted next, and a hit marks its page; a read gives the byte that stood there; and tasks' groups, bytes and transfers change as the event says
 pub record MakesStep (old : StateOf) (worker : ℕ) (what : Event) (answer : Reply) (new : StateOf) : Type 0 where
   pub steps : Steps old what answer new
   pub orders : Orders old.tables old.order what answer new.tables new.order
+  pub ages : AgesByThree old new
   pub tallied : Tallied old what answer new
   pub groups : ChangesGroups old what answer new
   pub reads : ReadsByte old what answer

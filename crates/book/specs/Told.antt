@@ -1,5 +1,5 @@
 -- What a history tells of the tasks' groups and of the events counted, and what always holds of it.
-use Rattle.std.specs.Prelude.{◌≡◌, ℕ, ◌<◌, true, List, [], ◌∷◌, length, slice_index, IfSome, Some}
+use Rattle.std.specs.Prelude.{◌≡◌, ℕ, ◌+◌, ◌*◌, ◌<◌, ◌≤◌, true, List, [], ◌∷◌, length, slice_index, IfSome, Some}
 use Rattle.machine.specs.declared.entry.Entry.{Entry}
 use Rattle.machine.specs.Counts.{Counted}
 use Rattle.machine.specs.Slots.{at}
@@ -7,6 +7,7 @@ use Rattle.machine.specs.Pages.{Coming}
 use Rattle.machine.specs.Tasks.{lives, group_of_task, mapped_at}
 use Rattle.machine.specs.Access.{page_size}
 use Rattle.machine.specs.State.{State}
+use Rattle.machine.specs.Generations.{gens_at}
 use Rattle.machine.specs.Legal.{Legal}
 use Rattle.machine.specs.History.{Right, InTask, at_offset, at_first, last, Fetched, fetch_of, Honest, taker, entries_by, Numbered}
 use Rattle.pages.specs.PagesOf.{HasResidence}
@@ -46,3 +47,5 @@ pub record IsHistory (c : StateOf) (history : List Entry) (counts : List ℕ) : 
   pub groups : (t : ℕ) → group_of_task c.tables.tasks t ≡ group_in history t
   pub tallied : Tells c.tallies (counted_in history)
   pub counted : (w : ℕ) → slice_index counts w ≡ length (entries_by w history)
+  -- a group's lists begin with generation 3, and an entry begins three more at most
+  pub young : (g : ℕ) → (gens_at c.order.held.groups g).max_seq ≤ 3 + 3 * length history

@@ -7,7 +7,7 @@ ghost use Rattle.machine.specs.Counts.{Counted};
 ghost use Rattle.machine.specs.Step.{shown_of};
 ghost use Rattle.machine.specs.declared.event.Event.{Event as Event_of};
 ghost use Rattle.memory_events.specs.Tallies.{Tells};
-ghost use Rattle.page_state.specs.States.{AreFew};
+ghost use Rattle.page_state.specs.States.{AreFew, AreYoung};
 ghost use Rattle.book.specs.Effects.{counting};
 ghost use Rattle.book.specs.Decisions.{IsSound, IsTouch, MeetsSo, IsDecided, makes, Carries};
 ghost use Rattle.book.specs.declared.decision.Decision.TheVariants as decision;
@@ -32,6 +32,7 @@ pub fn apply(
     entry: u32,
 ) -> Result<Reply, AllocError>
     requires few { AreFew state.old.tallies }
+    requires young { AreYoung state.old.order.held }
     requires decided { (what : Event_of) × IsDecided state.old what decided }
     ensures carries { IfOk result (λ said. Carries state.old worker.0 entry decided.entry said state.new) }
     ensures err { OnErr result (state.new ≡ state.old) }
@@ -105,13 +106,14 @@ fn access(
     }
 }
 
-/// An access to a page in a frame.
+/// An access to a page in a frame, which is marked as accessed.
 fn hit(state: &mut State, touch: Touch, page: PageId, frame: FrameId) -> Reply
     requires touch { IsTouch state.old.tables touch }
     requires meets { MeetsSo state.old.tables touch (meeting.Hits page frame) }
     ensures { (worker entry : ℕ) → Carries state.old worker entry (decision.Access touch (meeting.Hits page frame)) result state.new }
 {
     state.is_joined();
+    state.mark(page);
     match touch.op {
         Op::Read => Reply::Done {
             byte: state.pages().read(page, touch.offset as usize),

@@ -5,7 +5,7 @@ ghost use Rattle.machine.specs.Tree.{find_group};
 ghost use Rattle.machine.specs.Pages.{used_frames, in_transfer};
 ghost use Rattle.machine.specs.State.{opening_of, is_config};
 ghost use Rattle.machine.specs.Legal.{Legal};
-ghost use Rattle.machine.specs.Lists.{ListsHeld};
+ghost use Rattle.machine.specs.Lists.{ListsHeld, AreGenerations};
 ghost use Rattle.machine.specs.History.{Right, IsRight, Honest, Numbered, at_first};
 ghost use Rattle.machine.specs.Call.{first_past, took, Called};
 ghost use Rattle.book.specs.Events.{event_of, reply_of, ended, ended_with};
@@ -278,12 +278,15 @@ impl Book {
     }
 
     /// Nothing is done: what holds of every book's history, and of the order in which its pages are taken:
-    /// the list has each held page once and no other, and each group has a cursor.
+    /// each held page is on the list of its group and type, once, and no other page is; and each group has
+    /// its lists, two to four generations of a type, and a cursor.
     pub fn history_is_right(&self)
         ensures legal { Legal self.now.state.opening self.now.history self.now.state }
         ensures right { Honest at_first self.now.history → Right at_first self.now.history }
         ensures numbered { Numbered self.now.history }
         ensures listed { ListsHeld self.now.state.pages self.now.order.held }
+        ensures generations { AreGenerations self.now.order.held }
+        ensures lists { length self.now.order.held.groups ≡ length self.now.state.tree }
         ensures cursors { length self.now.order.cursors ≡ length self.now.state.tree }
     {
         self.state.is_joined();

@@ -1,5 +1,5 @@
 -- An example of a finish: a max is set in one turn, and in the next one nothing has to leave.
-use Rattle.std.proofs.Common.{inl, true, false, [], ◌∷◌, ◌++◌, Some, None, refl, arith}
+use Rattle.std.proofs.Common.{◌≡◌, ℕ, zero, suc, inl, true, false, [], ◌∷◌, ◌++◌, Some, None, refl, arith}
 use Rattle.std.specs.Prelude.{codes}
 use Rattle.machine.specs.declared.amount.Amount.TheVariants as amount
 use Rattle.machine.specs.declared.command.Actor.TheVariants as actor
@@ -16,7 +16,9 @@ use Rattle.machine.specs.declared.reply.Reply.{Reply as Plain_reply}
 use Rattle.machine.specs.Tree.{root, chain_up, chain, under_at}
 use Rattle.machine.specs.Counts.{no_limits}
 use Rattle.machine.specs.State.{State}
-use Rattle.machine.specs.Lists.{Order}
+use Rattle.machine.specs.Generations.{new_gens}
+use Rattle.machine.specs.Aging.{is_marked}
+use Rattle.machine.specs.Lists.{HeldLists, Order, Youngest, GoesOn}
 use Rattle.machine.specs.Call.{Past, Caller, entries_of}
 use Rattle.block_store.specs.Device.{Disk}
 use Rattle.book.specs.declared.event.Reply.TheVariants as says
@@ -42,8 +44,12 @@ empty = record {
   counted = [];
 }
 
+-- no page on a list, and none marked
+abbrev lists : HeldLists
+lists = record { groups = new_gens ∷ new_gens ∷ []; marks = false ∷ false ∷ [] }
+
 abbrev order : Order
-order = record { held = []; cursors = None ∷ None ∷ [] }
+order = record { held = lists; cursors = None ∷ None ∷ [] }
 
 abbrev caller : Caller
 caller = record { worker = 0 }
@@ -74,6 +80,14 @@ once_set = after opened (event.Set r (setting.Max (amount.Pages 1))) reply.Ok li
 abbrev once_lowered : Past
 once_lowered = after once_set (event.Relieve (cause.Lower r)) reply.Room limited
 
+unmarked : (p : ℕ) → is_marked lists.marks p ≡ false
+unmarked zero = refl
+unmarked (suc zero) = refl
+unmarked (suc (suc p)) = refl
+
+unchanged : GoesOn Youngest [] lists [] lists
+unchanged = record { fresh = None; which = λ p. refl; groups = refl; size = refl; marks = unmarked }
+
 -- the first turn sets the max, and the command goes on
 sets : Turn (world opened (Begun set_max)) actor.Shell Goes (world once_set (Does (stage.Lower r)))
 unfolding chain_up chain under_at
@@ -82,7 +96,7 @@ sets = record {
   turns = (
     record {
       said = says.Ok;
-      called = record { steps = refl; order = (record { fresh = []; few = omega arith; which = λ p. refl; list = refl }, refl); history = refl; passes = refl };
+      called = record { steps = refl; order = (unchanged, refl); history = refl; passes = refl };
       gives = tt;
       keeps = tt;
       told = refl;
@@ -102,7 +116,7 @@ lowers = record {
   turns = (
     record {
       said = says.Room;
-      called = record { steps = (refl, refl); order = (record { fresh = []; few = omega arith; which = λ p. refl; list = refl }, refl); history = refl; passes = refl };
+      called = record { steps = (refl, refl); order = (unchanged, refl); history = refl; passes = refl };
       gives = tt;
       keeps = tt;
       told = refl;

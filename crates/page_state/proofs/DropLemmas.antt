@@ -7,7 +7,10 @@ use Rattle.machine.specs.Slots.{there_and}
 use Rattle.machine.specs.Pages.{Page, page_at, is_anon, is_held, in_transfer_at, is_in_transfer, in_transfer}
 use Rattle.machine.specs.Tasks.{PageTables, mapped_at, mappers, Shows}
 use Rattle.machine.specs.State.{State}
+use Rattle.machine.specs.Lists.{Youngest, ListsHeld, AreGenerations}
 use Rattle.machine.specs.Step.{still}
+use Rattle.machine.proofs.HeldChanges.{goes-on-then}
+use Rattle.machine.proofs.HeldLemmas.{goes-still}
 use Rattle.machine.proofs.TreeLemmas.{eq_cases}
 use Rattle.machine.proofs.MappingLemmas.{mapped_at-mappers, mappers-shows}
 use Rattle.page_state.specs.Mapped.{AreMapped, is_settled}
@@ -15,7 +18,6 @@ use Rattle.page_state.specs.States.{StateOf, byte_shown}
 use Rattle.page_state.specs.Changes.{DropsPages, Unmaps, UnmapsAll}
 use Rattle.page_state.specs.Drops.{UnmapsBelow}
 use Rattle.page_state.proofs.MappedLemmas.{still-mapped, still-still, still-less, still-moving, mapped_there}
-use Rattle.page_state.proofs.OrderLemmas.{InOrder, goes-on-then, goes-on-still}
 use Rattle.page_state.proofs.TransferLemmas.{in_transfer-alike}
 
 some_slot : (slot : Option Page) → is_some slot ≡ there_and (λ page. true) slot
@@ -45,6 +47,15 @@ stays_settled tables p (Some page) least = by_moving (in_transfer_at page.reside
     by_moving true moves = ap (λ b. cond (is_anon page.content && ((mappers tables p == 0) && not b)) None (Some page)) moves ∙ in_transfer_stays (is_anon page.content) (mappers tables p == 0)
     by_moving false rests = still-mapped tables p (Some page) (let one : is_settled (Some page) ≡ 1 = ap (λ b. cond b 0 1) rests in omega (arith, one, least))
 
+-- what stays held is as it was
+pub still-stays : (tables : PageTables) (p : ℕ) (slot : Option Page) → there_and is_held (still tables p slot) ≡ true → still tables p slot ≡ slot
+still-stays tables p None e = refl
+still-stays tables p (Some page) e = by_test (is_anon page.content && ((mappers tables p == 0) && not (in_transfer_at page.residence))) e
+  where
+    by_test : (b : Bool) → there_and is_held (cond b None (Some page)) ≡ true → cond b None (Some page) ≡ Some page
+    by_test true e = absurd cc
+    by_test false e = refl
+
 -- ---- after all of them
 
 module _ (old new : StateOf) (drops : DropsPages old new) where
@@ -67,19 +78,19 @@ module _ (old new : StateOf) (drops : DropsPages old new) where
 
 -- ---- one place after another
 
-drops-then : (old mid new : StateOf) → DropsPages old mid → DropsPages mid new → ((p : ℕ) → mappers new.tables.page_tables p ≤ mappers mid.tables.page_tables p) → DropsPages old new
-drops-then old mid new first second less =
+drops-then : (old mid new : StateOf) → AreGenerations old.order.held → DropsPages old mid → DropsPages mid new → ((p : ℕ) → mappers new.tables.page_tables p ≤ mappers mid.tables.page_tables p) → DropsPages old new
+drops-then old mid new sound first second less =
     record {
       pages = λ p. second.pages p ∙ ap (still new.tables.page_tables p) (first.pages p) ∙ still-still mid.tables.page_tables new.tables.page_tables p (page_at old.tables.pages p) (less p);
       bytes = λ p k there. second.bytes p k there ∙ first.bytes p k (left_there new.tables.page_tables p (page_at mid.tables.pages p) (sym (ap is_some (second.pages p)) ∙ there));
       flights = second.flights ∙ first.flights;
-      held = goes-on-then old.tables.pages mid.tables.pages new.tables.pages old.order.held mid.order.held new.order.held first.held second.held
-          (λ p held. still-less new.tables.page_tables p is_held (page_at mid.tables.pages p) (sym (ap (there_and is_held) (second.pages p)) ∙ held));
+      held = goes-on-then Youngest Youngest old.tables.pages mid.tables.pages new.tables.pages old.order.held mid.order.held new.order.held first.held second.held sound
+          (λ p held. second.pages p ∙ still-stays new.tables.page_tables p (page_at mid.tables.pages p) (sym (ap (there_and is_held) (second.pages p)) ∙ held));
       cursors = second.cursors ∙ first.cursors;
       tallies = second.tallies ∙ first.tallies;
     }
 
-pub unmaps-none : (s : StateOf) (t : ℕ) → AreMapped s.tables.pages s.tables.page_tables → InOrder s → UnmapsBelow s s t 0
+pub unmaps-none : (s : StateOf) (t : ℕ) → AreMapped s.tables.pages s.tables.page_tables → ListsHeld s.tables.pages s.order.held → UnmapsBelow s s t 0
 unmaps-none s t mapped listed =
     record {
       below = λ v lt. absurd (omega (arith, lt));
@@ -89,15 +100,15 @@ unmaps-none s t mapped listed =
         pages = λ p. sym (stays_settled s.tables.page_tables p (page_at s.tables.pages p) (mapped.least p));
         bytes = λ p k there. refl;
         flights = refl;
-        held = goes-on-still s.tables.pages s.tables.pages s.order.held s.order.held listed refl refl;
+        held = goes-still Youngest s.tables.pages s.tables.pages s.order.held listed refl;
         cursors = refl;
         tallies = refl;
       };
       tables = refl;
     }
 
-pub unmaps-more : (old mid new : StateOf) (t n : ℕ) → UnmapsBelow old mid t n → Unmaps mid new t n → UnmapsBelow old new t (n + 1)
-unmaps-more old mid new t n first second =
+pub unmaps-more : (old mid new : StateOf) (t n : ℕ) → AreGenerations old.order.held → UnmapsBelow old mid t n → Unmaps mid new t n → UnmapsBelow old new t (n + 1)
+unmaps-more old mid new t n sound first second =
     record {
       below = λ v lt. elim (eq_cases v n) [
         | inl same ↦ ap (mapped_at new.tables.page_tables t) same ∙ second.shown.changed
@@ -105,7 +116,7 @@ unmaps-more old mid new t n first second =
       ];
       above = λ v le. second.shown.others t v (miss v (λ e. omega (arith, le, e))) ∙ first.above v (omega (arith, le));
       others = λ u v other. second.shown.others u v (ap (λ b. b && (n == v)) (ne_eqb t u (λ e. other (sym e)))) ∙ first.others u v other;
-      drops = drops-then old mid new first.drops second.drops (fewer mid.tables.page_tables new.tables.page_tables t n second.shown);
+      drops = drops-then old mid new sound first.drops second.drops (fewer mid.tables.page_tables new.tables.page_tables t n second.shown);
       tables = second.tables ∙ ap (λ (s : State). record s { pages = new.tables.pages; page_tables = new.tables.page_tables }) first.tables;
     }
   where

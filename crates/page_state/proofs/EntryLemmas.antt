@@ -7,10 +7,9 @@ use Rattle.machine.specs.declared.id.GroupId.{GroupId}
 use Rattle.machine.specs.declared.id.PageId.{PageId}
 use Rattle.machine.specs.Slots.{Changes, there_and}
 use Rattle.machine.specs.Pages.{Page, Pages, page_at}
-use Rattle.machine.specs.Lists.{is_page_of}
 use Rattle.machine.proofs.TreeLemmas.{eq_cases}
 use Rattle.page_state.specs.Queue.{QueueOf, numbers_of, page_count}
-use Rattle.page_state.specs.Owned.{AreGrouped}
+use Rattle.page_state.specs.Owned.{is_page_of, AreGrouped}
 use Rattle.page_state.proofs.QueueLemmas.{numbers_of-others, numbers_of-push, count-at}
 
 -- what stands at a place is a page of the group

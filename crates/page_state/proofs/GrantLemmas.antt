@@ -3,7 +3,7 @@ use Rattle.std.proofs.Common.{◌≡◌, ℕ, ◌<◌, true, false, length, Opti
 use Rattle.std.specs.Prelude.{IfSome}
 use Rattle.machine.specs.Slots.{there_and}
 use Rattle.machine.specs.Tree.{is_live}
-use Rattle.machine.specs.Pages.{Residence, Held, Pages, in_transfer_at, has_frame, has_this_frame, is_held, is_in_transfer, used_frames, is_frame_taken}
+use Rattle.machine.specs.Pages.{Residence, Held, Pages, has_frame, has_this_frame, is_held, used_frames, is_frame_taken}
 use Rattle.machine.proofs.SlotLemmas.{count_there-some}
 use Rattle.group_tree.specs.Lineages.{IsLineage}
 use Rattle.group_tree.proofs.LineageLemmas.{live-within}
@@ -23,17 +23,15 @@ pub stands-live : (c : Counts) (pages : Pages) (p g : ℕ) (r : Residence) → H
 stands-live c pages p g r stood counted = subst (λ slot. IfSome slot (λ page. is_live c.tree page.group ≡ true)) stood (counted.live p)
 
 module _ (h : Inside) (is : IsHolding h) where
-  -- where a frame is free, a page more may be held, or come to be in transfer
-  pub room-free : 0 < length h.pool.free → (length h.held.numbers < h.held.room.pages) × (length h.moving.numbers < h.moving.room) × (0 < h.pages.tickets)
+  -- where a frame is free, a page more may come to be in transfer
+  pub room-free : 0 < length h.pool.free → (length h.moving.numbers < h.moving.room) × (0 < h.pages.tickets)
   room-free some =
       let split = used-split h.pages.pages in
       let all = is.kept.frames.all in
-      let held = is.held.len in
       let moving = is.moving.len in
-      let held_room = is.held_room in
       let moving_room = is.moving_room in
       let tickets = is.tickets in
-      (omega arith, omega arith, omega arith)
+      (omega arith, omega arith)
 
   -- and a number is free for one
   pub number-free : AreInFlight h.pages.pages h.pages.flights → 0 < length h.pool.free → pages_there h.pages.pages < h.pages.numbers
@@ -57,19 +55,9 @@ module _ (h : Inside) (is : IsHolding h) where
       let one = count_there-some is_held h.pages.pages p (ap (there_and is_held) stood) in
       (omega arith, omega arith, omega arith)
 
-  -- and a page in transfer may be held again
-  pub room-moving : (p g : ℕ) (r : Residence) → HasResidence h.pages.pages p g r → in_transfer_at r ≡ true → length h.held.numbers < h.held.room.pages
-  room-moving p g r stood moves =
-      let split = used-split h.pages.pages in
-      let all = is.kept.frames.all in
-      let held = is.held.len in
-      let held_room = is.held_room in
-      let one = count_there-some is_in_transfer h.pages.pages p (ap (there_and is_in_transfer) stood ∙ moves) in
-      omega arith
-
-  -- the held pages of a group that is there are counted
-  pub group-counted : (g : ℕ) → is_live h.counters.tree g ≡ true → g < h.held.room.groups
-  group-counted g live = let within = live-within h.counters.tree g live in let all = is.held_counts in omega (arith, within, all)
+  -- a group that is there has its lists
+  pub group-listed : (g : ℕ) → is_live h.counters.tree g ≡ true → g < length h.held.lists.groups
+  group-listed g live = let within = live-within h.counters.tree g live in let all = is.held_groups in omega (arith, within, all)
 
   -- the root counts few pages
   pub few-charged : IsLineage h.counters.tree → usage_of h.counters 0 < 18446744073709551615

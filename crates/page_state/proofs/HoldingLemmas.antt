@@ -1,7 +1,7 @@
 -- The parts of the holdings go on to agree after one page changed.
-use Rattle.std.proofs.Common.{◌≡◌, ◌≢◌, inl, inr, ℕ, zero, suc, ◌+◌, ◌<◌, ◌≤◌, ◌==◌, ◌&&◌, Bool, true, false, cond, List, [], ◌∷◌, ◌++◌, length, Option, Some, None, eq-eqb, refl, sym, ap, ◌∙◌, subst, arith}
-use Rattle.std.specs.Prelude.{IfSome, option_map, option_to_list}
-use Rattle.std.proofs.lemmas.Bool.{cases_Bool}
+use Rattle.std.proofs.Common.{◌≡◌, ◌≢◌, inl, inr, ℕ, zero, suc, ◌+◌, ◌<◌, ◌≤◌, ◌==◌, ◌&&◌, ◌||◌, Bool, true, false, cond, List, [], ◌∷◌, ◌++◌, length, Option, Some, None, eq-eqb, refl, sym, ap, ◌∙◌, subst, arith}
+use Rattle.std.specs.Prelude.{IfSome, option_map, option_to_list, replicate}
+use Rattle.std.proofs.lemmas.Bool.{cases_Bool, or_right, ne_eqb}
 use Rattle.std.proofs.lemmas.Bool.Decides.{eqb_tells}
 use Rattle.std.specs.List.{All}
 use Rattle.std.proofs.lemmas.List.{map-append}
@@ -9,10 +9,22 @@ use Rattle.std.proofs.lemmas.List.Elements.{All-nil}
 use Rattle.std.proofs.lemmas.List.Sums.{sum_by-cons}
 use Rattle.machine.specs.declared.id.GroupId.{GroupId}
 use Rattle.machine.specs.declared.id.PageId.{PageId}
-use Rattle.machine.specs.Lists.{is_page_of}
 use Rattle.machine.specs.Slots.{at, Changes, there_and, count_there, any_there}
 use Rattle.machine.specs.Pages.{Residence, Held, Coming, Going, Away, Page, Pages, page_at, is_some_number, frame_at, block_at, ticket_at, is_number, is_held_at, in_transfer_at, has_frame, has_this_frame, has_swap, is_held, is_held_in, is_in_transfer, in_transfer, used_frames, used_swap, is_ticket_taken}
+use Rattle.machine.specs.declared.record.Kind.TheVariants.{Anon, File}
+use Rattle.machine.specs.declared.record.Kind.{Kind}
+use Rattle.machine.specs.Generations.{Gens, new_gens, row_of, has_page, is_listed, is_listed_in, gens_at}
+use Rattle.machine.specs.Aging.{is_marked}
+use Rattle.machine.specs.Lists.{HeldLists, is_held_of, ListsHeld, Generation, Youngest, GoesOn}
 use Rattle.machine.proofs.SlotLemmas.{one_if, any_there-none, count_there-none}
+use Rattle.machine.proofs.Values.{some_inj}
+use Rattle.machine.proofs.TreeLemmas.{eq_cases}
+use Rattle.machine.proofs.HeldChanges.{goes-on-same, goes-on-out, goes-on-in, unheld-unlisted}
+use Rattle.machine.proofs.HeldLemmas.{goes_length, held-go_on}
+use Rattle.machine.specs.Tree.{is_live}
+use Rattle.group_tree.proofs.LineageLemmas.{live-within}
+use Rattle.aging.proofs.GroupLemmas.{unlisted-all}
+use Rattle.page_state.specs.Held.{HeldOf, entered, left}
 use Rattle.frames.specs.Pool.{PoolOf, free_count}
 use Rattle.block_store.specs.Slots.{SlotsOf, slot_count}
 use Rattle.page_counter.specs.Counts.{Counts, SameGroups}
@@ -22,9 +34,9 @@ use Rattle.pages.specs.declared.owned_page.OwnedPage.{OwnedPage}
 use Rattle.pages.specs.Records.{page_of}
 use Rattle.pages.specs.PagesOf.{pages_there, anon_page, HasResidence, is_under_ticket, AreInFlight}
 use Rattle.page_state.specs.declared.holdings.Holdings.TheInside.{Inside}
-use Rattle.page_state.specs.Queue.{QueueOf, HeldRoom, queue_of, numbers_of, page_count}
-use Rattle.page_state.specs.Holdings.{with_order}
-use Rattle.page_state.specs.Owned.{holdings_of, has_this_block, is_leaving_at, is_going, AreKept, AreGrouped, AreListed, IsCounted, IsHolding, pages_of}
+use Rattle.page_state.specs.Queue.{QueueOf, numbers_of, page_count}
+use Rattle.page_state.specs.Holdings.{with_lists}
+use Rattle.page_state.specs.Owned.{holdings_of, has_this_block, is_leaving_at, is_going, is_page_of, AreKept, AreGrouped, AreListed, IsCounted, IsHolding, pages_of}
 use Rattle.page_state.proofs.BalanceLemmas.{Trades, changed-count, balanced-step, given-out}
 use Rattle.page_state.proofs.CountLemmas.{Recharges, counted-step}
 
@@ -75,6 +87,25 @@ grouped-open queue pages none numbers =
       groups = subst (λ (entries : List (GroupId × PageId)). All (λ (entry : GroupId × PageId). is_page_of pages entry.0.0 entry.1.0 ≡ true) entries) (sym none) (All-nil (λ (entry : GroupId × PageId). is_page_of pages entry.0.0 entry.1.0 ≡ true));
     }
 
+-- no page, and none marked
+pub lists-open : (held : HeldLists) (pages : Pages) → held.groups ≡ new_gens ∷ [] → (n : ℕ) → held.marks ≡ replicate n false → pages ≡ [] → ListsHeld pages held
+lists-open held pages groups n marks none =
+    record {
+      rows = λ g kind p. ap (λ (gs : List Gens). has_page p (row_of kind (gens_at gs g)).pages) groups ∙ row g kind p ∙ sym (ap (λ (ps : Pages). there_and (is_held_of g kind) (page_at ps p)) none);
+      marked = λ p marked. absurd (let wrong : false ≡ true = sym (unmarked n p) ∙ sym (ap (λ (ms : List Bool). is_marked ms p) marks) ∙ marked in cc);
+    }
+  where
+    row : (g : ℕ) (kind : Kind) (p : ℕ) → has_page p (row_of kind (gens_at (new_gens ∷ []) g)).pages ≡ false
+    row zero Anon p = refl
+    row zero File p = refl
+    row (suc g) Anon p = refl
+    row (suc g) File p = refl
+
+    unmarked : (n p : ℕ) → is_marked (replicate n false) p ≡ false
+    unmarked zero p = refl
+    unmarked (suc n) zero = refl
+    unmarked (suc n) (suc p) = unmarked n p
+
 pub relists-same : (test : Page → Bool) (xs : List ℕ) (p : ℕ) (from to : Option Page) → there_and test from ≡ there_and test to → Relists test xs xs p from to
 relists-same test xs p from to same = record { once = λ n. ap (λ b. page_count xs n + one_if (b && (p == n))) same; len = ap (λ b. length xs + one_if b) same }
 
@@ -114,13 +145,48 @@ relists-out test xs xs' pages q p from to same stood fails listed counts fewer =
     swapped false true = refl
     swapped false false = refl
 
--- a page is listed once at most
-pub listed-once : (test : Page → Bool) (xs : List ℕ) (pages : Pages) (p : ℕ) → AreListed test xs pages → page_count xs p ≤ 1
-listed-once test xs pages p listed = let once = listed.once p in let one = one_if-least (there_and test (page_at pages p)) in omega (arith, once, one)
-  where
-    one_if-least : (b : Bool) → one_if b ≤ 1
-    one_if-least true = omega arith
-    one_if-least false = omega arith
+-- ---- the lists of held pages, where one page changes
+
+module _ (pages : Pages) (held : HeldLists) (lists : ListsHeld pages held) (p : ℕ) where
+  -- a page that stands in a frame is on a list of its group
+  pub stands-listed : (g f : ℕ) → HasResidence pages p g (Held f) → is_listed (gens_at held.groups g) p ≡ true
+  stands-listed g f stood =
+      ap (λ b. has_page p (gens_at held.groups g).file.pages || b) (lists.rows g Anon p ∙ ap (there_and (is_held_of g Anon)) stood ∙ ap (λ b. b && true) (eq-eqb g g refl)) ∙ or_right (has_page p (gens_at held.groups g).file.pages) true refl
+
+  -- and of no other
+  stands-elsewhere : (g f h : ℕ) → HasResidence pages p g (Held f) → h ≢ g → is_listed (gens_at held.groups h) p ≡ false
+  stands-elsewhere g f h stood other =
+      ap (λ b. b || has_page p (gens_at held.groups h).anon.pages) (lists.rows h File p ∙ ap (there_and (is_held_of h File)) stood ∙ ap (λ b. b && false) (ne_eqb g h (λ e. other (sym e))))
+      ∙ (lists.rows h Anon p ∙ ap (there_and (is_held_of h Anon)) stood ∙ ap (λ b. b && true) (ne_eqb g h (λ e. other (sym e))))
+
+  -- a page that is not held is on none
+  pub absent-unlisted : is_held_in pages p ≡ false → is_listed_in held.groups p ≡ false
+  absent-unlisted gone = unlisted-all held.groups p (unheld-unlisted pages held lists p gone)
+
+  module _ (generation : Generation) (pages' : Pages) (from to : Option Page) (stood : page_at pages p ≡ from) (changes : Changes pages pages' p to) where
+    elsewhere : (q : ℕ) → q ≢ p → is_held_in pages' q ≡ is_held_in pages q
+    elsewhere q other = ap (there_and is_held) (changes.others q other)
+
+    -- a page that is held stays so, and one that is not held too
+    pub goes-at : there_and is_held to ≡ there_and is_held from → GoesOn generation pages held pages' held
+    goes-at alike =
+        goes-on-same generation pages pages' held lists
+        (λ q. elim (eq_cases q p) [
+          | inl same ↦ ap (is_held_in pages') same ∙ ap (there_and is_held) changes.changed ∙ alike ∙ sym (ap (is_held_in pages) same ∙ ap (there_and is_held) stood)
+          | inr other ↦ elsewhere q other
+        ])
+
+  -- a page leaves its list
+  pub goes-out : (generation : Generation) (pages' : Pages) (to : Option Page) (g f : ℕ) → HasResidence pages p g (Held f) → Changes pages pages' p to → there_and is_held to ≡ false → GoesOn generation pages held pages' (left held g p)
+  goes-out generation pages' to g f stood changes gone =
+      goes-on-out generation pages pages' held lists p (elsewhere generation pages' (Some (anon_page g (Held f))) to stood changes) g (stands-listed g f stood) (λ h other. stands-elsewhere g f h stood other)
+      (ap (there_and is_held) changes.changed ∙ gone)
+
+  -- a page comes to the list of its group
+  pub goes-in : (generation : Generation) (pages' : Pages) (from : Option Page) (g f : ℕ) → page_at pages p ≡ from → there_and is_held from ≡ false → Changes pages pages' p (Some (anon_page g (Held f)))
+      → GoesOn generation pages held pages' (entered held g p generation)
+  goes-in generation pages' from g f stood absent changes =
+      goes-on-in generation pages pages' held lists p (elsewhere generation pages' from (Some (anon_page g (Held f))) stood changes) (anon_page g (Held f)) changes.changed refl (ap (there_and is_held) stood ∙ absent)
 
 -- ---- what is free, or a page's
 
@@ -151,6 +217,7 @@ pub record Stays (h h' : Inside) : Type 0 where
   pub frames : h'.pool.frames ≡ h.pool.frames
   pub blocks : h'.slots.blocks ≡ h.slots.blocks
   pub numbers : h'.pages.numbers ≡ h.pages.numbers
+  pub held_numbers : h'.held.numbers ≡ h.held.numbers
   pub held_room : h'.held.room ≡ h.held.room
   pub moving_room : h'.moving.room ≡ h.moving.room
 
@@ -160,12 +227,30 @@ pub record Moves (h h' : Inside) (p : ℕ) (from to : Option Page) : Type 0 wher
   pub changes : Changes h.pages.pages h'.pages.pages p to
   pub kept : AreKept h'.counters h'.pool h'.slots h'.pages.pages
   pub stays : Stays h h'
-  pub held : Relists is_held h.held.numbers h'.held.numbers p from to
+  -- the lists of held pages go on, and a page that is held stays so in no change but of another
+  pub generation : Generation
+  pub goes : GoesOn generation h.pages.pages h.held.lists h'.pages.pages h'.held.lists
+  pub apart : there_and is_held from ≡ true → there_and is_held to ≡ true → ⊥
   pub moving : Relists is_in_transfer h.moving.numbers h'.moving.numbers p from to
-  pub held_groups : AreGrouped (queue_of h'.held) h'.pages.pages
   pub moving_groups : AreGrouped h'.moving h'.pages.pages
   pub spares : h'.pool.spares + one_if (there_and is_going to) ≡ h.pool.spares + one_if (there_and is_going from)
   pub tickets : h'.pages.tickets + one_if (there_and is_in_transfer to) ≡ h.pages.tickets + one_if (there_and is_in_transfer from)
+
+-- the lists have the held pages
+lists-step : (h h' : Inside) (p : ℕ) (from to : Option Page) → Moves h h' p from to → IsHolding h → ListsHeld h'.pages.pages h'.held.lists
+lists-step h h' p from to moves is =
+    held-go_on moves.generation h.pages.pages h'.pages.pages h.held.lists h'.held.lists moves.goes is.held
+    (record {
+      same = λ q was now g kind. elim (eq_cases q p) [
+        | inl same ↦ absurd (moves.apart (sym (ap (there_and is_held) (ap (page_at h.pages.pages) same ∙ moves.stood)) ∙ was) (sym (ap (there_and is_held) (ap (page_at h'.pages.pages) same ∙ moves.changes.changed)) ∙ now))
+        | inr other ↦ ap (there_and (is_held_of g kind)) (moves.changes.others q other)
+      ];
+    })
+    (record { group = λ q. within (page_at h'.pages.pages q) (moves.kept.counted.live q) })
+  where
+    within : (slot : Option Page) → IfSome slot (λ page. is_live h'.counters.tree page.group ≡ true) → IfSome slot (λ page. page.group < length h.held.lists.groups)
+    within None live = tt
+    within (Some page) live = let lt = live-within h'.counters.tree page.group live in let groups = is.held_groups in let tree = ap length moves.stays.groups.tree in omega (arith, lt, groups, tree)
 
 pub holding-step : (h h' : Inside) (p : ℕ) (from to : Option Page) → Moves h h' p from to → IsHolding h → IsHolding h'
 holding-step h h' p from to moves is =
@@ -177,12 +262,11 @@ holding-step h h' p from to moves is =
     record {
       kept = moves.kept;
       few = (let few = is.few in omega (arith, few, frames));
-      held = listed-step is_held h.held.numbers h'.held.numbers h.pages.pages h'.pages.pages p from to moves.stood moves.changes moves.held is.held;
+      held = lists-step h h' p from to moves is;
       moving = listed-step is_in_transfer h.moving.numbers h'.moving.numbers h.pages.pages h'.pages.pages p from to moves.stood moves.changes moves.moving is.moving;
-      held_groups = moves.held_groups;
       moving_groups = moves.moving_groups;
-      held_room = (let room = ap (λ (r : HeldRoom). r.pages) moves.stays.held_room in let fit = is.held_room in omega (arith, room, fit, frames));
-      held_counts = ap (λ (r : HeldRoom). r.groups) moves.stays.held_room ∙ is.held_counts ∙ sym (ap length moves.stays.groups.tree);
+      held_groups = goes_length moves.generation h.pages.pages h'.pages.pages h.held.lists h'.held.lists moves.goes ∙ is.held_groups ∙ sym (ap length moves.stays.groups.tree);
+      held_numbers = moves.stays.held_numbers ∙ is.held_numbers ∙ sym moves.stays.numbers;
       moving_room = (let room = moves.stays.moving_room in let fit = is.moving_room in omega (arith, room, fit, frames));
       numbers = (let fit = is.numbers in omega (arith, fit, frames, blocks, numbers));
       spares = (let k = moves.spares in let before = is.spares in omega (arith, k, before, going, frames));
@@ -267,9 +351,33 @@ some_stands (Some page) memory held = let there = held_res page.residence held m
     held_res (Going f b n) held is = cc
     held_res (Away b) held is = cc
 
+pub held-stands-in : (page : Page) → page ≡ anon_page page.group page.residence → is_held page ≡ true → (f : ℕ) × (Some page ≡ Some (anon_page page.group (Held f)))
+held-stands-in page memory held = let stands = some_stands (Some page) memory held in (stands.1, stands.2 ∙ ap (λ (g : ℕ). Some (anon_page g (Held stands.1))) (sym (ap (λ (x : Page). x.group) (some_inj stands.2))))
+
 -- a page that is held stands in a frame
 pub held-stands : (pages : Pages) (flights : List (Option Flight)) (p : ℕ) → AreInFlight pages flights → is_held_in pages p ≡ true → (g f : ℕ) × HasResidence pages p g (Held f)
 held-stands pages flights p is held = some_stands (page_at pages p) (is.memory p) held
+
+-- a page goes, and leaves its list if it was on one
+pub goes-dropped : (pages : Pages) (flights : List (Option Flight)) (held : HeldOf) (lists : ListsHeld pages held.lists) (are : AreInFlight pages flights) (p : ℕ) (pages' : Pages) (from : Option Page) → page_at pages p ≡ from → Changes pages pages' p None
+    → (held' : HeldOf) → ((g : ℕ) → is_listed (gens_at held.lists.groups g) p ≡ true → held' ≡ record held { lists = left held.lists g p }) → (is_listed_in held.lists.groups p ≡ false → held' ≡ held)
+    → GoesOn Youngest pages held.lists pages' held'.lists × (held'.numbers ≡ held.numbers) × (held'.room ≡ held.room)
+goes-dropped pages flights held lists are p pages' from stood changes held' listed unlisted = by_held (is_held_in pages p) refl
+  where
+    by_held : (b : Bool) → is_held_in pages p ≡ b → GoesOn Youngest pages held.lists pages' held'.lists × (held'.numbers ≡ held.numbers) × (held'.room ≡ held.room)
+    by_held true is =
+        let w = held-stands pages flights p are is in
+        let same = listed w.0 (stands-listed pages held.lists lists p w.0 w.1 w.2) in (
+          subst (λ (x : HeldLists). GoesOn Youngest pages held.lists pages' x) (sym (ap (λ (x : HeldOf). x.lists) same)) (goes-out pages held.lists lists p Youngest pages' None w.0 w.1 w.2 changes refl),
+          ap (λ (x : HeldOf). x.numbers) same,
+          ap (λ (x : HeldOf). x.room) same,
+        )
+    by_held false is =
+        let same = unlisted (absent-unlisted pages held.lists lists p is) in (
+          subst (λ (x : HeldLists). GoesOn Youngest pages held.lists pages' x) (sym (ap (λ (x : HeldOf). x.lists) same)) (goes-at pages held.lists lists p Youngest pages' from None stood changes (sym (sym (ap (there_and is_held) stood) ∙ is))),
+          ap (λ (x : HeldOf). x.numbers) same,
+          ap (λ (x : HeldOf). x.room) same,
+        )
 
 -- a ticket that is not in flight is none that a page has
 pub ticket-free : (pages : Pages) (flights : List (Option Flight)) (n : ℕ) → AreInFlight pages flights → at flights n ≡ None → is_ticket_taken pages n ≡ false
@@ -284,7 +392,7 @@ ticket-free pages flights n is free = any_there-none (λ page. is_number (ticket
 
 -- ---- views
 
-pub same-view : (h h' : Inside) → Stays h h' → holdings_of h' ≡ with_order (holdings_of h) (holdings_of h').stored (holdings_of h').held
+pub same-view : (h h' : Inside) → Stays h h' → holdings_of h' ≡ with_lists (holdings_of h) (holdings_of h').stored (holdings_of h').held
 same-view h h' stays = rw (stays.groups.tree, stays.groups.limits, stays.groups.room, stays.frames, stays.blocks, stays.numbers, stays.held_room) refl
 
 -- ---- what pages own, one after the other
@@ -311,18 +419,18 @@ last-goes pages x = record { changed = last_gone pages; others = last_others pag
 
 -- ---- the counters change, or how many groups there may be
 
-pub holding-counted : (h : Inside) (d : Counts) (n m : ℕ) → IsCounted d h.pages.pages → n ≡ length d.tree → IsHolding h → IsHolding (record h { counters = d; held = record h.held { room = record h.held.room { groups = n; more = m } } })
-holding-counted h d n m counted sized is =
+pub holding-counted : (h : Inside) (d : Counts) (held : HeldOf) → IsCounted d h.pages.pages → ListsHeld h.pages.pages held.lists → length held.lists.groups ≡ length d.tree → held.numbers ≡ h.held.numbers → IsHolding h
+    → IsHolding (record h { counters = d; held = held })
+holding-counted h d held counted lists sized numbers is =
     record {
       kept = record { frames = is.kept.frames; blocks = is.kept.blocks; counted = counted };
       few = is.few;
-      held = is.held;
+      held = lists;
       moving = is.moving;
-      held_groups = is.held_groups;
       moving_groups = is.moving_groups;
-      held_room = is.held_room;
       moving_room = is.moving_room;
-      held_counts = sized;
+      held_groups = sized;
+      held_numbers = numbers ∙ is.held_numbers;
       numbers = is.numbers;
       spares = is.spares;
       tickets = is.tickets;

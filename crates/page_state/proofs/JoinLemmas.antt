@@ -7,7 +7,6 @@ use Rattle.machine.specs.Pages.{Pages, used_frames, charged}
 use Rattle.machine.specs.State.{over_in}
 use Rattle.std.proofs.lemmas.Bool.Decides.{nat_tests}
 use Rattle.machine.specs.Tasks.{lives, group_of_task}
-use Rattle.machine.specs.Lists.{GoesOn}
 use Rattle.machine.specs.Step.{new_node}
 use Rattle.machine.proofs.CursorLemmas.{cursors-push}
 use Rattle.group_tree.specs.Kin.{AreKin}
@@ -18,19 +17,18 @@ use Rattle.spaces.specs.Space.{Space}
 use Rattle.page_state.specs.declared.joined.State.TheInside.{Inside}
 use Rattle.page_state.specs.declared.room.NoRoom.{NoRoom}
 use Rattle.page_state.specs.declared.room.NoRoom.TheVariants as lacks
-use Rattle.page_state.specs.Holdings.{HoldingsOf, Stored, with_order, over_of, IsGranted, Lacks}
+use Rattle.page_state.specs.Holdings.{HoldingsOf, Stored, with_lists, over_of, IsGranted, Lacks}
 use Rattle.page_state.specs.Changes.{HasRoom, LacksRoom}
 use Rattle.page_state.specs.Joined.{joined_of, IsJoined}
 use Rattle.page_state.specs.Mapped.{AreMapped}
 use Rattle.page_state.proofs.KinLemmas.{kin-push, live-push, kin-over, over-live}
-use Rattle.page_state.proofs.OrderLemmas.{goes-on-listed, goes-on-still}
 
 -- pages changed, and what shows them with them; the cursors of as many groups, and no group
-pub joined-pages : (s : Inside) → IsJoined s → (h : HoldingsOf) (cursors : CursorsOf) (spaces : Space) → h ≡ with_order s.holdings h.stored h.held
+pub joined-pages : (s : Inside) → IsJoined s → (h : HoldingsOf) (cursors : CursorsOf) (spaces : Space) → h ≡ with_lists s.holdings h.stored h.held
     → AreMapped h.stored.pages spaces.page_tables → spaces.numbers ≡ s.spaces.numbers → ((t : ℕ) → lives spaces.tasks t ≡ true → is_live s.tree (group_of_task spaces.tasks t) ≡ true)
-    → GoesOn s.holdings.stored.pages s.holdings.held h.stored.pages h.held → length cursors.cursors ≡ length s.cursors.cursors
+    → length cursors.cursors ≡ length s.cursors.cursors
     → IsJoined (record s { holdings = h; cursors = cursors; spaces = spaces })
-joined-pages s is h cursors spaces same mapped numbers homes goes numbered =
+joined-pages s is h cursors spaces same mapped numbers homes numbered =
     record {
       sized = is.sized;
       frames = ap (λ (h : HoldingsOf). h.frames) same ∙ is.frames;
@@ -40,7 +38,7 @@ joined-pages s is h cursors spaces same mapped numbers homes goes numbered =
       mapped = mapped;
       numbers = numbers ∙ is.numbers ∙ sym (ap (λ (h : HoldingsOf). h.numbers) same);
       homes = homes;
-      listed = goes-on-listed _ _ _ _ goes;
+      page_numbers = ap (λ (h : HoldingsOf). h.numbers) same ∙ is.page_numbers;
       cursors = numbered ∙ is.cursors;
     }
 
@@ -57,7 +55,7 @@ joined-tasks s is spaces mapped numbers homes =
       mapped = mapped;
       numbers = numbers ∙ is.numbers;
       homes = homes;
-      listed = is.listed;
+      page_numbers = is.page_numbers;
       cursors = is.cursors;
     }
 
@@ -65,19 +63,19 @@ joined-tasks s is spaces mapped numbers homes =
 pub joined-group : (s : Inside) → IsJoined s → (path : List ℕ) (parent : ℕ) → find_group s.tree (parent_path path) ≡ Some parent
     → (tree : List Node) (h : HoldingsOf) (cursors : CursorsOf) (events : Tallies) → tree ≡ s.tree ++ new_node s.tree path ∷ []
     → h.kin ≡ s.holdings.kin ++ bare (Some parent) ∷ [] → events.tree ≡ s.events.tree ++ bare (Some parent) ∷ []
-    → h.stored ≡ s.holdings.stored → h.held ≡ s.holdings.held → h.frames ≡ s.holdings.frames → h.swap ≡ s.holdings.swap → h.numbers ≡ s.holdings.numbers
+    → h.stored ≡ s.holdings.stored → h.frames ≡ s.holdings.frames → h.swap ≡ s.holdings.swap → h.numbers ≡ s.holdings.numbers
     → cursors.cursors ≡ s.cursors.cursors ++ None ∷ [] → IsJoined (record s { tree = tree; holdings = h; cursors = cursors; events = events })
-joined-group s is path parent found tree h cursors events more kin counted stored held frames swap numbers numbered =
+joined-group s is path parent found tree h cursors events more kin counted stored frames swap numbers numbered =
     record {
       sized = is.sized;
       frames = frames ∙ is.frames;
       swap = swap ∙ is.swap;
       numbers = is.numbers ∙ sym numbers;
+      page_numbers = numbers ∙ is.page_numbers;
       held_kin = rw (kin, more) (kin-push s.holdings.kin s.tree parent (new_node s.tree path) is.held_kin found refl);
       counted_kin = rw (counted, more) (kin-push s.events.tree s.tree parent (new_node s.tree path) is.counted_kin found refl);
       mapped = subst (λ (ps : Pages). AreMapped ps s.spaces.page_tables) (sym (ap (λ (st : Stored). st.pages) stored)) is.mapped;
       homes = λ t alive. rw more (live-push s.tree (new_node s.tree path) (group_of_task s.spaces.tasks t) (is.homes t alive));
-      listed = goes-on-listed _ _ _ _ (goes-on-still _ _ _ _ is.listed (ap (λ (st : Stored). st.pages) stored) held);
       cursors = rw more (cursors-push s.tree (new_node s.tree path) s.cursors.cursors cursors.cursors is.cursors numbered);
     }
 

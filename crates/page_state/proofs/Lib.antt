@@ -1,6 +1,6 @@
 pub mod QueueLemmas
+pub mod ListedLemmas
 pub mod EntryLemmas
-pub mod OrderLemmas
 pub mod RoomLemmas
 pub mod BalanceLemmas
 pub mod CountLemmas

@@ -1,6 +1,6 @@
--- Which pages a reclaim may take, and which is next, by the queue of the pages in frames and by the table of pages.
+-- Which pages a reclaim may take, and which group gives the next, by the lists of held pages and by the table of pages.
 use Rattle.std.proofs.Common.{◌≡◌, ◌≢◌, inl, inr, ℕ, suc, ◌<◌, ◌≤◌, ◌==◌, ◌&&◌, ◌||◌, not, Bool, true, false, cond, List, [], ◌∷◌, length, get_or, Option, Some, None, refl, sym, ap, ◌∙◌, subst, arith}
-use Rattle.std.specs.Prelude.{IsSome, IfSome, IfNone, is_none, find, count_by, option_map, slice_set, nat_lt}
+use Rattle.std.specs.Prelude.{IfSome, IfNone, is_none, find, option_map, nat_lt}
 use Rattle.std.specs.List.{All, list_any}
 use Rattle.std.proofs.lemmas.Bool.{cases_Bool, and_parts, and_from, and_right, or_right}
 use Rattle.std.proofs.lemmas.Bool.Decides.{nat_tests}
@@ -13,29 +13,34 @@ use Rattle.machine.specs.declared.id.PageId.{PageId}
 use Rattle.machine.specs.Amounts.{exceeds}
 use Rattle.machine.specs.Slots.{there_and, any_there}
 use Rattle.machine.specs.Tree.{Node, IsTree, is_live, under}
-use Rattle.machine.specs.Pages.{Page, Pages, page_at, is_anon, is_held, is_held_in, charged, used_swap}
+use Rattle.machine.specs.Pages.{Held, Page, Pages, page_at, is_anon, is_held, is_held_in, charged, used_swap}
 use Rattle.machine.specs.Protection.{effective, min_of, is_unprotected_in}
-use Rattle.machine.specs.Order.{asking_order, served_by, cursor_at}
-use Rattle.machine.specs.Lists.{is_page_of}
+use Rattle.machine.specs.Order.{asking_order, served_by}
+use Rattle.machine.specs.declared.record.Kind.TheVariants.{Anon, File}
+use Rattle.machine.specs.Generations.{Listed, has_page, is_listed, gens_at}
+use Rattle.machine.specs.Aging.{is_marked}
+use Rattle.machine.specs.Eviction.{is_nil, has_usable}
+use Rattle.machine.specs.Lists.{HeldLists, ListsHeld, is_held_of}
 use Rattle.machine.proofs.SlotLemmas.{any_there-none, count_there-none}
 use Rattle.machine.proofs.TreeLemmas.{eq_cases}
+use Rattle.machine.proofs.HeldChanges.{unheld-unlisted}
 use Rattle.group_tree.specs.Groups.{IsGroupTree}
 use Rattle.group_tree.specs.Kin.{AreKin}
 use Rattle.group_tree.proofs.LineageLemmas.{live-within}
 use Rattle.page_counter.specs.Counts.{usage_of}
 use Rattle.protection.proofs.CallerLemmas.{effective-same}
-use Rattle.pages.specs.PagesOf.{anon_page}
-use Rattle.reclaim.specs.Pass.{AreHeld, is_unprotected_by_counts, oldest_of, gives_by_counts, GivesNone}
-use Rattle.reclaim.proofs.PassLemmas.{found-passes, counted-found, asked-order}
+use Rattle.pages.specs.PagesOf.{anon_page, HasResidence}
+use Rattle.reclaim.specs.Pass.{is_unprotected_by_counts, gives_by_lists, GivesNone}
+use Rattle.reclaim.proofs.PassLemmas.{found-passes, asked-order}
 use Rattle.page_state.specs.declared.holdings.Holdings.TheInside.{Inside}
-use Rattle.page_state.specs.Queue.{QueueOf, numbers_of, page_count, queue_of}
-use Rattle.page_state.specs.Holdings.{may_take, gives_of, IsNext}
-use Rattle.page_state.specs.Owned.{holdings_of, AreGrouped, AreListed, IsHolding}
-use Rattle.page_state.proofs.OrderLemmas.{some_is}
+use Rattle.page_state.specs.Queue.{QueueOf, page_count}
+use Rattle.page_state.specs.Held.{KeepsRows}
+use Rattle.page_state.specs.Holdings.{HoldingsOf, is_swap_left, may_take, gives_of}
+use Rattle.page_state.specs.Owned.{is_page_of, holdings_of, AreGrouped, AreListed, IsHolding}
 use Rattle.page_state.proofs.KinLemmas.{kin-charged}
-use Rattle.page_state.proofs.QueueLemmas.{count-at, at-counted, any_counts, counts_any}
+use Rattle.page_state.proofs.QueueLemmas.{count-at, at-counted}
 use Rattle.pages.proofs.TableLemmas.{any-some}
-use Rattle.page_state.proofs.HoldingLemmas.{any-listed, listed-any}
+use Rattle.page_state.proofs.HoldingLemmas.{any-listed, listed-any, held-stands-in}
 
 -- ---- tests over lists
 
@@ -70,14 +75,6 @@ module _ {X : Type 0} where
       by_test : (list_any f xs ≡ true → list_any h xs ≡ true) → (b : Bool) → f x ≡ b → (b || list_any f xs) ≡ true → (h x || list_any h xs) ≡ true
       by_test rest true is e = ap (λ c. c || list_any h xs) (more x is)
       by_test rest false is e = ap (λ c. h x || c) (rest e) ∙ or_right (h x) true refl
-
-  -- whether one passes, by how many do
-  any-counted : (f : X → Bool) (xs : List X) → list_any f xs ≡ nat_lt 0 (count_by f xs)
-  any-counted f xs = by_test (list_any f xs) refl
-    where
-      by_test : (b : Bool) → list_any f xs ≡ b → b ≡ nat_lt 0 (count_by f xs)
-      by_test true is = let some = any_counts f xs is in grind (arith, nat_tests, some)
-      by_test false is = let none = counts_any f xs is in grind (arith, nat_tests, none)
 
 -- ---- tests over the table
 
@@ -119,6 +116,70 @@ module _ (test : Page → Bool) (more : ℕ → Bool) (queue : QueueOf) (pages :
             (λ k d lt. of_group more (page_at pages (get_or queue.entries k d).1.0) (get_or queue.entries k d).0.0 (grouped.groups k d lt) ∙ none_passes (λ (entry : GroupId × PageId). more entry.0.0) queue.entries is k d lt)
             p (subst (λ (ns : List ℕ). 1 ≤ page_count ns p) grouped.numbers counted)))
       ] refl
+
+-- ---- what a group has on its lists
+
+module _ (pages : Pages) (held : HeldLists) (lists : ListsHeld pages held) (memory : (p : ℕ) → IfSome (page_at pages p) (λ page. page ≡ anon_page page.group page.residence)) where
+  -- a page is none of a file
+  not-file : (g : ℕ) (slot : Option Page) → IfSome slot (λ page. page ≡ anon_page page.group page.residence) → there_and (is_held_of g File) slot ≡ false
+  not-file g None anon = refl
+  not-file g (Some page) anon = ap (is_held_of g File) anon ∙ ap (λ b. is_held page && b) (and_right (page.group == g) false refl) ∙ and_right (is_held page) false refl
+
+  held-of : (g : ℕ) (slot : Option Page) → IfSome slot (λ page. page ≡ anon_page page.group page.residence) → there_and (is_held_of g Anon) slot ≡ there_and (λ page. is_held page && (page.group == g)) slot
+  held-of g None anon = refl
+  held-of g (Some page) anon = ap (is_held_of g Anon) anon ∙ ap (λ b. is_held page && b) (and_true (page.group == g))
+    where
+      and_true : (b : Bool) → (b && true) ≡ b
+      and_true true = refl
+      and_true false = refl
+
+  own : (l : Listed) (ls : List Listed) → has_page l.page (l ∷ ls) ≡ true
+  own l ls = let same : (l.page == l.page) ≡ true = grind (arith, nat_tests) in ap (λ b. b || has_page l.page ls) same
+
+  no-files : (g : ℕ) → is_nil (gens_at held.groups g).file.pages ≡ true
+  no-files g = by_row (gens_at held.groups g).file.pages (lists.rows g File)
+    where
+      by_row : (row : List Listed) → ((p : ℕ) → has_page p row ≡ there_and (is_held_of g File) (page_at pages p)) → is_nil row ≡ true
+      by_row [] rows = refl
+      by_row (l ∷ ls) rows = absurd (let wrong : true ≡ false = sym (own l ls) ∙ rows l.page ∙ not-file g (page_at pages l.page) (memory l.page) in cc)
+
+  some-held : (g : ℕ) → not (is_nil (gens_at held.groups g).anon.pages) ≡ any_there (λ page. is_held page && (page.group == g)) pages
+  some-held g = by_row (gens_at held.groups g).anon.pages (lists.rows g Anon)
+    where
+      by_row : (row : List Listed) → ((p : ℕ) → has_page p row ≡ there_and (is_held_of g Anon) (page_at pages p)) → not (is_nil row) ≡ any_there (λ page. is_held page && (page.group == g)) pages
+      by_row [] rows =
+          sym
+          (any_there-none (λ page. is_held page && (page.group == g)) pages
+          (count_there-none (λ page. is_held page && (page.group == g)) pages (λ p. sym (held-of g (page_at pages p) (memory p)) ∙ sym (rows p))))
+      by_row (l ∷ ls) rows =
+          sym (any-some (λ page. is_held page && (page.group == g)) pages l.page (sym (held-of g (page_at pages l.page) (memory l.page)) ∙ sym (rows l.page) ∙ own l ls))
+
+  -- a page may be taken of the group where a swap block is free and one is held
+  pub usable-held : (free : Bool) (g : ℕ) → has_usable free (gens_at held.groups g) ≡ (free && any_there (λ page. is_held page && (page.group == g)) pages)
+  usable-held true g = ap (λ b. not (b && is_nil (gens_at held.groups g).anon.pages)) (no-files g) ∙ some-held g
+  usable-held false g = ap (λ b. not (b && true)) (no-files g)
+
+  -- a page on the group's lists stands in a frame
+  pub listed-stands : (g p : ℕ) → is_listed (gens_at held.groups g) p ≡ true → (f : ℕ) × HasResidence pages p g (Held f)
+  listed-stands g p listed =
+      by_slot (page_at pages p) (memory p)
+      (sym (held-of g (page_at pages p) (memory p)) ∙ sym (lists.rows g Anon p) ∙ sym (ap (λ b. b || has_page p (gens_at held.groups g).anon.pages) (lists.rows g File p ∙ not-file g (page_at pages p) (memory p))) ∙ listed)
+    where
+      by_slot : (slot : Option Page) → IfSome slot (λ page. page ≡ anon_page page.group page.residence) → there_and (λ page. is_held page && (page.group == g)) slot ≡ true → (f : ℕ) × (slot ≡ Some (anon_page g (Held f)))
+      by_slot None anon e = absurd cc
+      by_slot (Some page) anon e =
+          let both = and_parts (is_held page) (page.group == g) e in
+          let same : page.group ≡ g = grind (arith, nat_tests, both.1) in
+          let stands = held-stands-in page anon both.0 in
+          (stands.0, stands.1 ∙ ap (λ (x : ℕ). Some (anon_page x (Held stands.0))) same)
+
+  -- after a search the lists have the held pages still
+  pub held-searched : (held' : HeldLists) → KeepsRows held held' → ListsHeld pages held'
+  held-searched held' keeps = record { rows = λ g kind p. keeps.rows g kind p ∙ lists.rows g kind p; marked = λ p marked. by_held p (is_held_in pages p) refl marked }
+    where
+      by_held : (p : ℕ) (b : Bool) → is_held_in pages p ≡ b → is_marked held'.marks p ≡ true → b ≡ true
+      by_held p true is marked = refl
+      by_held p false is marked = sym is ∙ lists.marked p (sym (keeps.marks p (unheld-unlisted pages held lists p is)) ∙ marked)
 
 -- ---- the groups
 
@@ -182,18 +243,17 @@ module _ (h : Inside) (is : IsHolding h) (tree : List Node) (are : AreKin h.coun
               ap (λ b. ((is_held page && under tree target page.group) && is_unprotected_in false tree h.counters.limits (charged tree h.pages.pages) target page.group) && b) swaps
               ∙ shuffle (is_held page) (under tree target page.group) (is_unprotected_in false tree h.counters.limits (charged tree h.pages.pages) target page.group) (is_unprotected_by_counts tree h.counters target page.group) free (open-same page.group live)
 
-      -- a group below the target gives one, by the table and by the queue
-      gives_by_counts-same : (counts : List ℕ) → AreHeld counts h.held.entries → (g : ℕ) → is_live tree g ≡ true → under tree target g ≡ true → gives_of (holdings_of h) tree target g ≡ gives_by_counts tree h.counters counts free target g
-      gives_by_counts-same counts counted g live below =
+      -- a group below the target gives one, by the table and by the lists
+      gives_by_lists-same : (g : ℕ) → is_live tree g ≡ true → under tree target g ≡ true → gives_of (holdings_of h) tree target g ≡ gives_by_lists tree h.counters h.held.lists.groups free target g
+      gives_by_lists-same g live below =
           any_both (λ page. is_held page && (page.group == g)) (λ page. (page.group == g) && may_take (holdings_of h) tree target page) (free && is_unprotected_by_counts tree h.counters target g) h.pages.pages
           (λ p. by_slot (page_at h.pages.pages p) (takes-slot p))
           ∙ regroup free (is_unprotected_by_counts tree h.counters target g) (any_there (λ page. is_held page && (page.group == g)) h.pages.pages)
-          ∙ ap (λ b. free && (is_unprotected_by_counts tree h.counters target g && b))
-          (sym (any-entries is_held (λ x. x == g) (queue_of h.held) h.pages.pages is.held is.held_groups) ∙ any-counted (λ (entry : GroupId × PageId). entry.0.0 == g) h.held.entries ∙ sym (ap (nat_lt 0) (counted g)))
+          ∙ ap (λ b. is_unprotected_by_counts tree h.counters target g && b) (sym (usable-held h.pages.pages h.held.lists is.held memory free g))
         where
-          regroup : (a b c : Bool) → ((a && b) && c) ≡ (a && (b && c))
+          regroup : (a b c : Bool) → ((a && b) && c) ≡ (b && (a && c))
           regroup true b c = refl
-          regroup false b c = refl
+          regroup false b c = sym (and_right b false refl)
 
           own_bits : (t u o b : Bool) → u ≡ true → (b && (t && (u && o))) ≡ ((b && o) && (t && true))
           own_bits true true true true e = refl
@@ -216,15 +276,15 @@ module _ (h : Inside) (is : IsHolding h) (tree : List Node) (are : AreKin h.coun
           by_slot None is_so = sym (and_right (free && is_unprotected_by_counts tree h.counters target g) false refl)
           by_slot (Some page) is_so = by_test page (page.group == g) refl is_so
 
-      module _ (groups : IsGroupTree tree) (live : is_live tree target ≡ true) (counts : List ℕ) (counted : AreHeld counts h.held.entries) (last : Option ℕ) (group : Option GroupId)
-          (serves : option_map (λ (g : GroupId). g.0) group ≡ served_by tree (gives_by_counts tree h.counters counts free target) target last) where
-        -- the group that the counts tell is the one that the table tells
+      module _ (groups : IsGroupTree tree) (live : is_live tree target ≡ true) (last : Option ℕ) (group : Option GroupId)
+          (serves : option_map (λ (g : GroupId). g.0) group ≡ served_by tree (gives_by_lists tree h.counters h.held.lists.groups free target) target last) where
+        -- the group that the lists tell is the one that the table tells
         turn_told : option_map (λ (g : GroupId). g.0) group ≡ served_by tree (gives_of (holdings_of h) tree target) target last
         turn_told =
             serves
             ∙ sym
-            (find_agree (gives_of (holdings_of h) tree target) (gives_by_counts tree h.counters counts free target) (asking_order tree target last)
-            (λ k d lt. let here = asked-order tree target last groups live k d lt in gives_by_counts-same counts counted (get_or (asking_order tree target last) k d) here.0 here.1))
+            (find_agree (gives_of (holdings_of h) tree target) (gives_by_lists tree h.counters h.held.lists.groups free target) (asking_order tree target last)
+            (λ k d lt. let here = asked-order tree target last groups live k d lt in gives_by_lists-same (get_or (asking_order tree target last) k d) here.0 here.1))
 
         turn_of : (g : Option GroupId) → option_map (λ (x : GroupId). x.0) g ≡ served_by tree (gives_of (holdings_of h) tree target) target last → IfSome g (λ x. served_by tree (gives_of (holdings_of h) tree target) target last ≡ Some x.0)
         turn_of None told = tt
@@ -233,7 +293,7 @@ module _ (h : Inside) (is : IsHolding h) (tree : List Node) (are : AreKin h.coun
         pub turn-is : IfSome group (λ g. served_by tree (gives_of (holdings_of h) tree target) target last ≡ Some g.0)
         turn-is = turn_of group turn_told
 
-        none_taken : GivesNone tree h.counters counts free target → any_there (may_take (holdings_of h) tree target) h.pages.pages ≡ false
+        none_taken : GivesNone tree h.counters h.held.lists.groups free target → any_there (may_take (holdings_of h) tree target) h.pages.pages ≡ false
         none_taken none = any_there-none (may_take (holdings_of h) tree target) h.pages.pages (count_there-none (may_take (holdings_of h) tree target) h.pages.pages (λ p. by_slot p (page_at h.pages.pages p) refl (live_at p)))
           where
             fails : (p : ℕ) (page : Page) → page_at h.pages.pages p ≡ Some page → is_live tree page.group ≡ true → may_take (holdings_of h) tree target page ≡ true → may_take (holdings_of h) tree target page ≡ false
@@ -242,7 +302,7 @@ module _ (h : Inside) (is : IsHolding h) (tree : List Node) (are : AreKin h.coun
                 let own : (page.group == page.group) ≡ true = grind (arith, nat_tests) in
                 let given = any-some (λ (x : Page). (x.group == page.group) && may_take (holdings_of h) tree target x) h.pages.pages p
                 (ap (there_and (λ (x : Page). (x.group == page.group) && may_take (holdings_of h) tree target x)) there ∙ and_from (page.group == page.group) (may_take (holdings_of h) tree target page) own passes) in
-                let told = sym (gives_by_counts-same counts counted page.group alive below) ∙ given in
+                let told = sym (gives_by_lists-same page.group alive below) ∙ given in
                 let wrong : true ≡ false = sym told ∙ none page.group alive below in
                 absurd cc
 
@@ -254,7 +314,7 @@ module _ (h : Inside) (is : IsHolding h) (tree : List Node) (are : AreKin h.coun
                   | inr not_so ↦ not_so
                 ]
 
-        none_of : (g : Option GroupId) → IfSome g (λ x. served_by tree (gives_of (holdings_of h) tree target) target last ≡ Some x.0) → IfNone g (GivesNone tree h.counters counts free target)
+        none_of : (g : Option GroupId) → IfSome g (λ x. served_by tree (gives_of (holdings_of h) tree target) target last ≡ Some x.0) → IfNone g (GivesNone tree h.counters h.held.lists.groups free target)
             → is_none g ≡ not (any_there (may_take (holdings_of h) tree target) h.pages.pages)
         none_of None turn none = sym (ap not (none_taken none))
         none_of (Some g) turn none =
@@ -266,46 +326,26 @@ module _ (h : Inside) (is : IsHolding h) (tree : List Node) (are : AreKin h.coun
             passes (Some page) e = (and_parts (page.group == g.0) _ e).1
 
         -- none has one where no page may be taken
-        pub none-is : IfNone group (GivesNone tree h.counters counts free target) → is_none group ≡ not (any_there (may_take (holdings_of h) tree target) h.pages.pages)
+        pub none-is : IfNone group (GivesNone tree h.counters h.held.lists.groups free target) → is_none group ≡ not (any_there (may_take (holdings_of h) tree target) h.pages.pages)
         none-is none = none_of group turn-is none
 
 -- ---- the page that a group gives
 
-module _ (h : Inside) (is : IsHolding h) (memory : (p : ℕ) → IfSome (page_at h.pages.pages p) (λ page. page ≡ anon_page page.group page.residence)) (target g : ℕ) where
-  -- the oldest page of a group, by the table and by the queue
-  first-of : (entries : List (GroupId × PageId)) → All (λ (entry : GroupId × PageId). is_page_of h.pages.pages entry.0.0 entry.1.0 ≡ true) entries
-      → find (is_page_of h.pages.pages g) (numbers_of entries) ≡ option_map (λ (entry : GroupId × PageId). entry.1.0) (find (λ (entry : GroupId × PageId). entry.0.0 == g) entries)
-  first-of [] all = refl
-  first-of (entry ∷ entries) all =
-      by_test (entry.0.0 == g)
-      (of_group (λ x. x == g) (page_at h.pages.pages entry.1.0) entry.0.0 (All-head (λ (e : GroupId × PageId). is_page_of h.pages.pages e.0.0 e.1.0 ≡ true) entry entries all))
-      (first-of entries (All-tail (λ (e : GroupId × PageId). is_page_of h.pages.pages e.0.0 e.1.0 ≡ true) entry entries all))
-    where
-      by_test : (b : Bool) → is_page_of h.pages.pages g entry.1.0 ≡ b
-          → find (is_page_of h.pages.pages g) (numbers_of entries) ≡ option_map (λ (e : GroupId × PageId). e.1.0) (find (λ (e : GroupId × PageId). e.0.0 == g) entries)
-          → cond (is_page_of h.pages.pages g entry.1.0) (Some entry.1.0) (find (is_page_of h.pages.pages g) (numbers_of entries))
-          ≡ option_map (λ (e : GroupId × PageId). e.1.0) (cond b (Some entry) (find (λ (e : GroupId × PageId). e.0.0 == g) entries))
-      by_test true is_so rest = ap (λ b. cond b (Some entry.1.0) (find (is_page_of h.pages.pages g) (numbers_of entries))) is_so
-      by_test false is_so rest = ap (λ b. cond b (Some entry.1.0) (find (is_page_of h.pages.pages g) (numbers_of entries))) is_so ∙ rest
-
-  -- the group has a page in a frame
-  abbrev HasHeld : Type 0
-  HasHeld = any_there (λ page. is_held page && (page.group == g)) h.pages.pages ≡ true
-
-  abbrev Anon : Option Page → Type 0
-  Anon slot = IfSome slot (λ page. page ≡ anon_page page.group page.residence)
+module _ (h : HoldingsOf) (memory : (p : ℕ) → IfSome (page_at h.stored.pages p) (λ page. page ≡ anon_page page.group page.residence)) (target g : ℕ) where
+  abbrev IsMemory : Option Page → Type 0
+  IsMemory slot = IfSome slot (λ page. page ≡ anon_page page.group page.residence)
 
   -- what a page that may be taken says of its group
   record MayGive (tree : List Node) : Type 0 where
     pub below : under tree target g ≡ true
-    pub opened : is_unprotected_in false tree h.counters.limits (charged tree h.pages.pages) target g ≡ true
-    pub room : nat_lt (used_swap h.pages.pages) h.slots.blocks ≡ true
+    pub opened : is_unprotected_in false tree h.limits (charged tree h.stored.pages) target g ≡ true
+    pub room : is_swap_left h ≡ true
 
   abbrev gives_page : List Node → Page → Bool
-  gives_page tree page = (page.group == g) && may_take (holdings_of h) tree target page
+  gives_page tree page = (page.group == g) && may_take h tree target page
 
-  held_given : (tree : List Node) → any_there (gives_page tree) h.pages.pages ≡ true → HasHeld
-  held_given tree given = any_more (there_and (gives_page tree)) (there_and (λ page. is_held page && (page.group == g))) h.pages.pages by_slot given
+  held_given : (tree : List Node) → any_there (gives_page tree) h.stored.pages ≡ true → any_there (λ page. is_held page && (page.group == g)) h.stored.pages ≡ true
+  held_given tree given = any_more (there_and (gives_page tree)) (there_and (λ page. is_held page && (page.group == g))) h.stored.pages by_slot given
     where
       by_slot : (slot : Option Page) → there_and (gives_page tree) slot ≡ true → there_and (λ page. is_held page && (page.group == g)) slot ≡ true
       by_slot None e = e
@@ -313,62 +353,34 @@ module _ (h : Inside) (is : IsHolding h) (memory : (p : ℕ) → IfSome (page_at
           let both = and_parts (page.group == g) _ e in
           and_from (is_held page) (page.group == g) (and_parts (is_held page) _ (and_parts (is_held page && under tree target page.group) _ (and_parts _ _ both.1).0).0).0 both.0
 
-  may_give : (tree : List Node) → any_there (gives_page tree) h.pages.pages ≡ true → MayGive tree
-  may_give tree given = one_passes Anon (there_and (gives_page tree)) h.pages.pages (λ k d lt. subst Anon (get_or_default h.pages.pages k None d lt) (memory k)) given by_slot
+  may_give : (tree : List Node) → any_there (gives_page tree) h.stored.pages ≡ true → MayGive tree
+  may_give tree given = one_passes IsMemory (there_and (gives_page tree)) h.stored.pages (λ k d lt. subst IsMemory (get_or_default h.stored.pages k None d lt) (memory k)) given by_slot
     where
-      by_slot : (slot : Option Page) → Anon slot → there_and (gives_page tree) slot ≡ true → MayGive tree
+      by_slot : (slot : Option Page) → IsMemory slot → there_and (gives_page tree) slot ≡ true → MayGive tree
       by_slot None anon e = absurd cc
       by_slot (Some page) anon e =
           let both = and_parts (page.group == g) _ e in
           let same : page.group ≡ g = grind (arith, nat_tests, both.0) in
-          let swaps = and_parts _ (not (is_anon page.content) || nat_lt (used_swap h.pages.pages) h.slots.blocks) both.1 in
+          let swaps = and_parts _ (not (is_anon page.content) || is_swap_left h) both.1 in
           let opened = and_parts (is_held page && under tree target page.group) _ swaps.0 in
           record {
             below = ap (under tree target) (sym same) ∙ (and_parts (is_held page) _ opened.0).1;
-            opened = ap (is_unprotected_in false tree h.counters.limits (charged tree h.pages.pages) target) (sym same) ∙ opened.1;
-            room = sym (ap (λ (x : Page). not (is_anon x.content) || nat_lt (used_swap h.pages.pages) h.slots.blocks) anon) ∙ swaps.1;
+            opened = ap (is_unprotected_in false tree h.limits (charged tree h.stored.pages) target) (sym same) ∙ opened.1;
+            room = sym (ap (λ (x : Page). not (is_anon x.content) || is_swap_left h) anon) ∙ swaps.1;
           }
 
-  -- where it is the group's turn, one of its pages is held
-  turn_given : (tree : List Node) (last : Option ℕ) → served_by tree (gives_of (holdings_of h) tree target) target last ≡ Some g → any_there (gives_page tree) h.pages.pages ≡ true
-  turn_given tree last turn = (found-passes (λ (x : ℕ). Unit {0}) (gives_of (holdings_of h) tree target) (asking_order tree target last) g (λ k d lt. tt) turn).1
+  -- a group whose turn it is has a page to give
+  pub turn-given : (tree : List Node) (last : Option ℕ) → served_by tree (gives_of h tree target) target last ≡ Some g → gives_of h tree target g ≡ true
+  turn-given tree last turn = (found-passes (λ (x : ℕ). Unit {0}) (gives_of h tree target) (asking_order tree target last) g (λ k d lt. tt) turn).1
 
-  pub turn-held : (tree : List Node) (last : Option ℕ) → served_by tree (gives_of (holdings_of h) tree target) target last ≡ Some g → IsSome (oldest_of h.held.entries g)
-  turn-held tree last turn =
-      counted-found (λ (entry : GroupId × PageId). entry.0.0 == g) h.held.entries
-      (any_counts (λ (entry : GroupId × PageId). entry.0.0 == g) h.held.entries
-      (any-entries is_held (λ x. x == g) (queue_of h.held) h.pages.pages is.held is.held_groups ∙ held_given tree (turn_given tree last turn)))
+  -- and one on its lists
+  pub given-usable : (tree : List Node) → gives_of h tree target g ≡ true → ListsHeld h.stored.pages h.held → has_usable (is_swap_left h) (gens_at h.held.groups g) ≡ true
+  given-usable tree given lists =
+      usable-held h.stored.pages h.held lists memory (is_swap_left h) g ∙ ap (λ b. b && any_there (λ page. is_held page && (page.group == g)) h.stored.pages) (may_give tree given).room ∙ held_given tree given
 
-  -- the group's oldest page may be taken
-  pub next-is : (tree : List Node) (cursors cursors' : List (Option ℕ)) (entry : GroupId × PageId) → served_by tree (gives_of (holdings_of h) tree target) target (cursor_at cursors target) ≡ Some g → oldest_of h.held.entries g ≡ Some entry
-      → cursors' ≡ slice_set cursors target (Some g) → IsNext (holdings_of h) tree cursors target entry.1.0 cursors'
-  next-is tree cursors cursors' entry turn oldest moves =
-      let may = may_give tree (turn_given tree (cursor_at cursors target) turn) in
-      let stands = found-passes (λ (e : GroupId × PageId). (is_page_of h.pages.pages e.0.0 e.1.0 ≡ true) × (is_held_in h.pages.pages e.1.0 ≡ true)) (λ (e : GroupId × PageId). e.0.0 == g) h.held.entries entry
-      (λ k d lt. (is.held_groups.groups k d lt, entry_held k d lt)) oldest in
-      let same : entry.0.0 ≡ g = grind (arith, nat_tests, stands.1) in
-      record {
-        g = g;
-        next = turn;
-        first = ap (find (is_page_of h.pages.pages g)) is.held_groups.numbers ∙ first-of h.held.entries is.held_groups.groups ∙ ap (option_map (λ (e : GroupId × PageId). e.1.0)) oldest;
-        takeable = taken may (page_at h.pages.pages entry.1.0) (memory entry.1.0) (ap (λ x. is_page_of h.pages.pages x entry.1.0) (sym same) ∙ stands.0.0) stands.0.1;
-        moves = moves;
-      }
-    where
-      entry_held : All (λ (e : GroupId × PageId). is_held_in h.pages.pages e.1.0 ≡ true) h.held.entries
-      entry_held =
-          λ k d lt.
-          some_is (is_held_in h.pages.pages (get_or h.held.entries k d).1.0)
-          (let once = is.held.once (get_or h.held.entries k d).1.0 in let some = subst (λ (ns : List ℕ). 1 ≤ page_count ns (get_or h.held.entries k d).1.0) (sym is.held_groups.numbers) (count-at h.held.entries k d lt) in omega (arith, once, some))
-
-      taken : MayGive tree → (slot : Option Page) → IfSome slot (λ page. page ≡ anon_page page.group page.residence) → there_and (λ (page : Page). page.group == g) slot ≡ true → there_and is_held slot ≡ true
-          → there_and (may_take (holdings_of h) tree target) slot ≡ true
-      taken may None anon own held = absurd cc
-      taken may (Some page) anon own held =
-          let same : page.group ≡ g = grind (arith, nat_tests, own) in
-          let swaps = ap (λ (x : Page). not (is_anon x.content) || nat_lt (used_swap h.pages.pages) h.slots.blocks) anon ∙ may.room in
-          and_from _ (not (is_anon page.content) || nat_lt (used_swap h.pages.pages) h.slots.blocks)
-          (and_from (is_held page && under tree target page.group) (is_unprotected_in false tree h.counters.limits (charged tree h.pages.pages) target page.group)
-          (and_from (is_held page) (under tree target page.group) held (ap (under tree target) same ∙ may.below))
-          (ap (is_unprotected_in false tree h.counters.limits (charged tree h.pages.pages) target) same ∙ may.opened))
-          swaps
+  -- each of its held pages may be taken
+  pub given-takes : (tree : List Node) → gives_of h tree target g ≡ true → (f : ℕ) → may_take h tree target (anon_page g (Held f)) ≡ true
+  given-takes tree given f =
+      let may = may_give tree given in
+      and_from (true && under tree target g && is_unprotected_in false tree h.limits (charged tree h.stored.pages) target g) (is_swap_left h)
+      (and_from (under tree target g) (is_unprotected_in false tree h.limits (charged tree h.stored.pages) target g) may.below may.opened) may.room

@@ -1,11 +1,12 @@
 -- Transfers end: a page is in its frame, or on its block alone.
-use Rattle.std.proofs.Common.{◌≡◌, ◌≢◌, ℕ, ◌+◌, ◌<◌, ◌==◌, ◌&&◌, true, false, List, length, Option, Some, eq-eqb, refl, sym, ap, ◌∙◌, subst, arith}
+use Rattle.std.proofs.Common.{◌≡◌, ◌≢◌, ℕ, ◌+◌, ◌<◌, ◌==◌, ◌&&◌, true, false, List, length, Option, Some, refl, sym, ap, ◌∙◌, subst, arith}
 use Rattle.machine.specs.declared.id.GroupId.{GroupId}
 use Rattle.machine.specs.declared.id.PageId.{PageId}
-use Rattle.machine.specs.Slots.{Changes}
+use Rattle.machine.specs.Slots.{Changes, there_and}
 use Rattle.machine.specs.Tree.{is_live, under, IsTree}
 use Rattle.machine.specs.Pages.{Held, Away, Page, Pages, frame_at, block_at, is_number, is_some_number, is_held_at, in_transfer_at, is_held, is_in_transfer}
 use Rattle.machine.proofs.SlotLemmas.{one_if}
+use Rattle.std.proofs.lemmas.Bool.{true≢false}
 use Rattle.frames.specs.Pool.{PoolOf, free_count}
 use Rattle.block_store.specs.Slots.{SlotsOf, slot_count}
 use Rattle.page_counter.specs.Counts.{Counts, Charges, SameGroups, IsOut}
@@ -16,16 +17,17 @@ use Rattle.machine.specs.declared.record.Direction.TheVariants.{In, Out}
 use Rattle.pages.specs.PagesOf.{HasResidence, anon_page, byte_in, moving}
 use Rattle.pages.specs.Transfers.{residence_after, Ends}
 use Rattle.page_state.specs.declared.holdings.Holdings.TheInside.{Inside}
-use Rattle.page_state.specs.Queue.{HeldOf, queue_of}
+use Rattle.page_state.specs.Held.{HeldOf}
 use Rattle.page_state.specs.Relists.{JoinsAtEnd, LeavesQueue}
 use Rattle.page_state.specs.Room.{LacksFrame}
-use Rattle.page_state.specs.Holdings.{Settles, StayInOrder}
-use Rattle.page_state.specs.Owned.{holdings_of, is_leaving_at, AreKept, AreGrouped, IsHolding}
+use Rattle.machine.specs.Generations.{is_listed_in}
+use Rattle.machine.specs.Lists.{HeldLists, entry_after, GoesOn}
+use Rattle.page_state.specs.Holdings.{Settles}
+use Rattle.page_state.specs.Owned.{holdings_of, is_leaving_at, AreKept, IsHolding}
 use Rattle.page_state.proofs.CountLemmas.{uncharge-usage, page-out}
-use Rattle.page_state.proofs.EntryLemmas.{grouped-same, grouped-in, grouped-out}
-use Rattle.page_state.proofs.HoldingLemmas.{Relists, Stays, kept-step, frame-out, block-out, holding-step, relists-same, relists-in, relists-out, not-going, same-view}
-use Rattle.page_state.proofs.OrderLemmas.{listed-held, goes-on-at, goes-on-in}
-use Rattle.page_state.proofs.GrantLemmas.{stands-live, room-moving, group-counted}
+use Rattle.page_state.proofs.EntryLemmas.{grouped-out}
+use Rattle.page_state.proofs.HoldingLemmas.{Stays, kept-step, frame-out, block-out, holding-step, relists-out, not-going, same-view, absent-unlisted, goes-at, goes-in}
+use Rattle.page_state.proofs.GrantLemmas.{stands-live, group-listed}
 
 -- a page in transfer has a frame and a block, and is not held
 pub moving-is : (d : Direction) (f b n : ℕ)
@@ -109,14 +111,14 @@ pub record Lands (h h' : Inside) (p g f b n : ℕ) (d : Direction) (end : End) (
   pub frames : h'.pool.frames ≡ h.pool.frames
   pub spares : h'.pool.spares ≡ h.pool.spares + one_if (is_leaving_at (moving d f b n))
   pub blocks : h'.slots.blocks ≡ h.slots.blocks
-  pub held : JoinsAtEnd end h.held h'.held entry
+  pub held : JoinsAtEnd d end h.held h'.held g p
   pub moving : LeavesQueue h.moving h'.moving entry.1.0
 
 -- the page that is settled may be held again, in its group
-pub relist-fits : (h : Inside) → IsHolding h → (d : Direction) (p g f b n x : ℕ) → HasResidence h.pages.pages p g (moving d f b n) → x ≡ g → (length h.held.numbers < h.held.room.pages) × (x < h.held.room.groups)
+pub relist-fits : (h : Inside) → IsHolding h → (d : Direction) (p g f b n x : ℕ) → HasResidence h.pages.pages p g (moving d f b n) → x ≡ g → (is_listed_in h.held.lists.groups p ≡ false) × (x < length h.held.lists.groups)
 relist-fits h is d p g f b n x stood same = (
-  room-moving h is p g (moving d f b n) stood (moving-is d f b n).2,
-  group-counted h is x (subst (λ y. is_live h.counters.tree y ≡ true) (sym same) (stands-live h.counters h.pages.pages p g (moving d f b n) stood is.kept.counted)),
+  absent-unlisted h.pages.pages h.held.lists is.held p (ap (there_and is_held) stood ∙ (moving-is d f b n).3),
+  group-listed h is x (subst (λ y. is_live h.counters.tree y ≡ true) (sym same) (stands-live h.counters h.pages.pages p g (moving d f b n) stood is.kept.counted)),
 )
 
 -- where a page is after its transfer it is in none
@@ -131,22 +133,23 @@ module _ (h h' : Inside) (is : IsHolding h) (p g f b n : ℕ) (d : Direction) (e
   abbrev to : End → Option Page
   to end = Some (anon_page g (residence_after end f b))
 
-  -- the list of those held goes on to have them
-  held-lands : (end : End) → Lands h h' p g f b n d end entry → Relists is_held h.held.numbers h'.held.numbers p from (to end) × AreGrouped (queue_of h'.held) h'.pages.pages × (h'.held.room ≡ h.held.room)
+  -- the lists of those held go on to have them
+  held-lands : (end : End) → Lands h h' p g f b n d end entry → GoesOn (entry_after d) h.pages.pages h.held.lists h'.pages.pages h'.held.lists × (h'.held.numbers ≡ h.held.numbers) × (h'.held.room ≡ h.held.room)
   held-lands InFrame lands = (
-    relists-in is_held h.held.numbers h'.held.numbers entry.1.0 p from (to InFrame) lands.same (moving-is d f b n).3 refl lands.held.counts lands.held.more,
-    grouped-in (queue_of h.held) h.pages.pages h'.pages.pages p from (to InFrame) lands.stood lands.ended.placed is.held_groups (queue_of h'.held) entry lands.held.entries lands.held.numbers lands.same (eq-eqb g entry.0.0 (sym lands.owned)) (λ x listed own. own),
-    lands.held.room,
+    subst (λ (held : HeldLists). GoesOn (entry_after d) h.pages.pages h.held.lists h'.pages.pages held) (sym (ap (λ (held : HeldOf). held.lists) lands.held))
+        (goes-in h.pages.pages h.held.lists is.held p (entry_after d) h'.pages.pages from g f lands.stood (moving-is d f b n).3 lands.ended.placed),
+    ap (λ (held : HeldOf). held.numbers) lands.held,
+    ap (λ (held : HeldOf). held.room) lands.held,
   )
-  held-lands OnBlock lands =
-      subst (λ (queue : HeldOf). Relists is_held h.held.numbers queue.numbers p from (to OnBlock) × AreGrouped (queue_of queue) h'.pages.pages × (queue.room ≡ h.held.room)) (sym lands.held) (
-        relists-same is_held h.held.numbers p from (to OnBlock) (moving-is d f b n).3,
-        grouped-same (queue_of h.held) h.pages.pages h'.pages.pages p from (to OnBlock) lands.stood lands.ended.placed is.held_groups (λ x listed own. own),
-        refl,
-      )
+  held-lands OnBlock lands = (
+    subst (λ (held : HeldLists). GoesOn (entry_after d) h.pages.pages h.held.lists h'.pages.pages held) (sym (ap (λ (held : HeldOf). held.lists) lands.held))
+        (goes-at h.pages.pages h.held.lists is.held p (entry_after d) h'.pages.pages from (to OnBlock) lands.stood lands.ended.placed (sym (moving-is d f b n).3)),
+    ap (λ (held : HeldOf). held.numbers) lands.held,
+    ap (λ (held : HeldOf). held.room) lands.held,
+  )
 
   stays-landed : (end : End) → Lands h h' p g f b n d end entry → Stays h h'
-  stays-landed end lands = record { groups = lands.groups; frames = lands.frames; blocks = lands.blocks; numbers = lands.ended.numbers; held_room = (held-lands end lands).2; moving_room = lands.moving.room }
+  stays-landed end lands = record { groups = lands.groups; frames = lands.frames; blocks = lands.blocks; numbers = lands.ended.numbers; held_numbers = (held-lands end lands).1; held_room = (held-lands end lands).2; moving_room = lands.moving.room }
 
   pub holding-lands : (end : End) → Lands h h' p g f b n d end entry → IsHolding h'
   holding-lands end lands =
@@ -162,29 +165,22 @@ module _ (h h' : Inside) (is : IsHolding h) (p g f b n : ℕ) (d : Direction) (e
         changes = lands.ended.placed;
         kept = lands.kept;
         stays = stays-landed end lands;
-        held = held.0;
+        generation = entry_after d;
+        goes = held.0;
+        apart = λ was now. true≢false (sym was ∙ (moving-is d f b n).3);
         moving = relists-out is_in_transfer h.moving.numbers h'.moving.numbers h.pages.pages entry.1.0 p from (to end) lands.same lands.stood (still end f b) is.moving lands.moving.counts lands.moving.fewer;
-        held_groups = held.1;
         moving_groups = grouped-out h.moving h.pages.pages h'.pages.pages p from (to end) lands.stood lands.ended.placed is.moving_groups h'.moving entry.1.0 lands.moving.entries lands.moving.numbers lands.same;
         spares = omega (arith, spares, going);
         tickets = omega (arith, tickets, none, moved);
       })
       is
 
-  order-lands : (end : End) → Lands h h' p g f b n d end entry → StayInOrder (holdings_of h) (holdings_of h')
-  order-lands InFrame lands =
-      goes-on-in h.pages.pages h'.pages.pages h.held.numbers (listed-held h.held.numbers h.pages.pages is.held.once) p from (to InFrame) lands.stood lands.ended.placed h'.held.numbers entry.1.0 lands.held.numbers lands.same
-      (moving-is d f b n).3 refl
-  order-lands OnBlock lands =
-      subst (λ (queue : HeldOf). StayInOrder (holdings_of h) (record (holdings_of h') { held = queue.numbers })) (sym lands.held)
-      (goes-on-at h.pages.pages h'.pages.pages h.held.numbers (listed-held h.held.numbers h.pages.pages is.held.once) p from (to OnBlock) lands.stood lands.ended.placed (sym (moving-is d f b n).3))
-
-  pub lands-settles : (end : End) → Lands h h' p g f b n d end entry → Settles (holdings_of h) (holdings_of h') p g n (residence_after end f b)
+  pub lands-settles : (end : End) → Lands h h' p g f b n d end entry → Settles (holdings_of h) (holdings_of h') d p g n (residence_after end f b)
   lands-settles end lands =
       record {
         placed = lands.ended.placed;
         unlisted = lands.ended.unlisted;
         bytes = λ q o other. lands.ended.others q o other ∙ lands.others q o other;
-        order = order-lands end lands;
+        order = (held-lands end lands).0;
         others = same-view h h' (stays-landed end lands);
       }

@@ -1,50 +1,23 @@
 -- What a reclaim takes: the holdings and the machine speak of the same pages.
-use Rattle.std.proofs.Common.{◌≡◌, ℕ, ◌<◌, ◌==◌, ◌&&◌, ◌||◌, not, Bool, true, false, List, [], Option, Some, None, refl, sym, ap, subst, ◌∙◌, arith}
-use Rattle.std.specs.Prelude.{nat_lt, IfSome}
+use Rattle.std.proofs.Common.{◌≡◌, ℕ, ◌<◌, ◌==◌, ◌&&◌, ◌||◌, not, Bool, true, false, List, [], Option, Some, sym, ap, subst, ◌∙◌, arith}
+use Rattle.std.specs.Prelude.{nat_lt, slice_set, IfSome}
 use Rattle.std.proofs.lemmas.Bool.Decides.{nat_tests}
 use Rattle.machine.specs.declared.config.Config.{Config}
-use Rattle.machine.specs.Slots.{there_and, any_there}
+use Rattle.machine.specs.Slots.{any_there}
 use Rattle.machine.specs.Tree.{Node, under}
-use Rattle.machine.specs.Pages.{Residence, Held, Coming, Going, Away, Page, page_at, is_anon, is_held, is_held_in, charged, used_swap}
+use Rattle.machine.specs.Pages.{Held, Page, page_at, is_anon, is_held, is_held_in, charged, used_swap}
 use Rattle.machine.specs.Tasks.{Tasks, PageTables}
 use Rattle.machine.specs.Protection.{is_unprotected_in}
 use Rattle.machine.specs.Order.{served_by, cursor_at}
 use Rattle.machine.specs.State.{State, opening_of, is_swap_free}
 use Rattle.machine.specs.Reclaim.{is_unprotected, is_takeable, has_takeable}
-use Rattle.machine.specs.Lists.{TakesNext, served}
-use Rattle.machine.proofs.Values.{unlike}
-use Rattle.pages.specs.declared.flight.Flight.{Flight}
-use Rattle.pages.specs.PagesOf.{anon_page, HasResidence, AreInFlight}
-use Rattle.page_state.specs.Holdings.{HoldingsOf, may_take, gives_of, IsTurn, IsNext}
-use Rattle.page_state.proofs.TransferLemmas.{stands-so}
-
--- ---- a page that may be taken
-
-module _ (s : State) (target p : ℕ) (flights : List (Option Flight)) (are : AreInFlight s.pages flights) (takeable : there_and (is_takeable s target) (page_at s.pages p) ≡ true) where
-  -- it stands in a frame
-  pub taken-stands : (g : ℕ) × (f : ℕ) × HasResidence s.pages p g (Held f) × (is_takeable s target (anon_page g (Held f)) ≡ true)
-  taken-stands = by_slot (page_at s.pages p) refl takeable
-    where
-      held_first : (a b c d : Bool) → (a && b && c && d) ≡ true → a ≡ true
-      held_first true b c d e = refl
-      held_first false b c d e = absurd (cc)
-
-      held_of : (page : Page) → is_takeable s target page ≡ true → is_held page ≡ true
-      held_of page e = held_first (is_held page) (under s.tree target page.group) (is_unprotected s target page.group) (not (is_anon page.content) || is_swap_free s) e
-
-      by_residence : (page : Page) (r : Residence) → page.residence ≡ r → HasResidence s.pages p page.group page.residence → is_takeable s target (anon_page page.group page.residence) ≡ true
-          → (g : ℕ) × (f : ℕ) × HasResidence s.pages p g (Held f) × (is_takeable s target (anon_page g (Held f)) ≡ true)
-      by_residence page (Held f) is stands e = (page.group, f, stands ∙ ap (λ (r : Residence). Some (anon_page page.group r)) is, ap (λ (r : Residence). is_takeable s target (anon_page page.group r)) (sym is) ∙ e)
-      by_residence page (Coming f b n) is stands e = unlike (is_held (anon_page page.group page.residence)) (held_of (anon_page page.group page.residence) e) (ap (λ (r : Residence). is_held (anon_page page.group r)) is)
-      by_residence page (Going f b n) is stands e = unlike (is_held (anon_page page.group page.residence)) (held_of (anon_page page.group page.residence) e) (ap (λ (r : Residence). is_held (anon_page page.group r)) is)
-      by_residence page (Away b) is stands e = unlike (is_held (anon_page page.group page.residence)) (held_of (anon_page page.group page.residence) e) (ap (λ (r : Residence). is_held (anon_page page.group r)) is)
-
-      by_slot : (slot : Option Page) → page_at s.pages p ≡ slot → there_and (is_takeable s target) slot ≡ true
-          → (g : ℕ) × (f : ℕ) × HasResidence s.pages p g (Held f) × (is_takeable s target (anon_page g (Held f)) ≡ true)
-      by_slot None is e = absurd (cc)
-      by_slot (Some page) is e =
-          let memory : page ≡ anon_page page.group page.residence = subst (λ (slot : Option Page). IfSome slot (λ page. page ≡ anon_page page.group page.residence)) is (are.memory p) in
-          by_residence page page.residence refl (stands-so s.pages flights are p page is) (ap (is_takeable s target) (sym memory) ∙ e)
+use Rattle.machine.specs.Lists.{HeldLists, Youngest, PicksOf, GoesOn, TakesNext, served}
+use Rattle.pages.specs.PagesOf.{anon_page}
+use Rattle.page_state.specs.declared.joined.State.TheInside.{Inside}
+use Rattle.page_state.specs.States.{StateOf}
+use Rattle.page_state.specs.Joined.{joined_of, IsJoined}
+use Rattle.page_state.specs.Holdings.{HoldingsOf, is_swap_left, may_take, gives_of, IsTurn}
+use Rattle.page_state.proofs.NextLemmas.{turn-given, given-takes}
 
 -- ---- the holdings
 
@@ -72,21 +45,28 @@ module _ (config : Config) (tree : List Node) (h : HoldingsOf) (tasks : Tasks) (
   pub served-turn : (cursors : List (Option ℕ)) (g : ℕ) → served (tables_of config tree h tasks page_tables) (record { held = h.held; cursors = cursors }) target ≡ Some g → IsTurn h tree cursors target g
   served-turn cursors g serves = gives-alike cursors ∙ serves
 
-  -- the page that is next, once it was taken
-  pub takes-next : (cursors cursors' : List (Option ℕ)) (p : ℕ) → IsNext h tree cursors target p cursors' → (new : State) (held' : List ℕ) → is_held_in h.stored.pages p ≡ true → is_held_in new.pages p ≡ false
+  -- the page that its group gives, once it was taken
+  pub takes-next : (cursors cursors' : List (Option ℕ)) (g p : ℕ) (looked : HeldLists) → IsTurn h tree cursors target g → PicksOf (is_swap_left h) h.held g (Some p) looked → (new : State) (held' : HeldLists)
+      → is_held_in h.stored.pages p ≡ true → is_held_in new.pages p ≡ false → GoesOn Youngest h.stored.pages looked new.pages held' → cursors' ≡ slice_set cursors target (Some g)
       → TakesNext (tables_of config tree h tasks page_tables) (record { held = h.held; cursors = cursors }) target new (record { held = held'; cursors = cursors' })
-  takes-next cursors cursors' p is new held' was taken =
+  takes-next cursors cursors' g p looked turn picked new held' was taken leaves moves =
       record {
-        g = is.g;
-        next = sym (gives-alike cursors) ∙ is.next;
-        takes = record { p = p; first = is.first; was = was; taken = taken };
-        moves = is.moves;
+        g = g;
+        next = turn-served cursors g turn;
+        p = p;
+        looked = looked;
+        picked = subst (λ n. PicksOf (nat_lt (used_swap h.stored.pages) n) h.held g (Some p) looked) swap picked;
+        was = was;
+        taken = taken;
+        leaves = leaves;
+        moves = moves;
       }
 
-  -- where it stands
-  pub taken-page : (p : ℕ) (flights : List (Option Flight)) → AreInFlight h.stored.pages flights → there_and (may_take h tree target) (page_at h.stored.pages p) ≡ true
-      → (g : ℕ) × (f : ℕ) × HasResidence h.stored.pages p g (Held f) × (is_takeable (tables_of config tree h tasks page_tables) target (anon_page g (Held f)) ≡ true)
-  taken-page p flights are e = taken-stands (tables_of config tree h tasks page_tables) target p flights are (sym (ap (λ (test : Page → Bool). there_and test (page_at h.stored.pages p)) takes-alike) ∙ e)
+  -- it may be taken
+  pub taken-page : (memory : (q : ℕ) → IfSome (page_at h.stored.pages q) (λ page. page ≡ anon_page page.group page.residence)) (cursors : List (Option ℕ)) (g f : ℕ) → IsTurn h tree cursors target g
+      → is_takeable (tables_of config tree h tasks page_tables) target (anon_page g (Held f)) ≡ true
+  taken-page memory cursors g f turn =
+      sym (ap (λ (test : Page → Bool). test (anon_page g (Held f))) takes-alike) ∙ given-takes h memory target g tree (turn-given h memory target g tree (cursor_at cursors target) turn) f
 
   -- and a swap block is free
   pub taken-swap : (g f : ℕ) → is_takeable (tables_of config tree h tasks page_tables) target (anon_page g (Held f)) ≡ true → used_swap h.stored.pages < h.swap
@@ -102,3 +82,8 @@ module _ (config : Config) (tree : List Node) (h : HoldingsOf) (tasks : Tasks) (
       last true true false d e = absurd (cc)
       last true false c d e = absurd (cc)
       last false b c d e = absurd (cc)
+
+-- the group that the machine serves is the one whose turn it is
+pub turn-of : (s : Inside) → IsJoined s → (target g : ℕ) (now : StateOf) → joined_of s ≡ now → served now.tables now.order target ≡ Some g → IsTurn s.holdings s.tree s.cursors.cursors target g
+turn-of s is target g now same serves =
+    served-turn s.config s.tree s.holdings s.spaces.tasks s.spaces.page_tables is.swap target s.cursors.cursors g (subst (λ (v : StateOf). served v.tables v.order target ≡ Some g) (sym same) serves)

@@ -1,5 +1,5 @@
 -- A place that comes to show nothing, in all joined parts.
-use Rattle.std.proofs.Common.{◌≡◌, ◌≢◌, inl, inr, ℕ, ◌<◌, ◌==◌, ◌&&◌, not, Bool, true, false, cond, Option, Some, None, ne_eqb, refl, sym, ap, ◌∙◌, subst, arith}
+use Rattle.std.proofs.Common.{◌≡◌, ◌≢◌, inl, inr, ℕ, ◌==◌, ◌&&◌, not, Bool, true, false, cond, Option, Some, None, ne_eqb, refl, sym, ap, ◌∙◌, subst, arith}
 use Rattle.std.specs.Prelude.{IfSome, is_some}
 use Rattle.machine.specs.Slots.{there_and}
 use Rattle.machine.specs.Tree.{is_live}
@@ -14,13 +14,14 @@ use Rattle.machine.proofs.MappingLemmas.{mappers-alike, mappers-shows, shown_onc
 use Rattle.pages.specs.PagesOf.{anon_page, is_moving_in, byte_in}
 use Rattle.spaces.specs.Space.{Space}
 use Rattle.page_state.specs.declared.joined.State.TheInside.{Inside}
-use Rattle.page_state.specs.Holdings.{HoldingsOf, StayInOrder, DropsPage}
+use Rattle.page_state.specs.Holdings.{HoldingsOf, ListsGoOn, DropsPage}
 use Rattle.page_state.specs.Drops.{DropsUnmapped}
 use Rattle.page_state.specs.States.{StateOf}
 use Rattle.page_state.specs.Changes.{Unmaps, UnmapsAll, EndsTask}
 use Rattle.page_state.specs.Joined.{joined_of, IsJoined}
 use Rattle.page_state.proofs.MappedLemmas.{mapped-dropped}
-use Rattle.page_state.proofs.OrderLemmas.{goes-on-still}
+use Rattle.machine.specs.Lists.{Youngest, ListsHeld}
+use Rattle.machine.proofs.HeldLemmas.{goes-still}
 use Rattle.page_state.proofs.DropLemmas.{fewer, stays_settled}
 use Rattle.page_state.proofs.JoinLemmas.{joined-pages, joined-tasks}
 
@@ -50,7 +51,7 @@ dropped old new tables p drops memory none rests =
         ∙ ap (λ b. cond (not b) None (Some page)) rests
 
 -- something maps it, or it is in transfer
-pub kept : (h : HoldingsOf) (tables : PageTables) (p : ℕ) → StayInOrder h h → still tables p (page_at h.stored.pages p) ≡ page_at h.stored.pages p → DropsUnmapped h h tables p
+pub kept : (h : HoldingsOf) (tables : PageTables) (p : ℕ) → ListsGoOn Youngest h h → still tables p (page_at h.stored.pages p) ≡ page_at h.stored.pages p → DropsUnmapped h h tables p
 kept h tables p order stays =
     record { pages = record { changed = sym stays; others = λ q other. refl }; bytes = λ q o there. refl; others = λ q o other. refl; flights = refl; order = order; rest = refl }
 
@@ -66,7 +67,7 @@ still-transfer tables p (Some page) moves = ap (λ b. cond (is_anon page.content
 
 -- ---- one place
 
-module _ (s : Inside) (is : IsJoined s) (memory : (p : ℕ) → IfSome (page_at s.holdings.stored.pages p) (λ page. page ≡ anon_page page.group page.residence))
+module _ (s : Inside) (is : IsJoined s) (lists : ListsHeld s.holdings.stored.pages s.holdings.held) (memory : (p : ℕ) → IfSome (page_at s.holdings.stored.pages p) (λ page. page ≡ anon_page page.group page.residence))
     (spaces : Space) (t v : ℕ) (shown : Shows s.spaces.page_tables spaces.page_tables t v None) (tasks : spaces.tasks ≡ s.spaces.tasks) (numbers : spaces.numbers ≡ s.spaces.numbers) where
   homes : (u : ℕ) → lives spaces.tasks u ≡ true → is_live s.tree (group_of_task spaces.tasks u) ≡ true
   homes = subst (λ (ts : Tasks). (u : ℕ) → lives ts u ≡ true → is_live s.tree (group_of_task ts u) ≡ true) (sym tasks) is.homes
@@ -92,7 +93,7 @@ module _ (s : Inside) (is : IsJoined s) (memory : (p : ℕ) → IfSome (page_at 
             pages = stays;
             bytes = λ p k there. refl;
             flights = refl;
-            held = goes-on-still s.holdings.stored.pages s.holdings.stored.pages s.holdings.held s.holdings.held is.listed refl refl;
+            held = goes-still Youngest s.holdings.stored.pages s.holdings.stored.pages s.holdings.held lists refl;
             cursors = refl;
             tallies = refl;
           };
@@ -117,7 +118,7 @@ module _ (s : Inside) (is : IsJoined s) (memory : (p : ℕ) → IfSome (page_at 
     pub joined-unmapped : IsJoined (record s { holdings = now; spaces = spaces })
     joined-unmapped =
         joined-pages s is now s.cursors spaces drops.rest
-        (mapped-dropped s.holdings.stored.pages s.spaces.page_tables is.mapped now.stored.pages spaces.page_tables memory (fewer s.spaces.page_tables spaces.page_tables t v shown) all) numbers homes drops.order refl
+        (mapped-dropped s.holdings.stored.pages s.spaces.page_tables is.mapped now.stored.pages spaces.page_tables memory (fewer s.spaces.page_tables spaces.page_tables t v shown) all) numbers homes refl
 
     pub unmaps-unmapped : Unmaps (joined_of s) (joined_of (record s { holdings = now; spaces = spaces })) t v
     unmaps-unmapped =

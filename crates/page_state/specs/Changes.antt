@@ -1,5 +1,5 @@
 -- How the joined parts change: one record for each change, which is one of the machine's tables in all parts at once.
-use Rattle.std.specs.Prelude.{◌≡◌, ◌≢◌, ℕ, ◌<◌, ◌==◌, ◌&&◌, if◌then◌else◌, false, true, List, [], ◌∷◌, ◌++◌, slice_index, slice_set, is_some, Some, None}
+use Rattle.std.specs.Prelude.{◌≡◌, ◌≢◌, ℕ, ◌+◌, ◌<◌, ◌≤◌, ◌==◌, ◌&&◌, if◌then◌else◌, false, true, List, [], ◌∷◌, ◌++◌, slice_index, slice_set, is_some, Some, None}
 use Rattle.machine.specs.declared.record.Key.{Key}
 use Rattle.machine.specs.declared.record.Life.{Life}
 use Rattle.machine.specs.declared.record.Life.TheVariants.{Live}
@@ -9,12 +9,14 @@ use Rattle.machine.specs.Tree.{is_live}
 use Rattle.machine.specs.Pages.{Residence, Held, Coming, Going, page_at, is_ticket_taken}
 use Rattle.machine.specs.Counts.{Counted, no_limits}
 use Rattle.machine.specs.Tasks.{SetsTask, group_of_task, mapped_at, Shows, ShowsNothing}
-use Rattle.machine.specs.State.{State, over_in, is_frame_free}
+use Rattle.machine.specs.State.{State, page_numbers, over_in, is_frame_free}
 use Rattle.machine.specs.Access.{page_size}
 use Rattle.machine.specs.Reclaim.{is_takeable}
-use Rattle.machine.specs.Lists.{GoesOn, TakesNext}
+use Rattle.machine.specs.Generations.{gens_at}
+use Rattle.machine.specs.Lists.{Generation, Youngest, entry_after, with_mark, GoesOn, TakesNext, AddsLists}
 use Rattle.machine.specs.Step.{IsFreeFrame, IsFreeBlock, still, or_gone, count_of, new_node, new_page}
 use Rattle.pages.specs.PagesOf.{byte_in, anon_page, flight, HasResidence}
+use Rattle.machine.specs.declared.record.Direction.{Direction}
 use Rattle.machine.specs.declared.record.Direction.TheVariants.{In, Out}
 use Rattle.pages.specs.Tickets.{TicketOf}
 use Rattle.pages.specs.Transfers.{given_ticket}
@@ -37,9 +39,9 @@ LacksRoom s g lacks.NoFrame = (over_in s g ≡ None) × (is_frame_free s ≡ fal
 
 -- ---- counting
 
--- the pages and the list of those that are held go on
-abbrev pub KeepsOrder : StateOf → StateOf → Type 0
-KeepsOrder old new = GoesOn old.tables.pages old.order.held new.tables.pages new.order.held
+-- the pages and the lists of those that are held go on, and a page that comes to be held enters this generation
+abbrev pub KeepsLists : Generation → StateOf → StateOf → Type 0
+KeepsLists generation old new = GoesOn generation old.tables.pages old.order.held new.tables.pages new.order.held
 
 -- an event is counted, and all else is as it was
 pub record CountsEvent (old new : StateOf) (g : ℕ) (key : Key) : Type 0 where
@@ -53,15 +55,20 @@ pub record MakesPage (old new : StateOf) (t v g o byte : ℕ) : Type 0 where
   pub page : ℕ
   pub frame : ℕ
   pub frame_free : IsFreeFrame old.tables frame
+  pub in_range : page < page_numbers old.tables.opening
   pub number_free : page_at old.tables.pages page ≡ None
   pub placed : Changes old.tables.pages new.tables.pages page (Some (new_page g frame))
   pub shown : Shows old.tables.page_tables new.tables.page_tables t v (Some page)
   pub tables : new.tables ≡ record old.tables { pages = new.tables.pages; page_tables = new.tables.page_tables }
   pub bytes : (q k : ℕ) → byte_in new.bytes q k ≡ (if q == page then (if o == k then byte else 0) else byte_in old.bytes q k)
   pub flights : new.flights ≡ old.flights
-  pub held : KeepsOrder old new
+  pub held : KeepsLists Youngest old new
   pub cursors : new.order.cursors ≡ old.order.cursors
   pub tallies : new.tallies ≡ old.tallies
+
+-- a page in a frame is marked as accessed, and all else is as it was
+abbrev pub MarksPage : StateOf → StateOf → ℕ → Type 0
+MarksPage old new p = new ≡ record old { order = record { held = with_mark (Some p) old.order.held; cursors = old.order.cursors } }
 
 -- a byte of a page in a frame is written
 pub record WritesByte (old new : StateOf) (p o byte : ℕ) : Type 0 where
@@ -81,7 +88,7 @@ pub record BeginsReadIn (old new : StateOf) (p g block worker entry : ℕ) (tick
   pub tables : new.tables ≡ record old.tables { pages = new.tables.pages }
   pub bytes : (q k : ℕ) → q ≢ p → byte_in new.bytes q k ≡ byte_in old.bytes q k
   pub listed : Changes old.flights new.flights ticket.number (Some (flight p worker In))
-  pub held : KeepsOrder old new
+  pub held : KeepsLists Youngest old new
   pub cursors : new.order.cursors ≡ old.order.cursors
   pub tallies : new.tallies ≡ old.tallies
 
@@ -100,17 +107,18 @@ pub record BeginsWriteOut (old new : StateOf) (target worker entry : ℕ) (ticke
   pub tables : new.tables ≡ record old.tables { pages = new.tables.pages }
   pub bytes : (q k : ℕ) → byte_in new.bytes q k ≡ byte_in old.bytes q k
   pub listed : Changes old.flights new.flights ticket.number (Some (flight p worker Out))
-  pub held : KeepsOrder old new
   pub next : TakesNext old.tables old.order target new.tables new.order
+  -- three generations more are begun at most
+  pub ages : (h : ℕ) → (gens_at new.order.held.groups h).max_seq ≤ (gens_at old.order.held.groups h).max_seq + 3
   pub tallies : new.tallies ≡ old.tallies
 
--- the transfer of a page of g under ticket n ends: the page is there, or gone where nothing maps it
-pub record EndsTransfer (old new : StateOf) (p g n : ℕ) (to : Residence) : Type 0 where
+-- the transfer in this direction of a page of g under ticket n ends: the page is there, or gone where nothing maps it
+pub record EndsTransfer (old new : StateOf) (direction : Direction) (p g n : ℕ) (to : Residence) : Type 0 where
   pub placed : Changes old.tables.pages new.tables.pages p (or_gone old.tables.page_tables p (anon_page g to))
   pub tables : new.tables ≡ record old.tables { pages = new.tables.pages }
   pub unlisted : Changes old.flights new.flights n None
   pub others : (q k : ℕ) → q ≢ p → byte_in new.bytes q k ≡ byte_in old.bytes q k
-  pub held : KeepsOrder old new
+  pub held : KeepsLists (entry_after direction) old new
   pub cursors : new.order.cursors ≡ old.order.cursors
   pub tallies : new.tallies ≡ old.tallies
 
@@ -132,7 +140,7 @@ pub record DropsPages (old new : StateOf) : Type 0 where
   pub pages : (p : ℕ) → page_at new.tables.pages p ≡ still new.tables.page_tables p (page_at old.tables.pages p)
   pub bytes : (p k : ℕ) → is_some (page_at new.tables.pages p) ≡ true → byte_in new.bytes p k ≡ byte_in old.bytes p k
   pub flights : new.flights ≡ old.flights
-  pub held : KeepsOrder old new
+  pub held : KeepsLists Youngest old new
   pub cursors : new.order.cursors ≡ old.order.cursors
   pub tallies : new.tallies ≡ old.tallies
 
@@ -157,11 +165,10 @@ pub record EndsTask (old new : StateOf) (t : ℕ) (life : Life) : Type 0 where
 
 -- ---- groups
 
--- a group of this path more, without limits, for which as a target no group was served
+-- a group of this path more, without limits and without a page, for which as a target no group was served
 pub record AddsGroup (old new : StateOf) (path : List ℕ) : Type 0 where
   pub tables : new.tables ≡ record old.tables { tree = old.tables.tree ++ new_node old.tables.tree path ∷ []; limits = old.tables.limits ++ no_limits ∷ [] }
-  pub held : new.order.held ≡ old.order.held
-  pub cursors : new.order.cursors ≡ old.order.cursors ++ None ∷ []
+  pub order : AddsLists old.order new.order
   pub bytes : new.bytes ≡ old.bytes
   pub flights : new.flights ≡ old.flights
   pub tallied : (counted : List Counted) → Tells old.tallies counted → Tells new.tallies counted

@@ -1,18 +1,20 @@
 -- What contracts see of the holdings, and how they change.
-use Rattle.std.specs.Prelude.{◌≡◌, ◌≢◌, ℕ, ◌<◌, ◌==◌, ◌&&◌, ◌||◌, not, nat_lt, Bool, true, false, if◌then◌else◌, List, Option, Some, None, slice_index, slice_set}
+use Rattle.std.specs.Prelude.{◌≡◌, ◌≢◌, ℕ, ◌+◌, ◌<◌, ◌≤◌, ◌==◌, ◌&&◌, ◌||◌, not, nat_lt, Bool, false, if◌then◌else◌, List, Option, Some, None, slice_index}
 use Rattle.machine.specs.declared.record.Limits.{Limits}
-use Rattle.machine.specs.Slots.{Changes, there_and, any_there}
+use Rattle.machine.specs.Slots.{Changes, any_there}
 use Rattle.machine.specs.Tree.{Node, under}
-use Rattle.machine.specs.Pages.{Page, Pages, Residence, Coming, Going, page_at, is_anon, is_held, is_frame_taken, is_swap_taken, is_ticket_taken, charged, used_frames, used_swap}
+use Rattle.machine.specs.Pages.{Page, Pages, Residence, Held, Coming, Going, page_at, is_anon, is_held, is_frame_taken, is_swap_taken, is_ticket_taken, charged, used_frames, used_swap}
 use Rattle.machine.specs.Protection.{is_unprotected_in}
 use Rattle.machine.specs.Order.{served_by, cursor_at}
-use Rattle.machine.specs.Lists.{GoesOn, first_held}
+use Rattle.machine.specs.Generations.{gens_at}
+use Rattle.machine.specs.Lists.{HeldLists, Generation, Youngest, entry_after, PicksOf, GoesOn}
 use Rattle.machine.specs.Counts.{over}
 use Rattle.machine.specs.Access.{page_size}
 use Rattle.machine.specs.Step.{new_page}
 use Rattle.pages.specs.Tickets.{TicketOf}
 use Rattle.pages.specs.Transfers.{given_ticket}
-use Rattle.pages.specs.PagesOf.{byte_in, anon_page, flight}
+use Rattle.pages.specs.PagesOf.{byte_in, anon_page, flight, HasResidence}
+use Rattle.machine.specs.declared.record.Direction.{Direction}
 use Rattle.machine.specs.declared.record.Direction.TheVariants.{In, Out}
 use Rattle.pages.specs.declared.flight.Flight.{Flight}
 use Rattle.page_state.specs.declared.room.NoRoom.{NoRoom}
@@ -24,13 +26,13 @@ pub record Stored : Type 0 where
   pub bytes : List (Option (List ℕ))
   pub flights : List (Option Flight)
 
--- the groups without their paths, their limits, the pages, those in frames and in no transfer in the order in which they came there, how many frames and
--- swap blocks and page numbers there are, and for how many groups more there is memory
+-- the groups without their paths, their limits, the pages, the lists of those in frames and in no transfer, how many frames and swap blocks and page numbers
+-- there are, and for how many groups more there is memory
 pub record HoldingsOf : Type 0 where
   pub kin : List Node
   pub limits : List Limits
   pub stored : Stored
-  pub held : List ℕ
+  pub held : HeldLists
   pub frames : ℕ
   pub swap : ℕ
   pub numbers : ℕ
@@ -40,13 +42,17 @@ pub record HoldingsOf : Type 0 where
 abbrev pub with_stored : HoldingsOf → Stored → HoldingsOf
 with_stored h stored = record h { stored = stored }
 
--- with other pages and another order of them
-abbrev pub with_order : HoldingsOf → Stored → List ℕ → HoldingsOf
-with_order h stored held = record h { stored = stored; held = held }
+-- with other pages and other lists of them
+abbrev pub with_lists : HoldingsOf → Stored → HeldLists → HoldingsOf
+with_lists h stored held = record h { stored = stored; held = held }
 
--- the pages in frames go on in their order
-abbrev pub StayInOrder : HoldingsOf → HoldingsOf → Type 0
-StayInOrder old new = GoesOn old.stored.pages old.held new.stored.pages new.held
+-- the lists of the pages in frames go on, and a page that comes there enters this generation
+abbrev pub ListsGoOn : Generation → HoldingsOf → HoldingsOf → Type 0
+ListsGoOn generation old new = GoesOn generation old.stored.pages old.held new.stored.pages new.held
+
+-- a swap block is free
+abbrev pub is_swap_left : HoldingsOf → Bool
+is_swap_left h = nat_lt (used_swap h.stored.pages) h.swap
 
 -- the lowest group from g up whose max one page more would pass
 abbrev pub over_of : HoldingsOf → ℕ → Option ℕ
@@ -61,8 +67,8 @@ pub record AddsPage (old new : HoldingsOf) (p g offset byte : ℕ) : Type 0 wher
   pub placed : Changes old.stored.pages new.stored.pages p (Some (new_page g frame))
   pub bytes : (q o : ℕ) → byte_in new.stored.bytes q o ≡ (if q == p then (if offset == o then byte else 0) else byte_in old.stored.bytes q o)
   pub flights : new.stored.flights ≡ old.stored.flights
-  pub order : StayInOrder old new
-  pub others : new ≡ with_order old new.stored new.held
+  pub order : ListsGoOn Youngest old new
+  pub others : new ≡ with_lists old new.stored new.held
 
 -- the charge of one page to g is granted: no max and no want of a frame is in its way
 pub record IsGranted (h : HoldingsOf) (g : ℕ) : Type 0 where
@@ -84,8 +90,8 @@ pub record BeginsIn (old new : HoldingsOf) (p g block worker entry : ℕ) (ticke
   pub placed : Changes old.stored.pages new.stored.pages p (Some (anon_page g (Coming frame block ticket.number)))
   pub bytes : (q o : ℕ) → q ≢ p → byte_in new.stored.bytes q o ≡ byte_in old.stored.bytes q o
   pub listed : Changes old.stored.flights new.stored.flights ticket.number (Some (flight p worker In))
-  pub order : StayInOrder old new
-  pub others : new ≡ with_order old new.stored new.held
+  pub order : ListsGoOn Youngest old new
+  pub others : new ≡ with_lists old new.stored new.held
 
 -- a page in a frame is from now on being written to a swap block that no page had; the ticket has its bytes
 pub record BeginsOut (old new : HoldingsOf) (p g frame worker entry : ℕ) (ticket : TicketOf) : Type 0 where
@@ -97,24 +103,24 @@ pub record BeginsOut (old new : HoldingsOf) (p g frame worker entry : ℕ) (tick
   pub placed : Changes old.stored.pages new.stored.pages p (Some (anon_page g (Going frame ticket.block ticket.number)))
   pub bytes : (q o : ℕ) → byte_in new.stored.bytes q o ≡ byte_in old.stored.bytes q o
   pub listed : Changes old.stored.flights new.stored.flights ticket.number (Some (flight p worker Out))
-  pub order : StayInOrder old new
-  pub others : new ≡ with_order old new.stored new.held
+  pub order : ListsGoOn Youngest old new
+  pub others : new ≡ with_lists old new.stored new.held
 
--- the transfer of a page under a ticket has ended there
-pub record Settles (old new : HoldingsOf) (p g n : ℕ) (residence : Residence) : Type 0 where
+-- the transfer in this direction of a page under a ticket has ended there
+pub record Settles (old new : HoldingsOf) (direction : Direction) (p g n : ℕ) (residence : Residence) : Type 0 where
   pub placed : Changes old.stored.pages new.stored.pages p (Some (anon_page g residence))
   pub unlisted : Changes old.stored.flights new.stored.flights n None
   pub bytes : (q o : ℕ) → q ≢ p → byte_in new.stored.bytes q o ≡ byte_in old.stored.bytes q o
-  pub order : StayInOrder old new
-  pub others : new ≡ with_order old new.stored new.held
+  pub order : ListsGoOn (entry_after direction) old new
+  pub others : new ≡ with_lists old new.stored new.held
 
 -- a page is gone with its bytes
 pub record DropsPage (old new : HoldingsOf) (p : ℕ) : Type 0 where
   pub gone : Changes old.stored.pages new.stored.pages p None
   pub bytes : (q o : ℕ) → byte_in new.stored.bytes q o ≡ (if q == p then 0 else byte_in old.stored.bytes q o)
   pub flights : new.stored.flights ≡ old.stored.flights
-  pub order : StayInOrder old new
-  pub others : new ≡ with_order old new.stored new.held
+  pub order : ListsGoOn Youngest old new
+  pub others : new ≡ with_lists old new.stored new.held
 
 -- ---- what a reclaim takes
 
@@ -132,10 +138,11 @@ gives_of h tree target g = any_there (λ page. (page.group == g) && may_take h t
 abbrev pub IsTurn : HoldingsOf → List Node → List (Option ℕ) → ℕ → ℕ → Type 0
 IsTurn h tree cursors target g = served_by tree (gives_of h tree target) target (cursor_at cursors target) ≡ Some g
 
--- the page that is next for the target, and the cursors after it was told
-pub record IsNext (h : HoldingsOf) (tree : List Node) (cursors : List (Option ℕ)) (target p : ℕ) (cursors' : List (Option ℕ)) : Type 0 where
-  pub g : ℕ
-  pub next : served_by tree (gives_of h tree target) target (cursor_at cursors target) ≡ Some g
-  pub first : first_held h.stored.pages h.held g ≡ Some p
-  pub takeable : there_and (may_take h tree target) (page_at h.stored.pages p) ≡ true
-  pub moves : cursors' ≡ slice_set cursors target (Some g)
+-- the page that a group gives, and the lists after the search for it
+pub record PicksPage (old new : HoldingsOf) (g p : ℕ) : Type 0 where
+  pub frame : ℕ
+  pub stands : HasResidence old.stored.pages p g (Held frame)
+  pub picked : PicksOf (is_swap_left old) old.held g (Some p) new.held
+  -- three generations more are begun at most
+  pub ages : (h : ℕ) → (gens_at new.held.groups h).max_seq ≤ (gens_at old.held.groups h).max_seq + 3
+  pub others : new ≡ record old { held = new.held }

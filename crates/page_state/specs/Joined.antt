@@ -1,8 +1,6 @@
 -- What the fields of the joined parts mean, and how the parts agree. No public clause cites it.
-use Rattle.std.specs.Prelude.{◌≡◌, ℕ, true, [], length}
-use Rattle.std.specs.List.{filter}
+use Rattle.std.specs.Prelude.{◌≡◌, ℕ, ◌+◌, true, [], length}
 use Rattle.machine.specs.Tree.{is_live}
-use Rattle.machine.specs.Pages.{is_held_in}
 use Rattle.machine.specs.Tasks.{lives, group_of_task}
 use Rattle.machine.specs.State.{opening_of, is_config}
 use Rattle.group_tree.specs.Kin.{AreKin}
@@ -35,11 +33,11 @@ pub record IsJoined (s : Inside) : Type 0 where
   pub held_kin : AreKin s.holdings.kin s.tree
   pub counted_kin : AreKin s.events.tree s.tree
   pub mapped : AreMapped s.holdings.stored.pages s.spaces.page_tables
+  -- there is a page number for each frame and each swap block
+  pub page_numbers : s.holdings.numbers ≡ s.config.frames + s.config.swap
   -- each page has its count of mappers
   pub numbers : s.spaces.numbers ≡ s.holdings.numbers
   -- the group of a live task is there
   pub homes : (t : ℕ) → lives s.spaces.tasks t ≡ true → is_live s.tree (group_of_task s.spaces.tasks t) ≡ true
-  -- each page in the order is held
-  pub listed : filter (is_held_in s.holdings.stored.pages) s.holdings.held ≡ s.holdings.held
   -- each group has its cursor
   pub cursors : length s.cursors.cursors ≡ length s.tree

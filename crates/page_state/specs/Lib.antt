@@ -1,6 +1,7 @@
 pub mod Holdings
 pub mod Owned
 pub mod Queue
+pub mod Held
 pub mod Relists
 pub mod Room
 pub mod Drops

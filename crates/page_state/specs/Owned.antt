@@ -1,16 +1,16 @@
 -- What the fields of the holdings mean, and how they agree. No public clause cites it.
-use Rattle.std.specs.Prelude.{◌≡◌, ℕ, ◌+◌, ◌<◌, ◌≤◌, ◌&&◌, Bool, true, false, if◌then◌else◌, List, length, map, min, Option, option_map, Some, None, IfSome}
+use Rattle.std.specs.Prelude.{◌≡◌, ℕ, ◌+◌, ◌<◌, ◌≤◌, ◌==◌, ◌&&◌, Bool, true, false, if◌then◌else◌, List, length, map, min, Option, option_map, Some, None, IfSome}
 use Rattle.std.specs.List.{All}
 use Rattle.machine.specs.Slots.{Changes, there_and, count_there}
 use Rattle.machine.specs.Tree.{is_live}
-use Rattle.machine.specs.Pages.{Residence, Going, Page, Pages, page_at, is_anon, is_number, block_at, charged, has_frame, has_this_frame, has_swap, is_held, is_in_transfer, in_transfer}
-use Rattle.machine.specs.Lists.{is_page_of}
+use Rattle.machine.specs.Pages.{Residence, Going, Page, Pages, page_at, is_anon, is_number, block_at, charged, has_frame, has_this_frame, has_swap, is_in_transfer, in_transfer}
+use Rattle.machine.specs.Lists.{ListsHeld}
 use Rattle.frames.specs.Pool.{PoolOf, free_count}
 use Rattle.block_store.specs.Slots.{SlotsOf}
 use Rattle.page_counter.specs.Counts.{Counts, usage_of}
 use Rattle.pages.specs.declared.owned_page.OwnedPage.{OwnedPage}
 use Rattle.pages.specs.Records.{page_of}
-use Rattle.page_state.specs.Queue.{QueueOf, numbers_of, page_count, queue_of}
+use Rattle.page_state.specs.Queue.{QueueOf, numbers_of, page_count}
 use Rattle.page_state.specs.Holdings.{HoldingsOf}
 use Rattle.page_state.specs.declared.holdings.Holdings.TheInside.{Inside}
 
@@ -20,11 +20,11 @@ holdings_of h =
       kin = h.counters.tree;
       limits = h.counters.limits;
       stored = record { pages = h.pages.pages; bytes = h.pages.bytes; flights = h.pages.flights };
-      held = h.held.numbers;
+      held = h.held.lists;
       frames = h.pool.frames;
       swap = h.slots.blocks;
       numbers = h.pages.numbers;
-      room = min h.counters.room h.held.room.more;
+      room = min h.counters.room h.held.room;
     }
 
 -- a page has this swap block
@@ -58,6 +58,9 @@ pub record AreKept (counters : Counts) (pool : PoolOf) (slots : SlotsOf) (pages 
   pub blocks : IsBalanced has_this_block has_swap slots.blocks slots.free pages
   pub counted : IsCounted counters pages
 
+abbrev pub is_page_of : Pages → ℕ → ℕ → Bool
+is_page_of pages g p = there_and (λ page. page.group == g) (page_at pages p)
+
 -- each page stands in the table, and after its own group
 pub record AreGrouped (queue : QueueOf) (pages : Pages) : Type 0 where
   pub numbers : queue.numbers ≡ numbers_of queue.entries
@@ -71,15 +74,14 @@ pub record AreListed (test : Page → Bool) (numbers : List ℕ) (pages : Pages)
 pub record IsHolding (h : Inside) : Type 0 where
   pub kept : AreKept h.counters h.pool h.slots h.pages.pages
   pub few : h.pool.frames < 4294967296
-  pub held : AreListed is_held h.held.numbers h.pages.pages
+  pub held : ListsHeld h.pages.pages h.held.lists
   pub moving : AreListed is_in_transfer h.moving.numbers h.pages.pages
-  pub held_groups : AreGrouped (queue_of h.held) h.pages.pages
   pub moving_groups : AreGrouped h.moving h.pages.pages
-  -- there is room in both lists for as many pages as there are frames
-  pub held_room : h.pool.frames ≤ h.held.room.pages
+  -- there is room in the queue for as many pages as there are frames
   pub moving_room : h.pool.frames ≤ h.moving.room
-  -- the held pages of each group are counted
-  pub held_counts : h.held.room.groups ≡ length h.counters.tree
+  -- each group has its lists, and each page number its links and its mark
+  pub held_groups : length h.held.lists.groups ≡ length h.counters.tree
+  pub held_numbers : h.held.numbers ≡ h.pages.numbers
   -- a page that is being written out has a spare
   pub spares : h.pool.spares + count_there is_going h.pages.pages ≡ h.pool.frames
   -- each page has a frame or a swap block, and may have a number

@@ -1,19 +1,14 @@
--- How pages come into a queue of pages, and out of it.
-use Rattle.std.specs.Prelude.{◌≡◌, ℕ, ◌+◌, ◌==◌, ◌++◌, ◌∷◌, [], not, length, if◌then◌else◌}
+-- How a transfer's end changes the lists of pages.
+use Rattle.std.specs.Prelude.{◌≡◌, ℕ, ◌+◌, ◌==◌, not, length, if◌then◌else◌}
 use Rattle.std.specs.List.{filter}
 use Rattle.machine.specs.declared.id.GroupId.{GroupId}
 use Rattle.machine.specs.declared.id.PageId.{PageId}
+use Rattle.machine.specs.declared.record.Direction.{Direction}
+use Rattle.machine.specs.Lists.{entry_after}
 use Rattle.pages.specs.declared.end.End.{End}
 use Rattle.pages.specs.declared.end.End.TheVariants.{InFrame, OnBlock}
-use Rattle.page_state.specs.Queue.{QueueOf, HeldOf, page_count}
-
--- a page, after its group, is the last of those held
-pub record JoinsHeld (old new : HeldOf) (entry : GroupId × PageId) : Type 0 where
-  pub entries : new.entries ≡ old.entries ++ entry ∷ []
-  pub numbers : new.numbers ≡ old.numbers ++ entry.1.0 ∷ []
-  pub counts : (n : ℕ) → page_count new.numbers n ≡ page_count old.numbers n + (if entry.1.0 == n then 1 else 0)
-  pub more : length new.numbers ≡ length old.numbers + 1
-  pub room : new.room ≡ old.room
+use Rattle.page_state.specs.Queue.{QueueOf, page_count}
+use Rattle.page_state.specs.Held.{HeldOf, entered}
 
 -- a page is in the queue no more, and all others stay in their order
 pub record LeavesQueue (old new : QueueOf) (p : ℕ) : Type 0 where
@@ -23,7 +18,7 @@ pub record LeavesQueue (old new : QueueOf) (p : ℕ) : Type 0 where
   pub fewer : length new.numbers + page_count old.numbers p ≡ length old.numbers
   pub room : new.room ≡ old.room
 
--- a page whose transfer ends in its frame is held, behind all others
-abbrev pub JoinsAtEnd : End → HeldOf → HeldOf → GroupId × PageId → Type 0
-JoinsAtEnd InFrame old new entry = JoinsHeld old new entry
-JoinsAtEnd OnBlock old new entry = new ≡ old
+-- a page whose transfer in this direction ends in its frame is listed in its group
+abbrev pub JoinsAtEnd : Direction → End → HeldOf → HeldOf → ℕ → ℕ → Type 0
+JoinsAtEnd direction InFrame old new g p = new ≡ record old { lists = entered old.lists g p (entry_after direction) }
+JoinsAtEnd direction OnBlock old new g p = new ≡ old

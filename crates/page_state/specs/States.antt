@@ -1,14 +1,15 @@
--- What a contract sees of the joined parts: the machine's tables, the order in which pages are taken, the bytes of the pages, the transfers in flight.
-use Rattle.std.specs.Prelude.{ℕ, ◌<◌, List, Option, Some, None}
+-- What a contract sees of the joined parts: the machine's tables, the held pages in their lists, the bytes of the pages, the transfers in flight.
+use Rattle.std.specs.Prelude.{ℕ, ◌+◌, ◌<◌, ◌^◌, List, Option, Some, None}
 use Rattle.machine.specs.declared.record.Key.{Key}
 use Rattle.machine.specs.Tasks.{mapped_at}
 use Rattle.machine.specs.State.{State}
-use Rattle.machine.specs.Lists.{Order}
+use Rattle.machine.specs.Generations.{gens_at}
+use Rattle.machine.specs.Lists.{HeldLists, Order}
 use Rattle.pages.specs.PagesOf.{byte_in}
 use Rattle.pages.specs.declared.flight.Flight.{Flight}
 use Rattle.memory_events.specs.Tallies.{Tallies, total_of}
 
--- the tables, without the events counted so far, which a history tells; the order in which pages are taken; by page number the bytes; how often events
+-- the tables, without the events counted so far, which a history tells; the lists of held pages with the cursors; by page number the bytes; how often events
 -- were counted; and by ticket number the transfers in flight
 pub record StateOf : Type 0 where
   pub tables : State
@@ -24,6 +25,10 @@ without_room t = record t { room = 0 }
 -- each key was counted less often than a number of 64 bits holds
 abbrev pub AreFew : Tallies → Type 0
 AreFew t = (k : Key) → total_of t 0 k < 18446744073709551615
+
+-- the number of each group's youngest generation is one that a search for a page may still raise
+abbrev pub AreYoung : HeldLists → Type 0
+AreYoung held = (g : ℕ) → (gens_at held.groups g).max_seq + 4 < 2 ^ 64
 
 -- a byte of what a virtual page shows, zero where it shows nothing
 abbrev pub byte_shown : List (Option (List ℕ)) → Option ℕ → ℕ → ℕ

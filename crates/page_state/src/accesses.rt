@@ -1,13 +1,13 @@
 //! Pages that are made, read in and written.
 
-ghost use Rattle.std.specs.Prelude.{◌≡◌, ℕ, ◌<◌, Some, None, true, IfOk, IfErr, OnOk, OnErr};
+ghost use Rattle.std.specs.Prelude.{◌≡◌, ℕ, ◌<◌, None, true, IfOk, IfErr, OnOk, OnErr};
 ghost use Rattle.machine.specs.Tree.{is_live};
 ghost use Rattle.machine.specs.Pages as residence;
 ghost use Rattle.machine.specs.Pages.{is_held_in};
 ghost use Rattle.machine.specs.Tasks.{lives, mapped_at};
 ghost use Rattle.machine.specs.Access.{page_size, task_pages};
 ghost use Rattle.pages.specs.PagesOf.{HasResidence};
-ghost use Rattle.page_state.specs.Changes.{HasRoom, LacksRoom, MakesPage, WritesByte, BeginsReadIn};
+ghost use Rattle.page_state.specs.Changes.{HasRoom, LacksRoom, MakesPage, WritesByte, MarksPage, BeginsReadIn};
 
 use crate::joined::State;
 use crate::room::NoRoom;
@@ -49,6 +49,14 @@ impl State {
         ensures { WritesByte self.old self.new page.0 offset byte }
     {
         self.holdings.write(page, offset as usize, byte);
+    }
+
+    /// A page in a frame is marked as accessed (kernel: the accessed bit of its mapping). Takes no memory.
+    pub fn mark(&mut self, page: PageId)
+        requires { is_held_in self.old.tables.pages page.0 ≡ true }
+        ensures { MarksPage self.old self.new page.0 }
+    {
+        self.holdings.mark(page);
     }
 
     /// Begins to read in a page that is on its block. It is charged to its group, which has room for it.

@@ -21,7 +21,7 @@ impl State {
     /// read, which are handed out. Takes no memory.
     pub fn settle_in(&mut self, ticket: InTicket, end: End) -> PageBytes
         requires { is_in_flight In self.old.tables.pages ticket.number ≡ true }
-        ensures ends { (p g f b : ℕ) → HasResidence self.old.tables.pages p g (residence.Coming f b ticket.number) → EndsTransfer self.old self.new p g ticket.number (residence_after end f b) }
+        ensures ends { (p g f b : ℕ) → HasResidence self.old.tables.pages p g (residence.Coming f b ticket.number) → EndsTransfer self.old self.new In p g ticket.number (residence_after end f b) }
         // What a task sees of the page.
         ensures arrives { (p g f b : ℕ) → HasResidence self.old.tables.pages p g (residence.Coming f b ticket.number) → end ≡ End.InFrame
             → (t v k : ℕ) → mapped_at self.old.tables.page_tables t v ≡ Some p → byte_in self.new.bytes p k ≡ slice_index ticket.bytes k }
@@ -37,7 +37,7 @@ impl State {
     /// The write-out of the ticket's page has ended so. In its frame the page is as it was. Takes no memory.
     pub fn settle_out(&mut self, ticket: OutTicket, end: End)
         requires { is_in_flight Out self.old.tables.pages ticket.number ≡ true }
-        ensures ends { (p g f b : ℕ) → HasResidence self.old.tables.pages p g (residence.Going f b ticket.number) → EndsTransfer self.old self.new p g ticket.number (residence_after end f b) }
+        ensures ends { (p g f b : ℕ) → HasResidence self.old.tables.pages p g (residence.Going f b ticket.number) → EndsTransfer self.old self.new Out p g ticket.number (residence_after end f b) }
         ensures stays { (p g f b : ℕ) → HasResidence self.old.tables.pages p g (residence.Going f b ticket.number) → end ≡ End.InFrame
             → (t v k : ℕ) → mapped_at self.old.tables.page_tables t v ≡ Some p → byte_in self.new.bytes p k ≡ byte_in self.old.bytes p k }
     {

@@ -1,9 +1,8 @@
 //! The pages, with the frames, the charges and the swap slots that they own.
 
-ghost use Rattle.std.specs.Prelude.{◌≡◌, ◌≢◌, ℕ, ◌+◌, ◌<◌, ◌≤◌, ◌==◌, ◌&&◌, ◌++◌, ◌∷◌, [], true, false, None, Some, IsSome, IfSome, IfOk, IfErr, OnOk, OnErr, nat_lt, length, not, is_none, slice_set, slice_index, List, if◌then◌else◌};
+ghost use Rattle.std.specs.Prelude.{◌≡◌, ◌≢◌, ℕ, ◌+◌, ◌<◌, ◌≤◌, ◌==◌, ◌^◌, ◌&&◌, ◌++◌, ◌∷◌, [], true, false, None, Some, IsSome, IfSome, IfOk, IfErr, OnOk, OnErr, nat_lt, length, not, replicate, is_none, slice_set, slice_index, List, if◌then◌else◌};
 ghost use Rattle.machine.specs.Slots.{any_there};
 ghost use Rattle.machine.specs.Tree.{Node, is_live, under};
-ghost use Rattle.machine.specs.Lists.{ListsHeld};
 ghost use Rattle.machine.specs.Pages as residence;
 ghost use Rattle.machine.specs.Pages.{Page, page_at, is_in_transfer, is_held_in, in_transfer, charged, used_frames, used_swap};
 ghost use Rattle.machine.specs.Counts.{no_limits, limits_at};
@@ -13,10 +12,14 @@ ghost use Rattle.group_tree.specs.Kin.{AreKin};
 ghost use Rattle.group_tree.specs.Lineages.{bare, IsLineage};
 ghost use Rattle.pages.specs.PagesOf.{byte_in, HasResidence, is_moving_in, AreInFlight};
 ghost use Rattle.pages.specs.Transfers.{residence_after};
-ghost use Rattle.page_state.specs.Holdings.{with_stored, IsGranted, Lacks, AddsPage, BeginsIn, BeginsOut, Settles, DropsPage, may_take, IsTurn, IsNext};
+ghost use Rattle.machine.specs.declared.record.Direction.TheVariants.{In, Out};
+ghost use Rattle.machine.specs.Generations.{new_gens, gens_at};
+ghost use Rattle.machine.specs.Lists.{ListsHeld, AreGenerations, with_mark, with_group};
+ghost use Rattle.page_state.specs.Holdings.{with_stored, IsGranted, Lacks, AddsPage, BeginsIn, BeginsOut, Settles, DropsPage, may_take, gives_of, IsTurn, PicksPage};
 
+use crate::held::HeldPages;
 use crate::lookup::{group_of, is_any_under};
-use crate::queue::{HeldPages, Queue};
+use crate::queue::Queue;
 use crate::release::{release, release_last};
 use crate::room::{NoRoom, take_room, take_slot, take_spare};
 use crate::settle::{end_transfer, fill, relist};
@@ -26,6 +29,7 @@ use group_tree::Tree;
 use machine::amount::Amount;
 use machine::bytes::PageBytes;
 use machine::id::{GroupId, PageId, WorkerId};
+use machine::record::Direction;
 use page_counter::Counters;
 use pages::{End, InTicket, OutTicket, Pages};
 use protection::effective;
@@ -34,15 +38,15 @@ use std::alloc::{AllocError, Global};
 use std::marker::Model;
 
 /// The pages, the frames that no page stands in, the swap slots that no page stands on, and for each
-/// group its limits and how many pages are charged to it or below it. And the pages in frames, in the
-/// order in which they came into them. It must be spent, by [`Holdings::close`].
+/// group its limits and how many pages are charged to it or below it. And the generation lists of the
+/// pages in frames. It must be spent, by [`Holdings::close`].
 #[must_use]
 pub struct Holdings {
     pages: Pages,
     pool: Pool,
     slots: Slots,
     counters: Counters,
-    // The pages in frames, in the order in which they came into them.
+    // The pages in frames and in no transfer, in their lists.
     held: HeldPages,
     // The pages in transfer.
     moving: Queue,
@@ -61,18 +65,19 @@ impl Model for Holdings {
 
 impl Holdings {
     /// No page, all frames and all swap slots free, and the root alone, without a limit. There are as many
-    /// page numbers as frames and slots, or more.
+    /// page numbers as frames and slots.
     pub fn open(alloc: Global, frames: u32, swap: u32) -> Result<Holdings, AllocError>
         requires { frames + swap ≤ u32.MAX }
         ensures kin { IfOk result (λ h. h.kin ≡ bare None ∷ []) }
         ensures limits { IfOk result (λ h. h.limits ≡ no_limits ∷ []) }
         ensures stored { IfOk result (λ h. h.stored ≡ record { pages = []; bytes = []; flights = [] }) }
-        ensures held { IfOk result (λ h. h.held ≡ []) }
+        ensures held { IfOk result (λ h. h.held ≡ record { groups = new_gens ∷ []; marks = replicate (frames + swap) false }) }
         ensures frames { IfOk result (λ h. h.frames ≡ frames) }
         ensures swap { IfOk result (λ h. h.swap ≡ swap) }
+        ensures numbers { IfOk result (λ h. h.numbers ≡ frames + swap) }
     {
         let counters = Counters::new(alloc)?;
-        let held = HeldPages::open(alloc, frames)?;
+        let held = HeldPages::open(alloc, frames + swap)?;
         let moving = Queue::open(alloc, frames)?;
         let slots = Slots::open(alloc, swap)?;
         let Ok(pool) = Pool::open(alloc, frames) else {
@@ -194,19 +199,30 @@ impl Holdings {
     {
         tree.groups_form_a_tree();
         self.pages.are_in_flight();
-        let counts = self.held.counts();
-        cursors.next_group(tree, &self.counters, counts, self.has_swap(), target)
+        let swap_free = self.has_swap();
+        cursors.next_group(tree, &self.counters, self.held.gens(), swap_free, target)
     }
 
-    /// The page that the group gives to a reclaim of the target, whose turn it is, as
-    /// [`Holdings::next_group`] told. The target's cursor names the group from now on. Takes no memory.
-    pub fn serve(&self, cursors: &mut Cursors, target: GroupId, group: GroupId) -> PageId
-        requires turn { (tree : List Node) × IsTurn self.now tree cursors.old.cursors target.0 group.0 }
-        requires cursor { target.0 < length cursors.old.cursors }
-        ensures { (tree : List Node) → IsTurn self.now tree cursors.old.cursors target.0 group.0 → IsNext self.now tree cursors.old.cursors target.0 result.0 cursors.new.cursors }
+    /// The page that the group gives, which has one to give to a reclaim of the target; it stands on its
+    /// list still (kernel: isolate_folios). Takes no memory.
+    pub fn pick(&mut self, group: GroupId) -> PageId
+        requires gives { (tree : List Node) × (target : ℕ) × (gives_of self.old tree target group.0 ≡ true) }
+        requires young { (gens_at self.old.held.groups group.0).max_seq + 4 < 2 ^ 64 }
+        ensures { PicksPage self.old self.new group.0 result.0 }
     {
         self.pages.are_in_flight();
-        cursors.serve(self.held.as_slice(), target, group)
+        self.held.are_generations();
+        let swap_free = self.has_swap();
+        self.held.pick(group, swap_free)
+    }
+
+    /// The page, which is in a frame and in no transfer, is marked as accessed. Takes no memory.
+    pub fn mark(&mut self, page: PageId)
+        requires { is_held_in self.old.stored.pages page.0 ≡ true }
+        ensures { self.new ≡ record self.old { held = with_mark (Some page.0) self.old.held } }
+    {
+        self.pages.are_numbered();
+        self.held.mark(page);
     }
 
     /// Asks for the memory of one group more.
@@ -226,7 +242,7 @@ impl Holdings {
         ensures kin { self.new.kin ≡ self.old.kin ++ bare (Some parent.0) ∷ [] }
         ensures limits { self.new.limits ≡ self.old.limits ++ no_limits ∷ [] }
         ensures stored { self.new.stored ≡ self.old.stored }
-        ensures held { self.new.held ≡ self.old.held }
+        ensures held { self.new.held ≡ with_group self.old.held }
         ensures frames { self.new.frames ≡ self.old.frames }
         ensures swap { self.new.swap ≡ self.old.swap }
         ensures numbers { self.new.numbers ≡ self.old.numbers }
@@ -242,9 +258,12 @@ impl Holdings {
         ensures groups { (p : ℕ) → IfSome (page_at self.now.stored.pages p) (λ page. is_live self.now.kin page.group ≡ true) }
         ensures flights { AreInFlight self.now.stored.pages self.now.stored.flights }
         ensures held { ListsHeld self.now.stored.pages self.now.held }
+        ensures generations { AreGenerations self.now.held }
+        ensures groups_listed { length self.now.held.groups ≡ length self.now.kin }
     {
         self.counters.are_counted();
         self.pages.are_in_flight();
+        self.held.are_generations();
     }
 
     /// Whether a page can be charged to the group and brought into a frame, and if not, why: a max comes
@@ -275,9 +294,10 @@ impl Holdings {
     {
         self.counters.are_counted();
         self.pages.are_in_flight();
+        self.held.are_generations();
         let (frame, charge) = take_room(&mut self.counters, &mut self.pool, group);
         let page = self.pages.hold(frame, charge, offset, byte);
-        self.held.push(group, page);
+        self.held.enter(group, page);
         page
     }
 
@@ -313,24 +333,28 @@ impl Holdings {
         ensures { (g f : ℕ) → HasResidence self.old.stored.pages page.0 g (residence.Held f) → BeginsOut self.old self.new page.0 g f worker.0 entry result }
     {
         self.pages.are_in_flight();
+        self.pages.are_numbered();
+        self.held.are_generations();
         let group = group_of(&self.pages, page);
         let slot = take_slot(&mut self.slots);
         let spare = take_spare(&mut self.pool);
         let ticket = self.pages.start_out(page, slot, spare, worker, entry);
-        self.held.remove(page);
+        self.held.leave(page);
         self.moving.push(group, page);
         ticket
     }
 
     /// The read-in of the page has ended so: it is in its frame, with the bytes that the ticket read, and
-    /// the last of those that came into theirs; or it is on its block, and its charge is taken back.
+    /// in the second youngest generation; or it is on its block, and its charge is taken back.
     /// Hands out the ticket's bytes. Takes no memory.
     pub fn settle_in(&mut self, page: PageId, ticket: InTicket, end: End) -> PageBytes
         requires { (g f b : ℕ) × HasResidence self.old.stored.pages page.0 g (residence.Coming f b ticket.number) }
-        ensures settles { (g f b : ℕ) → HasResidence self.old.stored.pages page.0 g (residence.Coming f b ticket.number) → Settles self.old self.new page.0 g ticket.number (residence_after end f b) }
+        ensures settles { (g f b : ℕ) → HasResidence self.old.stored.pages page.0 g (residence.Coming f b ticket.number) → Settles self.old self.new In page.0 g ticket.number (residence_after end f b) }
         ensures arrives { end ≡ End.InFrame → (o : ℕ) → byte_in self.new.stored.bytes page.0 o ≡ slice_index ticket.bytes o }
         ensures bytes { result ≡ ticket.bytes }
     {
+        self.pages.are_numbered();
+        self.held.are_generations();
         let group = group_of(&self.pages, page);
         fill(&mut self.pages, page, &ticket, end);
         let buffer = end_transfer(
@@ -341,17 +365,26 @@ impl Holdings {
             &mut self.pool,
             &mut self.slots,
         );
-        relist(&mut self.held, &mut self.moving, group, page, end);
+        relist(
+            &mut self.held,
+            &mut self.moving,
+            group,
+            page,
+            Direction::In,
+            end,
+        );
         PageBytes::new(buffer)
     }
 
     /// The write-out of the page has ended so: it is on its block, and its charge is taken back; or it is
-    /// in its frame, as it was, and the last of those that came into theirs. Takes no memory.
+    /// in its frame, as it was, and in the youngest generation. Takes no memory.
     pub fn settle_out(&mut self, page: PageId, ticket: OutTicket, end: End)
         requires { (g f b : ℕ) × HasResidence self.old.stored.pages page.0 g (residence.Going f b ticket.number) }
-        ensures settles { (g f b : ℕ) → HasResidence self.old.stored.pages page.0 g (residence.Going f b ticket.number) → Settles self.old self.new page.0 g ticket.number (residence_after end f b) }
+        ensures settles { (g f b : ℕ) → HasResidence self.old.stored.pages page.0 g (residence.Going f b ticket.number) → Settles self.old self.new Out page.0 g ticket.number (residence_after end f b) }
         ensures stays { end ≡ End.InFrame → (o : ℕ) → byte_in self.new.stored.bytes page.0 o ≡ byte_in self.old.stored.bytes page.0 o }
     {
+        self.pages.are_numbered();
+        self.held.are_generations();
         let group = group_of(&self.pages, page);
         let spare = end_transfer(
             ticket,
@@ -362,7 +395,14 @@ impl Holdings {
             &mut self.slots,
         );
         self.pool.give_spare(spare);
-        relist(&mut self.held, &mut self.moving, group, page, end);
+        relist(
+            &mut self.held,
+            &mut self.moving,
+            group,
+            page,
+            Direction::Out,
+            end,
+        );
     }
 
     /// Whether a page whose group is at or under the target is in transfer.
@@ -393,9 +433,11 @@ impl Holdings {
         ensures { DropsPage self.old self.new page.0 }
     {
         self.pages.are_in_flight();
+        self.pages.are_numbered();
+        self.held.are_generations();
         let owned = self.pages.drop_page(page);
         release(owned, &mut self.counters, &mut self.pool, &mut self.slots);
-        self.held.remove(page);
+        self.held.unlist(page);
     }
 
     /// Spends the holdings: each frame and each slot goes back, and each charge is taken back.

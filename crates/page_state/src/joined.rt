@@ -6,7 +6,7 @@ ghost use Rattle.machine.specs.State.{first_state, opening_of, is_config};
 ghost use Rattle.machine.specs.Pages.{page_at, used_frames, in_transfer};
 ghost use Rattle.machine.specs.Tasks.{lives, group_of_task, mapped_at};
 ghost use Rattle.machine.specs.Access.{task_pages};
-ghost use Rattle.machine.specs.Lists.{first_order, ListsHeld};
+ghost use Rattle.machine.specs.Lists.{first_order, ListsHeld, AreGenerations};
 ghost use Rattle.group_tree.specs.Lineages.{IsLineage};
 ghost use Rattle.memory_events.specs.Tallies.{Tells};
 ghost use Rattle.pages.specs.PagesOf.{AreInFlight};
@@ -52,7 +52,7 @@ impl State {
     pub fn open(alloc: Global, config: Config) -> Result<State, AllocError>
         requires { is_config config ≡ true }
         ensures tables { IfOk result (λ s. s.tables ≡ first_state (opening_of config)) }
-        ensures order { IfOk result (λ s. s.order ≡ first_order) }
+        ensures order { IfOk result (λ s. s.order ≡ first_order (opening_of config)) }
         ensures bytes { IfOk result (λ s. (t v o : ℕ) → byte_at s t v o ≡ 0) }
         ensures flights { IfOk result (λ s. s.flights ≡ []) }
         ensures told { IfOk result (λ s. Tells s.tallies []) }
@@ -143,7 +143,8 @@ impl State {
     /// Nothing is done: what holds of all joined parts. What the opening fixed is within its limits; the
     /// groups whose events are counted hang together; the root is there, and so is the group of each live
     /// task and of each page; the pages that are mapped are there, live tasks map them, and the transfers in flight are those of the pages in
-    /// transfer; the order has the held pages, each once, and each group has its cursor.
+    /// transfer; each held page is on the list of its group and type, once, and no other page is; and each
+    /// group has its lists, two to four generations of a type, and its cursor.
     pub fn is_joined(&self)
         ensures limit { self.now.tables.opening.trace_limit ≤ 1048576 }
         ensures lineage { IsLineage self.now.tallies.tree }
@@ -155,6 +156,8 @@ impl State {
         ensures inside { (t v p : ℕ) → mapped_at self.now.tables.page_tables t v ≡ Some p → v < task_pages }
         ensures flights { AreInFlight self.now.tables.pages self.now.flights }
         ensures listed { ListsHeld self.now.tables.pages self.now.order.held }
+        ensures generations { AreGenerations self.now.order.held }
+        ensures lists { length self.now.order.held.groups ≡ length self.now.tables.tree }
         ensures cursors { length self.now.order.cursors ≡ length self.now.tables.tree }
     {
         self.events.are_told();

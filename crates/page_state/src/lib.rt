@@ -2,7 +2,7 @@
 //! once, so that between calls the parts agree.
 //!
 //! Below it stand the parts, each seen as the machine's table that it keeps: the groups, their limits and
-//! counts, the pages with their bytes, the order in which they are taken, the tasks with what they map, the
+//! counts, the pages with their bytes, the generation lists of those in frames, the tasks with what they map, the
 //! frames and swap slots that are free, the transfers in flight, and how often events were counted.
 #![tactic(auto)]
 
@@ -12,6 +12,7 @@ pub use room::NoRoom;
 mod accesses;
 mod endings;
 mod groups;
+mod held;
 mod holdings;
 mod joined;
 mod lookup;

@@ -4,6 +4,7 @@ ghost use Rattle.std.specs.Prelude.{◌≡◌, Some, true, is_some, IfSome};
 ghost use Rattle.machine.specs.Tree.{is_live};
 ghost use Rattle.machine.specs.Reclaim.{has_takeable, has_transfer};
 ghost use Rattle.machine.specs.Lists.{served};
+ghost use Rattle.page_state.specs.States.{AreYoung};
 ghost use Rattle.page_state.specs.Changes.{BeginsWriteOut};
 
 use crate::joined::State;
@@ -28,8 +29,8 @@ impl State {
         self.holdings.has_transfer(&self.tree, target)
     }
 
-    /// The page that is next for the target begins to be written out, and the target's cursor names its
-    /// group. `entry` is the place that the trace's entry will have. Takes no memory.
+    /// Of the group that is served the page that is evicted next begins to be written out, and the target's
+    /// cursor names the group. `entry` is the place that the trace's entry will have. Takes no memory.
     pub fn start_out(
         &mut self,
         target: GroupId,
@@ -39,10 +40,12 @@ impl State {
     ) -> OutTicket
         requires live { is_live self.old.tables.tree target.0 ≡ true }
         requires next { served self.old.tables self.old.order target.0 ≡ Some group.0 }
+        requires young { AreYoung self.old.order.held }
         ensures { BeginsWriteOut self.old self.new target.0 worker.0 entry result }
     {
         self.holdings.are_counted();
-        let page = self.holdings.serve(&mut self.cursors, target, group);
+        let page = self.holdings.pick(group);
+        self.cursors.serve(target, group);
         self.holdings.start_out(page, worker, entry)
     }
 }

@@ -1,19 +1,22 @@
 //! How a transfer's end changes what pages own, and the lists of pages.
 
-ghost use Rattle.std.specs.Prelude.{◌≡◌, ◌≢◌, ℕ, ◌<◌, length, slice_index};
+ghost use Rattle.std.specs.Prelude.{◌≡◌, ◌≢◌, ℕ, ◌<◌, false, length, slice_index};
+ghost use Rattle.machine.specs.Generations.{is_listed_in};
 ghost use Rattle.machine.specs.Pages as residence;
 ghost use Rattle.page_counter.specs.Counts.{SameGroups};
-ghost use Rattle.machine.specs.declared.record.Direction.{Direction};
+ghost use Rattle.machine.specs.declared.record.Direction.{Direction as Direction_of};
 ghost use Rattle.pages.specs.PagesOf.{HasResidence, byte_in, moving};
 ghost use Rattle.pages.specs.Transfers.{Ends};
 ghost use Rattle.page_state.specs.Owned.{AreKept};
 ghost use Rattle.page_state.specs.Relists.{JoinsAtEnd, LeavesQueue};
 
-use crate::queue::{HeldPages, Queue};
+use crate::held::HeldPages;
+use crate::queue::Queue;
 use crate::room::give_room;
 use block_store::Slots;
 use frames::Pool;
 use machine::id::{GroupId, PageId};
+use machine::record::Direction;
 use page_counter::Counters;
 use pages::{Carries, End, Freed, InTicket, Pages, Ticket};
 
@@ -40,9 +43,9 @@ pub fn end_transfer<B: Carries>(
     pool: &mut Pool,
     slots: &mut Slots,
 ) -> B
-    requires stands { (d : Direction) × (p g f b : ℕ) × HasResidence pages.old.pages p g (moving d f b ticket.number) }
+    requires stands { (d : Direction_of) × (p g f b : ℕ) × HasResidence pages.old.pages p g (moving d f b ticket.number) }
     requires kept { AreKept counters.old pool.old slots.old pages.old.pages }
-    ensures ends { (d : Direction) (p g f b : ℕ) → HasResidence pages.old.pages p g (moving d f b ticket.number) → Ends pages.old pages.new p g f b ticket.number end }
+    ensures ends { (d : Direction_of) (p g f b : ℕ) → HasResidence pages.old.pages p g (moving d f b ticket.number) → Ends pages.old pages.new p g f b ticket.number end }
     ensures kept { AreKept counters.new pool.new slots.new pages.new.pages }
     ensures groups { SameGroups counters.old counters.new }
     ensures frames { pool.new.frames ≡ pool.old.frames }
@@ -59,16 +62,24 @@ pub fn end_transfer<B: Carries>(
     carried
 }
 
-/// The page is in transfer no more, and is the last of those held where it is in its frame.
-pub fn relist(held: &mut HeldPages, moving: &mut Queue, group: GroupId, page: PageId, end: End)
-    requires room { length held.old.numbers < held.old.room.pages }
-    requires group { group.0 < held.old.room.groups }
-    ensures held { JoinsAtEnd end held.old held.new (group, page) }
+/// The page is in transfer in this direction no more, and is listed where it is in its frame.
+pub fn relist(
+    held: &mut HeldPages,
+    moving: &mut Queue,
+    group: GroupId,
+    page: PageId,
+    direction: Direction,
+    end: End,
+)
+    requires group { group.0 < length held.old.lists.groups }
+    requires number { page.0 < held.old.numbers }
+    requires unlisted { is_listed_in held.old.lists.groups page.0 ≡ false }
+    ensures held { JoinsAtEnd direction end held.old held.new group.0 page.0 }
     ensures moving { LeavesQueue moving.old moving.new page.0 }
 {
     moving.remove(page);
     match end {
-        End::InFrame => held.push(group, page),
+        End::InFrame => held.enter_after(group, page, direction),
         End::OnBlock => {}
     }
 }

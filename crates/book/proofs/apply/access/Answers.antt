@@ -1,5 +1,4 @@
 use Rattle.std.proofs.Common.{subst}
-use Rattle.page_state.proofs.OrderLemmas.{in-order}
 use Rattle.book.specs.declared.decision.Meeting.{Meeting}
 use Rattle.book.specs.Decisions.{MeetsSo}
 use Rattle.book.proofs.CarryLemmas.{carries-unmapped, carries-busy, carries-made, carries-fetch}
@@ -9,7 +8,7 @@ pub returns-in-Unmapped-clause-carries : goal.returns-in-Unmapped-clause-carries
 returns-in-Unmapped-clause-carries c =
     let s = c.args.state.now in
     rw c.in-Unmapped.is
-    (carries-unmapped s c.args.worker.0 c.args.entry c.args.touch (in-order s c.is_joined.ensures.listed) c.requires.touch (subst (λ (m : Meeting). MeetsSo s.tables c.args.touch m) c.in-Unmapped.is c.requires.meets))
+    (carries-unmapped s c.args.worker.0 c.args.entry c.args.touch c.is_joined.ensures.listed c.requires.touch (subst (λ (m : Meeting). MeetsSo s.tables c.args.touch m) c.in-Unmapped.is c.requires.meets))
 
 pub returns-in-Hits-clause-carries : goal.returns-in-Hits-clause-carries
 returns-in-Hits-clause-carries c = rw c.in-Hits.is (c.hit.ensures c.args.worker.0 c.args.entry)
@@ -18,7 +17,7 @@ pub returns-in-Transferring-clause-carries : goal.returns-in-Transferring-clause
 returns-in-Transferring-clause-carries c =
     let s = c.args.state.now in
     rw c.in-Transferring.is
-    (carries-busy s c.args.worker.0 c.args.entry c.args.touch (in-order s c.is_joined.ensures.listed) c.requires.touch (subst (λ (m : Meeting). MeetsSo s.tables c.args.touch m) c.in-Transferring.is c.requires.meets))
+    (carries-busy s c.args.worker.0 c.args.entry c.args.touch c.is_joined.ensures.listed c.requires.touch (subst (λ (m : Meeting). MeetsSo s.tables c.args.touch m) c.in-Transferring.is c.requires.meets))
 
 pub returns-in-NeedsPage-clause-carries : goal.returns-in-NeedsPage-clause-carries
 returns-in-NeedsPage-clause-carries c =

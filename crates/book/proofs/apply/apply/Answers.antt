@@ -1,39 +1,38 @@
-use Rattle.page_state.proofs.OrderLemmas.{in-order}
 use Rattle.book.proofs.CarryLemmas.{carries-killed, carries-room, carries-out, carries-wait, carries-nothing, carries-no_victim, carries-spawn, carries-exit, carries-mkdir, carries-show}
 use Rattle.book.proofs.apply.apply.Goals as goal
 
 pub returns-in-Killed-clause-carries : goal.returns-in-Killed-clause-carries
-returns-in-Killed-clause-carries c = rw c.in-Killed.is (carries-killed c.args.state.now c.args.worker.0 c.args.entry (in-order c.args.state.now c.is_joined.ensures.listed))
+returns-in-Killed-clause-carries c = rw c.in-Killed.is (carries-killed c.args.state.now c.args.worker.0 c.args.entry c.is_joined.ensures.listed)
 
 pub returns-in-Room-clause-carries : goal.returns-in-Room-clause-carries
-returns-in-Room-clause-carries c = rw c.in-Room.is (carries-room c.args.state.now c.args.worker.0 c.args.entry (in-order c.args.state.now c.is_joined.ensures.listed))
+returns-in-Room-clause-carries c = rw c.in-Room.is (carries-room c.args.state.now c.args.worker.0 c.args.entry c.is_joined.ensures.listed)
 
 pub returns-in-Take-clause-carries : goal.returns-in-Take-clause-carries
 returns-in-Take-clause-carries c = rw c.in-Take.is (carries-out c.args.state.now c.start_out.new.self c.args.worker.0 c.args.entry c.in-Take.target c.in-Take.group c.start_out.result c.start_out.ensures)
 
 pub returns-in-Wait-clause-carries : goal.returns-in-Wait-clause-carries
-returns-in-Wait-clause-carries c = rw c.in-Wait.is (carries-wait c.args.state.now c.args.worker.0 c.args.entry (in-order c.args.state.now c.is_joined.ensures.listed))
+returns-in-Wait-clause-carries c = rw c.in-Wait.is (carries-wait c.args.state.now c.args.worker.0 c.args.entry c.is_joined.ensures.listed)
 
 pub returns-in-Nothing-clause-carries : goal.returns-in-Nothing-clause-carries
-returns-in-Nothing-clause-carries c = rw c.in-Nothing.is (carries-nothing c.args.state.now c.args.worker.0 c.args.entry (in-order c.args.state.now c.is_joined.ensures.listed))
+returns-in-Nothing-clause-carries c = rw c.in-Nothing.is (carries-nothing c.args.state.now c.args.worker.0 c.args.entry c.is_joined.ensures.listed)
 
 pub returns-in-Kill-clause-carries : goal.returns-in-Kill-clause-carries
 returns-in-Kill-clause-carries c = rw c.in-Kill.is (c.kill.ensures c.args.worker.0 c.args.entry)
 
 pub returns-in-NoVictim-clause-carries : goal.returns-in-NoVictim-clause-carries
-returns-in-NoVictim-clause-carries c = rw c.in-NoVictim.is (carries-no_victim c.args.state.now c.count.new.self c.args.worker.0 c.args.entry c.in-NoVictim.limit (in-order c.args.state.now c.is_joined.ensures.listed) c.count.ensures.counts)
+returns-in-NoVictim-clause-carries c = rw c.in-NoVictim.is (carries-no_victim c.args.state.now c.count.new.self c.args.worker.0 c.args.entry c.in-NoVictim.limit c.is_joined.ensures.listed c.count.ensures.counts)
 
 pub returns-in_ok-spawn-in-Spawn-clause-carries : goal.returns-in_ok-spawn-in-Spawn-clause-carries
-returns-in_ok-spawn-in-Spawn-clause-carries c = rw c.in-Spawn.is (carries-spawn c.args.state.now c.spawn.new.self c.args.worker.0 c.args.entry c.in-Spawn.task c.in-Spawn.group (in-order c.args.state.now c.is_joined.ensures.listed) c.in_ok-spawn-in-Spawn.ensures.starts)
+returns-in_ok-spawn-in-Spawn-clause-carries c = rw c.in-Spawn.is (carries-spawn c.args.state.now c.spawn.new.self c.args.worker.0 c.args.entry c.in-Spawn.task c.in-Spawn.group c.is_joined.ensures.listed c.in_ok-spawn-in-Spawn.ensures.starts)
 
 pub returns-in-Exit-clause-carries : goal.returns-in-Exit-clause-carries
 returns-in-Exit-clause-carries c = rw c.in-Exit.is (carries-exit c.args.state.now c.end_task.new.self c.args.worker.0 c.args.entry c.in-Exit.task c.is_joined.ensures.mapped c.end_task.ensures)
 
 pub returns-in_ok-mkdir-in-Mkdir-clause-carries : goal.returns-in_ok-mkdir-in-Mkdir-clause-carries
-returns-in_ok-mkdir-in-Mkdir-clause-carries c = rw c.in-Mkdir.is (λ what is. carries-mkdir c.args.state.now c.mkdir.new.self c.args.worker.0 c.args.entry c.in-Mkdir.parent c.in-Mkdir.path.now what (in-order c.args.state.now c.is_joined.ensures.listed) c.in_ok-mkdir-in-Mkdir.ensures.adds is.fits)
+returns-in_ok-mkdir-in-Mkdir-clause-carries c = rw c.in-Mkdir.is (λ what is. carries-mkdir c.args.state.now c.mkdir.new.self c.args.worker.0 c.args.entry c.in-Mkdir.parent c.in-Mkdir.path.now what c.in_ok-mkdir-in-Mkdir.ensures.adds is.fits)
 
 pub returns-in-Set-clause-carries : goal.returns-in-Set-clause-carries
 returns-in-Set-clause-carries c = rw c.in-Set.is (c.set.ensures c.args.worker.0 c.args.entry)
 
 pub returns-in-Show-clause-carries : goal.returns-in-Show-clause-carries
-returns-in-Show-clause-carries c = rw c.in-Show.is (carries-show c.args.state.now c.args.worker.0 c.args.entry c.in-Show.query c.shown.result (in-order c.args.state.now c.is_joined.ensures.listed) c.shown.ensures)
+returns-in-Show-clause-carries c = rw c.in-Show.is (carries-show c.args.state.now c.args.worker.0 c.args.entry c.in-Show.query c.shown.result c.is_joined.ensures.listed c.shown.ensures)

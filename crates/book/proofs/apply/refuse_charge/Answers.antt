@@ -1,6 +1,5 @@
 use Rattle.std.proofs.Common.{subst}
 use Rattle.page_state.specs.declared.room.NoRoom.{NoRoom}
-use Rattle.page_state.proofs.OrderLemmas.{in-order}
 use Rattle.book.specs.declared.decision.Meeting.TheVariants as meeting
 use Rattle.book.specs.Decisions.{MeetsSo}
 use Rattle.book.proofs.CarryLemmas.{carries-over, carries-no_frame}
@@ -13,11 +12,11 @@ pub returns-in-Over : goal.returns-in-Over
 returns-in-Over c =
     let s = c.args.state.now in
     λ worker entry. rw c.in-Over.is
-    (carries-over s c.count.new.self worker entry c.args.touch c.in-Over.group (in-order s c.is_joined.ensures.listed) c.requires.touch
+    (carries-over s c.count.new.self worker entry c.args.touch c.in-Over.group c.is_joined.ensures.listed c.requires.touch
     (subst (λ (why : NoRoom). MeetsSo s.tables c.args.touch (meeting.Lacks why)) c.in-Over.is c.requires.meets) c.count.ensures.counts)
 
 pub returns-in-NoFrame : goal.returns-in-NoFrame
 returns-in-NoFrame c =
     let s = c.args.state.now in
     λ worker entry. rw c.in-NoFrame.is
-    (carries-no_frame s worker entry c.args.touch (in-order s c.is_joined.ensures.listed) c.requires.touch (subst (λ (why : NoRoom). MeetsSo s.tables c.args.touch (meeting.Lacks why)) c.in-NoFrame.is c.requires.meets))
+    (carries-no_frame s worker entry c.args.touch c.is_joined.ensures.listed c.requires.touch (subst (λ (why : NoRoom). MeetsSo s.tables c.args.touch (meeting.Lacks why)) c.in-NoFrame.is c.requires.meets))

@@ -1,7 +1,10 @@
-use Rattle.std.proofs.Common.{◌+◌, Some, ◌∷◌, [], length, sym, ap, subst, arith}
+use Rattle.std.proofs.Common.{Some, ◌∷◌, [], length, refl, sym, ap, subst, arith}
 use Rattle.std.proofs.lemmas.List.{length-append}
+use Rattle.machine.specs.Generations.{new_gens}
+use Rattle.machine.specs.Lists.{with_group}
+use Rattle.machine.proofs.HeldLemmas.{held-group}
 use Rattle.group_tree.specs.Lineages.{bare}
-use Rattle.page_state.specs.Queue.{HeldOf}
+use Rattle.page_state.specs.Held.{HeldOf}
 use Rattle.page_state.specs.Owned.{IsHolding}
 use Rattle.page_state.proofs.CountLemmas.{counted-longer}
 use Rattle.page_state.proofs.HoldingLemmas.{holding-counted}
@@ -11,10 +14,12 @@ pub invariant_of-self : goal.invariant_of-self
 invariant_of-self c =
     let h = c.self.inside in
     subst (λ (held : HeldOf). IsHolding (record h { counters = c.add_reserved.new.self; held = held })) (sym c.add_group.ensures)
-    (holding-counted h c.add_reserved.new.self (h.held.room.groups + 1) c.add_group.new.self.room.more
+    (holding-counted h c.add_reserved.new.self (record (h.held) { lists = with_group h.held.lists; room = c.add_group.new.self.room })
     (counted-longer h.counters c.add_reserved.new.self _ h.pages.pages c.add_reserved.ensures.tree c.add_reserved.ensures.counted c.self.invariant.kept.counted)
-    (let sized = c.self.invariant.held_counts in
+    (held-group h.pages.pages h.held.lists c.self.invariant.held)
+    (let sized = c.self.invariant.held_groups in
     let tree = ap length c.add_reserved.ensures.tree in
     let more = length-append h.counters.tree (bare (Some c.args.parent.0) ∷ []) in
-    omega (arith, sized, tree, more))
-    c.self.invariant)
+    let lists = length-append h.held.lists.groups (new_gens ∷ []) in
+    omega (arith, sized, tree, more, lists))
+    refl c.self.invariant)

@@ -1,23 +1,29 @@
-use Rattle.std.proofs.Common.{◌≡◌, false, refl, Some, None, sym, ap, ◌∙◌, arith}
+use Rattle.std.proofs.Common.{◌≡◌, ◌<◌, false, refl, Option, Some, None, sym, ap, ◌∙◌, subst, arith}
+use Rattle.std.specs.Prelude.{IfSome}
 use Rattle.machine.specs.Slots.{there_and}
-use Rattle.machine.specs.Pages.{is_held, is_in_transfer}
+use Rattle.machine.specs.Pages.{Page, is_in_transfer}
+use Rattle.machine.specs.Lists.{Youngest, GoesOn}
 use Rattle.machine.proofs.SlotLemmas.{one_if}
 use Rattle.pages.specs.PagesOf.{PagesOf}
 use Rattle.pages.specs.Records.{page_of}
-use Rattle.page_state.specs.Queue.{queue_of}
-use Rattle.page_state.proofs.HoldingLemmas.{Stays, listed-once, holding-step, relists-same, relists-out, not-going, same-view}
+use Rattle.page_state.proofs.HoldingLemmas.{Stays, holding-step, relists-same, not-going, same-view, goes-dropped}
 use Rattle.page_state.specs.Owned.{as_number}
-use Rattle.page_state.proofs.EntryLemmas.{grouped-same, grouped-out, absent}
-use Rattle.page_state.proofs.OrderLemmas.{listed-held, goes-on-out}
+use Rattle.page_state.proofs.EntryLemmas.{grouped-same, absent}
 use Rattle.page_state.proofs.holdings.Holdings.drop_page.Goals as goal
 
-stays : (c : goal.After-remove) → Stays c.self.inside (record (c.self.inside) { pages = c.drop_page-owned.new.self; counters = c.release.new.counters; pool = c.release.new.pool; slots = c.release.new.slots; held = c.remove.new.self })
+goes : (c : goal.After-unlist) → GoesOn Youngest c.self.inside.pages.pages c.self.inside.held.lists c.drop_page-owned.new.self.pages c.unlist.new.self.lists × (c.unlist.new.self.numbers ≡ c.self.inside.held.numbers) × (c.unlist.new.self.room ≡ c.self.inside.held.room)
+goes c =
+    let h = c.self.inside in
+    goes-dropped h.pages.pages h.pages.flights h.held c.self.invariant.held c.are_in_flight.ensures c.args.page.0 c.drop_page-owned.new.self.pages (Some (page_of c.drop_page-owned.result)) c.drop_page-owned.ensures.owned c.drop_page-owned.ensures.gone c.unlist.new.self c.unlist.ensures.listed c.unlist.ensures.unlisted
+
+stays : (c : goal.After-unlist) → Stays c.self.inside (record (c.self.inside) { pages = c.drop_page-owned.new.self; counters = c.release.new.counters; pool = c.release.new.pool; slots = c.release.new.slots; held = c.unlist.new.self })
 stays c = record {
   groups = c.release.ensures.groups;
   frames = c.release.ensures.frames;
   blocks = c.release.ensures.blocks;
   numbers = ap (λ (t : PagesOf). t.numbers) c.drop_page-owned.ensures.others;
-  held_room = c.remove.ensures.room;
+  held_numbers = (goes c).1;
+  held_room = (goes c).2;
   moving_room = refl;
 }
 
@@ -39,9 +45,10 @@ invariant_of-self c =
       changes = dropped.gone;
       kept = c.release.ensures.releases h.pages.pages pages p dropped.owned dropped.gone c.self.invariant.kept;
       stays = stays c;
-      held = relists-out is_held h.held.numbers _ h.pages.pages p p from None refl dropped.owned refl c.self.invariant.held c.remove.ensures.counts c.remove.ensures.fewer;
+      generation = Youngest;
+      goes = (goes c).0;
+      apart = λ was now. absurd cc;
       moving = relists-same is_in_transfer h.moving.numbers p from None settled;
-      held_groups = grouped-out (queue_of h.held) h.pages.pages pages p from None dropped.owned dropped.gone c.self.invariant.held_groups (queue_of c.remove.new.self) p c.remove.ensures.entries c.remove.ensures.others refl;
       moving_groups = grouped-same h.moving h.pages.pages pages p from None dropped.owned dropped.gone c.self.invariant.moving_groups (absent h.moving p from None (c.self.invariant.moving.once p ∙ ap as_number unmoved));
       spares = omega (arith, spares, going);
       tickets = (let none = ap one_if settled in omega (arith, tickets, none));
@@ -60,9 +67,12 @@ returns c =
       gone = dropped.gone;
       bytes = dropped.bytes;
       flights = ap (λ (t : PagesOf). t.flights) dropped.others;
-      order = goes-on-out h.pages.pages pages h.held.numbers (listed-held h.held.numbers h.pages.pages c.self.invariant.held.once) p from None dropped.owned dropped.gone c.remove.new.self.numbers p c.remove.ensures.others refl refl;
+      order = (goes c).0;
       others = same-view h _ (stays c);
     })
 
-pub remove-requires : goal.remove-requires
-remove-requires c = record { once = listed-once is_held c.self.inside.held.numbers c.self.inside.pages.pages c.args.page.0 c.self.invariant.held }
+pub unlist-requires : goal.unlist-requires
+unlist-requires c =
+    let numbers = c.self.invariant.held_numbers in
+    let within = subst (λ (slot : Option Page). IfSome slot (λ page. c.args.page.0 < c.self.inside.pages.numbers)) c.drop_page-owned.ensures.owned (c.are_numbered.ensures c.args.page.0) in
+    omega (arith, numbers, within)

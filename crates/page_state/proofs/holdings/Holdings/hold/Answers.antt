@@ -1,15 +1,15 @@
-use Rattle.std.proofs.Common.{None, Some, eq-eqb, refl, sym, ap, subst, arith}
-use Rattle.machine.specs.Slots.{Changes}
-use Rattle.machine.specs.Pages.{is_in_transfer}
+use Rattle.std.proofs.Common.{◌≡◌, ◌∙◌, ℕ, None, Some, refl, sym, ap, subst, arith}
+use Rattle.machine.specs.Slots.{Changes, there_and}
+use Rattle.machine.specs.Pages.{page_at, is_held, is_in_transfer}
+use Rattle.machine.specs.Lists.{HeldLists, Youngest, GoesOn}
 use Rattle.machine.specs.Step.{new_page}
 use Rattle.pages.specs.PagesOf.{PagesOf}
 use Rattle.page_state.specs.Holdings.{HoldingsOf, IsGranted}
-use Rattle.page_state.specs.Queue.{queue_of}
+use Rattle.page_state.specs.Held.{HeldOf, entered}
 use Rattle.page_state.proofs.CountLemmas.{charge-usage}
-use Rattle.page_state.proofs.HoldingLemmas.{Stays, kept-step, holding-step, relists-same, same-view}
-use Rattle.page_state.proofs.EntryLemmas.{grouped-same, grouped-in}
-use Rattle.page_state.proofs.OrderLemmas.{listed-held, goes-on-in}
-use Rattle.page_state.proofs.GrantLemmas.{group-counted, number-free, room-free, few-charged, granted-over, granted-some, granted-frame}
+use Rattle.page_state.proofs.HoldingLemmas.{Stays, kept-step, holding-step, relists-same, same-view, absent-unlisted, goes-in}
+use Rattle.page_state.proofs.EntryLemmas.{grouped-same}
+use Rattle.page_state.proofs.GrantLemmas.{group-listed, number-free, few-charged, granted-over, granted-some, granted-frame}
 use Rattle.page_state.proofs.holdings.Holdings.hold.Goals as goal
 
 pub take_room-frame-requires-clause-few : goal.take_room-frame-requires-clause-few
@@ -23,26 +23,41 @@ take_room-frame-requires-clause-under c =
 pub take_room-frame-requires-clause-free : goal.take_room-frame-requires-clause-free
 take_room-frame-requires-clause-free c = granted-some c.self.inside c.self.invariant c.args.group.0 (subst (λ (h : HoldingsOf). IsGranted h c.args.group.0) (sym c.self.view_is) c.requires.granted)
 
-pub push-requires : goal.push-requires
-push-requires c =
-    let some = granted-some c.self.inside c.self.invariant c.args.group.0 (subst (λ (h : HoldingsOf). IsGranted h c.args.group.0) (sym c.self.view_is) c.requires.granted) in
+pub enter-requires : goal.enter-requires
+enter-requires c =
+    let h = c.self.inside in
     let live = rw (← c.self.view_is) at c.requires.live in
-    record { room = (room-free c.self.inside c.self.invariant some).0; group = group-counted c.self.inside c.self.invariant c.args.group.0 live }
+    let numbers = c.self.invariant.held_numbers in
+    let within = c.hold-page.ensures.within in
+    record {
+      group = group-listed h c.self.invariant c.args.group.0 live;
+      number = omega (arith, numbers, within);
+      unlisted = absent-unlisted h.pages.pages h.held.lists c.self.invariant.held c.hold-page.result.0 (ap (there_and is_held) c.hold-page.ensures.free);
+    }
 
 pub hold-page-requires-clause-room : goal.hold-page-requires-clause-room
 hold-page-requires-clause-room c =
     let some = granted-some c.self.inside c.self.invariant c.args.group.0 (subst (λ (h : HoldingsOf). IsGranted h c.args.group.0) (sym c.self.view_is) c.requires.granted) in
     number-free c.self.inside c.self.invariant c.are_in_flight.ensures some
 
-stays : (c : goal.After-push) → Stays c.self.inside (record (c.self.inside) { pages = c.hold-page.new.self; counters = c.take_room-frame.new.counters; pool = c.take_room-frame.new.pool; held = c.push.new.self })
+stays : (c : goal.After-enter) → Stays c.self.inside (record (c.self.inside) { pages = c.hold-page.new.self; counters = c.take_room-frame.new.counters; pool = c.take_room-frame.new.pool; held = c.enter.new.self })
 stays c = record {
   groups = c.take_room-frame.ensures.charged.groups;
   frames = c.take_room-frame.ensures.frame.frames;
   blocks = refl;
   numbers = ap (λ (t : PagesOf). t.numbers) c.hold-page.ensures.others;
-  held_room = c.push.ensures.room;
+  held_numbers = ap (λ (held : HeldOf). held.numbers) c.enter.ensures;
+  held_room = ap (λ (held : HeldOf). held.room) c.enter.ensures;
   moving_room = refl;
 }
+
+goes : (c : goal.After-enter) (g f : ℕ) → page_at c.self.inside.pages.pages c.hold-page.result.0 ≡ None → g ≡ c.args.group.0
+    → Changes c.self.inside.pages.pages c.hold-page.new.self.pages c.hold-page.result.0 (Some (new_page g f)) → GoesOn Youngest c.self.inside.pages.pages c.self.inside.held.lists c.hold-page.new.self.pages c.enter.new.self.lists
+goes c g f free own placed =
+    let h = c.self.inside in
+    subst (λ (held : HeldLists). GoesOn Youngest h.pages.pages h.held.lists c.hold-page.new.self.pages held)
+    (ap (λ (x : ℕ). entered h.held.lists x c.hold-page.result.0 Youngest) own ∙ sym (ap (λ (held : HeldOf). held.lists) c.enter.ensures))
+    (goes-in h.pages.pages h.held.lists c.self.invariant.held c.hold-page.result.0 Youngest c.hold-page.new.self.pages None g f free refl placed)
 
 pub invariant_of-self : goal.invariant_of-self
 invariant_of-self c =
@@ -57,7 +72,6 @@ invariant_of-self c =
     let placed = subst (λ x. Changes h.pages.pages pages p (Some (new_page x f))) room.group c.hold-page.ensures.placed in
     let tickets = ap (λ (t : PagesOf). t.tickets) c.hold-page.ensures.others in
     let spares = room.frame.spares in
-    let more = c.push.ensures.more in
     holding-step h _ p None (Some (new_page g f))
     (record {
       stood = free;
@@ -68,9 +82,10 @@ invariant_of-self c =
           (record { tree = room.charged.groups.tree; usage = λ a lt. (let u = charge-usage h.counters c.take_room-frame.new.counters g a room.charged lt in omega (arith, u)); live = live })
           c.self.invariant.kept;
       stays = stays c;
-      held = record { once = λ n. (let k = c.push.ensures.counts n in omega (arith, k)); len = omega (arith, more) };
+      generation = Youngest;
+      goes = goes c g f free refl placed;
+      apart = λ was now. absurd cc;
       moving = relists-same is_in_transfer h.moving.numbers p None (Some (new_page g f)) refl;
-      held_groups = grouped-in (queue_of h.held) h.pages.pages pages p None (Some (new_page g f)) free placed c.self.invariant.held_groups (queue_of c.push.new.self) (c.args.group, c.hold-page.result) c.push.ensures.entries c.push.ensures.last refl (eq-eqb g g refl) (λ x listed none. absurd cc);
       moving_groups = grouped-same h.moving h.pages.pages pages p None (Some (new_page g f)) free placed c.self.invariant.moving_groups (λ x listed none. absurd cc);
       spares = omega (arith, spares);
       tickets = omega (arith, tickets);
@@ -97,6 +112,6 @@ returns-clause-adds c =
       placed = placed;
       bytes = c.hold-page.ensures.bytes;
       flights = ap (λ (t : PagesOf). t.flights) c.hold-page.ensures.others;
-      order = goes-on-in h.pages.pages pages h.held.numbers (listed-held h.held.numbers h.pages.pages c.self.invariant.held.once) p None (Some (new_page g f)) free placed c.push.new.self.numbers p c.push.ensures.last refl refl refl;
+      order = goes c g f free refl placed;
       others = same-view h _ (stays c);
     })

@@ -1,7 +1,8 @@
-use Rattle.std.proofs.Common.{Bool, ap, subst, ◌∙◌}
+use Rattle.std.proofs.Common.{List, Bool, ap, subst, ◌∙◌}
 use Rattle.std.specs.Prelude.{IfNone}
 use Rattle.machine.specs.Order.{served_by, cursor_at}
-use Rattle.reclaim.specs.Pass.{gives_by_counts, GivesNone}
+use Rattle.machine.specs.Generations.{Gens}
+use Rattle.reclaim.specs.Pass.{gives_by_lists, GivesNone}
 use Rattle.page_state.proofs.NextLemmas.{turn-is, none-is}
 use Rattle.page_state.proofs.holdings.Holdings.next_group.Goals as goal
 
@@ -10,16 +11,18 @@ returns c =
     let h = c.self.inside in
     let tree = c.args.tree.now in
     let target = c.args.target.0 in
-    let counts = c.counts-counts.result.now in
     let last = cursor_at c.args.cursors.now.cursors target in
     let order = c.groups_form_a_tree.ensures.earlier_parents in
     let memory = c.are_in_flight.ensures.memory in
     let kin = rw (← c.self.view_is) at c.requires.kin in
-    let swap = rw (← c.self.view_is) at c.has_swap.ensures in
-    let serves = c.next_group.ensures.group ∙ ap (λ (b : Bool). served_by tree (gives_by_counts tree h.counters counts b target) target last) swap in
-    let none = subst (λ (b : Bool). IfNone c.next_group.result (GivesNone tree h.counters counts b target)) swap c.next_group.ensures.none in
+    let swap = rw (← c.self.view_is) at c.has_swap-swap_free.ensures in
+    let groups = c.gens.ensures.groups in
+    let serves = c.next_group.ensures.group ∙ ap (λ (gs : List Gens). served_by tree (gives_by_lists tree h.counters gs c.has_swap-swap_free.result target) target last) groups
+    ∙ ap (λ (b : Bool). served_by tree (gives_by_lists tree h.counters h.held.lists.groups b target) target last) swap in
+    let none = subst (λ (b : Bool). IfNone c.next_group.result (GivesNone tree h.counters h.held.lists.groups b target)) swap
+    (subst (λ (gs : List Gens). IfNone c.next_group.result (GivesNone tree h.counters gs c.has_swap-swap_free.result target)) groups c.next_group.ensures.none) in
     rw (← c.self.view_is)
     (record {
-      turn = turn-is h c.self.invariant tree kin order target memory c.groups_form_a_tree.ensures c.requires.live counts c.counts-counts.ensures.counts last c.next_group.result serves;
-      none = none-is h c.self.invariant tree kin order target memory c.groups_form_a_tree.ensures c.requires.live counts c.counts-counts.ensures.counts last c.next_group.result serves none;
+      turn = turn-is h c.self.invariant tree kin order target memory c.groups_form_a_tree.ensures c.requires.live last c.next_group.result serves;
+      none = none-is h c.self.invariant tree kin order target memory c.groups_form_a_tree.ensures c.requires.live last c.next_group.result serves none;
     })

@@ -1,11 +1,10 @@
 use Rattle.std.proofs.Common.{◌≡◌, ◌∙◌, length, sym, ap, arith}
 use Rattle.machine.specs.Slots.{count_there}
-use Rattle.machine.specs.Pages.{has_frame, has_this_frame, has_swap, is_held, is_in_transfer}
+use Rattle.machine.specs.Pages.{has_frame, has_this_frame, has_swap, is_in_transfer}
 use Rattle.page_state.specs.Owned.{has_this_block, is_going}
-use Rattle.page_state.specs.Queue.{queue_of}
 use Rattle.page_state.proofs.BalanceLemmas.{balanced-open}
 use Rattle.page_state.proofs.CountLemmas.{counted-open}
-use Rattle.page_state.proofs.HoldingLemmas.{listed-open, grouped-open}
+use Rattle.page_state.proofs.HoldingLemmas.{listed-open, grouped-open, lists-open}
 use Rattle.page_state.proofs.holdings.Holdings.open.Goals as goal
 
 pub invariant_of-result : goal.invariant_of-result
@@ -19,7 +18,6 @@ invariant_of-result c =
     let frames = made.frames in
     let spares = made.spares in
     let fits = c.ranges.frames.fits in
-    let held_room = c.in_ok-held.ensures.room in
     let moving_room = c.in_ok-moving.ensures.room in
     let tickets = c.in-Ok-new.ensures.tickets in
     let numbers = c.in-Ok-new.ensures.numbers in
@@ -32,13 +30,12 @@ invariant_of-result c =
         counted = counted-open c.in_ok-counters.counters pages.pages none c.in_ok-counters.ensures.usage;
       };
       few = omega (arith, frames, fits);
-      held = listed-open is_held _ _ c.in_ok-held.ensures.numbers none;
+      held = lists-open c.in_ok-held.held.lists pages.pages c.in_ok-held.ensures.groups _ c.in_ok-held.ensures.marks none;
       moving = listed-open is_in_transfer _ _ c.in_ok-moving.ensures.numbers none;
-      held_groups = grouped-open (queue_of c.in_ok-held.held) pages.pages c.in_ok-held.ensures.entries c.in_ok-held.ensures.numbers;
       moving_groups = grouped-open _ pages.pages c.in_ok-moving.ensures.entries c.in_ok-moving.ensures.numbers;
-      held_room = omega (arith, frames, held_room);
       moving_room = omega (arith, frames, moving_room);
-      held_counts = c.in_ok-held.ensures.groups ∙ sym (ap length c.in_ok-counters.ensures.tree);
+      held_groups = ap length c.in_ok-held.ensures.groups ∙ sym (ap length c.in_ok-counters.ensures.tree);
+      held_numbers = c.in_ok-held.ensures.numbers ∙ sym numbers;
       numbers = omega (arith, frames, blocks, numbers);
       spares = omega (arith, frames, spares, going);
       tickets = omega (arith, frames, tickets);

@@ -1,4 +1,4 @@
-use Rattle.std.proofs.Common.{length, sym, ap, ◌∙◌}
+use Rattle.std.proofs.Common.{length, refl, sym, ap, ◌∙◌}
 use Rattle.page_state.proofs.CountLemmas.{counted-same}
 use Rattle.page_state.proofs.HoldingLemmas.{holding-counted}
 use Rattle.page_state.proofs.holdings.Holdings.set_max.Goals as goal
@@ -6,5 +6,5 @@ use Rattle.page_state.proofs.holdings.Holdings.set_max.Goals as goal
 pub invariant_of-self : goal.invariant_of-self
 invariant_of-self c =
     let h = c.self.inside in
-    holding-counted h c.set_max.new.self h.held.room.groups h.held.room.more (counted-same h.counters c.set_max.new.self h.pages.pages c.set_max.ensures.tree c.set_max.ensures.usage c.self.invariant.kept.counted)
-    (c.self.invariant.held_counts ∙ sym (ap length c.set_max.ensures.tree)) c.self.invariant
+    holding-counted h c.set_max.new.self h.held (counted-same h.counters c.set_max.new.self h.pages.pages c.set_max.ensures.tree c.set_max.ensures.usage c.self.invariant.kept.counted) c.self.invariant.held
+    (c.self.invariant.held_groups ∙ sym (ap length c.set_max.ensures.tree)) refl c.self.invariant

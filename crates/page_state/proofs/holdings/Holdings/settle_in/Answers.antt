@@ -1,8 +1,10 @@
-use Rattle.std.proofs.Common.{◌∙◌, ℕ, refl, ap, subst, arith}
-use Rattle.machine.specs.Pages.{Coming, page_at}
+use Rattle.std.proofs.Common.{◌<◌, ◌∙◌, ℕ, Option, refl, ap, subst, arith}
+use Rattle.std.specs.Prelude.{IfSome}
+use Rattle.machine.specs.Pages.{Coming, Page, page_at}
 use Rattle.machine.specs.declared.record.Direction.TheVariants.{In}
 use Rattle.pages.specs.PagesOf.{PagesOf, HasResidence}
 use Rattle.pages.specs.Transfers.{Ends}
+use Rattle.page_state.specs.Relists.{JoinsAtEnd}
 use Rattle.page_state.proofs.SettleLemmas.{Lands, relist-fits, holding-lands, lands-settles}
 use Rattle.page_state.proofs.holdings.Holdings.settle_in.Goals as goal
 
@@ -15,7 +17,9 @@ pub relist-requires : goal.relist-requires
 relist-requires c =
     let w = rw (← c.self.view_is) at c.requires in
     let fits = relist-fits c.self.inside c.self.invariant In c.args.page.0 w.0 w.1 w.2 c.args.ticket.number c.group_of-group.result.0 w.3 (c.group_of-group.ensures w.0 (Coming w.1 w.2 c.args.ticket.number) w.3) in
-    record { room = fits.0; group = fits.1 }
+    let numbers = c.self.invariant.held_numbers in
+    let within = subst (λ (slot : Option Page). IfSome slot (λ page. c.args.page.0 < c.self.inside.pages.numbers)) w.3 (c.are_numbered.ensures c.args.page.0) in
+    record { group = fits.1; number = omega (arith, numbers, within); unlisted = fits.0 }
 
 ends : (c : goal.After-new) (g f b : ℕ) → HasResidence c.self.inside.pages.pages c.args.page.0 g (Coming f b c.args.ticket.number)
     → Ends (record (c.self.inside.pages) { bytes = c.fill.new.pages.bytes }) c.end_transfer-buffer.new.pages c.args.page.0 g f b c.args.ticket.number c.args.end
@@ -41,7 +45,7 @@ lands c g f b stood =
       frames = settled.frames;
       spares = omega (arith, spares);
       blocks = settled.blocks;
-      held = c.relist.ensures.held;
+      held = subst (λ (x : ℕ). JoinsAtEnd In c.args.end c.self.inside.held c.relist.new.held x c.args.page.0) (c.group_of-group.ensures g (Coming f b c.args.ticket.number) stood) c.relist.ensures.held;
       moving = c.relist.ensures.moving;
     }
 

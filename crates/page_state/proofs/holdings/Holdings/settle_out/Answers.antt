@@ -1,9 +1,11 @@
-use Rattle.std.proofs.Common.{◌∙◌, ℕ, refl, sym, ap, subst, arith}
-use Rattle.machine.specs.Pages.{Going}
+use Rattle.std.proofs.Common.{◌<◌, ◌∙◌, ℕ, Option, refl, sym, ap, subst, arith}
+use Rattle.std.specs.Prelude.{IfSome}
+use Rattle.machine.specs.Pages.{Going, Page}
 use Rattle.frames.specs.Pool.{PoolOf}
 use Rattle.machine.specs.declared.record.Direction.TheVariants.{Out}
 use Rattle.pages.specs.PagesOf.{HasResidence}
 use Rattle.page_state.specs.Owned.{AreKept}
+use Rattle.page_state.specs.Relists.{JoinsAtEnd}
 use Rattle.page_state.proofs.SettleLemmas.{Lands, relist-fits, holding-lands, lands-settles}
 use Rattle.page_state.proofs.holdings.Holdings.settle_out.Goals as goal
 
@@ -16,7 +18,9 @@ pub relist-requires : goal.relist-requires
 relist-requires c =
     let w = rw (← c.self.view_is) at c.requires in
     let fits = relist-fits c.self.inside c.self.invariant Out c.args.page.0 w.0 w.1 w.2 c.args.ticket.number c.group_of-group.result.0 w.3 (c.group_of-group.ensures w.0 (Going w.1 w.2 c.args.ticket.number) w.3) in
-    record { room = fits.0; group = fits.1 }
+    let numbers = c.self.invariant.held_numbers in
+    let within = subst (λ (slot : Option Page). IfSome slot (λ page. c.args.page.0 < c.self.inside.pages.numbers)) w.3 (c.are_numbered.ensures c.args.page.0) in
+    record { group = fits.1; number = omega (arith, numbers, within); unlisted = fits.0 }
 
 lands : (c : goal.After-relist) (g f b : ℕ) → HasResidence c.self.inside.pages.pages c.args.page.0 g (Going f b c.args.ticket.number)
     → Lands c.self.inside (record { pages = c.end_transfer-spare.new.pages; pool = c.give_spare.new.self; slots = c.end_transfer-spare.new.slots; counters = c.end_transfer-spare.new.counters; held = c.relist.new.held; moving = c.relist.new.moving }) c.args.page.0 g f b c.args.ticket.number Out c.args.end (c.group_of-group.result, c.args.page)
@@ -36,7 +40,7 @@ lands c g f b stood =
       frames = ap (λ (q : PoolOf). q.frames) c.give_spare.ensures ∙ settled.frames;
       spares = omega (arith, spares, more);
       blocks = settled.blocks;
-      held = c.relist.ensures.held;
+      held = subst (λ (x : ℕ). JoinsAtEnd Out c.args.end c.self.inside.held c.relist.new.held x c.args.page.0) (c.group_of-group.ensures g (Going f b c.args.ticket.number) stood) c.relist.ensures.held;
       moving = c.relist.ensures.moving;
     }
 

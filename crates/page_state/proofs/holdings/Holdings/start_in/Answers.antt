@@ -1,13 +1,12 @@
 use Rattle.std.proofs.Common.{◌≡◌, ◌∙◌, Some, eq-eqb, refl, sym, ap, subst, arith}
-use Rattle.machine.specs.Pages.{Coming, Away, is_held, is_in_transfer}
+use Rattle.machine.specs.Pages.{Coming, Away, is_in_transfer}
+use Rattle.machine.specs.Lists.{Youngest}
 use Rattle.page_counter.specs.Counts.{Charges, over_in}
 use Rattle.pages.specs.PagesOf.{HasResidence, anon_page}
 use Rattle.pages.specs.Transfers.{StartsIn}
-use Rattle.page_state.specs.Queue.{queue_of}
 use Rattle.page_state.proofs.CountLemmas.{charge-usage}
-use Rattle.page_state.proofs.HoldingLemmas.{Stays, kept-step, holding-step, relists-same, relists-in, same-view, ticket-free}
-use Rattle.page_state.proofs.EntryLemmas.{grouped-same, grouped-in}
-use Rattle.page_state.proofs.OrderLemmas.{listed-held, goes-on-at}
+use Rattle.page_state.proofs.HoldingLemmas.{Stays, kept-step, holding-step, relists-in, same-view, ticket-free, goes-at}
+use Rattle.page_state.proofs.EntryLemmas.{grouped-in}
 use Rattle.page_state.proofs.GrantLemmas.{stands-live, room-free, few-charged, granted-over, granted-some, granted-frame}
 use Rattle.page_state.proofs.holdings.Holdings.start_in.Goals as goal
 
@@ -29,12 +28,12 @@ take_room-frame-requires-clause-free c =
 pub start_in-ticket-requires-clause-room : goal.start_in-ticket-requires-clause-room
 start_in-ticket-requires-clause-room c =
     let away = rw (← c.self.view_is) at c.requires.away in
-    (room-free c.self.inside c.self.invariant (granted-some c.self.inside c.self.invariant away.0 away.3)).2
+    (room-free c.self.inside c.self.invariant (granted-some c.self.inside c.self.invariant away.0 away.3)).1
 
 pub push-requires : goal.push-requires
 push-requires c =
     let away = rw (← c.self.view_is) at c.requires.away in
-    record { room = (room-free c.self.inside c.self.invariant (granted-some c.self.inside c.self.invariant away.0 away.3)).1 }
+    record { room = (room-free c.self.inside c.self.invariant (granted-some c.self.inside c.self.invariant away.0 away.3)).0 }
 
 stays : (c : goal.After-push) → c.start_in-ticket.new.self.numbers ≡ c.self.inside.pages.numbers → Stays c.self.inside (record (c.self.inside) { pages = c.start_in-ticket.new.self; counters = c.take_room-frame.new.counters; pool = c.take_room-frame.new.pool; moving = c.push.new.self })
 stays c numbers = record {
@@ -42,6 +41,7 @@ stays c numbers = record {
   frames = c.take_room-frame.ensures.frame.frames;
   blocks = refl;
   numbers = numbers;
+  held_numbers = refl;
   held_room = refl;
   moving_room = c.push.ensures.room;
 }
@@ -78,9 +78,10 @@ invariant_of-self c =
           })
           c.self.invariant.kept;
       stays = stays c starts.numbers;
-      held = relists-same is_held h.held.numbers p from to refl;
+      generation = Youngest;
+      goes = goes-at h.pages.pages h.held.lists c.self.invariant.held p Youngest pages from to stood starts.placed refl;
+      apart = λ was now. absurd cc;
       moving = relists-in is_in_transfer h.moving.numbers c.push.new.self.numbers p p from to refl refl refl c.push.ensures.counts c.push.ensures.more;
-      held_groups = grouped-same (queue_of h.held) h.pages.pages pages p from to stood starts.placed c.self.invariant.held_groups (λ x listed own. own);
       moving_groups = grouped-in h.moving h.pages.pages pages p from to stood starts.placed c.self.invariant.moving_groups c.push.new.self (c.group_of-group.result, c.args.page) c.push.ensures.entries c.push.ensures.last refl (eq-eqb g c.group_of-group.result.0 room.group) (λ x listed own. own);
       spares = omega (arith, spares);
       tickets = omega (arith, tickets);
@@ -108,6 +109,6 @@ returns-clause-begins c =
       placed = begins.starts.placed;
       bytes = begins.bytes;
       listed = begins.starts.listed;
-      order = goes-on-at h.pages.pages c.start_in-ticket.new.self.pages h.held.numbers (listed-held h.held.numbers h.pages.pages c.self.invariant.held.once) p _ _ stood begins.starts.placed refl;
+      order = goes-at h.pages.pages h.held.lists c.self.invariant.held p Youngest c.start_in-ticket.new.self.pages _ _ stood begins.starts.placed refl;
       others = same-view h _ (stays c begins.starts.numbers);
     })

@@ -1,16 +1,18 @@
-use Rattle.std.proofs.Common.{◌≡◌, ◌<◌, false, Some, eq-eqb, refl, sym, ap, subst, arith, length}
+use Rattle.std.proofs.Common.{◌≡◌, ◌<◌, ℕ, false, Option, Some, eq-eqb, refl, sym, ap, subst, arith, length}
+use Rattle.std.specs.Prelude.{IfSome}
 use Rattle.machine.specs.Slots.{Changes}
-use Rattle.machine.specs.Pages.{Held, Going, is_held, is_in_transfer, has_swap, is_swap_taken}
+use Rattle.machine.specs.Pages.{Held, Going, Page, is_held, is_in_transfer, has_swap, is_swap_taken}
+use Rattle.machine.specs.Lists.{HeldLists, Youngest, GoesOn}
+use Rattle.aging.proofs.GroupLemmas.{listed-in}
 use Rattle.frames.specs.Pool.{PoolOf, free_count}
-use Rattle.pages.specs.PagesOf.{anon_page}
+use Rattle.pages.specs.PagesOf.{anon_page, HasResidence}
 use Rattle.pages.specs.Transfers.{given_ticket}
 use Rattle.pages.specs.Tickets.{TicketOf}
 use Rattle.page_state.specs.Owned.{has_this_block}
-use Rattle.page_state.specs.Queue.{queue_of}
+use Rattle.page_state.specs.Held.{HeldOf, left}
 use Rattle.page_state.proofs.BalanceLemmas.{taken-in}
-use Rattle.page_state.proofs.HoldingLemmas.{Stays, listed-once, kept-step, holding-step, relists-in, relists-out, same-view, ticket-free, held-stands}
-use Rattle.page_state.proofs.EntryLemmas.{grouped-in, grouped-out}
-use Rattle.page_state.proofs.OrderLemmas.{listed-held, goes-on-out}
+use Rattle.page_state.proofs.HoldingLemmas.{Stays, kept-step, holding-step, relists-in, same-view, ticket-free, held-stands, stands-listed, goes-out}
+use Rattle.page_state.proofs.EntryLemmas.{grouped-in}
 use Rattle.page_state.proofs.GrantLemmas.{stands-live, room-held}
 use Rattle.page_state.proofs.holdings.Holdings.start_out.Goals as goal
 
@@ -35,13 +37,34 @@ push-requires c =
     let w = held-stands h.pages.pages h.pages.flights c.args.page.0 c.are_in_flight.ensures held in
     record { room = (room-held h c.self.invariant c.args.page.0 w.0 w.1 w.2).0 }
 
-stays : (c : goal.After-push) → c.start_out-ticket.new.self.numbers ≡ c.self.inside.pages.numbers → Stays c.self.inside (record (c.self.inside) { pages = c.start_out-ticket.new.self; pool = c.take_spare-spare.new.pool; slots = c.take_slot-slot.new.slots; held = c.remove.new.self; moving = c.push.new.self })
+-- where the page stands
+stood : (c : goal.After-push) → (g f : ℕ) × HasResidence c.self.inside.pages.pages c.args.page.0 g (Held f)
+stood c = let held = rw (← c.self.view_is) at c.requires.held in held-stands c.self.inside.pages.pages c.self.inside.pages.flights c.args.page.0 c.are_in_flight.ensures held
+
+owner : goal.After-push → ℕ
+owner c = (stood c).0
+
+-- the page left the list of its group
+leaves : (c : goal.After-push) → c.leave.new.self ≡ record (c.self.inside.held) { lists = left c.self.inside.held.lists (owner c) c.args.page.0 }
+unfolding owner stood
+leaves c = c.leave.ensures (owner c) (stands-listed c.self.inside.pages.pages c.self.inside.held.lists c.self.invariant.held c.args.page.0 (owner c) (stood c).1 (stood c).2)
+
+goes : (c : goal.After-push) (g f : ℕ) (to : Page) → HasResidence c.self.inside.pages.pages c.args.page.0 g (Held f) → is_held to ≡ false → Changes c.self.inside.pages.pages c.start_out-ticket.new.self.pages c.args.page.0 (Some to)
+    → GoesOn Youngest c.self.inside.pages.pages c.self.inside.held.lists c.start_out-ticket.new.self.pages c.leave.new.self.lists
+goes c g f to stood gone changes =
+    let h = c.self.inside in
+    subst (λ (held : HeldLists). GoesOn Youngest h.pages.pages h.held.lists c.start_out-ticket.new.self.pages held)
+    (sym (ap (λ (held : HeldOf). held.lists) (c.leave.ensures g (stands-listed h.pages.pages h.held.lists c.self.invariant.held c.args.page.0 g f stood))))
+    (goes-out h.pages.pages h.held.lists c.self.invariant.held c.args.page.0 Youngest c.start_out-ticket.new.self.pages (Some to) g f stood changes gone)
+
+stays : (c : goal.After-push) → c.start_out-ticket.new.self.numbers ≡ c.self.inside.pages.numbers → Stays c.self.inside (record (c.self.inside) { pages = c.start_out-ticket.new.self; pool = c.take_spare-spare.new.pool; slots = c.take_slot-slot.new.slots; held = c.leave.new.self; moving = c.push.new.self })
 stays c numbers = record {
   groups = record { tree = refl; limits = refl; room = refl };
   frames = sym (ap (λ (q : PoolOf). q.frames) c.take_spare-spare.ensures);
   blocks = c.take_slot-slot.ensures.blocks;
   numbers = numbers;
-  held_room = c.remove.ensures.room;
+  held_numbers = ap (λ (held : HeldOf). held.numbers) (leaves c);
+  held_room = ap (λ (held : HeldOf). held.room) (leaves c);
   moving_room = c.push.ensures.room;
 }
 
@@ -76,9 +99,10 @@ invariant_of-self c =
           (record { tree = refl; usage = λ a lt. refl; live = stands-live h.counters h.pages.pages p g (Held f) w.2 c.self.invariant.kept.counted })
           c.self.invariant.kept;
       stays = stays c starts.numbers;
-      held = relists-out is_held h.held.numbers c.remove.new.self.numbers h.pages.pages p p from to refl w.2 refl c.self.invariant.held c.remove.ensures.counts c.remove.ensures.fewer;
+      generation = Youngest;
+      goes = goes c g f (anon_page g (Going f b c.start_out-ticket.result.number)) w.2 refl starts.placed;
+      apart = λ was now. absurd cc;
       moving = relists-in is_in_transfer h.moving.numbers c.push.new.self.numbers p p from to refl refl refl c.push.ensures.counts c.push.ensures.more;
-      held_groups = grouped-out (queue_of h.held) h.pages.pages c.start_out-ticket.new.self.pages p from to w.2 starts.placed c.self.invariant.held_groups (queue_of c.remove.new.self) p c.remove.ensures.entries c.remove.ensures.others refl;
       moving_groups = grouped-in h.moving h.pages.pages c.start_out-ticket.new.self.pages p from to w.2 starts.placed c.self.invariant.moving_groups c.push.new.self (c.group_of-group.result, c.args.page) c.push.ensures.entries c.push.ensures.last refl (eq-eqb g c.group_of-group.result.0 (sym (c.group_of-group.ensures g (Held f) w.2))) (λ x listed own. own);
       spares = omega (arith, spares);
       tickets = omega (arith, tickets);
@@ -104,9 +128,16 @@ returns c =
       placed = subst (λ x. Changes h.pages.pages c.start_out-ticket.new.self.pages p (Some (anon_page g (Going f x ticket.number)))) block begins.starts.placed;
       bytes = begins.bytes;
       listed = begins.starts.listed;
-      order = goes-on-out h.pages.pages c.start_out-ticket.new.self.pages h.held.numbers (listed-held h.held.numbers h.pages.pages c.self.invariant.held.once) p _ _ stood begins.starts.placed c.remove.new.self.numbers p c.remove.ensures.others refl refl;
+      order = goes c g f _ stood refl begins.starts.placed;
       others = same-view h _ (stays c begins.starts.numbers);
     })
 
-pub remove-requires : goal.remove-requires
-remove-requires c = record { once = listed-once is_held c.self.inside.held.numbers c.self.inside.pages.pages c.args.page.0 c.self.invariant.held }
+pub leave-requires : goal.leave-requires
+leave-requires c =
+    let h = c.self.inside in
+    let held = rw (← c.self.view_is) at c.requires.held in
+    let p = c.args.page.0 in
+    let w = held-stands h.pages.pages h.pages.flights p c.are_in_flight.ensures held in
+    let numbers = c.self.invariant.held_numbers in
+    let within = subst (λ (slot : Option Page). IfSome slot (λ page. p < h.pages.numbers)) w.2 (c.are_numbered.ensures p) in
+    record { listed = listed-in h.held.lists.groups w.0 p (stands-listed h.pages.pages h.held.lists c.self.invariant.held p w.0 w.1 w.2); number = omega (arith, numbers, within) }

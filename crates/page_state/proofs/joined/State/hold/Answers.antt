@@ -24,7 +24,7 @@ invariant_of-self c =
     adds.slot_free adds.placed unmapped c.map.ensures.shown)
     c.map.ensures.numbers
     (subst (λ (ts : Tasks). (u : ℕ) → lives ts u ≡ true → is_live s.tree (group_of_task ts u) ≡ true) (sym c.map.ensures.tasks) c.self.invariant.homes)
-    adds.order refl
+    refl
 
 pub returns : goal.returns
 returns c =
@@ -36,6 +36,7 @@ returns c =
       page = c.hold-page.result.0;
       frame = adds.frame;
       frame_free = record { in_range = subst (λ n. adds.frame < n) c.self.invariant.frames adds.in_range; unused = adds.unused };
+      in_range = subst (λ n. c.hold-page.result.0 < n) c.self.invariant.page_numbers c.hold-page.ensures.inside;
       number_free = adds.slot_free;
       placed = adds.placed;
       shown = c.map.ensures.shown;

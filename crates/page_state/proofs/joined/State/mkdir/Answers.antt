@@ -1,8 +1,9 @@
-use Rattle.std.proofs.Common.{rules, ◌≡◌, ◌∙◌, ◌++◌, ◌∷◌, [], List, Some, sym, ap, subst}
+use Rattle.std.proofs.Common.{rules, ◌≡◌, ◌∙◌, ◌++◌, ◌∷◌, [], ℕ, List, Option, Some, None, sym, ap, subst}
 use Rattle.machine.specs.declared.record.Limits.{Limits}
 use Rattle.machine.specs.Names.{parent_path}
 use Rattle.machine.specs.Tree.{Node, find_group}
 use Rattle.machine.specs.Counts.{no_limits}
+use Rattle.machine.specs.Lists.{HeldLists, Order, with_group}
 use Rattle.machine.specs.Step.{new_node}
 use Rattle.group_tree.specs.Lineages.{bare}
 use Rattle.page_state.specs.Holdings.{HoldingsOf, Stored}
@@ -22,7 +23,6 @@ invariant_of-self-2 c =
     (c.add_group.ensures.kin ∙ ap (λ (h : HoldingsOf). h.kin ++ bare (Some c.args.parent.0) ∷ []) same)
     (c.add_reserved.ensures.tree ∙ ap (λ (t : List Node). t ++ bare (Some c.args.parent.0) ∷ []) c.in_ok-reserve.ensures.tree)
     (c.add_group.ensures.stored ∙ ap (λ (h : HoldingsOf). h.stored) same)
-    (c.add_group.ensures.held ∙ ap (λ (h : HoldingsOf). h.held) same)
     (c.add_group.ensures.frames ∙ ap (λ (h : HoldingsOf). h.frames) same)
     (c.add_group.ensures.swap ∙ ap (λ (h : HoldingsOf). h.swap) same)
     (c.add_group.ensures.numbers ∙ ap (λ (h : HoldingsOf). h.numbers) same)
@@ -34,14 +34,15 @@ returns-clause-adds c =
     let old : StateOf = joined_of s in
     let same = c.in_ok-reserve_group.ensures.same in
     let stored = c.add_group.ensures.stored ∙ ap (λ (h : HoldingsOf). h.stored) same in
+    let cursors : c.add_reserved-2.new.self.cursors ≡ s.cursors.cursors ++ None ∷ [] = search rules in
     let limits = c.add_group.ensures.limits ∙ ap (λ (h : HoldingsOf). h.limits ++ no_limits ∷ []) same in
     rw (← c.self.view_is)
     (record {
       tables = ap (λ (t : List Node). record (old.tables) { tree = t; limits = c.add_group.new.self.limits; pages = c.add_group.new.self.stored.pages }) c.in_ok-group.ensures.ok
           ∙ ap (λ (ls : List Limits). record (old.tables) { tree = s.tree ++ new_node s.tree c.args.path.now ∷ []; limits = ls; pages = c.add_group.new.self.stored.pages }) limits
           ∙ ap (λ (st : Stored). record (old.tables) { tree = s.tree ++ new_node s.tree c.args.path.now ∷ []; limits = s.holdings.limits ++ no_limits ∷ []; pages = st.pages }) stored;
-      held = c.add_group.ensures.held ∙ ap (λ (h : HoldingsOf). h.held) same;
-      cursors = search rules;
+      order = ap (λ (held : HeldLists). let o : Order = record { held = held; cursors = c.add_reserved-2.new.self.cursors } in o) (c.add_group.ensures.held ∙ ap (λ (h : HoldingsOf). with_group h.held) same)
+          ∙ ap (λ (cs : List (Option ℕ)). let o : Order = record { held = with_group s.holdings.held; cursors = cs } in o) cursors;
       bytes = ap (λ (st : Stored). st.bytes) stored;
       flights = ap (λ (st : Stored). st.flights) stored;
       tallied = tells-on s.events c.add_reserved.new.self (λ cs. cs) (λ cs told. c.add_reserved.ensures.told cs (c.in_ok-reserve.ensures.told cs told));

@@ -1,6 +1,4 @@
-use Rattle.std.proofs.Common.{◌≡◌, ◌∙◌, ℕ, List, refl, sym, ap, subst}
-use Rattle.std.specs.List.{filter}
-use Rattle.machine.specs.Pages.{is_held_in}
+use Rattle.std.proofs.Common.{◌∙◌, refl, ap}
 use Rattle.page_state.specs.Holdings.{Stored}
 use Rattle.page_state.proofs.KinLemmas.{kin-root}
 use Rattle.page_state.proofs.MappedLemmas.{mapped-open, homes-open}
@@ -13,11 +11,11 @@ invariant_of-result c =
       sized = c.requires;
       frames = c.in_ok-holdings.ensures.frames;
       swap = c.in_ok-holdings.ensures.swap;
+      page_numbers = c.in_ok-holdings.ensures.numbers;
       held_kin = rw (c.in_ok-holdings.ensures.kin, tree) kin-root;
       counted_kin = rw (c.in_ok-events.ensures.tree, tree) kin-root;
       mapped = mapped-open c.in_ok-holdings.holdings.stored.pages c.in-Ok.spaces.page_tables (ap (λ (s : Stored). s.pages) c.in_ok-holdings.ensures.stored) c.in-Ok.ensures.page_tables;
       numbers = c.in-Ok.ensures.numbers ∙ c.numbers.ensures;
       homes = homes-open c.in_ok-tree.tree c.in-Ok.spaces.tasks c.in-Ok.ensures.tasks;
-      listed = subst (λ (held : List ℕ). filter (is_held_in c.in_ok-holdings.holdings.stored.pages) held ≡ held) (sym c.in_ok-holdings.ensures.held) refl;
       cursors = rw (c.in_ok-cursors.ensures, tree) refl;
     }

@@ -7,7 +7,7 @@ pub drop_unmapped-requires : goal.drop_unmapped-requires
 drop_unmapped-requires c =
     let s = c.self.inside in
     let stood = rw (c.pages.ensures.pages, c.number.ensures) at c.page_in_flight-page.ensures.stands in
-    settled-there s.holdings c.settle_in-bytes.new.self c.page_in_flight-page.result.0 stood.0 c.args.ticket.number _ (c.settle_in-bytes.ensures.settles stood.0 stood.1 stood.2 stood.3)
+    settled-there s.holdings c.settle_in-bytes.new.self In c.page_in_flight-page.result.0 stood.0 c.args.ticket.number _ (c.settle_in-bytes.ensures.settles stood.0 stood.1 stood.2 stood.3)
 
 pub invariant_of-self : goal.invariant_of-self
 invariant_of-self c =
@@ -15,16 +15,16 @@ invariant_of-self c =
     let flight = c.page_in_flight-page in
     let stood = rw (c.pages.ensures.pages, c.number.ensures) at flight.ensures.stands in
     let alone = rw (c.pages.ensures.pages, c.number.ensures) at flight.ensures.alone in
-    joined-settled s c.self.invariant c.settle_in-bytes.new.self c.drop_unmapped.new.holdings flight.result.0 c.args.ticket.number In c.args.end alone c.settle_in-bytes.ensures.settles c.drop_unmapped.ensures stood.0 stood.1 stood.2 stood.3
+    joined-settled s c.self.invariant c.are_counted.ensures.generations c.settle_in-bytes.new.self c.drop_unmapped.new.holdings flight.result.0 c.args.ticket.number In c.args.end alone c.settle_in-bytes.ensures.settles c.drop_unmapped.ensures stood.0 stood.1 stood.2 stood.3
 
 pub returns-clause-ends : goal.returns-clause-ends
 returns-clause-ends c =
     let alone = rw (c.pages.ensures.pages, c.number.ensures) at c.page_in_flight-page.ensures.alone in
-    rw (← c.self.view_is) (any-ended c.self.inside c.self.invariant c.settle_in-bytes.new.self c.drop_unmapped.new.holdings c.page_in_flight-page.result.0 c.args.ticket.number In c.args.end alone c.settle_in-bytes.ensures.settles c.drop_unmapped.ensures)
+    rw (← c.self.view_is) (any-ended c.self.inside c.self.invariant c.are_counted.ensures.generations c.settle_in-bytes.new.self c.drop_unmapped.new.holdings c.page_in_flight-page.result.0 c.args.ticket.number In c.args.end alone c.settle_in-bytes.ensures.settles c.drop_unmapped.ensures)
 
 pub returns-clause-arrives : goal.returns-clause-arrives
 returns-clause-arrives c =
     let alone = rw (c.pages.ensures.pages, c.number.ensures) at c.page_in_flight-page.ensures.alone in
     rw (← c.self.view_is) (λ p g f b stood in_frame t v k shown.
-    any-shows c.self.inside c.self.invariant c.settle_in-bytes.new.self c.drop_unmapped.new.holdings c.page_in_flight-page.result.0 c.args.ticket.number In c.args.end alone c.settle_in-bytes.ensures.settles c.drop_unmapped.ensures p g f b stood t v k shown
+    any-shows c.self.inside c.self.invariant c.are_counted.ensures.generations c.settle_in-bytes.new.self c.drop_unmapped.new.holdings c.page_in_flight-page.result.0 c.args.ticket.number In c.args.end alone c.settle_in-bytes.ensures.settles c.drop_unmapped.ensures p g f b stood t v k shown
     ∙ c.settle_in-bytes.ensures.arrives in_frame k)

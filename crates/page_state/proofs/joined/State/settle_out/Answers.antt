@@ -8,7 +8,7 @@ pub drop_unmapped-requires : goal.drop_unmapped-requires
 drop_unmapped-requires c =
     let s = c.self.inside in
     let stood = rw (c.pages.ensures.pages, c.number.ensures) at c.page_in_flight-page.ensures.stands in
-    settled-there s.holdings c.settle_out.new.self c.page_in_flight-page.result.0 stood.0 c.args.ticket.number _ (c.settle_out.ensures.settles stood.0 stood.1 stood.2 stood.3)
+    settled-there s.holdings c.settle_out.new.self Out c.page_in_flight-page.result.0 stood.0 c.args.ticket.number _ (c.settle_out.ensures.settles stood.0 stood.1 stood.2 stood.3)
 
 pub invariant_of-self : goal.invariant_of-self
 invariant_of-self c =
@@ -16,17 +16,17 @@ invariant_of-self c =
     let flight = c.page_in_flight-page in
     let stood = rw (c.pages.ensures.pages, c.number.ensures) at flight.ensures.stands in
     let alone = rw (c.pages.ensures.pages, c.number.ensures) at flight.ensures.alone in
-    joined-settled s c.self.invariant c.settle_out.new.self c.drop_unmapped.new.holdings flight.result.0 c.args.ticket.number Out c.args.end alone c.settle_out.ensures.settles c.drop_unmapped.ensures stood.0 stood.1 stood.2 stood.3
+    joined-settled s c.self.invariant c.are_counted.ensures.generations c.settle_out.new.self c.drop_unmapped.new.holdings flight.result.0 c.args.ticket.number Out c.args.end alone c.settle_out.ensures.settles c.drop_unmapped.ensures stood.0 stood.1 stood.2 stood.3
 
 pub returns-clause-ends : goal.returns-clause-ends
 returns-clause-ends c =
     let alone = rw (c.pages.ensures.pages, c.number.ensures) at c.page_in_flight-page.ensures.alone in
-    rw (← c.self.view_is) (any-ended c.self.inside c.self.invariant c.settle_out.new.self c.drop_unmapped.new.holdings c.page_in_flight-page.result.0 c.args.ticket.number Out c.args.end alone c.settle_out.ensures.settles c.drop_unmapped.ensures)
+    rw (← c.self.view_is) (any-ended c.self.inside c.self.invariant c.are_counted.ensures.generations c.settle_out.new.self c.drop_unmapped.new.holdings c.page_in_flight-page.result.0 c.args.ticket.number Out c.args.end alone c.settle_out.ensures.settles c.drop_unmapped.ensures)
 
 pub returns-clause-stays : goal.returns-clause-stays
 returns-clause-stays c =
     let s = c.self.inside in
     let alone = rw (c.pages.ensures.pages, c.number.ensures) at c.page_in_flight-page.ensures.alone in
     rw (← c.self.view_is) (λ p g f b stood in_frame t v k shown.
-    any-shows s c.self.invariant c.settle_out.new.self c.drop_unmapped.new.holdings c.page_in_flight-page.result.0 c.args.ticket.number Out c.args.end alone c.settle_out.ensures.settles c.drop_unmapped.ensures p g f b stood t v k shown
+    any-shows s c.self.invariant c.are_counted.ensures.generations c.settle_out.new.self c.drop_unmapped.new.holdings c.page_in_flight-page.result.0 c.args.ticket.number Out c.args.end alone c.settle_out.ensures.settles c.drop_unmapped.ensures p g f b stood t v k shown
     ∙ c.settle_out.ensures.stays in_frame k ∙ ap (λ q. byte_in s.holdings.stored.bytes q k) (alone p g f b stood))

@@ -20,7 +20,7 @@ invariant_of-self-2 c =
     let begins = c.in_ok-ticket.ensures.begins away.0 away.1 away.2 in
     joined-pages s c.self.invariant c.start_in.new.self s.cursors s.spaces begins.others
     (mapped-begun s.holdings.stored.pages s.spaces.page_tables c.self.invariant.mapped c.start_in.new.self.stored.pages c.args.page.0 (anon_page away.0 (Away away.1)) (anon_page away.0 (Coming begins.frame away.1 c.in_ok-ticket.ticket.number)) away.2 begins.placed refl)
-    refl c.self.invariant.homes begins.order refl
+    refl c.self.invariant.homes refl
 
 pub returns-clause-begins : goal.returns-clause-begins
 returns-clause-begins c =
