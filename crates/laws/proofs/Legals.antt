@@ -61,7 +61,7 @@ module _ (opening : Opening) where
       by_ticket false known h = legal-same old new h.1 legal
 
   -- a device call leaves the past as it was
-  legal-want : (caller : Caller) (past past' : Past) (disk disk' : Disk) (wanted : Want) (transition : Transition) → WantTurn caller past disk wanted transition past' disk' → IsLegal past → IsLegal past'
+  pub legal-want : (caller : Caller) (past past' : Past) (disk disk' : Disk) (wanted : Want) (transition : Transition) → WantTurn caller past disk wanted transition past' disk' → IsLegal past → IsLegal past'
   legal-want caller past past' disk disk' (want.Call remembers what) transition turn legal = legal-called past past' caller (event_of what) (reply_of turn.0.said) turn.0.called legal
   legal-want caller past past' disk disk' (want.Read access ticket) transition turn legal = legal-same past past' turn.1 legal
   legal-want caller past past' disk disk' (want.Write on ticket) transition turn legal = legal-same past past' turn.1 legal

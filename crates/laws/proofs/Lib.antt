@@ -2,5 +2,6 @@ pub mod Legals
 pub mod LawLemmas
 pub mod ReclaimLemmas
 pub mod RiseLemmas
+pub mod CallLemmas
 pub mod OrderLemmas
 pub mod FlightLemmas

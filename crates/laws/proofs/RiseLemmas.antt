@@ -94,7 +94,7 @@ module _ (before after : State) (a : ℕ) where
   did_less : (what : Event) (answer : Reply) → is_access what ≡ false → IsTree before.tree → ((p : ℕ) → IfSome (page_at before.pages p) (λ page. is_live before.tree page.group ≡ true)) → Did before what answer after → Less
   unfolding Less
   did_less what answer other falls groups (Kept limits counted e) = let same : usage after a ≡ usage before a = ap (λ (s : State). usage s a) e in omega (arith, same)
-  did_less what answer other falls groups (Made t v p frame access out alive free unused placed shown e) = unlike (is_access what) access other
+  did_less what answer other falls groups (Made t v p frame access out alive within free unused placed shown e) = unlike (is_access what) access other
   did_less what answer other falls groups (Moved p page dirty now counted there placed moves e) =
       let one = one_changes p (Some page) _ (ap (λ (s : State). s.tree) e) there placed in
       let less : one_if (is_some_number (frame_at now) && under before.tree a page.group) ≤ one_if (is_charged before.tree a page) =
@@ -120,7 +120,7 @@ module _ (before after : State) (a : ℕ) where
   did_keep : (what : Event) (answer : Reply) → is_out answer ≡ true → Did before what answer after → Kept_so
   unfolding Kept_so
   did_keep what answer out (Kept limits counted e) = ap (λ (s : State). usage s a) e
-  did_keep what answer out (Made t v p frame access other alive free unused placed shown e) = unlike (is_out answer) out other
+  did_keep what answer out (Made t v p frame access other alive within free unused placed shown e) = unlike (is_out answer) out other
   did_keep what answer out (Moved p page dirty now counted there placed moves e) =
       let one = one_changes p (Some page) _ (ap (λ (s : State). s.tree) e) there placed in
       let same : one_if (is_some_number (frame_at now) && under before.tree a page.group) ≡ one_if (is_charged before.tree a page) =

@@ -1,8 +1,11 @@
 -- The headline in the words of its users: what holds of every step and of every run.
 use Rattle.std.specs.Prelude.{◌≡◌, ◌≢◌, ◌⊎◌, ℕ, ◌+◌, ◌<◌, ◌≤◌, Bool, true, false, List, ◌∷◌, ◌++◌, length, count_by, Option, Some, None, slice_get, slice_set}
+use Rattle.std.specs.List.{AllByRecursion}
 use Rattle.machine.specs.declared.config.Config.{Config}
 use Rattle.machine.specs.declared.entry.Entry.{Entry}
+use Rattle.machine.specs.declared.id.FrameId.{FrameId}
 use Rattle.machine.specs.declared.id.GroupId.{GroupId}
+use Rattle.machine.specs.declared.id.TaskId.{TaskId}
 use Rattle.machine.specs.declared.event.Cause.{Cause}
 use Rattle.machine.specs.declared.event.Op.{Op}
 use Rattle.machine.specs.declared.event.Place.{Place}
@@ -10,6 +13,7 @@ use Rattle.machine.specs.declared.event.Query.TheVariants as query
 use Rattle.machine.specs.declared.event.Event.{Event}
 use Rattle.machine.specs.declared.event.Event.TheVariants as event
 use Rattle.machine.specs.declared.record.EventCounts.{EventCounts}
+use Rattle.machine.specs.declared.record.Kind.{Kind}
 use Rattle.machine.specs.declared.record.Key.{Key}
 use Rattle.machine.specs.declared.record.Key.TheVariants.{Low, High, Max, Oom, OomKill, OomGroupKill}
 use Rattle.machine.specs.declared.reply.Reply.{Reply}
@@ -23,9 +27,12 @@ use Rattle.machine.specs.Counts.{limits_at, local, total}
 use Rattle.machine.specs.Tree.{Node, is_live, under}
 use Rattle.machine.specs.Pages.{Page, page_at, is_anon, is_held, frame_at, block_at, ticket_at, is_in_transfer, is_charged, in_transfer}
 use Rattle.machine.specs.Tasks.{lives, group_of_task, mapped_at}
-use Rattle.machine.specs.State.{Opening, State, usage, effective_min, opening_of, blocks_of}
+use Rattle.machine.specs.State.{Opening, State, page_numbers, usage, effective_min, is_swap_free, opening_of, blocks_of}
 use Rattle.machine.specs.Reclaim.{is_idle, target_of}
-use Rattle.machine.specs.Lists.{ListsHeld, served, first_held, GoesOn}
+use Rattle.machine.specs.Generations.{row_of, listed, gens_at, AreDistinct}
+use Rattle.machine.specs.Aging.{is_marked, has_mark}
+use Rattle.machine.specs.Eviction.{old_pages}
+use Rattle.machine.specs.Lists.{HeldLists, Youngest, served, PicksOf, ListsHeld, AreGenerations, generation_for, GoesOn, shown_at, hit_of, with_mark, with_group}
 use Rattle.machine.specs.Victim.{is_candidate}
 use Rattle.machine.specs.Step.{Step}
 use Rattle.machine.specs.Call.{Past, Caller, Called, AreAlike}
@@ -144,37 +151,94 @@ ReclaimsKillNobody =
     (before after : State) (g : GroupId) (answer : Reply) → Step before (event.ReclaimOne g) answer after
     → ((t : ℕ) → answer ≡ reply.KilledTask (record { 0 = t }) → ⊥) × (after.tasks ≡ before.tasks)
 
--- whatever a run leads to, each page that is in a frame and in no transfer is in the list of held pages once, and no other page is
+-- whatever a run leads to, each page that is in a frame and in no transfer is once on the lists of its group and type, and no other page is on a list, or marked.
+-- (Excludes a page on the lists of a group that is not charged for it, and a mark that outlives its page.)
 abbrev pub HeldPagesAreListed : Type 0
 HeldPagesAreListed =
     (config : Config) (before : Disk) (steps : List Line) (answers : List Told_by) (end : World) → Runs (first_world config before) steps answers end
-    → ListsHeld end.past.state.pages end.past.order.held
+    → ListsHeld end.past.state.pages end.past.order.held × ((g : ℕ) → AreDistinct (listed (gens_at end.past.order.held.groups g)))
 
--- whatever a run leads to, each group has a cursor of its own, as the target of a reclaim. (Excludes a target whose cursor stays though pages are taken for it, since there is none.)
+-- as many groups have lists as there are, each of two to four generations of a type, by rising number; and there is a mark for each number of a page
+pub record HoldsGenerations (past : Past) : Type 0 where
+  pub sound : AreGenerations past.order.held
+  pub groups : length past.order.held.groups ≡ length past.state.tree
+  pub marks : length past.order.held.marks ≡ page_numbers past.state.opening
+
+-- so it is whatever a run leads to. (Excludes a group whose oldest generation is its youngest, and a page whose generation has ended or has not begun.)
+abbrev pub GenerationsHold : Type 0
+GenerationsHold =
+    (config : Config) (before : Disk) (steps : List Line) (answers : List Told_by) (end : World) → Runs (first_world config before) steps answers end
+    → HoldsGenerations end.past
+
+-- whatever a run leads to, each group has a cursor of its own, as the target of a reclaim. (Excludes a target with no place in the table of
+-- cursors, for which `slice_set` would change nothing, so that each pass would begin at it.)
 abbrev pub GroupsHaveCursors : Type 0
 GroupsHaveCursors =
     (config : Config) (before : Disk) (steps : List Line) (answers : List Told_by) (end : World) → Runs (first_world config before) steps answers end
     → length end.past.order.cursors ≡ length end.past.state.tree
 
--- a call that changes anything lets the held pages go on in their order: what is held no more leaves the list, all others stay as they stood, and what comes to be held, one page at most, comes behind them.
--- (Excludes a list whose order is made up anew, and a page that comes to be held before another.)
+-- how the lists go on where no page is taken. A group more begins with no page. Otherwise a hit marks its page; what is held no more leaves its list, all others stay as they
+-- stood, and what comes to be held, one page at most, enters a generation of its group: the second youngest where it was read in, and else the youngest
+abbrev pub ListsGoOn : Past → Event → Reply → Past → Type 0
+ListsGoOn before (event.Mkdir path) answer after = after.order.held ≡ with_group before.order.held
+ListsGoOn before what answer after =
+    GoesOn (generation_for what) before.state.pages (with_mark (hit_of before.state what answer) before.order.held) after.state.pages after.order.held
+
+-- so it is in every call that changes anything and takes no page. (Excludes lists whose order is made up anew, a page that comes to be held before another of its generation,
+-- and one that comes marked.)
 abbrev pub HeldPagesGoOn : Type 0
 HeldPagesGoOn =
-    (before after : Past) (caller : Caller) (what : Event) (answer : Reply) → Called before caller what answer after
-    → (after ≡ before) ⊎ GoesOn before.state.pages before.order.held after.state.pages after.order.held
+    (before after : Past) (caller : Caller) (what : Event) (answer : Reply) → took_for what answer ≡ None → Called before caller what answer after → (after ≡ before) ⊎ ListsGoOn before what answer after
 
--- a page was taken for the target, and it was its group's turn to give one, and the page the first of its group's in the list of held pages. The target's cursor then names the group
+-- of each group and type the youngest generation, and the oldest, is what it was. What is no group's number has the numbers of a new group
+abbrev pub KeepNumbers : HeldLists → HeldLists → Type 0
+KeepNumbers held held' =
+    (g : ℕ) → ((gens_at held'.groups g).max_seq ≡ (gens_at held.groups g).max_seq) × ((kind : Kind) → (row_of kind (gens_at held'.groups g)).min_seq ≡ (row_of kind (gens_at held.groups g)).min_seq)
+
+-- no generation begins or ends in a call that takes no page. (Excludes lists that age with time, or at a hit, and a reclaim that finds nothing and ages them.)
+abbrev pub OnlyTakesAge : Type 0
+OnlyTakesAge =
+    (before after : Past) (caller : Caller) (what : Event) (answer : Reply) → took_for what answer ≡ None → Called before caller what answer after → KeepNumbers before.order.held after.order.held
+
+-- whatever a run led to, an access that is answered by a hit marks the page that its place shows. (Excludes a page that was used and is evicted as if it were not.)
+abbrev pub HitsMark : Type 0
+HitsMark =
+    (config : Config) (before : Disk) (steps : List Line) (answers : List Told_by) (end : World) → Runs (first_world config before) steps answers end
+    → (after : Past) (caller : Caller) (t : TaskId) (place : Place) (op : Op) (byte : ℕ) (frame : FrameId) → Called end.past caller (event.Access t place op) (reply.Done byte (Some frame)) after
+    → (p : ℕ) × (shown_at end.past.state.page_tables t.0 place ≡ Some p) × (is_marked after.order.held.marks p ≡ true)
+
+-- no call marks a page otherwise. (Excludes a page that is marked as it is made, copied or read in, and one that a search marks.)
+abbrev pub OnlyHitsMark : Type 0
+OnlyHitsMark =
+    (before after : Past) (caller : Caller) (what : Event) (answer : Reply) → Called before caller what answer after
+    → (p : ℕ) → is_marked after.order.held.marks p ≡ true → (is_marked before.order.held.marks p ≡ true) ⊎ (hit_of before.state what answer ≡ Some p)
+
+-- a page was taken for the target, and it was its group's turn to give one, and the page the one of the group's that is evicted next. The lists go on, without it, from what the
+-- search for it left; and the target's cursor then names the group
 pub record LeavesInOrder (before : Past) (target : ℕ) (after : Past) : Type 0 where
   pub taken : TakesUnprotected before.state target after.state
   pub turn : served before.state before.order target ≡ Some taken.page.group
-  pub oldest : first_held before.state.pages before.order.held taken.page.group ≡ Some taken.p
+  pub looked : HeldLists
+  pub picked : PicksOf (is_swap_free before.state) before.order.held taken.page.group (Some taken.p) looked
+  pub leaves : GoesOn Youngest before.state.pages looked after.state.pages after.order.held
   pub cursor : after.order.cursors ≡ slice_set before.order.cursors target (Some taken.page.group)
 
--- so it is with each page that a call takes. (Excludes a newer page that leaves before an older one of its group, and a group that gives pages out of its turn.)
+-- so it is with each page that a call takes, whatever a run led to before. (Excludes a page of a younger generation that leaves while an older one of its group has a page that may
+-- be taken and is not marked, a search that ages other groups' lists, and a group that gives pages out of its turn.)
 abbrev pub PagesLeaveInOrder : Type 0
 PagesLeaveInOrder =
-    (before after : Past) (caller : Caller) (what : Event) (answer : Reply) (target : ℕ) → took_for what answer ≡ Some target → Called before caller what answer after
-    → LeavesInOrder before target after
+    (config : Config) (before : Disk) (steps : List Line) (answers : List Told_by) (end : World) → Runs (first_world config before) steps answers end
+    → (after : Past) (caller : Caller) (what : Event) (answer : Reply) (target : ℕ) → took_for what answer ≡ Some target → Called end.past caller what answer after
+    → LeavesInOrder end.past target after
+
+-- and a page that is marked is taken only where each old page of its group is: those that may be taken, and that are of none of the two youngest generations. (Excludes a page that
+-- was used since it was last looked at, taken while an old one of its group was not.)
+abbrev pub MarkedPagesStay : Type 0
+MarkedPagesStay =
+    (config : Config) (before : Disk) (steps : List Line) (answers : List Told_by) (end : World) → Runs (first_world config before) steps answers end
+    → (after : Past) (caller : Caller) (what : Event) (answer : Reply) (target : ℕ) → took_for what answer ≡ Some target → Called end.past caller what answer after
+    → (p : ℕ) (page : Page) → page_at end.past.state.pages p ≡ Some page → is_held page ≡ true → there_and is_held (page_at after.state.pages p) ≡ false → is_marked end.past.order.held.marks p ≡ true
+    → AllByRecursion (λ l. has_mark end.past.order.held.marks l ≡ true) (old_pages (is_swap_free end.past.state) (gens_at end.past.order.held.groups page.group))
 
 -- each read in a right history gave the last write before it
 abbrev pub ReadsGiveLastWrites : Type 0
@@ -259,3 +323,9 @@ abbrev pub RepliesAreSettled : Type 0
 RepliesAreSettled =
     (old new new' : Past) (caller : Caller) (what : Event) (said other : Reply) → Called old caller what said new → Called old caller what other new'
     → (said ≡ reply.Refused NoMemory → ⊥) → (other ≡ reply.Refused NoMemory → ⊥) → AreAlike what said other
+
+-- two calls of one caller from one past, that answer one event alike and leave one state, leave one order: the same lists, marks and cursors. (Excludes a definition that leaves to
+-- whoever carries a call out in which order pages will leave.)
+abbrev pub OrdersAreSettled : Type 0
+OrdersAreSettled =
+    (old new new' : Past) (caller : Caller) (what : Event) (answer : Reply) → Called old caller what answer new → Called old caller what answer new' → new.state ≡ new'.state → new.order ≡ new'.order

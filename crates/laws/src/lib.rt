@@ -2,7 +2,7 @@
 //! a function that does nothing.
 #![tactic(auto)]
 
-ghost use Rattle.laws.specs.Laws.{RunsAreLegal, RunsAreHonest, NoStrangers, ErrorsAreFailures, CurrentCountsPages, EventsAreThoseCounted, ChargesStayWithinMax, OnlyAccessesCharge, KillsComeLast, ReadsGiveLastWrites, PagesShareNoFrame, PagesShareNoBlock, BlocksAreThere, PagesShareNoTicket, PagesAreMemory, MappingsShowPages, TraceHasRoom, TransfersAreBegunLessEnded, TransfersStayCharged, RepliesAreSettled, WriteOutsStayCharged, ReclaimsSpareTheProtected, ReclaimsGiveUpLast, ReclaimsKillNobody, HeldPagesAreListed, GroupsHaveCursors, HeldPagesGoOn, PagesLeaveInOrder, GroupsAreThere};
+ghost use Rattle.laws.specs.Laws.{RunsAreLegal, RunsAreHonest, NoStrangers, ErrorsAreFailures, CurrentCountsPages, EventsAreThoseCounted, ChargesStayWithinMax, OnlyAccessesCharge, KillsComeLast, ReadsGiveLastWrites, PagesShareNoFrame, PagesShareNoBlock, BlocksAreThere, PagesShareNoTicket, PagesAreMemory, MappingsShowPages, TraceHasRoom, TransfersAreBegunLessEnded, TransfersStayCharged, RepliesAreSettled, OrdersAreSettled, WriteOutsStayCharged, ReclaimsSpareTheProtected, ReclaimsGiveUpLast, ReclaimsKillNobody, HeldPagesAreListed, GenerationsHold, GroupsHaveCursors, HeldPagesGoOn, OnlyTakesAge, HitsMark, OnlyHitsMark, PagesLeaveInOrder, MarkedPagesStay, GroupsAreThere};
 
 /// The history of every run leads from the opening to the run's state, one step of the plain machine
 /// an entry.
@@ -83,28 +83,59 @@ pub fn reclaims_kill_nobody()
     ensures { ReclaimsKillNobody }
 {}
 
-/// After any run the list of held pages has each page that is in a frame and in no transfer once, and
-/// no other.
+/// After any run each page that is in a frame and in no transfer is once on the lists of its group and
+/// type, and no other page is on a list, or marked.
 pub fn held_pages_are_listed()
     ensures { HeldPagesAreListed }
 {}
 
-/// After any run each group has a cursor of its own, which names the group that was served last for a
-/// reclaim of it.
+/// After any run each group has lists of its own: of each type two to four generations, the older
+/// before the younger, and each page in one that has not ended. And there is a mark for each number that
+/// a page may have.
+pub fn generations_hold()
+    ensures { GenerationsHold }
+{}
+
+/// After any run each group has a cursor of its own, so that each target's can move.
 pub fn groups_have_cursors()
     ensures { GroupsHaveCursors }
 {}
 
-/// A call that changes anything lets the held pages go on in their order. What is held no more leaves
-/// their list, all others stay as they stood, and what comes to be held, one page at most, comes last.
+/// A call that changes anything and takes no page lets the lists of held pages go on. A hit marks its
+/// page; what is held no more leaves its list, and all others stay as they stood; and what comes to be
+/// held, one page at most, enters a generation of its group, unmarked: the second youngest where it was
+/// read in, and else the youngest. A group more begins with no page.
 pub fn held_pages_go_on()
     ensures { HeldPagesGoOn }
 {}
 
-/// The page that a call takes is its group's first in the list of held pages, and it was that group's
-/// turn to give a page to the reclaim's target. Then the target's cursor names the group.
+/// No generation of any group begins or ends in a call that takes no page.
+pub fn only_takes_age()
+    ensures { OnlyTakesAge }
+{}
+
+/// An access that uses a page as it is marks it.
+pub fn hits_mark()
+    ensures { HitsMark }
+{}
+
+/// No call marks a page otherwise: neither one that makes, copies or reads in a page, nor one that takes
+/// one. That none comes with an old mark of its number, [`held_pages_go_on`] says.
+pub fn only_hits_mark()
+    ensures { OnlyHitsMark }
+{}
+
+/// The page that a call takes is the one of its group's that is evicted next, and it was that group's
+/// turn to give a page to the reclaim's target. The lists go on without it as the search for it left
+/// them, and the target's cursor names the group.
 pub fn pages_leave_in_order()
     ensures { PagesLeaveInOrder }
+{}
+
+/// A marked page is taken only where each page of its group that may be taken is marked, or of one of
+/// the group's two youngest generations.
+pub fn marked_pages_stay()
+    ensures { MarkedPagesStay }
 {}
 
 /// Each read that is done gives the byte last written.
@@ -166,4 +197,10 @@ pub fn groups_are_there()
 /// one last written.
 pub fn replies_are_settled()
     ensures { RepliesAreSettled }
+{}
+
+/// In which order pages will leave is settled by the answer of a call and the state that it leaves: lists,
+/// marks and cursors are the same then.
+pub fn orders_are_settled()
+    ensures { OrdersAreSettled }
 {}

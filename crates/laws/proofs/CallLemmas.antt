@@ -1,0 +1,365 @@
+-- What one call leaves of the lists of held pages and of the order in which they leave.
+use Rattle.std.proofs.Common.{◌≡◌, inl, inr, ℕ, ◌+◌, ◌<◌, ◌==◌, ◌&&◌, not, Bool, true, false, List, [], ◌∷◌, ◌++◌, length, Option, Some, None, eqb-true, refl, sym, ap, ◌∙◌, subst, length-append, length-set, get_or-set_other}
+use Rattle.std.specs.Prelude.{◌⊎◌, MatchBool, IfSome, slice_set}
+use Rattle.std.specs.List.{AllByRecursion}
+use Rattle.std.proofs.lemmas.Bool.{and_parts, eqb-false, true≢false}
+use Rattle.std.proofs.lemmas.List.{get_or-set_same, length-replicate}
+use Rattle.machine.specs.declared.id.FrameId.{FrameId}
+use Rattle.machine.specs.declared.id.TaskId.{TaskId}
+use Rattle.machine.specs.declared.entry.Entry.{Entry}
+use Rattle.machine.specs.declared.event.Op.{Op}
+use Rattle.machine.specs.declared.event.Place.{Place}
+use Rattle.machine.specs.declared.event.Place.TheVariants.{Virtual}
+use Rattle.machine.specs.declared.event.Event.{Event}
+use Rattle.machine.specs.declared.event.Event.TheVariants as event
+use Rattle.machine.specs.declared.refusal.Refusal.{Refusal}
+use Rattle.machine.specs.declared.refusal.Refusal.TheVariants.{Stranger, TraceFull}
+use Rattle.machine.specs.declared.reply.Reply.{Reply}
+use Rattle.machine.specs.declared.reply.Reply.TheVariants as reply
+use Rattle.machine.specs.Slots.{there_and}
+use Rattle.machine.specs.Tree.{Node}
+use Rattle.machine.specs.Pages.{Page, Pages, page_at, is_anon, is_held, is_held_in}
+use Rattle.machine.specs.Tasks.{mapped_at}
+use Rattle.machine.specs.State.{Opening, State, page_numbers, first_state, is_swap_free}
+use Rattle.machine.specs.Reclaim.{target_of}
+use Rattle.machine.specs.Generations.{Gens, new_gens, of_kind, row_of, gens_at, IsGens}
+use Rattle.machine.specs.Aging.{is_marked, has_mark}
+use Rattle.machine.specs.Eviction.{old_pages}
+use Rattle.machine.specs.Lists.{HeldLists, Order, Orders, first_order, PicksOf, is_held_of, ListsHeld, AreGenerations, Generation, Youngest, generation_for, GoesOn, shown_at, hit_of, with_mark, with_group, TakesNext, AddsLists, Keeps, Orders}
+use Rattle.machine.specs.Refusals.{refusal}
+use Rattle.machine.specs.Call.{Past, Caller, Answers, Answered, JudgedBy, Called, knows_pass, is_trace_full}
+use Rattle.machine.specs.Step.{new_node, Step}
+use Rattle.machine.specs.Legal.{Legal}
+use Rattle.machine.proofs.Values.{some_inj, unlike}
+use Rattle.machine.proofs.TreeLemmas.{eq_cases}
+use Rattle.machine.proofs.CursorLemmas.{cursors-push, cursors-set}
+use Rattle.machine.proofs.OpeningLemmas.{tree_after, step_opening, step_tree}
+use Rattle.machine.proofs.HeldLemmas.{held-go_on, held-marked, gens_at-more, held-group, generations-group, goes_length, goes-max, goes-min, generations-go_on, first-held, first-generations}
+use Rattle.machine.proofs.StepLemmas.{step-places, mkdir-pages, legal-lists, legal-numbered, access-hits, step-hit}
+use Rattle.machine.proofs.OrdersLemmas.{orders_alike}
+use Rattle.machine.proofs.SoundLemmas.{legal-sound}
+use Rattle.eviction.proofs.SoundLemmas.{picked-length, picked-generations, picked-size, picked-held, picked-of, picked-marked, picked-unmarked}
+use Rattle.laws.specs.Laws.{took_for, TakesUnprotected, ListsGoOn, HeldPagesGoOn, KeepNumbers, OnlyTakesAge, OnlyHitsMark, LeavesInOrder, OrdersAreSettled}
+use Rattle.laws.proofs.LawLemmas.{by_test}
+use Rattle.laws.proofs.ReclaimLemmas.{reclaims_spare_the_protected}
+
+-- ---- one call
+
+served_or : {P : Type 0} (old new : Past) (caller : Caller) (what : Event) (answer : Reply) → (new ≡ old → P) → (Answers old caller what answer new → P) → Answered old caller what answer new → P
+served_or old new caller what (reply.Refused why) same answers h = same h.2
+served_or old new caller what answer same answers h = answers h
+
+pub called_or : {P : Type 0} (old new : Past) (caller : Caller) (what : Event) (answer : Reply) → (new ≡ old → P) → (Answers old caller what answer new → P) → Called old caller what answer new → P
+called_or {P} old new caller what answer same answers called = by_test (knows_pass old.state old.history caller what) (by_cause (refusal old.state what)) (λ h. same h.1) called
+  where
+    by_cause : (cause : Option Refusal) → JudgedBy old caller what cause answer new → P
+    by_cause (Some why) h = same h.1
+    by_cause None h = by_test (is_trace_full old what) (λ k. same k.1) (served_or old new caller what answer same answers) h
+
+abbrev is_refusal : Reply → Bool
+is_refusal (reply.Refused why) = true
+is_refusal answer = false
+
+-- what is not refused is a step
+module _ (old new : Past) (caller : Caller) (what : Event) (answer : Reply) (served : is_refusal answer ≡ false) where
+  not_refused : {P : Type 0} (why : Refusal) → answer ≡ reply.Refused why → P
+  not_refused why e = unlike (is_refusal answer) (ap is_refusal e) served
+
+  served_answers : (said : Reply) → answer ≡ said → Answered old caller what said new → Answers old caller what said new
+  served_answers (reply.Refused why) e h = not_refused why e
+  served_answers said e h = h
+
+  pub called_answers : Called old caller what answer new → Answers old caller what answer new
+  called_answers called = by_test (knows_pass old.state old.history caller what) (by_cause (refusal old.state what)) (λ h. not_refused Stranger h.0) called
+    where
+      by_cause : (cause : Option Refusal) → JudgedBy old caller what cause answer new → Answers old caller what answer new
+      by_cause (Some why) h = not_refused why h.0
+      by_cause None h = by_test (is_trace_full old what) (λ k. not_refused TraceFull k.0) (served_answers answer refl) h
+
+-- how the order goes on, by whether a page is taken, a group is made, or neither
+orders_or : {P : Type 0} (old new : State) (order order' : Order) (what : Event) (answer : Reply)
+    → ((target : ℕ) → took_for what answer ≡ Some target → tree_after old what ≡ old.tree → TakesNext old order target new order' → P)
+    → ((path : List ℕ) → what ≡ event.Mkdir path → AddsLists order order' → P)
+    → (tree_after old what ≡ old.tree → Keeps old order what answer new order' → P)
+    → Orders old order what answer new order' → P
+orders_or old new order order' (event.Relieve cause) (reply.Out ticket) takes adds keeps h = takes (target_of cause) refl refl h
+orders_or old new order order' (event.Relieve cause) reply.Dropped takes adds keeps h = takes (target_of cause) refl refl h
+orders_or old new order order' (event.ReclaimOne g) (reply.Out ticket) takes adds keeps h = takes g.0 refl refl h
+orders_or old new order order' (event.ReclaimOne g) reply.Dropped takes adds keeps h = takes g.0 refl refl h
+orders_or old new order order' (event.Mkdir path) answer takes adds keeps h = adds path refl h
+orders_or old new order order' what answer takes adds keeps h = keeps refl h
+
+-- ---- the order stays right
+
+-- the lists are those of the pages that are held, and sound; and each group has lists, and a cursor
+pub record IsInOrder (s : State) (order : Order) : Type 0 where
+  pub listed : ListsHeld s.pages order.held
+  pub sound : AreGenerations order.held
+  pub groups : length order.held.groups ≡ length s.tree
+  pub marks : length order.held.marks ≡ page_numbers s.opening
+  pub cursors : length order.cursors ≡ length s.tree
+
+abbrev pub IsOrdered : Past → Type 0
+IsOrdered past = IsInOrder past.state past.order
+
+-- so it is at the opening
+pub ordered-first : (opening : Opening) → IsInOrder (first_state opening) (first_order opening)
+ordered-first opening = record {
+  listed = first-held opening;
+  sound = first-generations opening;
+  groups = refl;
+  marks = length-replicate (page_numbers opening) false;
+  cursors = refl;
+}
+
+-- a mark changes no list
+marked-groups : (p : Option ℕ) (held : HeldLists) → (with_mark p held).groups ≡ held.groups
+marked-groups None held = refl
+marked-groups (Some p) held = refl
+
+marked-size : (p : Option ℕ) (held : HeldLists) → length (with_mark p held).marks ≡ length held.marks
+marked-size None held = refl
+marked-size (Some p) held = length-set held.marks p true
+
+module _ (opening : Opening) (history : List Entry) (old new : State) (order order' : Order) (what : Event) (answer : Reply) (legal : Legal opening history new) (step : Step old what answer new) where
+  -- from lists that are right, those that go on are
+  goes-ordered : (generation : Generation) (held : HeldLists) → tree_after old what ≡ old.tree → GoesOn generation old.pages held new.pages order'.held → ListsHeld old.pages held → AreGenerations held
+      → length held.groups ≡ length old.tree → length held.marks ≡ page_numbers old.opening → length order'.cursors ≡ length old.tree → IsInOrder new order'
+  goes-ordered generation held same goes were sound groups marks cursors =
+      let tree : length new.tree ≡ length old.tree = ap (λ (tree : List Node). length tree) (step_tree old what answer new step ∙ same) in
+      record {
+        listed = held-go_on generation old.pages new.pages held order'.held goes were (step-places old what answer new step) (legal-lists opening history new held legal (groups ∙ sym tree));
+        sound = generations-go_on generation old.pages new.pages held order'.held goes were sound;
+        groups = goes_length generation old.pages new.pages held order'.held goes ∙ groups ∙ sym tree;
+        marks = goes.size ∙ marks ∙ sym (ap (λ (o : Opening). page_numbers o) (step_opening old what answer new step));
+        cursors = cursors ∙ sym tree;
+      }
+
+  ordered-takes : (target : ℕ) → tree_after old what ≡ old.tree → TakesNext old order target new order' → IsInOrder old order → IsInOrder new order'
+  ordered-takes target same h was =
+      let swap : Bool = is_swap_free old in
+      goes-ordered Youngest h.looked same h.leaves (picked-held swap order.held h.g (Some h.p) h.looked h.picked old.pages was.sound was.listed)
+      (picked-generations swap order.held h.g (Some h.p) h.looked h.picked was.sound) (picked-length swap order.held h.g (Some h.p) h.looked h.picked ∙ was.groups)
+      (picked-size swap order.held h.g (Some h.p) h.looked h.picked was.sound ∙ was.marks) (cursors-set order.cursors order'.cursors target h.g h.moves ∙ was.cursors)
+
+  ordered-keeps : tree_after old what ≡ old.tree → Keeps old order what answer new order' → IsInOrder old order → IsInOrder new order'
+  ordered-keeps same h was =
+      let held : HeldLists = with_mark (hit_of old what answer) order.held in
+      goes-ordered (generation_for what) held same h.0 (by_hit (hit_of old what answer) refl) (λ g. subst (λ (xs : List Gens). IsGens (gens_at xs g)) (sym (marked-groups (hit_of old what answer) order.held)) (was.sound g))
+      (ap (λ (xs : List Gens). length xs) (marked-groups (hit_of old what answer) order.held) ∙ was.groups) (marked-size (hit_of old what answer) order.held ∙ was.marks)
+      (ap (λ (xs : List (Option ℕ)). length xs) h.1 ∙ was.cursors)
+    where
+      by_hit : (p : Option ℕ) → hit_of old what answer ≡ p → ListsHeld old.pages (with_mark p order.held)
+      by_hit None e = was.listed
+      by_hit (Some p) e = held-marked old.pages order.held p (step-hit old what answer new step p e) was.listed
+
+  ordered-adds : (path : List ℕ) → what ≡ event.Mkdir path → AddsLists order order' → IsInOrder old order → IsInOrder new order'
+  ordered-adds path e h was =
+      let node : Node = new_node old.tree path in
+      let pages : new.pages ≡ old.pages = mkdir-pages old new path answer (subst (λ (w : Event). Step old w answer new) e step) in
+      let tree : new.tree ≡ old.tree ++ node ∷ [] = step_tree old what answer new step ∙ ap (tree_after old) e in
+      let longer : length new.tree ≡ length (old.tree ++ node ∷ []) = ap (λ (tree : List Node). length tree) tree in
+      subst (λ (o : Order). IsInOrder new o) (sym h) (record {
+        listed = subst (λ (ps : Pages). ListsHeld ps (with_group order.held)) (sym pages) (held-group old.pages order.held was.listed);
+        sound = generations-group order.held was.sound;
+        groups = length-append order.held.groups (new_gens ∷ []) ∙ ap (λ n. n + 1) was.groups ∙ sym (length-append old.tree (node ∷ [])) ∙ sym longer;
+        marks = was.marks ∙ sym (ap (λ (o : Opening). page_numbers o) (step_opening old what answer new step));
+        cursors = cursors-push old.tree node order.cursors (order.cursors ++ None ∷ []) was.cursors refl ∙ sym longer;
+      })
+
+  ordered-step : Orders old order what answer new order' → IsInOrder old order → IsInOrder new order'
+  ordered-step orders was =
+      orders_or old new order order' what answer (λ target took same h. ordered-takes target same h was) (λ path e h. ordered-adds path e h was) (λ same h. ordered-keeps same h was) orders
+
+pub ordered-called : (opening : Opening) (old new : Past) (caller : Caller) (what : Event) (answer : Reply) → Legal opening new.history new.state → Called old caller what answer new → IsOrdered old → IsOrdered new
+ordered-called opening old new caller what answer legal called was =
+    called_or old new caller what answer (λ same. subst IsOrdered (sym same) was)
+    (λ h. ordered-step opening new.history old.state new.state old.order new.order what answer legal h.steps h.order was) called
+
+-- ---- calls that take no page
+
+lists_go : (old new : Past) (what : Event) (answer : Reply) → took_for what answer ≡ None → Orders old.state old.order what answer new.state new.order → ListsGoOn old what answer new
+lists_go old new (event.Relieve cause) (reply.Out ticket) none h = cc
+lists_go old new (event.Relieve cause) reply.Dropped none h = cc
+lists_go old new (event.ReclaimOne g) (reply.Out ticket) none h = cc
+lists_go old new (event.ReclaimOne g) reply.Dropped none h = cc
+lists_go old new (event.Mkdir path) answer none h = ap (λ (o : Order). o.held) h
+lists_go old new what answer none h = h.0
+
+pub held_pages_go_on : HeldPagesGoOn
+held_pages_go_on old new caller what answer none called = called_or old new caller what answer (λ same. inl same) (λ h. inr (lists_go old new what answer none h.order)) called
+
+-- the numbers of generations, over lists that go on
+goes-numbers : (generation : Generation) (before after : Pages) (p : Option ℕ) (held held' : HeldLists) → GoesOn generation before (with_mark p held) after held' → KeepNumbers held held'
+goes-numbers generation before after p held held' goes g = (
+  goes-max generation before after (with_mark p held) held' goes g ∙ ap (λ (xs : List Gens). (gens_at xs g).max_seq) (marked-groups p held),
+  λ kind. goes-min generation before after (with_mark p held) held' goes g kind ∙ ap (λ (xs : List Gens). (row_of kind (gens_at xs g)).min_seq) (marked-groups p held),
+)
+
+keeps-numbers : (old new : Past) (what : Event) (answer : Reply) → ListsGoOn old what answer new → KeepNumbers old.order.held new.order.held
+keeps-numbers old new (event.Mkdir path) answer h = λ g.
+    let same : gens_at new.order.held.groups g ≡ gens_at old.order.held.groups g = ap (λ (held : HeldLists). gens_at held.groups g) h ∙ gens_at-more old.order.held.groups g in
+    (ap (λ (x : Gens). x.max_seq) same, λ kind. ap (λ (x : Gens). (row_of kind x).min_seq) same)
+keeps-numbers old new what answer h = goes-numbers (generation_for what) old.state.pages new.state.pages (hit_of old.state what answer) old.order.held new.order.held h
+
+pub only_takes_age : OnlyTakesAge
+only_takes_age old new caller what answer none called =
+    called_or old new caller what answer (λ same. subst (λ (p : Past). KeepNumbers old.order.held p.order.held) (sym same) (λ g. (refl, λ kind. refl)))
+    (λ h. keeps-numbers old new what answer (lists_go old new what answer none h.order)) called
+
+-- ---- marks
+
+-- the page that a place shows is marked
+pub record Marks (old : Past) (t : TaskId) (place : Place) (new : Past) : Type 0 where
+  pub p : ℕ
+  pub shown : shown_at old.state.page_tables t.0 place ≡ Some p
+  pub marked : is_marked new.order.held.marks p ≡ true
+
+pub called_marks : (opening : Opening) (old new : Past) (caller : Caller) (t : TaskId) (place : Place) (op : Op) (byte : ℕ) (frame : FrameId) → Legal opening old.history old.state → IsOrdered old
+    → Called old caller (event.Access t place op) (reply.Done byte (Some frame)) new → Marks old t place new
+called_marks opening old new caller t (Virtual v o) op byte frame legal was called =
+    let h = called_answers old new caller (event.Access t (Virtual v o) op) (reply.Done byte (Some frame)) refl called in
+    let hit = access-hits old.state new.state t v o op byte frame h.steps in
+    let shows : Option ℕ = mapped_at old.state.page_tables t.0 v in
+    let below : hit.p < length old.order.held.marks = has_number hit.p hit.before in
+    record {
+      p = hit.p;
+      shown = hit.shown;
+      marked =
+          h.order.0.marks hit.p
+          ∙ ap (λ (b : Bool). b && is_held_in new.state.pages hit.p && is_marked (with_mark shows old.order.held).marks hit.p) hit.before
+          ∙ ap (λ (b : Bool). b && is_marked (with_mark shows old.order.held).marks hit.p) hit.after
+          ∙ ap (λ (q : Option ℕ). is_marked (with_mark q old.order.held).marks hit.p) hit.shown
+          ∙ get_or-set_same old.order.held.marks hit.p true false below;
+    }
+  where
+    -- a page that is held has a number that has a mark
+    has_number : (p : ℕ) → is_held_in old.state.pages p ≡ true → p < length old.order.held.marks
+    has_number p held =
+        let size : length old.order.held.marks ≡ page_numbers opening = was.marks ∙ ap (λ (o : Opening). page_numbers o) (legal-sound opening old.history old.state legal).0 in
+        subst (λ (n : ℕ). p < n) (sym size) (by_slot (page_at old.state.pages p) held ((legal-numbered opening old.history old.state legal).below p))
+      where
+        by_slot : (slot : Option Page) → there_and is_held slot ≡ true → IfSome slot (λ page. p < page_numbers opening) → p < page_numbers opening
+        by_slot None held below = absurd (true≢false (sym held))
+        by_slot (Some page) held below = below
+
+-- a page that is marked after lists go on was marked before
+goes-marked : (generation : Generation) (before after : Pages) (held held' : HeldLists) → GoesOn generation before held after held' → (p : ℕ) → is_marked held'.marks p ≡ true → is_marked held.marks p ≡ true
+goes-marked generation before after held held' goes p m = (and_parts (is_held_in before p && is_held_in after p) (is_marked held.marks p) (sym (goes.marks p) ∙ m)).1
+
+marked-before : (held : HeldLists) (hit : Option ℕ) (p : ℕ) → is_marked (with_mark hit held).marks p ≡ true → (is_marked held.marks p ≡ true) ⊎ (hit ≡ Some p)
+marked-before held None p m = inl m
+marked-before held (Some q) p m = by_page (p == q) refl
+  where
+    by_page : (b : Bool) → (p == q) ≡ b → (is_marked held.marks p ≡ true) ⊎ (Some q ≡ Some p)
+    by_page true e = inr (ap (λ (n : ℕ). Some n) (sym (eqb-true p q e)))
+    by_page false e = inl (sym (get_or-set_other held.marks q p true false (λ same. eqb-false p q e same)) ∙ m)
+
+takes-marked : (old new : State) (order order' : Order) (target : ℕ) → TakesNext old order target new order' → (p : ℕ) → is_marked order'.held.marks p ≡ true → is_marked order.held.marks p ≡ true
+takes-marked old new order order' target h p m = by_mark (is_marked order.held.marks p) refl
+  where
+    looked : is_marked h.looked.marks p ≡ true
+    looked = goes-marked Youngest old.pages new.pages h.looked order'.held h.leaves p m
+
+    by_mark : (b : Bool) → is_marked order.held.marks p ≡ b → b ≡ true
+    by_mark true e = refl
+    by_mark false e = absurd (true≢false (sym looked ∙ picked-unmarked (is_swap_free old) order.held h.g (Some h.p) h.looked h.picked p e))
+
+pub only_hits_mark : OnlyHitsMark
+only_hits_mark old new caller what answer called p m =
+    called_or old new caller what answer (λ same. inl (ap (λ (x : Past). is_marked x.order.held.marks p) (sym same) ∙ m))
+    (λ h.
+    orders_or old.state new.state old.order new.order what answer (λ target took same k. inl (takes-marked old.state new.state old.order new.order target k p m))
+    (λ path e k. inl (ap (λ (x : Order). is_marked x.held.marks p) (sym k) ∙ m))
+    (λ same k. marked-before old.order.held (hit_of old.state what answer) p (goes-marked (generation_for what) old.state.pages new.state.pages (with_mark (hit_of old.state what answer) old.order.held) new.order.held k.0 p m))
+    h.order) called
+
+-- ---- the page that is taken
+
+-- no refusal takes one
+took_served : (what : Event) (answer : Reply) (target : ℕ) → took_for what answer ≡ Some target → is_refusal answer ≡ false
+took_served (event.Relieve cause) (reply.Refused why) target e = cc
+took_served (event.ReclaimOne g) (reply.Refused why) target e = cc
+took_served what (reply.Refused why) target e = cc
+took_served what answer target e = refl
+
+takes_next : (old new : State) (order order' : Order) (what : Event) (answer : Reply) (target : ℕ) → took_for what answer ≡ Some target → Orders old order what answer new order' → TakesNext old order target new order'
+takes_next old new order order' (event.Relieve why) (reply.Out ticket) target e h = subst (λ t. TakesNext old order t new order') (some_inj e) h
+takes_next old new order order' (event.Relieve why) reply.Dropped target e h = subst (λ t. TakesNext old order t new order') (some_inj e) h
+takes_next old new order order' (event.ReclaimOne g) (reply.Out ticket) target e h = subst (λ t. TakesNext old order t new order') (some_inj e) h
+takes_next old new order order' (event.ReclaimOne g) reply.Dropped target e h = subst (λ t. TakesNext old order t new order') (some_inj e) h
+takes_next old new order order' what answer target e h = cc
+
+leaves_in_order : (old new : Past) (target : ℕ) → IsOrdered old → TakesUnprotected old.state target new.state → TakesNext old.state old.order target new.state new.order → LeavesInOrder old target new
+leaves_in_order old new target was taken next = record {
+  taken = taken;
+  turn = next.next ∙ ap (λ (g : ℕ). Some g) group;
+  looked = next.looked;
+  picked =
+      subst (λ (g : ℕ). PicksOf (is_swap_free old.state) old.order.held g (Some taken.p) next.looked) group
+      (subst (λ (q : ℕ). PicksOf (is_swap_free old.state) old.order.held next.g (Some q) next.looked) same next.picked);
+  leaves = next.leaves;
+  cursor = next.moves ∙ ap (λ (g : ℕ). slice_set old.order.cursors target (Some g)) group;
+}
+  where
+    same : next.p ≡ taken.p
+    same =
+        elim (eq_cases next.p taken.p) [
+          | inl e ↦ e
+          | inr differs ↦ unlike (is_held_in old.state.pages next.p) next.was (ap (there_and is_held) (sym (taken.others next.p differs)) ∙ next.taken)
+        ]
+
+    -- the page is of the group that was served, since it is on its lists
+    group : next.g ≡ taken.page.group
+    group =
+        let found = picked-of (is_swap_free old.state) old.order.held next.g next.p next.looked next.picked was.sound old.state.pages was.listed in
+        let here : there_and (is_held_of next.g found.0) (Some taken.page) ≡ true = ap (there_and (is_held_of next.g found.0)) (sym taken.there ∙ ap (page_at old.state.pages) (sym same)) ∙ found.1 in
+        let of_kinds : Bool = of_kind found.0 (is_anon taken.page.content) (not (is_anon taken.page.content)) in
+        let both = and_parts (is_held taken.page) ((taken.page.group == next.g) && of_kinds) here in
+        sym (eqb-true taken.page.group next.g (and_parts (taken.page.group == next.g) of_kinds both.1).0)
+
+-- a marked page that is taken was of a group with no old page unmarked
+marked_stays : (old new : Past) (target : ℕ) → IsOrdered old → LeavesInOrder old target new → (p : ℕ) (page : Page) → page_at old.state.pages p ≡ Some page → is_held page ≡ true → there_and is_held (page_at new.state.pages p) ≡ false
+    → is_marked old.order.held.marks p ≡ true → AllByRecursion (λ l. has_mark old.order.held.marks l ≡ true) (old_pages (is_swap_free old.state) (gens_at old.order.held.groups page.group))
+marked_stays old new target was h p page there held gone marked =
+    let same : p ≡ h.taken.p =
+    elim (eq_cases p h.taken.p) [
+      | inl e ↦ e
+      | inr differs ↦ unlike (is_held_in old.state.pages p) (ap (there_and is_held) there ∙ held) (ap (there_and is_held) (sym (h.taken.others p differs)) ∙ gone)
+    ] in
+    let its : page ≡ h.taken.page = some_inj (sym there ∙ ap (page_at old.state.pages) same ∙ h.taken.there) in
+    subst (λ (x : Page). AllByRecursion (λ l. has_mark old.order.held.marks l ≡ true) (old_pages (is_swap_free old.state) (gens_at old.order.held.groups x.group))) (sym its)
+    (picked-marked (is_swap_free old.state) old.order.held h.taken.page.group h.taken.p h.looked h.picked was.sound (ap (is_marked old.order.held.marks) (sym same) ∙ marked))
+
+module _ (old new : Past) (caller : Caller) (what : Event) (answer : Reply) (target : ℕ) (took : took_for what answer ≡ Some target) (called : Called old caller what answer new) (was : IsOrdered old) where
+  pub called_leaves : LeavesInOrder old target new
+  called_leaves =
+      let served = called_answers old new caller what answer (took_served what answer target took) called in
+      leaves_in_order old new target was (reclaims_spare_the_protected old.state new.state what answer target took served.steps)
+      (takes_next old.state new.state old.order new.order what answer target took served.order)
+
+  pub called_stays : (p : ℕ) (page : Page) → page_at old.state.pages p ≡ Some page → is_held page ≡ true → there_and is_held (page_at new.state.pages p) ≡ false
+      → is_marked old.order.held.marks p ≡ true → AllByRecursion (λ l. has_mark old.order.held.marks l ≡ true) (old_pages (is_swap_free old.state) (gens_at old.order.held.groups page.group))
+  called_stays = marked_stays old new target was called_leaves
+
+-- ---- two calls
+
+both_tests : (b : Bool) {A B A' B' P : Type 0} → (A → A' → P) → (B → B' → P) → MatchBool b A B → MatchBool b A' B' → P
+both_tests true yes_both no_both h k = yes_both h k
+both_tests false yes_both no_both h k = no_both h k
+
+pub orders_are_settled : OrdersAreSettled
+orders_are_settled old new new' caller what answer called called' same =
+    both_tests (knows_pass old.state old.history caller what) (by_cause (refusal old.state what)) (λ h k. unchanged h.1 k.1) called called'
+  where
+    unchanged : new ≡ old → new' ≡ old → new.order ≡ new'.order
+    unchanged h k = ap (λ (past : Past). past.order) h ∙ sym (ap (λ (past : Past). past.order) k)
+
+    by_reply : (said : Reply) → Answered old caller what said new → Answered old caller what said new' → new.order ≡ new'.order
+    by_reply (reply.Refused why) h k = unchanged h.2 k.2
+    by_reply said h k =
+        orders_alike old.state new.state old.order new.order new'.order what said h.order (subst (λ (s : State). Orders old.state old.order what said s new'.order) (sym same) k.order)
+
+    by_cause : (cause : Option Refusal) → JudgedBy old caller what cause answer new → JudgedBy old caller what cause answer new' → new.order ≡ new'.order
+    by_cause (Some why) h k = unchanged h.1 k.1
+    by_cause None h k = both_tests (is_trace_full old what) (λ h k. unchanged h.1 k.1) (by_reply answer) h k

@@ -1,0 +1,5 @@
+use Rattle.laws.proofs.OrderLemmas.{hits_mark}
+use Rattle.laws.proofs.hits_mark.Goals as goal
+
+pub returns : goal.returns
+returns c = hits_mark
