@@ -21,6 +21,8 @@ mod event_files;
 #[cfg(test)]
 mod explanations;
 #[cfg(test)]
+mod generations;
+#[cfg(test)]
 mod min_file;
 #[cfg(test)]
 mod read_ins;
