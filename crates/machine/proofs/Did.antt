@@ -1,6 +1,6 @@
 -- What a step did to the state, as one of few cases. Whoever asks what steps leave as it was goes by these.
 use Rattle.std.proofs.Common.{◌≡◌, inl, inr, ℕ, ◌<◌, Bool, true, false, List, [], ◌∷◌, ◌++◌, Option, Some, None, refl, sym, ap, ◌∙◌, subst}
-use Rattle.std.specs.Prelude.{MatchBool}
+use Rattle.std.specs.Prelude.{MatchBool, nat_lt}
 use Rattle.machine.specs.declared.id.TaskId.{TaskId}
 use Rattle.machine.specs.declared.id.GroupId.{GroupId}
 use Rattle.machine.specs.declared.record.Life.{Life}
@@ -16,14 +16,15 @@ use Rattle.machine.specs.declared.event.Event.TheVariants as event
 use Rattle.machine.specs.declared.reply.Reply.{Reply}
 use Rattle.machine.specs.declared.reply.Reply.TheVariants as reply
 use Rattle.machine.specs.Slots.{Changes, there_and}
-use Rattle.machine.specs.Pages.{Content, Memory, OfFile, Residence, Held, Coming, Going, Away, Page, page_at, is_anon, frame_at, block_at, is_frame_taken, is_ticket_taken}
+use Rattle.machine.specs.Pages.{in_transfer_at, Content, Memory, OfFile, Residence, Held, Coming, Going, Away, Page, page_at, is_anon, frame_at, block_at, is_frame_taken, is_ticket_taken}
 use Rattle.machine.specs.Counts.{Counted, no_limits}
-use Rattle.machine.specs.Tasks.{PageTables, Shows, ShowsNothing, SetsTask, task_at, is_live_life, is_live_task, lives, group_of, group_of_task}
+use Rattle.machine.specs.Tasks.{PageTables, mapped_at, mappers, Shows, Copies, ShowsNothing, SetsTask, task_at, is_live_life, is_live_task, lives, group_of, group_of_task}
 use Rattle.machine.specs.State.{State, page_numbers, over_in, is_frame_free}
 use Rattle.machine.specs.Access.{Meeting, Unmapped, Hits, Transferring, NeedsPage, NeedsCopy, NeedsSwapIn, Dangling, meets}
 use Rattle.machine.specs.Reclaim.{has_takeable, has_transfer, stands, target_of}
-use Rattle.machine.specs.Step.{ChargeStep, IsFreeBlock, MakesPage, StartsFetch, HitStep, UnmappedStep, MeetStep, LifeStep, TaskStep, Takes, StartsLeave, LeavesBy, LeavesFrom, ReclaimStep, KillStep, RelieveStep, EndsTask, EndsTransfer, in_frame, on_block, new_node, new_page, Step}
-use Rattle.machine.proofs.MoveLemmas.{MayGo, Settled, hits_held, swaps_away, in_frame-cases, on_block-cases}
+use Rattle.machine.specs.Step.{ChargeStep, IsFreeBlock, MakesPage, StartsFetch, HitStep, UnmappedStep, MeetStep, LifeStep, TaskStep, Takes, StartsLeave, LeavesBy, LeavesFrom, ReclaimStep, KillStep, RelieveStep, Frees, EndsTask, EndsTransfer, in_frame, on_block, new_node, new_page, Step}
+use Rattle.machine.proofs.Values.{some_inj, never_some, unlike}
+use Rattle.machine.proofs.MoveLemmas.{MayGo, MayStay, Met, met, Settled, hits_held, swaps_away, in_frame-cases, on_block-cases}
 
 -- ---- the cases
 
@@ -54,16 +55,20 @@ pub data Moves (old : State) (what : Event) (answer : Reply) (page : Page) (now 
   -- or on its block
   Lies : (frame block : ℕ) → is_out answer ≡ false → frame_at page.residence ≡ Some frame → block_at page.residence ≡ Some block → now ≡ Away block → Moves old what answer page now
 
+-- the place showed nothing, or a page that another place shows too
+abbrev pub WasShared : State → ℕ → ℕ → Type 0
+WasShared s t v = (q : ℕ) → mapped_at s.page_tables t v ≡ Some q → nat_lt 1 (mappers s.page_tables q) ≡ true
+
 pub data Did (old : State) (what : Event) (answer : Reply) (new : State) : Type 0 where
   -- nothing, but for a setting and for what stands counted
   Kept : (limits : List Limits) (counted : List Counted) → new ≡ record old { limits = limits; counted = counted } → Did old what answer new
   -- an access of a live task made a page, charged to its group, and a virtual page of the task shows it
-  Made : (t v p frame : ℕ) → is_access what ≡ true → is_out answer ≡ false → lives old.tasks t ≡ true → p < page_numbers old.opening → page_at old.pages p ≡ None → is_frame_taken old.pages frame ≡ false
+  Made : (t v p frame : ℕ) → is_access what ≡ true → is_out answer ≡ false → lives old.tasks t ≡ true → WasShared old t v → p < page_numbers old.opening → page_at old.pages p ≡ None → is_frame_taken old.pages frame ≡ false
       → Changes old.pages new.pages p (Some (new_page (group_of_task old.tasks t) frame)) → Shows old.page_tables new.page_tables t v (Some p)
       → new ≡ record old { pages = new.pages; page_tables = new.page_tables } → Did old what answer new
-  -- one page was written to, or stands elsewhere
+  -- one page was written to, or stands elsewhere: in the end of a transfer it was of a file, or something maps it
   Moved : (p : ℕ) (page : Page) (dirty : Bool) (now : Residence) (counted : List Counted) → page_at old.pages p ≡ Some page
-      → Changes old.pages new.pages p (Some (record { content = page.content; group = page.group; dirty = dirty; residence = now })) → Moves old what answer page now
+      → Changes old.pages new.pages p (Some (record { content = page.content; group = page.group; dirty = dirty; residence = now })) → Moves old what answer page now → (in_transfer_at page.residence ≡ true → MayStay old.page_tables p page)
       → new ≡ record old { pages = new.pages; counted = counted } → Did old what answer new
   -- one page is gone: it was of a file, or nothing mapped it
   Dropped : (p : ℕ) (page : Page) (counted : List Counted) → is_out answer ≡ false → page_at old.pages p ≡ Some page → MayGo old.page_tables p page → Changes old.pages new.pages p None
@@ -73,6 +78,13 @@ pub data Did (old : State) (what : Event) (answer : Reply) (new : State) : Type 
   -- a task more
   Spawned : (t : TaskId) (g : GroupId) → what ≡ event.Spawn t g → SetsTask old.tasks t.0 g.0 Live new.tasks → ShowsNothing old.page_tables new.page_tables t.0
       → new ≡ record old { tasks = new.tasks; page_tables = new.page_tables } → Did old what answer new
+  -- a task more, in the group of a live one, that shows what that one shows
+  Forked : (t child : TaskId) → what ≡ event.Fork t child → is_out answer ≡ false → lives old.tasks t.0 ≡ true → SetsTask old.tasks child.0 (group_of_task old.tasks t.0) Live new.tasks
+      → Copies old.page_tables new.page_tables t.0 child.0 → new ≡ record old { tasks = new.tasks; page_tables = new.page_tables } → Did old what answer new
+  -- a virtual page of a live task shows nothing
+  Freed : (t : TaskId) (v : ℕ) → what ≡ event.Free t v → is_out answer ≡ false → lives old.tasks t.0 ≡ true → Frees old t.0 v answer new → Did old what answer new
+  -- a task is in another group
+  Attached : (t : TaskId) (g : GroupId) → what ≡ event.Attach t g → is_out answer ≡ false → SetsTask old.tasks t.0 g.0 Live new.tasks → new ≡ record old { tasks = new.tasks } → Did old what answer new
   -- a group more
   Grown : (path : List ℕ) → what ≡ event.Mkdir path → is_out answer ≡ false → new ≡ record old { tree = old.tree ++ new_node old.tree path ∷ []; limits = old.limits ++ no_limits ∷ [] } → Did old what answer new
 
@@ -100,25 +112,30 @@ module _ (old new : State) (what : Event) where
     unmapped (reply.Done byte hit) h = same _ h.1
     unmapped answer h = absurd h
 
-    hit : (p frame : ℕ) (page : Page) (op : Op) (answer : Reply) → page_at old.pages p ≡ Some page → HitStep old p page frame op answer new → Did old what answer new
-    hit p frame page Read (reply.Done byte at) there h = same _ h.1
-    hit p frame page (Write b) (reply.Done byte at) there h = Moved p page _ page.residence old.counted there h.2 (Rests refl) h.3
-    hit p frame page op answer there h = absurd h
+    hit : (p frame : ℕ) (page : Page) (op : Op) (answer : Reply) → page_at old.pages p ≡ Some page → page.residence ≡ Held frame → HitStep old p page frame op answer new → Did old what answer new
+    hit p frame page Read (reply.Done byte at) there held h = same _ h.1
+    hit p frame page (Write b) (reply.Done byte at) there held h = Moved p page _ page.residence old.counted there h.2 (Rests refl) (λ moving. unlike (in_transfer_at page.residence) moving (ap in_transfer_at held)) h.3
+    hit p frame page op answer there held h = absurd h
 
-    makes : (t v : ℕ) (op : Op) (answer : Reply) → lives old.tasks t ≡ true → MakesPage old t v (group_of_task old.tasks t) op answer new → Did old what answer new
-    makes t v op answer alive h = Made t v h.page h.frame access (ap is_out h.answers) alive h.in_range h.slot_free h.frame_free.unused h.placed h.shown h.state
+    makes : (t v : ℕ) (op : Op) (answer : Reply) → lives old.tasks t ≡ true → WasShared old t v → MakesPage old t v (group_of_task old.tasks t) op answer new → Did old what answer new
+    makes t v op answer alive shared h = Made t v h.page h.frame access (ap is_out h.answers) alive shared h.in_range h.slot_free h.frame_free.unused h.placed h.shown h.state
 
     fetches : (p : ℕ) (page : Page) (block : ℕ) (answer : Reply) → page_at old.pages p ≡ Some page → page.residence ≡ Away block → StartsFetch old p page.group page.content block answer new → Did old what answer new
     fetches p page block answer there away h =
-        Moved p page false _ old.counted there h.placed (Comes h.frame block h.ticket access (ap is_out h.answers) away refl h.frame_free.unused h.ticket_free) h.state
+        Moved p page false _ old.counted there h.placed (Comes h.frame block h.ticket access (ap is_out h.answers) away refl h.frame_free.unused h.ticket_free)
+        (λ moving. unlike (in_transfer_at page.residence) moving (ap in_transfer_at away)) h.state
 
     meeting : (t v o : ℕ) (op : Op) (answer : Reply) (met : Meeting) → lives old.tasks t ≡ true → meets old t (Virtual v o) op ≡ met → MeetStep old t (group_of_task old.tasks t) op met answer new
         → Did old what answer new
     meeting t v o op answer Unmapped alive is h = unmapped answer h
-    meeting t v o op answer (Hits p page frame) alive is h = hit p frame page op answer (hits_held old t (Virtual v o) op p page frame is).0 h
+    meeting t v o op answer (Hits p page frame) alive is h = let found = hits_held old t (Virtual v o) op p page frame is in hit p frame page op answer found.0 found.1 h
     meeting t v o op answer Transferring alive is h = same answer h.1
-    meeting t v o op answer (NeedsPage w) alive is h = charged _ _ answer (makes t w op answer alive) h
-    meeting t v o op answer (NeedsCopy w) alive is h = charged _ _ answer (makes t w op answer alive) h
+    meeting t v o op answer (NeedsPage w) alive is h =
+        let found : Met old t v op (NeedsPage w) = subst (Met old t v op) is (met old t v o op) in
+        charged _ _ answer (makes t w op answer alive (λ q at. never_some (mapped_at old.page_tables t v) found.1 (ap (mapped_at old.page_tables t) (sym found.0) ∙ at))) h
+    meeting t v o op answer (NeedsCopy w) alive is h =
+        let found : Met old t v op (NeedsCopy w) = subst (Met old t v op) is (met old t v o op) in
+        charged _ _ answer (makes t w op answer alive (λ q at. ap (λ (p : ℕ). nat_lt 1 (mappers old.page_tables p)) (some_inj (sym at ∙ ap (mapped_at old.page_tables t) found.0 ∙ found.4)) ∙ found.7)) h
     meeting t v o op answer (NeedsSwapIn p page block) alive is h = let found = swaps_away old t v o op p page block is in charged page.group _ answer (fetches p page block answer found.0 found.1) h
     meeting t v o op answer Dangling alive is h = absurd h
 
@@ -140,7 +157,8 @@ module _ (old new : State) (what : Event) where
 
   sent : (p frame block : ℕ) (page : Page) (answer : Reply) → page_at old.pages p ≡ Some page → page.residence ≡ Held frame → (is_anon page.content ≡ true → IsFreeBlock old block)
       → StartsLeave old p page frame block old.counted answer new → Did old what answer new
-  sent p frame block page answer there held free h = Moved p page page.dirty _ old.counted there h.placed (Goes frame block h.ticket held refl free h.ticket_free) h.state
+  sent p frame block page answer there held free h = Moved p page page.dirty _ old.counted there h.placed (Goes frame block h.ticket held refl free h.ticket_free)
+      (λ moving. unlike (in_transfer_at page.residence) moving (ap in_transfer_at held)) h.state
 
   leaves_by : (p frame : ℕ) (page : Page) (content : Content) (answer : Reply) → page_at old.pages p ≡ Some page → page.residence ≡ Held frame → page.content ≡ content
       → LeavesBy old p page content frame old.counted answer new → Did old what answer new
@@ -180,7 +198,8 @@ module _ (old new : State) (what : Event) where
       elim (cases old.page_tables h.p h.page h.frame h.block) [
         | inl none ↦ Dropped h.p h.page old.counted (ap is_out h.answers) h.there none.1 (subst (Changes old.pages new.pages h.p) none.0 h.placed) h.state
         | inr some ↦
-            Moved h.p h.page h.page.dirty (settled h.frame h.block) old.counted h.there (subst (Changes old.pages new.pages h.p) some h.placed) (moves (ap is_out h.answers) h.page h.frame h.block h.moves) h.state
+            Moved h.p h.page h.page.dirty (settled h.frame h.block) old.counted h.there (subst (Changes old.pages new.pages h.p) some.0 h.placed) (moves (ap is_out h.answers) h.page h.frame h.block h.moves)
+            (λ moving. some.1) h.state
       ]
 
   lands : (from : ℕ → ℕ → Residence) (answer : Reply) → ((frame block : ℕ) → frame_at (from frame block) ≡ Some frame) → EndsTransfer old from in_frame answer new → Did old what answer new
@@ -204,6 +223,11 @@ step_did old new (event.LeaveFailed ticket) answer h = lands old new _ _ answer 
 step_did old new (event.Relieve why) answer h = relieves old new _ why answer h
 step_did old new (event.ReclaimOne g) answer h = reclaims old new _ g.0 _ answer (λ n. same old new _ answer n.1) h
 step_did old new (event.Spawn t g) reply.Ok h = Spawned t g refl h.0 h.1 h.2
+step_did old new (event.Fork t child) answer h =
+    of_task old new (event.Fork t child) t.0 _ answer
+    (λ task known alive k. Forked t child refl (ap is_out k.0) alive (subst (λ (g : ℕ). SetsTask old.tasks child.0 g Live new.tasks) (sym (ap group_of known)) k.1) k.2 k.3) h
+step_did old new (event.Free t v) answer h = of_task old new (event.Free t v) t.0 _ answer (λ task known alive k. Freed t v refl (ap is_out k.answers) alive k) h
+step_did old new (event.Attach t g) reply.Ok h = Attached t g refl refl h.0 h.1
 step_did old new (event.Exit t) answer h = of_task old new (event.Exit t) t.0 _ answer (λ task known alive k. Ended t.0 Exited old.counted (ap is_out k.0) refl k.1) h
 step_did old new (event.Mkdir path) reply.Ok h = Grown path refl refl h
 step_did old new (event.Set g what) reply.Ok h = Kept _ old.counted h

@@ -1,6 +1,7 @@
 -- What one step of the machine does to each page, to each place of a task, and to the numbers of tickets.
-use Rattle.std.proofs.Common.{◌≡◌, ◌≢◌, inl, inr, ℕ, ◌==◌, ◌&&◌, not, Bool, true, false, cond, List, Option, Some, None, ne_eqb, refl, sym, ap, ◌∙◌, subst}
-use Rattle.std.specs.Prelude.{◌⊎◌, MatchBool, IfSome}
+use Rattle.std.proofs.Common.{◌≡◌, ◌≢◌, inl, inr, ℕ, ◌==◌, ◌&&◌, not, Bool, true, false, cond, List, Option, Some, None, eq-eqb, ne_eqb, ◌≤◌, arith, refl, sym, ap, ◌∙◌, subst}
+use Rattle.std.proofs.lemmas.Bool.Decides.{nat_tests}
+use Rattle.std.specs.Prelude.{◌⊎◌, MatchBool, IfSome, is_some, nat_lt}
 use Rattle.machine.specs.declared.id.TaskId.{TaskId}
 use Rattle.machine.specs.declared.id.GroupId.{GroupId}
 use Rattle.machine.specs.declared.id.TicketId.{TicketId}
@@ -25,14 +26,15 @@ use Rattle.machine.specs.Pages.{Content, Memory, OfFile, Residence, Held, Coming
 use Rattle.machine.specs.Counts.{Counted}
 use Rattle.machine.specs.Tasks.{Tasks, PageTables, ShowsNothing, SetsTask, task_at, is_live_life, is_live_task, lives, mapped_at, mappers}
 use Rattle.machine.specs.State.{State, over_in, is_frame_free}
-use Rattle.machine.specs.Access.{Meeting, Unmapped, Hits, Transferring, NeedsPage, NeedsCopy, NeedsSwapIn, Dangling, meets}
+use Rattle.machine.specs.Access.{Meeting, Unmapped, Hits, Transferring, NeedsPage, NeedsCopy, NeedsSwapIn, Dangling, meets, is_shared_write}
 use Rattle.machine.specs.Reclaim.{has_takeable, has_transfer, stands, target_of}
 use Rattle.machine.specs.Refusals.{refusal}
-use Rattle.machine.specs.Step.{ChargeStep, TriesCharge, MakesPage, StartsFetch, HitStep, UnmappedStep, MeetStep, LifeStep, TaskStep, Takes, StartsLeave, Drops, LeavesBy, LeavesFrom, ReclaimStep, ReclaimOneStep, KillStep, RelieveStep, still, EndsTask, Exits, EndsTransfer, in_frame, on_block, Step}
-use Rattle.machine.specs.History.{InTask, is_spot, Byte, Nothing, says_if, says, ticket_given}
+use Rattle.machine.specs.Step.{ChargeStep, TriesCharge, MakesPage, StartsFetch, HitStep, UnmappedStep, MeetStep, LifeStep, TaskStep, Takes, StartsLeave, Drops, LeavesBy, LeavesFrom, ReclaimStep, ReclaimOneStep, KillStep, RelieveStep, still, EndsTask, Exits, Forks, Frees, Attaches, EndsTransfer, in_frame, on_block, Step}
+use Rattle.machine.specs.History.{Spot, InTask, is_spot, Byte, As, Nothing, says_if, says, follow, ticket_given}
 use Rattle.machine.proofs.Values.{some_inj, never_some, unlike}
 use Rattle.machine.proofs.TreeLemmas.{eq_cases}
-use Rattle.machine.proofs.MappingLemmas.{by_place, shows_nothing-was}
+use Rattle.machine.proofs.MappingLemmas.{by_place, copies-cases, mapped_at-one, shows_nothing-was}
+use Rattle.machine.proofs.ShownLemmas.{ShowsPages}
 use Rattle.machine.proofs.MoveLemmas.{Met, met, Settled, in_frame-cases, on_block-cases}
 
 -- ---- words
@@ -115,13 +117,20 @@ pub record PagesGo (old : State) (what : Event) (answer : Reply) (new : State) :
       → (now : Page) × (page_at new.pages p ≡ Some now) × (now.residence ≡ page.residence)
   pub stood : (p : ℕ) (page : Page) → page_at new.pages p ≡ Some page → Stood old what answer p page.residence
 
--- the place showed the page before, and nothing is said of its bytes
-abbrev pub WasSo : State → Event → Reply → ℕ → ℕ → ℕ → Type 0
-WasSo old what answer t v p = (mapped_at old.page_tables t v ≡ Some p) × ((o : ℕ) → says what answer (InTask t v o) ≡ Nothing)
+-- the same virtual page of some task, the parent's or its own, showed the page before, and its bytes were what this place's are now
+pub record ComesFrom (old : State) (what : Event) (answer : Reply) (t v p : ℕ) : Type 0 where
+  pub task : ℕ
+  pub mapped : mapped_at old.page_tables task v ≡ Some p
+  pub follows : (before : Spot → ℕ) (o : ℕ) → follow (says what answer (InTask t v o)) before (InTask t v o) ≡ before (InTask task v o)
 
--- so it is with each place that shows a page which stands in no frame alone
+-- two places that show one page are one place, or both come from places that showed it before
+abbrev pub AreOneOrCome : State → Event → Reply → ℕ → ℕ → ℕ → ℕ → ℕ → Type 0
+AreOneOrCome old what answer t v t' v' p = (((t == t') && (v == v')) ≡ true) ⊎ (ComesFrom old what answer t v p × ComesFrom old what answer t' v' p)
+
+-- each place that shows a page which stands in no frame alone comes from one that did, and so do the places of a shared page; and whoever shows a page is live
 pub record PlacesGo (old : State) (what : Event) (answer : Reply) (new : State) : Type 0 where
-  pub place : (t v p : ℕ) (page : Page) → mapped_at new.page_tables t v ≡ Some p → page_at new.pages p ≡ Some page → is_held_at page.residence ≡ false → WasSo old what answer t v p
+  pub place : (t v p : ℕ) (page : Page) → mapped_at new.page_tables t v ≡ Some p → page_at new.pages p ≡ Some page → is_held_at page.residence ≡ false → ComesFrom old what answer t v p
+  pub shared : (t v t' v' p : ℕ) → mapped_at new.page_tables t v ≡ Some p → mapped_at new.page_tables t' v' ≡ Some p → AreOneOrCome old what answer t v t' v' p
   pub live : AllLive new.page_tables new.tasks
 
 pub record Effect (old : State) (what : Event) (answer : Reply) (new : State) : Type 0 where
@@ -201,7 +210,7 @@ still_there tables p n page e = by_tests (is_anon page.content) (mappers tables 
 
 -- ---- one step
 
-module _ (old new : State) (alive : AllLive old.page_tables old.tasks) where
+module _ (old new : State) (alive : AllLive old.page_tables old.tasks) (shows : ShowsPages old) where
   -- a ticket that is given is nobody's
   abbrev Fresh : Reply → Type 0
   Fresh answer = (n : ℕ) → ticket_given answer ≡ Some n → is_ticket_taken old.pages n ≡ false
@@ -248,27 +257,54 @@ module _ (old new : State) (alive : AllLive old.page_tables old.tasks) where
       moved n (inl none) ticket other = never_some (ticket_in (page_at old.pages q)) none ticket
       moved n (inr ended) ticket other = absurd (other (sym ended ∙ ticket))
 
+  -- the pages that nothing maps any more go
+  pages_still : (what : Event) (answer : Reply) → ((p : ℕ) → page_at new.pages p ≡ still new.page_tables p (page_at old.pages p)) → PagesGo old what answer new
+  pages_still what answer pages =
+      record {
+        stays = λ p n page there ticket other. (page, pages p ∙ ap (still new.page_tables p) there ∙ still_there new.page_tables p n page ticket, refl);
+        stood = λ p page there. ItStays (record { before = page; there = still_same new.page_tables p (page_at old.pages p) page (sym (pages p) ∙ there); same = refl });
+      }
+
   -- ---- places
+
+  -- a place showed the page before, and nothing is said of its bytes
+  was_so : (what : Event) (answer : Reply) (t v p : ℕ) → mapped_at old.page_tables t v ≡ Some p → ((o : ℕ) → says what answer (InTask t v o) ≡ Nothing) → ComesFrom old what answer t v p
+  was_so what answer t v p at silent = record { task = t; mapped = at; follows = λ before o. ap (λ said. follow said before (InTask t v o)) (silent o) }
+
+  -- every place that shows a page comes from one that did
+  places_come : (what : Event) (answer : Reply) → ((t v p : ℕ) → mapped_at new.page_tables t v ≡ Some p → ComesFrom old what answer t v p × (lives new.tasks t ≡ true)) → PlacesGo old what answer new
+  places_come what answer come =
+      record {
+        place = λ t v p page at there away. (come t v p at).0;
+        shared = λ t v t' v' p at at'. inr ((come t v p at).0, (come t' v' p at').0);
+        live = λ t v p at. (come t v p at).1;
+      }
 
   -- every place shows what it did
   places_same : (what : Event) (answer : Reply) → new.page_tables ≡ old.page_tables → new.tasks ≡ old.tasks → Silent what answer → PlacesGo old what answer new
   places_same what answer tables tasks silent =
-      record {
-        place = λ t v p page at there away. (was t v p at, silent t v);
-        live = λ t v p at. ap (λ (ts : Tasks). lives ts t) tasks ∙ alive t v p (was t v p at);
-      }
+      places_come what answer (λ t v p at. (was_so what answer t v p (was t v p at) (silent t v), ap (λ (ts : Tasks). lives ts t) tasks ∙ alive t v p (was t v p at)))
     where
       was : (t v p : ℕ) → mapped_at new.page_tables t v ≡ Some p → mapped_at old.page_tables t v ≡ Some p
       was t v p at = sym (ap (λ (tables : PageTables). mapped_at tables t v) tables) ∙ at
 
   -- the place of an access shows nothing now, or a page in a frame, and every other place what it did
   places_one : (t : TaskId) (v o : ℕ) (op : Op) (answer : Reply) → lives old.tasks t.0 ≡ true → new.tasks ≡ old.tasks → ((p : ℕ) → mapped_at new.page_tables t.0 v ≡ Some p → is_held_in new.pages p ≡ true)
-      → ((t' v' : ℕ) → ((t.0 == t') && (v == v')) ≡ false → mapped_at new.page_tables t' v' ≡ mapped_at old.page_tables t' v') → PlacesGo old (event.Access t (Virtual v o) op) answer new
-  places_one t v o op answer lives_t tasks held others =
+      → ((t' v' : ℕ) → ((t.0 == t') && (v == v')) ≡ false → mapped_at new.page_tables t' v' ≡ mapped_at old.page_tables t' v')
+      → ((t' v' p : ℕ) → mapped_at new.page_tables t.0 v ≡ Some p → ((t.0 == t') && (v == v')) ≡ false → mapped_at old.page_tables t' v' ≡ Some p → ⊥) → PlacesGo old (event.Access t (Virtual v o) op) answer new
+  places_one t v o op answer lives_t tasks held others alone =
       record {
         place = λ t' v' p page at there away.
             by_place t.0 v t' v' (λ same_t same_v. unlike (is_held_at page.residence) (sym (ap (there_and is_held) there) ∙ held p (here t' v' same_t same_v ∙ at)) away)
-            (λ differ. (sym (others t' v' differ) ∙ at, λ o'. says_elsewhere t v o op answer t' v' o' differ));
+            (λ differ. elsewhere t' v' p differ at);
+        shared = λ t1 v1 t2 v2 p at1 at2.
+            by_place t.0 v t1 v1
+            (λ same_t same_v.
+            by_place t.0 v t2 v2 (λ same_t' same_v'. inl (one_place t1 v1 t2 v2 (sym same_t ∙ same_t') (sym same_v ∙ same_v')))
+            (λ differ. absurd (alone t2 v2 p (here t1 v1 same_t same_v ∙ at1) differ (sym (others t2 v2 differ) ∙ at2))))
+            (λ differ.
+            by_place t.0 v t2 v2 (λ same_t same_v. absurd (alone t1 v1 p (here t2 v2 same_t same_v ∙ at2) differ (sym (others t1 v1 differ) ∙ at1)))
+            (λ differ'. inr (elsewhere t1 v1 p differ at1, elsewhere t2 v2 p differ' at2)));
         live = λ t' v' p at.
             ap (λ (ts : Tasks). lives ts t') tasks
             ∙ by_place t.0 v t' v' (λ same_t same_v. ap (lives old.tasks) (sym same_t) ∙ lives_t) (λ differ. alive t' v' p (sym (others t' v' differ) ∙ at));
@@ -277,14 +313,18 @@ module _ (old new : State) (alive : AllLive old.page_tables old.tasks) where
       here : (t' v' : ℕ) → t.0 ≡ t' → v ≡ v' → mapped_at new.page_tables t.0 v ≡ mapped_at new.page_tables t' v'
       here t' v' same_t same_v = ap (λ (x : ℕ). mapped_at new.page_tables x v) same_t ∙ ap (λ (x : ℕ). mapped_at new.page_tables t' x) same_v
 
+      elsewhere : (t' v' p : ℕ) → ((t.0 == t') && (v == v')) ≡ false → mapped_at new.page_tables t' v' ≡ Some p → ComesFrom old (event.Access t (Virtual v o) op) answer t' v' p
+      elsewhere t' v' p differ at = was_so _ answer t' v' p (sym (others t' v' differ) ∙ at) (λ o'. says_elsewhere t v o op answer t' v' o' differ)
+
+      one_place : (t1 v1 t2 v2 : ℕ) → t1 ≡ t2 → v1 ≡ v2 → ((t1 == t2) && (v1 == v2)) ≡ true
+      one_place t1 v1 t2 v2 same_t same_v = ap (λ (b : Bool). b && (v1 == v2)) (eq-eqb t1 t2 same_t) ∙ eq-eqb v1 v2 same_v
+
   -- a task shows nothing now, and every other what it did
   places_none : (what : Event) (answer : Reply) (t : ℕ) (task : Option Task) → ShowsNothing old.page_tables new.page_tables t → Changes old.tasks new.tasks t task
       → ((t' v o : ℕ) → t' ≢ t → says what answer (InTask t' v o) ≡ Nothing) → PlacesGo old what answer new
   places_none what answer t task shown sets silent =
-      record {
-        place = λ t' v p page at there away. (let before = was t' v p at in (before.1, λ o. silent t' v o before.0));
-        live = λ t' v p at. (let before = was t' v p at in ap (there_and is_live_task) (sets.others t' before.0) ∙ alive t' v p before.1);
-      }
+      places_come what answer
+      (λ t' v p at. let before = was t' v p at in (was_so what answer t' v p before.1 (λ o. silent t' v o before.0), ap (there_and is_live_task) (sets.others t' before.0) ∙ alive t' v p before.1))
     where
       was : (t' v p : ℕ) → mapped_at new.page_tables t' v ≡ Some p → (t' ≢ t) × (mapped_at old.page_tables t' v ≡ Some p)
       was t' v p at = shows_nothing-was old.page_tables new.page_tables t shown t' v p at
@@ -323,21 +363,27 @@ module _ (old new : State) (alive : AllLive old.page_tables old.tasks) where
 
     -- a page in its frame is read or written
     hit : (p frame : ℕ) (page : Page) (op' : Op) (answer : Reply) → op ≡ op' → lives old.tasks t.0 ≡ true → mapped_at old.page_tables t.0 v ≡ Some p → page_at old.pages p ≡ Some page → page.residence ≡ Held frame
-        → HitStep old p page frame op' answer new → Accessed answer
-    hit p frame page Read (reply.Done byte at) is lives_t mapped there stands h = quiet _ _ h.1 (λ t' v' o'. ap (λ (x : Op). says (event.Access t (Virtual v o) x) (reply.Done byte at) (InTask t' v' o')) is) refl
-    hit p frame page (Write b) (reply.Done byte at) is lives_t mapped there stands h =
+        → is_shared_write old.page_tables p op' ≡ false → HitStep old p page frame op' answer new → Accessed answer
+    hit p frame page Read (reply.Done byte at) is lives_t mapped there stands own h = quiet _ _ h.1 (λ t' v' o'. ap (λ (x : Op). says (event.Access t (Virtual v o) x) (reply.Done byte at) (InTask t' v' o')) is) refl
+    hit p frame page (Write b) (reply.Done byte at) is lives_t mapped there stands own h =
         record {
           pages = pages_one _ _ p _ h.2 (inl (ap ticket_in there ∙ ap ticket_at stands)) (InFrame frame stands);
           places =
               places_one t v o op _ lives_t (ap (λ (s : State). s.tasks) h.3)
               (λ p' at'. ap (is_held_in new.pages) (some_inj (sym at' ∙ same t.0 v ∙ mapped)) ∙ ap (there_and is_held) h.2.changed ∙ ap is_held_at stands)
-              (λ t' v' differ. same t' v');
+              (λ t' v' differ. same t' v')
+              (λ t' v' p' at' differ old_at.
+              unlike ((t.0 == t') && (v == v'))
+              (mapped_at-one old.page_tables t.0 v t' v' p (once (mappers old.page_tables p) own) mapped (old_at ∙ ap (λ (x : ℕ). Some x) (some_inj (sym at' ∙ same t.0 v ∙ mapped)))) differ);
           fresh = gives_none (reply.Done byte at) refl;
         }
       where
         same : (t' v' : ℕ) → mapped_at new.page_tables t' v' ≡ mapped_at old.page_tables t' v'
         same t' v' = ap (λ (s : State). mapped_at s.page_tables t' v') h.3
-    hit p frame page op' answer is lives_t mapped there stands h = absurd h
+
+        once : (n : ℕ) → nat_lt 1 n ≡ false → n ≤ 1
+        once n e = grind (arith, nat_tests)
+    hit p frame page op' answer is lives_t mapped there stands own h = absurd h
 
     -- nothing is mapped there
     unmapped : (answer : Reply) → lives old.tasks t.0 ≡ true → mapped_at old.page_tables t.0 v ≡ None → UnmappedStep old answer new → Accessed answer
@@ -346,7 +392,7 @@ module _ (old new : State) (alive : AllLive old.page_tables old.tasks) where
           pages = pages_same _ _ (ap (λ (s : State). s.pages) h.1);
           places =
               places_one t v o op _ lives_t (ap (λ (s : State). s.tasks) h.1) (λ p at'. never_some (mapped_at new.page_tables t.0 v) (same t.0 v ∙ none) at')
-              (λ t' v' differ. same t' v');
+              (λ t' v' differ. same t' v') (λ t' v' p at' differ old_at. never_some (mapped_at new.page_tables t.0 v) (same t.0 v ∙ none) at');
           fresh = gives_none (reply.Done byte at) refl;
         }
       where
@@ -361,7 +407,10 @@ module _ (old new : State) (alive : AllLive old.page_tables old.tasks) where
           pages = pages_one _ answer h.page _ h.placed (inl (ap ticket_in h.slot_free)) (InFrame h.frame refl);
           places =
               places_one t v o op answer lives_t (ap (λ (s : State). s.tasks) h.state)
-              (λ p at. ap (is_held_in new.pages) (some_inj (sym at ∙ h.shown.changed)) ∙ ap (there_and is_held) h.placed.changed) h.shown.others;
+              (λ p at. ap (is_held_in new.pages) (some_inj (sym at ∙ h.shown.changed)) ∙ ap (there_and is_held) h.placed.changed) h.shown.others
+              (λ t' v' p at differ old_at.
+              let fresh : page_at old.pages p ≡ None = ap (page_at old.pages) (some_inj (sym at ∙ h.shown.changed)) ∙ h.slot_free in
+              unlike (is_some (page_at old.pages p)) (shows.there t' v' p old_at) (ap is_some fresh));
           fresh = gives_none answer (ap ticket_given h.answers);
         }
 
@@ -398,9 +447,9 @@ module _ (old new : State) (alive : AllLive old.page_tables old.tasks) where
         by_over None h = by_either (is_frame_free old) granted (λ k. undone answer reply.NoFrame k.0 refl refl k.1) h
 
     -- by what it meets
-    meets_so : (g : ℕ) (answer : Reply) (meeting : Meeting) → lives old.tasks t.0 ≡ true → Met old t.0 v meeting → MeetStep old t.0 g op meeting answer new → Accessed answer
+    meets_so : (g : ℕ) (answer : Reply) (meeting : Meeting) → lives old.tasks t.0 ≡ true → Met old t.0 v op meeting → MeetStep old t.0 g op meeting answer new → Accessed answer
     meets_so g answer Unmapped lives_t known h = unmapped answer lives_t known h
-    meets_so g answer (Hits p page frame) lives_t known h = hit p frame page op answer refl lives_t known.0 known.1 known.2 h
+    meets_so g answer (Hits p page frame) lives_t known h = hit p frame page op answer refl lives_t known.0 known.1 known.2 known.3 h
     meets_so g answer Transferring lives_t known h = undone answer reply.Busy h.0 refl refl h.1
     meets_so g answer (NeedsPage w) lives_t known h = charged g _ answer (λ made. makes g answer lives_t (subst (λ (x : ℕ). MakesPage old t.0 x g op answer new) known.0 made)) h
     meets_so g answer (NeedsCopy w) lives_t known h = charged g _ answer (λ made. makes g answer lives_t (subst (λ (x : ℕ). MakesPage old t.0 x g op answer new) known.0 made)) h
@@ -426,24 +475,110 @@ module _ (old new : State) (alive : AllLive old.page_tables old.tasks) where
   task_ends : (what : Event) (answer : Reply) (t : ℕ) (ended : Life) (counted : List Counted) → Silent what answer → ticket_given answer ≡ None → EndsTask old t ended counted new → Effect old what answer new
   task_ends what answer t ended counted silent none h =
       record {
-        pages =
-            record {
-              stays = λ p n page there ticket other. (page, h.pages p ∙ ap (still new.page_tables p) there ∙ still_there new.page_tables p n page ticket, refl);
-              stood = λ p page there. ItStays (record { before = page; there = still_same new.page_tables p (page_at old.pages p) page (sym (h.pages p) ∙ there); same = refl });
-            };
+        pages = pages_still what answer h.pages;
         places = places_none what answer t _ h.shown h.ends (λ t' v o other. silent t' v o);
         fresh = gives_none answer none;
       }
 
-  -- it ends by itself
-  exits : (t : TaskId) (answer : Reply) (slot : Option Task) → TaskStep old slot (λ task. Exits old t.0 answer new) answer new → Effect old (event.Exit t) answer new
-  exits t answer None h = absurd h
-  exits t answer (Some task) h = by_life task.life h
+  -- an event of a task, which says nothing where the task was killed
+  of_task : (what : Event) (answer : Reply) (slot : Option Task) (Live_step : Task → Type 0) → Silent what reply.Killed
+      → ((task : Task) → slot ≡ Some task → is_live_task task ≡ true → Live_step task → Effect old what answer new) → TaskStep old slot Live_step answer new → Effect old what answer new
+  of_task what answer None Live_step silent living h = absurd h
+  of_task what answer (Some task) Live_step silent living h = by_life task.life refl h
     where
-      by_life : (life : Life) → LifeStep old life (Exits old t.0 answer new) answer new → Effect old (event.Exit t) answer new
-      by_life Live h = task_ends (event.Exit t) answer t.0 Exited old.counted (λ t' v o. refl) (ap ticket_given h.0) h.1
-      by_life Exited h = absurd h
-      by_life Killed h = quiet (event.Exit t) answer h.1 (λ t v o. refl) (ap ticket_given h.0)
+      by_life : (life : Life) → task.life ≡ life → LifeStep old life (Live_step task) answer new → Effect old what answer new
+      by_life Live is h = living task refl (ap is_live_life is) h
+      by_life Exited is h = absurd h
+      by_life Killed is h = quiet what answer h.1 (λ t v o. ap (λ (a : Reply). says what a (InTask t v o)) h.0 ∙ silent t v o) (ap ticket_given h.0)
+
+  -- it ends by itself
+  exits : (t : TaskId) (answer : Reply) → TaskStep old (task_at old.tasks t.0) (λ task. Exits old t.0 answer new) answer new → Effect old (event.Exit t) answer new
+  exits t answer step =
+      of_task (event.Exit t) answer (task_at old.tasks t.0) _ (λ t v o. refl)
+      (λ task there lives_on h. task_ends (event.Exit t) answer t.0 Exited old.counted (λ t' v o. refl) (ap ticket_given h.0) h.1) step
+
+  -- ---- sharing and moving
+
+  -- a child shows what its parent shows, and its bytes were its parent's
+  forks : (t child : TaskId) (answer : Reply) → TaskStep old (task_at old.tasks t.0) (λ task. Forks old t.0 child.0 task answer new) answer new → Effect old (event.Fork t child) answer new
+  forks t child answer step = of_task (event.Fork t child) answer (task_at old.tasks t.0) _ (λ t v o. refl) living step
+    where
+      -- what is said of the child's bytes, and of nobody else's
+      of_child : (answer : Reply) (v o : ℕ) → answer ≡ reply.Ok → says (event.Fork t child) answer (InTask child.0 v o) ≡ As (InTask t.0 v o)
+      of_child answer v o is = ap (λ (a : Reply). says (event.Fork t child) a (InTask child.0 v o)) is ∙ ap (λ (b : Bool). says_if b (As (InTask t.0 v o))) (eq-eqb child.0 child.0 refl)
+
+      of_other : (answer : Reply) (u v o : ℕ) → answer ≡ reply.Ok → u ≢ child.0 → says (event.Fork t child) answer (InTask u v o) ≡ Nothing
+      of_other answer u v o is other =
+          ap (λ (a : Reply). says (event.Fork t child) a (InTask u v o)) is ∙ ap (λ (b : Bool). says_if b (As (InTask t.0 v o))) (ne_eqb child.0 u (λ e. other (sym e)))
+
+      living : (task : Task) → task_at old.tasks t.0 ≡ Some task → is_live_task task ≡ true → Forks old t.0 child.0 task answer new → Effect old (event.Fork t child) answer new
+      living task there lives_on h =
+          record {
+            pages = pages_same (event.Fork t child) answer (ap (λ (s : State). s.pages) h.3);
+            places = places_come (event.Fork t child) answer come;
+            fresh = gives_none answer (ap ticket_given h.0);
+          }
+        where
+          come : (u v p : ℕ) → mapped_at new.page_tables u v ≡ Some p → ComesFrom old (event.Fork t child) answer u v p × (lives new.tasks u ≡ true)
+          come u v p at =
+              elim (copies-cases old.page_tables new.page_tables t.0 child.0 h.2 u v) [
+                | inl here ↦ (
+                  record {
+                    task = t.0;
+                    mapped = sym here.1 ∙ at;
+                    follows = λ before o.
+                        ap (λ (x : ℕ). follow (says (event.Fork t child) answer (InTask x v o)) before (InTask x v o)) here.0 ∙ ap (λ said. follow said before (InTask child.0 v o)) (of_child answer v o h.0);
+                  },
+                  ap (lives new.tasks) here.0 ∙ ap (there_and is_live_task) h.1.changed,
+                )
+                | inr was ↦ (
+                  was_so (event.Fork t child) answer u v p (sym was.1 ∙ at) (λ o. of_other answer u v o h.0 was.0),
+                  ap (there_and is_live_task) (h.1.others u was.0) ∙ alive u v p (sym was.1 ∙ at),
+                )
+              ]
+
+  -- a place shows nothing any more
+  frees : (t : TaskId) (v : ℕ) (answer : Reply) → TaskStep old (task_at old.tasks t.0) (λ task. Frees old t.0 v answer new) answer new → Effect old (event.Free t v) answer new
+  frees t v answer step = of_task (event.Free t v) answer (task_at old.tasks t.0) _ (λ t v o. refl) living step
+    where
+      elsewhere : (answer : Reply) (u w o : ℕ) → answer ≡ reply.Ok → ((t.0 == u) && (v == w)) ≡ false → says (event.Free t v) answer (InTask u w o) ≡ Nothing
+      elsewhere answer u w o is differ = ap (λ (a : Reply). says (event.Free t v) a (InTask u w o)) is ∙ by_tests (t.0 == u) (v == w) differ
+        where
+          by_tests : (a b : Bool) → (a && b) ≡ false → says_if a (says_if b (Byte 0)) ≡ Nothing
+          by_tests true true e = cc
+          by_tests true false e = refl
+          by_tests false b e = refl
+
+      living : (task : Task) → task_at old.tasks t.0 ≡ Some task → is_live_task task ≡ true → Frees old t.0 v answer new → Effect old (event.Free t v) answer new
+      living task there lives_on h =
+          record {
+            pages = pages_still (event.Free t v) answer h.pages;
+            places = places_come (event.Free t v) answer come;
+            fresh = gives_none answer (ap ticket_given h.answers);
+          }
+        where
+          come : (u w p : ℕ) → mapped_at new.page_tables u w ≡ Some p → ComesFrom old (event.Free t v) answer u w p × (lives new.tasks u ≡ true)
+          come u w p at =
+              by_place t.0 v u w
+              (λ same_t same_v.
+              never_some (mapped_at new.page_tables u w)
+              (ap (λ (x : ℕ). mapped_at new.page_tables x w) (sym same_t) ∙ ap (λ (x : ℕ). mapped_at new.page_tables t.0 x) (sym same_v) ∙ h.shown.changed) at)
+              (λ differ.
+              let was = sym (h.shown.others u w differ) ∙ at in
+              (was_so (event.Free t v) answer u w p was (λ o. elsewhere answer u w o h.answers differ), ap (λ (s : State). lives s.tasks u) h.state ∙ alive u w p was))
+
+  -- a task is in another group
+  attaches : (t : TaskId) (g : GroupId) → Attaches old t.0 g.0 new → Effect old (event.Attach t g) reply.Ok new
+  attaches t g h =
+      record {
+        pages = pages_same (event.Attach t g) reply.Ok (ap (λ (s : State). s.pages) h.1);
+        places = places_come (event.Attach t g) reply.Ok (λ u v p at. let was = sym (ap (λ (s : State). mapped_at s.page_tables u v) h.1) ∙ at in (was_so (event.Attach t g) reply.Ok u v p was (λ o. refl), lives_on u (alive u v p was)));
+        fresh = gives_none reply.Ok refl;
+      }
+    where
+      lives_on : (u : ℕ) → lives old.tasks u ≡ true → lives new.tasks u ≡ true
+      lives_on u was =
+          elim (eq_cases u t.0) [ inl same ↦ ap (lives new.tasks) same ∙ ap (there_and is_live_task) h.0.changed | inr other ↦ ap (there_and is_live_task) (h.0.others u other) ∙ was ]
 
   -- ---- relief and reclaim
 
@@ -511,7 +646,7 @@ module _ (old new : State) (alive : AllLive old.page_tables old.tasks) where
     -- the page is gone, or stands there
     stands_so : (p : ℕ) (page now : Page) (to : Option Page) → Settled old.page_tables p page to now → Stood old what answer p now.residence → Stands what answer p to
     stands_so p page now to (inl gone) stood = subst (Stands what answer p) (sym gone.0) tt
-    stands_so p page now to (inr is) stood = subst (Stands what answer p) (sym is) stood
+    stands_so p page now to (inr is) stood = subst (Stands what answer p) (sym is.0) stood
 
     -- the transfer ends in the frame
     lands : EndsTransfer old (λ frame block. flight direction frame block ticket.0) in_frame answer new → Effect old what answer new
@@ -549,7 +684,10 @@ module _ (old new : State) (alive : AllLive old.page_tables old.tasks) where
   step_effect (event.Relieve why) answer none h = relieves why answer h
   step_effect (event.ReclaimOne g) answer none h = takes_one g answer h
   step_effect (event.Spawn t g) reply.Ok none h = spawns t g h.0 h.1 h.2
-  step_effect (event.Exit t) answer none h = exits t answer (task_at old.tasks t.0) h
+  step_effect (event.Fork t child) answer none h = forks t child answer h
+  step_effect (event.Exit t) answer none h = exits t answer h
+  step_effect (event.Free t v) answer none h = frees t v answer h
+  step_effect (event.Attach t g) reply.Ok none h = attaches t g h
   step_effect (event.Mkdir path) reply.Ok none h = quiet (event.Mkdir path) reply.Ok h (λ t v o. refl) refl
   step_effect (event.Set g setting) reply.Ok none h = quiet (event.Set g setting) reply.Ok h (λ t v o. refl) refl
   step_effect (event.Show what) (reply.Shown numbers) none h = quiet (event.Show what) (reply.Shown numbers) h.1 (λ t v o. refl) refl

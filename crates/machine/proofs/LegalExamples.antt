@@ -87,7 +87,7 @@ back = Held 2
 -- ---- each entry is a step from one of these states to the next, with room for 7 entries
 
 -- the task begins with nothing mapped
-spawns : Extends (first_state (small 7)) [] (entry 0 1 (event.Spawn (task 1) (group 0)) reply.Ok) (spawned 7)
+pub spawns : Extends (first_state (small 7)) [] (entry 0 1 (event.Spawn (task 1) (group 0)) reply.Ok) (spawned 7)
 unfolding chain_up chain
 spawns = record { known = refl; unrefused = refl; room = refl; steps = (record { changed = refl; others = others }, record { none = λ v. refl; others = λ u w other. refl }, refl) }
   where
@@ -103,7 +103,7 @@ only before after (suc zero) other = absurd (other refl)
 only before after (suc (suc m)) other = refl
 
 -- its write makes a page of zeros with the byte in it, in a free frame
-writes : Extends (spawned 7) h1 (entry 0 2 (access (Write 5)) (reply.Done 5 None)) (with_page 7 made)
+pub writes : Extends (spawned 7) h1 (entry 0 2 (access (Write 5)) (reply.Done 5 None)) (with_page 7 made)
 unfolding chain_up chain under_at over_at
 writes = record {
   known = refl;
@@ -136,7 +136,7 @@ writes = record {
     shown (suc (suc u)) w other = refl
 
 -- the page is written out to a free block, under a ticket that no transfer has
-reclaims : Extends (with_page 7 made) h2 (entry 1 1 (event.ReclaimOne (group 0)) (reply.Out (ticket 5))) (with_page 7 going)
+pub reclaims : Extends (with_page 7 made) h2 (entry 1 1 (event.ReclaimOne (group 0)) (reply.Out (ticket 5))) (with_page 7 going)
 unfolding chain_up chain under_at chain_below effective_along
 reclaims = record {
   known = refl;
@@ -156,7 +156,7 @@ reclaims = record {
 }
 
 -- it has left its frame
-leaves : Extends (with_page 7 going) h3 (entry 1 2 (event.Left (ticket 5)) reply.Ok) (with_page 7 away)
+pub leaves : Extends (with_page 7 going) h3 (entry 1 2 (event.Left (ticket 5)) reply.Ok) (with_page 7 away)
 leaves = record {
   known = refl;
   unrefused = refl;

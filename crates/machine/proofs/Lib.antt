@@ -9,6 +9,8 @@ pub mod SoundLemmas
 pub mod OpeningLemmas
 pub mod Did
 pub mod ShownLemmas
+pub mod SharedLemmas
+pub mod MappersLemmas
 pub mod SettledLemmas
 pub mod ListedLemmas
 pub mod AgingLemmas
@@ -28,6 +30,8 @@ mod TurnExamples
 mod ReliefExamples
 mod LegalExamples
 mod HistoryExamples
+mod SharingExamples
+mod SharedHistoryExamples
 mod ControlExamples
 mod GenerationExamples
 mod HeldExamples

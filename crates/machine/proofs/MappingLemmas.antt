@@ -5,7 +5,7 @@ use Rattle.std.proofs.lemmas.Bool.{and_parts, and_right}
 use Rattle.machine.specs.declared.id.PageId.{PageId}
 use Rattle.machine.specs.Slots.{at, there_and}
 use Rattle.machine.specs.Pages.{is_number}
-use Rattle.machine.specs.Tasks.{PageTables, table_of, number_of_page, mapped_at, is_page, mappers_in, mappers, Shows, ShowsNothing}
+use Rattle.machine.specs.Tasks.{PageTables, table_of, number_of_page, mapped_at, is_page, mappers_in, mappers, Shows, Copies, ShowsNothing}
 use Rattle.machine.proofs.Values.{never_some}
 use Rattle.machine.proofs.TreeLemmas.{eq_cases}
 use Rattle.machine.proofs.SlotLemmas.{one_if, sum_by-alike, sum_by-but_one, part-le-sum_by, parts-le-sum_by}
@@ -46,6 +46,11 @@ pub shows-cases : (old new : PageTables) (t v : ℕ) (to : Option ℕ) → Shows
 shows-cases old new t v to shows u w =
     by_place t v u w (λ same_t same_v. inl (ap (λ (x : ℕ). mapped_at new x w) (sym same_t) ∙ ap (λ (x : ℕ). mapped_at new t x) (sym same_v) ∙ shows.changed))
     (λ differ. inr (shows.others u w differ))
+
+-- a place of the task that copies shows what its counterpart showed, and one of another task what it did
+pub copies-cases : (old new : PageTables) (from to : ℕ) → Copies old new from to → (u w : ℕ) → ((u ≡ to) × (mapped_at new u w ≡ mapped_at old from w)) ⊎ ((u ≢ to) × (mapped_at new u w ≡ mapped_at old u w))
+copies-cases old new from to copies u w =
+    elim (eq_cases u to) [ inl same ↦ inl (same, ap (λ (x : ℕ). mapped_at new x w) same ∙ copies.copied w) | inr other ↦ inr (other, copies.others u w other) ]
 
 -- whoever shows a page is not the task that shows nothing, and showed it before
 pub shows_nothing-was : (old new : PageTables) (t : ℕ) → ShowsNothing old new t → (u w p : ℕ) → mapped_at new u w ≡ Some p → (u ≢ t) × (mapped_at old u w ≡ Some p)

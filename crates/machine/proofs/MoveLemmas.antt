@@ -15,16 +15,16 @@ use Rattle.machine.specs.Step.{or_gone, in_frame, on_block_of, on_block}
 -- ---- what an access meets
 
 -- what is known of the page that it meets
-abbrev pub Met : State → ℕ → ℕ → Meeting → Type 0
-Met s t v (Hits p page frame) = (mapped_at s.page_tables t v ≡ Some p) × (page_at s.pages p ≡ Some page) × (page.residence ≡ Held frame)
-Met s t v (NeedsSwapIn p page block) = (mapped_at s.page_tables t v ≡ Some p) × (page_at s.pages p ≡ Some page) × (page.residence ≡ Away block)
-Met s t v (NeedsPage w) = (w ≡ v) × (mapped_at s.page_tables t v ≡ None)
-Met s t v (NeedsCopy w) = (w ≡ v) × (p : ℕ) × (page : Page) × (frame : ℕ) × (mapped_at s.page_tables t v ≡ Some p) × (page_at s.pages p ≡ Some page) × (page.residence ≡ Held frame) × (nat_lt 1 (mappers s.page_tables p) ≡ true)
-Met s t v Unmapped = mapped_at s.page_tables t v ≡ None
-Met s t v Dangling = (p : ℕ) × (mapped_at s.page_tables t v ≡ Some p) × (page_at s.pages p ≡ None)
-Met s t v Transferring = (p : ℕ) × (page : Page) × (mapped_at s.page_tables t v ≡ Some p) × (page_at s.pages p ≡ Some page) × (in_transfer_at page.residence ≡ true)
+abbrev pub Met : State → ℕ → ℕ → Op → Meeting → Type 0
+Met s t v op (Hits p page frame) = (mapped_at s.page_tables t v ≡ Some p) × (page_at s.pages p ≡ Some page) × (page.residence ≡ Held frame) × (is_shared_write s.page_tables p op ≡ false)
+Met s t v op (NeedsSwapIn p page block) = (mapped_at s.page_tables t v ≡ Some p) × (page_at s.pages p ≡ Some page) × (page.residence ≡ Away block)
+Met s t v op (NeedsPage w) = (w ≡ v) × (mapped_at s.page_tables t v ≡ None)
+Met s t v op (NeedsCopy w) = (w ≡ v) × (p : ℕ) × (page : Page) × (frame : ℕ) × (mapped_at s.page_tables t v ≡ Some p) × (page_at s.pages p ≡ Some page) × (page.residence ≡ Held frame) × (nat_lt 1 (mappers s.page_tables p) ≡ true)
+Met s t v op Unmapped = mapped_at s.page_tables t v ≡ None
+Met s t v op Dangling = (p : ℕ) × (mapped_at s.page_tables t v ≡ Some p) × (page_at s.pages p ≡ None)
+Met s t v op Transferring = (p : ℕ) × (page : Page) × (mapped_at s.page_tables t v ≡ Some p) × (page_at s.pages p ≡ Some page) × (in_transfer_at page.residence ≡ true)
 
-pub met : (s : State) (t v o : ℕ) (op : Op) → Met s t v (meets s t (Virtual v o) op)
+pub met : (s : State) (t v o : ℕ) (op : Op) → Met s t v op (meets s t (Virtual v o) op)
 met s t v o op = by_mapped (mapped_at s.page_tables t v) refl
   where
     shared_write : (op : Op) (p : ℕ) → is_shared_write s.page_tables p op ≡ true → nat_lt 1 (mappers s.page_tables p) ≡ true
@@ -32,37 +32,37 @@ met s t v o op = by_mapped (mapped_at s.page_tables t v) refl
     shared_write (Write b) p e = e
 
     by_shared : (b : Bool) (p f : ℕ) (page : Page) → is_shared_write s.page_tables p op ≡ b → mapped_at s.page_tables t v ≡ Some p → page_at s.pages p ≡ Some page → page.residence ≡ Held f
-        → Met s t v (cond b (NeedsCopy v) (Hits p page f))
+        → Met s t v op (cond b (NeedsCopy v) (Hits p page f))
     by_shared true p f page shared is there stands = (refl, p, page, f, is, there, stands, shared_write op p shared)
-    by_shared false p f page shared is there stands = (is, there, stands)
+    by_shared false p f page shared is there stands = (is, there, stands, shared)
 
-    by_residence : (p : ℕ) (page : Page) (r : Residence) → mapped_at s.page_tables t v ≡ Some p → page_at s.pages p ≡ Some page → page.residence ≡ r → Met s t v (meets_residence s v p page r op)
+    by_residence : (p : ℕ) (page : Page) (r : Residence) → mapped_at s.page_tables t v ≡ Some p → page_at s.pages p ≡ Some page → page.residence ≡ r → Met s t v op (meets_residence s v p page r op)
     by_residence p page (Held f) is there stands = by_shared (is_shared_write s.page_tables p op) p f page refl is there stands
     by_residence p page (Coming f b ticket) is there stands = (p, page, is, there, ap in_transfer_at stands)
     by_residence p page (Going f b ticket) is there stands = (p, page, is, there, ap in_transfer_at stands)
     by_residence p page (Away b) is there stands = (is, there, stands)
 
-    by_page : (p : ℕ) (slot : Option Page) → mapped_at s.page_tables t v ≡ Some p → page_at s.pages p ≡ slot → Met s t v (meets_slot s v p slot op)
+    by_page : (p : ℕ) (slot : Option Page) → mapped_at s.page_tables t v ≡ Some p → page_at s.pages p ≡ slot → Met s t v op (meets_slot s v p slot op)
     by_page p None is there = (p, is, there)
     by_page p (Some page) is there = by_residence p page page.residence is there refl
 
-    unmapped : (op : Op) → mapped_at s.page_tables t v ≡ None → Met s t v (meets_mapped s v None op)
+    unmapped : (op : Op) → mapped_at s.page_tables t v ≡ None → Met s t v op (meets_mapped s v None op)
     unmapped Read is = is
     unmapped (Write b) is = (refl, is)
 
-    by_mapped : (m : Option ℕ) → mapped_at s.page_tables t v ≡ m → Met s t v (meets_mapped s v m op)
+    by_mapped : (m : Option ℕ) → mapped_at s.page_tables t v ≡ m → Met s t v op (meets_mapped s v m op)
     by_mapped None is = unmapped op is
     by_mapped (Some p) is = by_page p (page_at s.pages p) is refl
 
 -- a page that is hit stands in its frame
 pub hits_held : (s : State) (t : ℕ) (place : Place) (op : Op) (p : ℕ) (page : Page) (frame : ℕ) → meets s t place op ≡ Hits p page frame
     → (page_at s.pages p ≡ Some page) × (page.residence ≡ Held frame)
-hits_held s t (Virtual v o) op p page frame hits = let found : Met s t v (Hits p page frame) = subst (Met s t v) hits (met s t v o op) in (found.1, found.2)
+hits_held s t (Virtual v o) op p page frame hits = let found : Met s t v op (Hits p page frame) = subst (Met s t v op) hits (met s t v o op) in (found.1, found.2)
 
 -- one that is to be swapped in stands on its block
 pub swaps_away : (s : State) (t v o : ℕ) (op : Op) (p : ℕ) (page : Page) (block : ℕ) → meets s t (Virtual v o) op ≡ NeedsSwapIn p page block
     → (page_at s.pages p ≡ Some page) × (page.residence ≡ Away block) × (mapped_at s.page_tables t v ≡ Some p)
-swaps_away s t v o op p page block swaps = let found : Met s t v (NeedsSwapIn p page block) = subst (Met s t v) swaps (met s t v o op) in (found.1, found.2, found.0)
+swaps_away s t v o op p page block swaps = let found : Met s t v op (NeedsSwapIn p page block) = subst (Met s t v op) swaps (met s t v o op) in (found.1, found.2, found.0)
 
 -- ---- ends of transfers
 
@@ -70,16 +70,20 @@ swaps_away s t v o op p page block swaps = let found : Met s t v (NeedsSwapIn p 
 abbrev pub MayGo : PageTables → ℕ → Page → Type 0
 MayGo tables p page = is_anon page.content ≡ true → mappers tables p ≡ 0
 
--- what a page comes to: nothing, where it may go, or this
+-- a page that may stay: one of a file, or one that something maps
+abbrev pub MayStay : PageTables → ℕ → Page → Type 0
+MayStay tables p page = is_anon page.content ≡ true → (mappers tables p == 0) ≡ false
+
+-- what a page comes to: nothing, where it may go, or this, where it may stay
 abbrev pub Settled : PageTables → ℕ → Page → Option Page → Page → Type 0
-Settled tables p page to now = ((to ≡ None) × MayGo tables p page) ⊎ (to ≡ Some now)
+Settled tables p page to now = ((to ≡ None) × MayGo tables p page) ⊎ ((to ≡ Some now) × MayStay tables p page)
 
 or_gone-cases : (tables : PageTables) (p : ℕ) (page : Page) → Settled tables p page (or_gone tables p page) page
 or_gone-cases tables p page = by_test (is_anon page.content && (mappers tables p == 0)) refl
   where
     by_test : (b : Bool) → (is_anon page.content && (mappers tables p == 0)) ≡ b → Settled tables p page (cond b None (Some page)) page
     by_test true is = inl (refl, λ memory. eqb-true (mappers tables p) 0 (and_parts (is_anon page.content) (mappers tables p == 0) is).1)
-    by_test false is = inr refl
+    by_test false is = inr (refl, λ memory. sym (ap (λ (b : Bool). b && (mappers tables p == 0)) memory) ∙ is)
 
 pub in_frame-cases : (tables : PageTables) (p : ℕ) (page : Page) (frame block : ℕ) → Settled tables p page (in_frame tables p page frame block) (record page { residence = Held frame })
 in_frame-cases tables p page frame block = or_gone-cases tables p (record page { residence = Held frame })

@@ -12,7 +12,7 @@ use Rattle.machine.specs.State.{State}
 use Rattle.machine.specs.Refusals.{refusal}
 use Rattle.machine.specs.Step.{new_node, Step}
 use Rattle.machine.proofs.Values.{unlike}
-use Rattle.machine.proofs.Did.{is_mkdir, Did, Kept, Made, Moved, Dropped, Ended, Spawned, Grown, step_did}
+use Rattle.machine.proofs.Did.{is_mkdir, Did, Kept, Made, Moved, Dropped, Ended, Spawned, Forked, Freed, Attached, Grown, step_did}
 use Rattle.machine.specs.Call.{Past, Caller, Refuses, Answered, JudgedBy, Called, knows_pass, is_trace_full}
 
 -- the groups after an event that nothing refuses
@@ -26,20 +26,26 @@ step_opening old what answer new step = by_case (step_did old new what answer st
   where
     by_case : Did old what answer new → new.opening ≡ old.opening
     by_case (Kept limits counted e) = ap (λ (s : State). s.opening) e
-    by_case (Made t v p frame access out alive within free unused placed shown e) = ap (λ (s : State). s.opening) e
-    by_case (Moved p page dirty now counted there placed moves e) = ap (λ (s : State). s.opening) e
+    by_case (Made t v p frame access out alive shared within free unused placed shown e) = ap (λ (s : State). s.opening) e
+    by_case (Moved p page dirty now counted there placed moves mapped e) = ap (λ (s : State). s.opening) e
     by_case (Dropped p page counted out there may_go gone e) = ap (λ (s : State). s.opening) e
     by_case (Ended t ending counted out dead ends) = ap (λ (s : State). s.opening) ends.state
     by_case (Spawned t g is sets shown e) = ap (λ (s : State). s.opening) e
+    by_case (Forked t child is out alive sets copies e) = ap (λ (s : State). s.opening) e
+    by_case (Freed t v is out alive frees) = ap (λ (s : State). s.opening) frees.state
+    by_case (Attached t g is out sets e) = ap (λ (s : State). s.opening) e
     by_case (Grown path is out e) = ap (λ (s : State). s.opening) e
 
 same_tree : (old new : State) (what : Event) (answer : Reply) → is_mkdir what ≡ false → Did old what answer new → new.tree ≡ old.tree
 same_tree old new what answer other (Kept limits counted e) = ap (λ (s : State). s.tree) e
-same_tree old new what answer other (Made t v p frame access out alive within free unused placed shown e) = ap (λ (s : State). s.tree) e
-same_tree old new what answer other (Moved p page dirty now counted there placed moves e) = ap (λ (s : State). s.tree) e
+same_tree old new what answer other (Made t v p frame access out alive shared within free unused placed shown e) = ap (λ (s : State). s.tree) e
+same_tree old new what answer other (Moved p page dirty now counted there placed moves mapped e) = ap (λ (s : State). s.tree) e
 same_tree old new what answer other (Dropped p page counted out there may_go gone e) = ap (λ (s : State). s.tree) e
 same_tree old new what answer other (Ended t ending counted out dead ends) = ap (λ (s : State). s.tree) ends.state
 same_tree old new what answer other (Spawned t g is sets shown e) = ap (λ (s : State). s.tree) e
+same_tree old new what answer other (Forked t child is out alive sets copies e) = ap (λ (s : State). s.tree) e
+same_tree old new what answer other (Freed t v is out alive frees) = ap (λ (s : State). s.tree) frees.state
+same_tree old new what answer other (Attached t g is out sets e) = ap (λ (s : State). s.tree) e
 same_tree old new what answer other (Grown path is out e) = unlike (is_mkdir what) (ap is_mkdir is) other
 
 pub step_tree : (old : State) (what : Event) (answer : Reply) (new : State) → Step old what answer new → new.tree ≡ tree_after old what

@@ -176,7 +176,7 @@ takes_alike what old order target answer answer' h h' =
 -- no write meets nothing
 writes_meet : {P : Type 0} (s : State) (t v o b : ℕ) → meets s t (Virtual v o) (Write b) ≡ Unmapped → P
 writes_meet s t v o b is =
-    let found : Met s t v Unmapped = subst (Met s t v) is (met s t v o (Write b)) in
+    let found : Met s t v (Write b) Unmapped = subst (Met s t v (Write b)) is (met s t v o (Write b)) in
     let makes : meets s t (Virtual v o) (Write b) ≡ NeedsPage v = ap (λ m. meets_mapped s v m (Write b)) found in
     cc
 
@@ -295,6 +295,12 @@ module _ (old new new' : State) (order order' order'' : Order) where
       let what = event.ReclaimOne g in reclaims what answer answer' g.0 _ _ (reclaim_in_turn old order g) on on' (λ k k'. both what answer answer' _ k.0 k'.0) h h'
   steps_alike (event.Exit t) answer answer' on on' h h' =
       let what = event.Exit t in of_task what answer answer' (task_at old.tasks t.0) _ _ (λ task k k'. both what answer answer' _ k.0 k'.0) h h'
+  steps_alike (event.Fork t child) answer answer' on on' h h' =
+      let what = event.Fork t child in of_task what answer answer' (task_at old.tasks t.0) _ _ (λ task k k'. both what answer answer' _ k.0 k'.0) h h'
+  steps_alike (event.Free t v) answer answer' on on' h h' =
+      let what = event.Free t v in of_task what answer answer' (task_at old.tasks t.0) _ _ (λ task k k'. both what answer answer' _ k.answers k'.answers) h h'
+  steps_alike (event.Attach t g) reply.Ok reply.Ok on on' h h' = refl
+  steps_alike (event.Attach t g) reply.Ok answer' on on' h h' = absurd h'
   steps_alike (event.Spawn t g) reply.Ok reply.Ok on on' h h' = refl
   steps_alike (event.Spawn t g) reply.Ok answer' on on' h h' = absurd h'
   steps_alike (event.Mkdir path) reply.Ok reply.Ok on on' h h' = refl

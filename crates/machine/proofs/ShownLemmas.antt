@@ -10,10 +10,10 @@ use Rattle.machine.specs.Tasks.{PageTables, mapped_at, mappers}
 use Rattle.machine.specs.State.{Opening, State, first_state}
 use Rattle.machine.specs.Step.{still, Step}
 use Rattle.machine.specs.Legal.{Legal}
-use Rattle.machine.proofs.Values.{some_inj}
+use Rattle.machine.proofs.Values.{some_inj, never_some}
 use Rattle.machine.proofs.TreeLemmas.{eq_cases}
-use Rattle.machine.proofs.MappingLemmas.{mapped_at-mappers, shows-cases, shows_nothing-was}
-use Rattle.machine.proofs.Did.{Did, Kept, Made, Moved, Dropped, Ended, Spawned, Grown, step_did}
+use Rattle.machine.proofs.MappingLemmas.{mapped_at-mappers, shows-cases, copies-cases, shows_nothing-was}
+use Rattle.machine.proofs.Did.{Did, Kept, Made, Moved, Dropped, Ended, Spawned, Forked, Freed, Attached, Grown, step_did}
 
 -- a page that a place shows is there, and is memory
 pub record ShowsPages (s : State) : Type 0 where
@@ -67,12 +67,12 @@ module _ (old new : State) (shows : ShowsMemory old) where
   -- what was done leaves it so
   did_shows : (what : Event) (answer : Reply) → Did old what answer new → ShowsMemory new
   did_shows what answer (Kept limits counted e) u w q at = subst ShowsMemory (sym e) shows u w q at
-  did_shows what answer (Made t v p frame access out alive within free unused placed shown e) u w q at =
+  did_shows what answer (Made t v p frame access out alive shared within free unused placed shown e) u w q at =
       elim (shows-cases old.page_tables new.page_tables t v (Some p) shown u w) [
         | inl here ↦ (let same : q ≡ p = some_inj (sym at ∙ here) in ap (λ (x : ℕ). is_memory (page_at new.pages x)) same ∙ ap is_memory placed.changed)
         | inr was ↦ one_changes p _ placed (λ t' v' at'. refl) u w q (sym was ∙ at)
       ]
-  did_shows what answer (Moved p page dirty now counted there placed moves e) u w q at =
+  did_shows what answer (Moved p page dirty now counted there placed moves mapped e) u w q at =
       subst ShowsMemory (sym e) (one_changes p _ placed (λ t v at'. sym (ap is_memory there) ∙ shows t v p at')) u w q at
   did_shows what answer (Dropped p page counted out there may_go gone e) u w q at = subst ShowsMemory (sym e) (one_changes p None gone unmapped) u w q at
     where
@@ -83,6 +83,14 @@ module _ (old new : State) (shows : ShowsMemory old) where
       ∙ still_memory new.page_tables q (page_at old.pages q) (mapped_at-mappers new.page_tables u w q at) (shows u w q (shows_nothing-was old.page_tables new.page_tables t ends.shown u w q at).1)
   did_shows what answer (Spawned t g is sets shown e) u w q at =
       ap (λ (s : State). is_memory (page_at s.pages q)) e ∙ shows u w q (shows_nothing-was old.page_tables new.page_tables t.0 shown u w q at).1
+  did_shows what answer (Forked t child is out alive sets copies e) u w q at =
+      ap (λ (s : State). is_memory (page_at s.pages q)) e
+      ∙ elim (copies-cases old.page_tables new.page_tables t.0 child.0 copies u w) [ inl here ↦ shows t.0 w q (sym here.1 ∙ at) | inr was ↦ shows u w q (sym was.1 ∙ at) ]
+  did_shows what answer (Freed t v is out alive frees) u w q at =
+      ap is_memory (frees.pages q)
+      ∙ still_memory new.page_tables q (page_at old.pages q) (mapped_at-mappers new.page_tables u w q at)
+      (elim (shows-cases old.page_tables new.page_tables t.0 v None frees.shown u w) [ inl none ↦ never_some (mapped_at new.page_tables u w) none at | inr was ↦ shows u w q (sym was ∙ at) ])
+  did_shows what answer (Attached t g is out sets e) u w q at = subst ShowsMemory (sym e) shows u w q at
   did_shows what answer (Grown path is out e) u w q at = subst ShowsMemory (sym e) shows u w q at
 
 -- a step leaves it so

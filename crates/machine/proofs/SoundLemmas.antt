@@ -13,8 +13,7 @@ use Rattle.machine.specs.declared.record.Life.{Life}
 use Rattle.machine.specs.declared.record.Life.TheVariants.{Live}
 use Rattle.machine.specs.declared.record.Task.{Task}
 use Rattle.machine.specs.declared.event.Event.{Event}
-use Rattle.machine.specs.declared.event.Event.TheVariants as event
-use Rattle.machine.specs.declared.refusal.Refusal.TheVariants.{NoEntry, Busy}
+use Rattle.machine.specs.declared.refusal.Refusal.TheVariants.{NoEntry}
 use Rattle.machine.specs.declared.reply.Reply.{Reply}
 use Rattle.machine.specs.Names.{parent_path}
 use Rattle.machine.specs.Slots.{at, Changes, there_and, count_there, any_there}
@@ -23,13 +22,14 @@ use Rattle.machine.specs.Pages.{is_anon, in_transfer_at, Residence, Page, Pages,
 use Rattle.machine.specs.Counts.{Counted}
 use Rattle.machine.specs.Tasks.{Tasks, task_at, is_live_life, is_live_task, lives, group_of, group_of_task, SetsTask, PageTables, mappers}
 use Rattle.machine.specs.State.{Opening, State, first_state}
-use Rattle.machine.specs.Refusals.{refusal, first_cause, bars_tasks, number_refusal}
+use Rattle.machine.specs.declared.refusal.Refusal.{Refusal}
+use Rattle.machine.specs.Refusals.{group_refusal, refusal, first_cause}
 use Rattle.machine.specs.Step.{still, EndsTask, new_page}
 use Rattle.machine.specs.Legal.{Legal}
 use Rattle.machine.proofs.Values.{some_inj, unlike}
 use Rattle.machine.proofs.TreeLemmas.{eq_cases, IsTree-push}
 use Rattle.machine.proofs.SlotLemmas.{one_if, count_there-none, count_there-some, count_there-changes}
-use Rattle.machine.proofs.Did.{Moves, Rests, Comes, Goes, Lands, Lies, Did, Kept, Made, Moved, Dropped, Ended, Spawned, Grown, step_did}
+use Rattle.machine.proofs.Did.{Moves, Rests, Comes, Goes, Lands, Lies, Did, Kept, Made, Moved, Dropped, Ended, Spawned, Forked, Freed, Attached, Grown, step_did}
 
 -- ---- what is sound
 
@@ -98,7 +98,7 @@ count-two {T} test xs p q differs first second =
     set_none (z ∷ zs) zero = refl
     set_none (z ∷ zs) (suc n) = set_none zs n
 
-none_has : {T : Type 0} (test : T → Bool) (slots : List (Option T)) → any_there test slots ≡ false → (n : ℕ) → there_and test (at slots n) ≡ false
+pub none_has : {T : Type 0} (test : T → Bool) (slots : List (Option T)) → any_there test slots ≡ false → (n : ℕ) → there_and test (at slots n) ≡ false
 none_has test [] e n = refl
 none_has test (slot ∷ slots) e zero = (or_parts (there_and test slot) _ e).0
 none_has test (slot ∷ slots) e (suc n) = none_has test slots (or_parts (there_and test slot) _ e).1 n
@@ -214,29 +214,26 @@ still_some P tables p (Some page) h = by_test (is_anon page.content && ((mappers
     by_test true = tt
     by_test false = h
 
--- a task ends, and the pages that nothing maps any more go
-sound-ended : (swap : ℕ) (old new : State) (t : ℕ) (ended : Life) (counted : List Counted) → is_live_life ended ≡ false → EndsTask old t ended counted new
-    → IsSound swap old.pages old.tasks old.tree → IsSound swap new.pages new.tasks old.tree
-sound-ended swap old new t ended counted dead ends sound =
+-- the pages that nothing maps any more go
+sound-stilled : (swap : ℕ) (tables : PageTables) (before after : Pages) (tasks : Tasks) (tree : List Node) → ((p : ℕ) → page_at after p ≡ still tables p (page_at before p)) → IsSound swap before tasks tree
+    → IsSound swap after tasks tree
+sound-stilled swap tables before after tasks tree pages sound =
     record {
-      frames = once-fewer has_this_frame old.pages new.pages sound.frames (λ k. passed (has_this_frame k));
-      blocks = once-fewer has_this_block old.pages new.pages sound.blocks (λ k. passed (has_this_block k));
-      tickets = once-fewer has_this_ticket old.pages new.pages sound.tickets (λ k. passed (has_this_ticket k));
-      fits = λ p. slot_is _ (page_at new.pages p) _ (ends.pages p) (still_some _ new.page_tables p (page_at old.pages p) (sound.fits p));
-      homes = λ u alive.
-          elim (eq_cases u t) [
-            | inl same ↦ absurd (let not_live : lives new.tasks u ≡ false = ap (λ (x : ℕ). lives new.tasks x) same ∙ ap (there_and is_live_task) ends.ends.changed ∙ dead in unlike (lives new.tasks u) alive not_live)
-            | inr other ↦ ap (λ (slot : Option Task). is_live old.tree (group_of slot)) (ends.ends.others u other) ∙ sound.homes u (sym (ap (there_and is_live_task) (ends.ends.others u other)) ∙ alive)
-          ];
+      frames = once-fewer has_this_frame before after sound.frames (λ k. passed (has_this_frame k));
+      blocks = once-fewer has_this_block before after sound.blocks (λ k. passed (has_this_block k));
+      tickets = once-fewer has_this_ticket before after sound.tickets (λ k. passed (has_this_ticket k));
+      fits = λ p. slot_is _ (page_at after p) _ (pages p) (still_some _ tables p (page_at before p) (sound.fits p));
+      homes = sound.homes;
       falls = sound.falls;
     }
   where
-    passed : (test : Page → Bool) (n : ℕ) → there_and test (at new.pages n) ≡ true → there_and test (at old.pages n) ≡ true
-    passed test n e = still_passes new.page_tables n test (page_at old.pages n) (sym (ap (there_and test) (ends.pages n)) ∙ e)
+    passed : (test : Page → Bool) (n : ℕ) → there_and test (at after n) ≡ true → there_and test (at before n) ≡ true
+    passed test n e = still_passes tables n test (page_at before n) (sym (ap (there_and test) (pages n)) ∙ e)
 
--- a task begins in a group that is there
-sound-spawned : (swap : ℕ) (pages : Pages) (tasks tasks' : Tasks) (tree : List Node) (t g : ℕ) → is_live tree g ≡ true → SetsTask tasks t g Live tasks' → IsSound swap pages tasks tree → IsSound swap pages tasks' tree
-sound-spawned swap pages tasks tasks' tree t g live sets sound =
+-- one task changes, and if it lives its group is there
+sound-task : (swap : ℕ) (pages : Pages) (tasks tasks' : Tasks) (tree : List Node) (t : ℕ) (task : Task) → Changes tasks tasks' t (Some task) → (is_live_task task ≡ true → is_live tree task.group.0 ≡ true)
+    → IsSound swap pages tasks tree → IsSound swap pages tasks' tree
+sound-task swap pages tasks tasks' tree t task sets home sound =
     record {
       frames = sound.frames;
       blocks = sound.blocks;
@@ -244,11 +241,24 @@ sound-spawned swap pages tasks tasks' tree t g live sets sound =
       fits = sound.fits;
       homes = λ u alive.
           elim (eq_cases u t) [
-            | inl same ↦ ap (λ (slot : Option Task). is_live tree (group_of slot)) (ap (task_at tasks') same ∙ sets.changed) ∙ live
+            | inl same ↦
+                let here : task_at tasks' u ≡ Some task = ap (task_at tasks') same ∙ sets.changed in
+                ap (λ (slot : Option Task). is_live tree (group_of slot)) here ∙ home (sym (ap (there_and is_live_task) here) ∙ alive)
             | inr other ↦ ap (λ (slot : Option Task). is_live tree (group_of slot)) (sets.others u other) ∙ sound.homes u (sym (ap (there_and is_live_task) (sets.others u other)) ∙ alive)
           ];
       falls = sound.falls;
     }
+
+-- a task ends, and the pages that nothing maps any more go
+sound-ended : (swap : ℕ) (old new : State) (t : ℕ) (ended : Life) (counted : List Counted) → is_live_life ended ≡ false → EndsTask old t ended counted new
+    → IsSound swap old.pages old.tasks old.tree → IsSound swap new.pages new.tasks old.tree
+sound-ended swap old new t ended counted dead ends sound =
+    sound-task swap new.pages old.tasks new.tasks old.tree t _ ends.ends (λ lives_on. unlike (is_live_life ended) lives_on dead)
+    (sound-stilled swap new.page_tables old.pages new.pages old.tasks old.tree ends.pages sound)
+
+-- a task begins in a group that is there, or goes to it
+sound-spawned : (swap : ℕ) (pages : Pages) (tasks tasks' : Tasks) (tree : List Node) (t g : ℕ) → is_live tree g ≡ true → SetsTask tasks t g Live tasks' → IsSound swap pages tasks tree → IsSound swap pages tasks' tree
+sound-spawned swap pages tasks tasks' tree t g live sets sound = sound-task swap pages tasks tasks' tree t _ sets (λ alive. live) sound
 
 -- what a path finds is there
 found_below : (tree : List Node) (path : List ℕ) → IsBelow (find_group tree path) (length tree)
@@ -325,22 +335,29 @@ module _ (opening : Opening) (old new : State) (sound : sound_in opening old) wh
       by_move (Lies frame block out framed on is) =
           stands (on_its_block (ap block_at is ∙ sym on)) (inl (ap frame_at is)) (inr (inl (ap block_at is ∙ sym on))) (inl (ap ticket_at is))
 
-  spawn_live : (t g : ℕ) → refusal old (event.Spawn (record { 0 = t }) (record { 0 = g })) ≡ None → is_live old.tree g ≡ true
-  spawn_live t g none = by_live (is_live old.tree g) refl none
+  -- a group that nothing refuses is there
+  live_group : (g : ℕ) (others : Option Refusal) → group_refusal old.tree g others ≡ None → is_live old.tree g ≡ true
+  live_group g others none = by_live (is_live old.tree g) refl none
     where
-      by_live : (b : Bool) → is_live old.tree g ≡ b → first_cause (not b) NoEntry (first_cause (bars_tasks old.tree g) Busy (number_refusal old.tasks t)) ≡ None → is_live old.tree g ≡ true
+      by_live : (b : Bool) → is_live old.tree g ≡ b → first_cause (not b) NoEntry others ≡ None → is_live old.tree g ≡ true
       by_live true is e = is
       by_live false is e = cc
 
   did_sound : (what : Event) (answer : Reply) → refusal old what ≡ None → Did old what answer new → sound_in opening new
   did_sound what answer none (Kept limits counted e) = subst (sound_in opening) (sym e) (sound.0, sound.1)
-  did_sound what answer none (Made t v p frame access out alive within free unused placed shown e) =
+  did_sound what answer none (Made t v p frame access out alive shared within free unused placed shown e) =
       pages_sound e (sound-placed opening.swap old.pages new.pages old.tasks old.tree p sound.1 (group_of_task old.tasks t) frame (sound.1.homes t alive) unused placed)
-  did_sound what answer none (Moved p page dirty now counted there placed moves e) = pages_sound e (moved_sound what answer p page dirty now there placed moves)
+  did_sound what answer none (Moved p page dirty now counted there placed moves mapped e) = pages_sound e (moved_sound what answer p page dirty now there placed moves)
   did_sound what answer none (Dropped p page counted out there may_go gone e) = pages_sound e (sound-gone opening.swap old.pages new.pages old.tasks old.tree p sound.1 gone)
   did_sound what answer none (Ended t ending counted out dead ends) = subst (sound_in opening) (sym ends.state) (sound.0, sound-ended opening.swap old new t ending counted dead ends sound.1)
   did_sound what answer none (Spawned t g is sets shown e) =
-      subst (sound_in opening) (sym e) (sound.0, sound-spawned opening.swap old.pages old.tasks new.tasks old.tree t.0 g.0 (spawn_live t.0 g.0 (sym (ap (refusal old) is) ∙ none)) sets sound.1)
+      subst (sound_in opening) (sym e) (sound.0, sound-spawned opening.swap old.pages old.tasks new.tasks old.tree t.0 g.0 (live_group g.0 _ (sym (ap (refusal old) is) ∙ none)) sets sound.1)
+  did_sound what answer none (Forked t child is out alive sets copies e) =
+      subst (sound_in opening) (sym e) (sound.0, sound-spawned opening.swap old.pages old.tasks new.tasks old.tree child.0 (group_of_task old.tasks t.0) (sound.1.homes t.0 alive) sets sound.1)
+  did_sound what answer none (Freed t v is out alive frees) =
+      subst (sound_in opening) (sym frees.state) (sound.0, sound-stilled opening.swap new.page_tables old.pages new.pages old.tasks old.tree frees.pages sound.1)
+  did_sound what answer none (Attached t g is out sets e) =
+      subst (sound_in opening) (sym e) (sound.0, sound-spawned opening.swap old.pages old.tasks new.tasks old.tree t.0 g.0 (live_group g.0 _ (sym (ap (refusal old) is) ∙ none)) sets sound.1)
   did_sound what answer none (Grown path is out e) =
       subst (sound_in opening) (sym e) (sound.0, sound-grown opening.swap old.pages old.tasks old.tree _ (found_below old.tree (parent_path path)) sound.1)
 

@@ -30,7 +30,7 @@ use Rattle.machine.specs.Lists.{HeldLists, is_held_of, hit_of}
 use Rattle.machine.proofs.Values.{some_inj, unlike}
 use Rattle.machine.proofs.TreeLemmas.{eq_cases}
 use Rattle.machine.proofs.MoveLemmas.{Met, met}
-use Rattle.machine.proofs.Did.{Did, Kept, Made, Moved, Dropped, Ended, Spawned, Grown, step_did}
+use Rattle.machine.proofs.Did.{Did, Kept, Made, Moved, Dropped, Ended, Spawned, Forked, Freed, Attached, Grown, step_did}
 use Rattle.machine.proofs.SoundLemmas.{IsFit, legal-sound}
 use Rattle.machine.proofs.HeldLemmas.{SamePlaces, HasLists}
 
@@ -84,12 +84,16 @@ module _ (old new : State) where
 
   did-places : (what : Event) (answer : Reply) → Did old what answer new → SamePlaces old.pages new.pages
   did-places what answer (Kept limits counted e) = places-same (ap (λ (s : State). s.pages) e)
-  did-places what answer (Made t v p frame access out alive within free unused placed shown e) = let made : Option Page = Some (new_page (group_of_task old.tasks t) frame) in places-one p None made free placed (alike-new made)
-  did-places what answer (Moved p page dirty now counted there placed moves e) = let moved : Option Page = Some (record { content = page.content; group = page.group; dirty = dirty; residence = now }) in places-one p (Some page) moved there placed (alike-moved page dirty now)
+  did-places what answer (Made t v p frame access out alive shared within free unused placed shown e) = let made : Option Page = Some (new_page (group_of_task old.tasks t) frame) in places-one p None made free placed (alike-new made)
+  did-places what answer (Moved p page dirty now counted there placed moves mapped e) = let moved : Option Page = Some (record { content = page.content; group = page.group; dirty = dirty; residence = now }) in places-one p (Some page) moved there placed (alike-moved page dirty now)
   did-places what answer (Dropped p page counted out there may_go gone e) = places-one p (Some page) None there gone (alike-gone (Some page))
   did-places what answer (Ended t ending counted out dead ends) =
       places (λ p. subst (λ (o : Option Page). AreAlike (page_at old.pages p) o) (sym (ends.pages p)) (alike-still new.page_tables p (page_at old.pages p)))
   did-places what answer (Spawned t g is sets shown e) = places-same (ap (λ (s : State). s.pages) e)
+  did-places what answer (Forked t child is out alive sets copies e) = places-same (ap (λ (s : State). s.pages) e)
+  did-places what answer (Freed t v is out alive frees) =
+      places (λ p. subst (λ (o : Option Page). AreAlike (page_at old.pages p) o) (sym (frees.pages p)) (alike-still new.page_tables p (page_at old.pages p)))
+  did-places what answer (Attached t g is out sets e) = places-same (ap (λ (s : State). s.pages) e)
   did-places what answer (Grown path is out e) = places-same (ap (λ (s : State). s.pages) e)
 
 -- a page that is held before a step and after it keeps its group and its type
@@ -147,12 +151,16 @@ module _ (old new : State) (many : ℕ) (numbers : page_numbers old.opening ≡ 
 
   did-numbered : (what : Event) (answer : Reply) → Did old what answer new → IsNumbered many new.pages
   did-numbered what answer (Kept limits counted e) = numbered-same (ap (λ (s : State). s.pages) e)
-  did-numbered what answer (Made t v p frame access out alive within free unused placed shown e) = numbered-one p _ placed (subst (λ (n : ℕ). p < n) numbers within)
-  did-numbered what answer (Moved p page dirty now counted there placed moves e) = numbered-one p _ placed (subst (λ (o : Option Page). IfSome o (λ x. p < many)) there (was.below p))
+  did-numbered what answer (Made t v p frame access out alive shared within free unused placed shown e) = numbered-one p _ placed (subst (λ (n : ℕ). p < n) numbers within)
+  did-numbered what answer (Moved p page dirty now counted there placed moves mapped e) = numbered-one p _ placed (subst (λ (o : Option Page). IfSome o (λ x. p < many)) there (was.below p))
   did-numbered what answer (Dropped p page counted out there may_go gone e) = numbered-one p None gone tt
   did-numbered what answer (Ended t ending counted out dead ends) =
       record { below = λ p. subst (λ (o : Option Page). IfSome o (λ page. p < many)) (sym (ends.pages p)) (numbered-still many new.page_tables p (page_at old.pages p) (was.below p)) }
   did-numbered what answer (Spawned t g is sets shown e) = numbered-same (ap (λ (s : State). s.pages) e)
+  did-numbered what answer (Forked t child is out alive sets copies e) = numbered-same (ap (λ (s : State). s.pages) e)
+  did-numbered what answer (Freed t v is out alive frees) =
+      record { below = λ p. subst (λ (o : Option Page). IfSome o (λ page. p < many)) (sym (frees.pages p)) (numbered-still many new.page_tables p (page_at old.pages p) (was.below p)) }
+  did-numbered what answer (Attached t g is out sets e) = numbered-same (ap (λ (s : State). s.pages) e)
   did-numbered what answer (Grown path is out e) = numbered-same (ap (λ (s : State). s.pages) e)
 
 -- in whatever state a legal history ends, each page has one of the numbers that the opening gives
@@ -195,7 +203,7 @@ module _ (old new : State) (t : TaskId) (v o : ℕ) (op : Op) (answer : Reply) (
       record { p = p; shown = shown; before = ap (there_and is_held) there ∙ held; after = ap (there_and is_held) h.2.changed ∙ held }
   hits p page frame op said shown there held h = absurd h
 
-  meeting : (g : ℕ) (met : Meeting) → Met old t.0 v met → MeetStep old t.0 g op met answer new → IsHit old t.0 v new
+  meeting : (g : ℕ) (met : Meeting) → Met old t.0 v op met → MeetStep old t.0 g op met answer new → IsHit old t.0 v new
   meeting g Unmapped found h = unmapped answer refl h
   meeting g (Hits p page frame) found h = hits p page frame op answer found.0 found.1 (ap is_held_at found.2) h
   meeting g Transferring found h = other_answer _ refl h.0

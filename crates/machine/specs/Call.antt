@@ -16,7 +16,7 @@ use Rattle.machine.specs.declared.refusal.Refusal.{Refusal}
 use Rattle.machine.specs.declared.refusal.Refusal.TheVariants.{Stranger, TraceFull, NoMemory}
 use Rattle.machine.specs.declared.entry.Entry.{Entry}
 use Rattle.machine.specs.Pages.{Pages, is_in_flight, in_transfer}
-use Rattle.machine.specs.Tasks.{task_at}
+use Rattle.machine.specs.Tasks.{task_at, lives}
 use Rattle.machine.specs.State.{Opening, State, first_state, over_in, is_frame_free}
 use Rattle.machine.specs.Access.{Meeting, meets, charges, is_fetch}
 use Rattle.machine.specs.Refusals.{refusal}
@@ -103,11 +103,12 @@ is_trace_full past what = is_full_for past.state past.history what
 
 -- ---- memory
 
--- the event makes something, and so may want memory: a group, a task with its page table, or what the bytes of a read-in arrive in. Nothing else may
+-- the event makes something, and so may want memory: a group, a task with its page table, which a fork of a live task makes too, or what the bytes of a read-in arrive in. Nothing else may
 -- answer NoMemory; that these get memory where there is some is not said here
 abbrev pub grows : State → Event → Bool
 grows s (event.Access t place op) = fetches s t.0 place op
 grows s (event.Spawn t g) = true
+grows s (event.Fork t child) = lives s.tasks t.0
 grows s (event.Mkdir path) = true
 grows s what = false
 

@@ -31,6 +31,8 @@ at_offset o (InTask t v offset) = InTask t v o
 -- what one entry says of a byte: what it is from then on, or nothing
 pub data Says : Type 0 where
   Byte : ℕ → Says
+  -- what another byte was
+  As : Spot → Says
   Nothing : Says
 
 abbrev pub says_if : Bool → Says → Says
@@ -40,15 +42,18 @@ says_if false said = Nothing
 abbrev pub says_of_task : ℕ → Spot → (ℕ → ℕ → Says) → Says
 says_of_task t (InTask t' v o) said = says_if (t == t') (said v o)
 
--- a write says its byte; a task begins with zeros. Nothing else says anything: no transfer and no kill
+-- a write says its byte; a task begins with zeros, and a child with its parent's bytes; a page that is freed is zeros. Nothing else says anything: no transfer and no kill
 abbrev pub says : Event → Reply → Spot → Says
 says (event.Access t place (Write b)) (reply.Done byte hit) spot = says_if (is_spot (spot_of t.0 place) spot) (Byte b)
 says (event.Spawn t g) reply.Ok spot = says_of_task t.0 spot (λ v o. Byte 0)
+says (event.Fork t child) reply.Ok spot = says_of_task child.0 spot (λ v o. As (InTask t.0 v o))
+says (event.Free t page) reply.Ok spot = says_of_task t.0 spot (λ v o. says_if (page == v) (Byte 0))
 says what answer spot = Nothing
 
 -- the byte after an entry, from what it says and the bytes before it
 abbrev pub follow : Says → (Spot → ℕ) → Spot → ℕ
 follow (Byte b) before spot = b
+follow (As other) before spot = before other
 follow Nothing before spot = before spot
 
 -- what bytes are at first: memory begins as zeros

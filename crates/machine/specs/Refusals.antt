@@ -11,9 +11,9 @@ use Rattle.machine.specs.declared.refusal.Refusal.{Refusal}
 use Rattle.machine.specs.declared.refusal.Refusal.TheVariants.{Exists, NoEntry, Busy, NoSpace, NoTask, NumberUsed, BadPlace, Invalid}
 use Rattle.machine.specs.Names.{is_path, parent_path}
 use Rattle.machine.specs.Tree.{Node, is_live, under, chain, has_children, live_groups, find_group}
-use Rattle.machine.specs.Tasks.{Tasks, task_at, live_tasks, has_tasks}
+use Rattle.machine.specs.Tasks.{Tasks, task_at, lives, live_tasks, has_tasks}
 use Rattle.machine.specs.State.{State}
-use Rattle.machine.specs.Access.{is_place}
+use Rattle.machine.specs.Access.{is_place, task_pages}
 
 -- the cause where the test holds, else what comes after
 abbrev pub first_cause : Bool → Refusal → Option Refusal → Option Refusal
@@ -79,6 +79,10 @@ show_refusal s (query.Protection target g) = first_cause (not (below_target s.tr
 abbrev pub spawn_refusal : State → ℕ → ℕ → Option Refusal
 spawn_refusal s t g = group_refusal s.tree g (first_cause (bars_tasks s.tree g) Busy (number_refusal s.tasks t))
 
+-- the group is there, then the task runs, then the group may have tasks
+abbrev pub attach_refusal : State → ℕ → ℕ → Option Refusal
+attach_refusal s t g = group_refusal s.tree g (first_cause (not (lives s.tasks t)) NoTask (first_cause (bars_tasks s.tree g) Busy None))
+
 abbrev pub refusal : State → Event → Option Refusal
 refusal s (event.Access t place op) = task_refusal (task_at s.tasks t.0) (first_cause (not (is_place s.opening place)) BadPlace None)
 refusal s (event.Arrived ticket bytes) = None
@@ -88,7 +92,10 @@ refusal s (event.LeaveFailed ticket) = None
 refusal s (event.Relieve cause) = None
 refusal s (event.ReclaimOne g) = group_refusal s.tree g.0 None
 refusal s (event.Spawn t g) = spawn_refusal s t.0 g.0
+refusal s (event.Fork t child) = task_refusal (task_at s.tasks t.0) (number_refusal s.tasks child.0)
 refusal s (event.Exit t) = task_refusal (task_at s.tasks t.0) None
+refusal s (event.Free t v) = task_refusal (task_at s.tasks t.0) (first_cause (not (nat_lt v task_pages)) BadPlace None)
+refusal s (event.Attach t g) = attach_refusal s t.0 g.0
 refusal s (event.Mkdir path) = mkdir_refusal s.tree (bars_children s.tasks) path
 refusal s (event.Set g setting) = file_refusal s.tree g.0
 refusal s (event.Show what) = show_refusal s what

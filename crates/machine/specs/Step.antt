@@ -26,7 +26,7 @@ use Rattle.machine.specs.Tree.{Node, find_group}
 use Rattle.machine.specs.Pages.{Content, Memory, OfFile, Residence, Held, Coming, Going, Away, Page, is_anon, in_transfer_at, page_at, home_block, is_frame_taken, is_swap_taken, is_ticket_taken}
 use Rattle.machine.specs.declared.record.Limits.{Limits}
 use Rattle.machine.specs.Counts.{no_limits, limits_at, Counted, local, total, counts_by}
-use Rattle.machine.specs.Tasks.{PageTables, task_at, SetsTask, group_of_task, mappers, Shows, ShowsNothing}
+use Rattle.machine.specs.Tasks.{PageTables, task_at, SetsTask, group_of_task, mappers, Shows, Copies, ShowsNothing}
 use Rattle.machine.specs.State.{State, page_numbers, usage, over_in, is_frame_free, effective_min}
 use Rattle.machine.specs.Access.{Meeting, Unmapped, Hits, Transferring, NeedsPage, NeedsCopy, NeedsSwapIn, Dangling, meets}
 use Rattle.machine.specs.Reclaim.{is_takeable, has_takeable, has_transfer, stands, target_of}
@@ -68,8 +68,8 @@ written (Write b) = b
 abbrev pub new_page : ℕ → ℕ → Page
 new_page g frame = record { content = Memory; group = g; dirty = false; residence = Held frame }
 
--- a virtual page of a task shows a new page, charged to the task's group: zeros, or a copy of what it showed, with the byte written. There are as many page numbers as
--- frames and swap blocks, of which each page has one
+-- a virtual page of a task shows a new page, charged to the task's group. That its bytes are zeros, or those of the page that it showed, but for the byte written, is the
+-- history's to say. There are as many page numbers as frames and swap blocks, of which each page has one
 pub record MakesPage (old : State) (t v g : ℕ) (op : Op) (answer : Reply) (new : State) : Type 0 where
   pub page : ℕ
   pub frame : ℕ
@@ -177,7 +177,7 @@ ReclaimStep old target Idle answer new =
 abbrev pub ReclaimOneStep : State → ℕ → Reply → State → Type 0
 ReclaimOneStep old target answer new = ReclaimStep old target (Only old reply.Nothing answer new) answer new
 
--- ---- ends of tasks
+-- ---- tasks
 
 -- a page with these page tables: an anonymous one that nothing maps is gone, unless it is in transfer, whose end decides
 abbrev pub still : PageTables → ℕ → Option Page → Option Page
@@ -194,6 +194,24 @@ pub record EndsTask (old : State) (t : ℕ) (life : Life) (counted : List Counte
 -- a task ends by itself, and nothing is counted for it
 abbrev pub Exits : State → ℕ → Reply → State → Type 0
 Exits old t answer new = (answer ≡ reply.Ok) × EndsTask old t Exited old.counted new
+
+-- a new task begins in the group of a live one, and shows what that one shows: pages in transfer and on their blocks too. No page changes and none is charged.
+-- (Excludes a child that begins in the root, and one that shares held pages alone.)
+abbrev pub Forks : State → ℕ → ℕ → Task → Reply → State → Type 0
+Forks old t child task answer new =
+    (answer ≡ reply.Ok) × SetsTask old.tasks child task.group.0 Live new.tasks × Copies old.page_tables new.page_tables t child
+    × (new ≡ record old { tasks = new.tasks; page_tables = new.page_tables })
+
+-- a virtual page shows nothing any more, and the page that nothing maps then goes. (Excludes a free that drops what others still show.)
+pub record Frees (old : State) (t v : ℕ) (answer : Reply) (new : State) : Type 0 where
+  pub answers : answer ≡ reply.Ok
+  pub shown : Shows old.page_tables new.page_tables t v None
+  pub pages : (p : ℕ) → page_at new.pages p ≡ still new.page_tables p (page_at old.pages p)
+  pub state : new ≡ record old { pages = new.pages; page_tables = new.page_tables }
+
+-- a task is in another group, and its pages stay charged where they are. (Excludes a move that takes charges along.)
+abbrev pub Attaches : State → ℕ → ℕ → State → Type 0
+Attaches old t g new = SetsTask old.tasks t g Live new.tasks × (new ≡ record old { tasks = new.tasks })
 
 -- nothing can be reclaimed under the limit: its worst task is killed, or there is none. (Excludes a kill at the first refused charge: Takes and Wait come before.)
 abbrev pub KillStep : State → ℕ → Reply → State → Type 0
@@ -270,7 +288,10 @@ Step old (event.Relieve cause) answer new = RelieveStep old cause answer new
 Step old (event.ReclaimOne g) answer new = ReclaimOneStep old g.0 answer new
 Step old (event.Spawn t g) reply.Ok new =
     SetsTask old.tasks t.0 g.0 Live new.tasks × ShowsNothing old.page_tables new.page_tables t.0 × (new ≡ record old { tasks = new.tasks; page_tables = new.page_tables })
+Step old (event.Fork t child) answer new = TaskStep old (task_at old.tasks t.0) (λ task. Forks old t.0 child.0 task answer new) answer new
 Step old (event.Exit t) answer new = TaskStep old (task_at old.tasks t.0) (λ task. Exits old t.0 answer new) answer new
+Step old (event.Free t v) answer new = TaskStep old (task_at old.tasks t.0) (λ task. Frees old t.0 v answer new) answer new
+Step old (event.Attach t g) reply.Ok new = Attaches old t.0 g.0 new
 Step old (event.Mkdir path) reply.Ok new = new ≡ record old { tree = old.tree ++ new_node old.tree path ∷ []; limits = old.limits ++ no_limits ∷ [] }
 Step old (event.Set g what) reply.Ok new = new ≡ record old { limits = slice_set old.limits g.0 (with_setting (limits_at old.limits g.0) what) }
 Step old (event.Show what) (reply.Shown numbers) new = (numbers ≡ shown_of old what) × (new ≡ old)

@@ -46,7 +46,7 @@ group_of (Some task) = task.group.0
 abbrev pub group_of_task : Tasks → ℕ → ℕ
 group_of_task tasks t = group_of (task_at tasks t)
 
--- a task of a group begins, or ends so, under its number
+-- a task of a group begins, goes to it, or ends so, under its number
 abbrev pub SetsTask : Tasks → ℕ → ℕ → Life → Tasks → Type 0
 SetsTask old t g life new = Changes old new t (Some (task_of g life))
 
@@ -87,6 +87,11 @@ mappers tables p = sum_by (mappers_in p) tables
 pub record Shows (old new : PageTables) (t v : ℕ) (to : Option ℕ) : Type 0 where
   pub changed : mapped_at new t v ≡ to
   pub others : (u w : ℕ) → ((t == u) && (v == w)) ≡ false → mapped_at new u w ≡ mapped_at old u w
+
+-- a task's virtual pages show from now on what those of another showed, and those of every other what they showed. (Excludes a child that begins with less than all of it.)
+pub record Copies (old new : PageTables) (from to : ℕ) : Type 0 where
+  pub copied : (v : ℕ) → mapped_at new to v ≡ mapped_at old from v
+  pub others : (u w : ℕ) → u ≢ to → mapped_at new u w ≡ mapped_at old u w
 
 -- a task's virtual pages show nothing from now on, and those of every other what they showed
 pub record ShowsNothing (old new : PageTables) (t : ℕ) : Type 0 where

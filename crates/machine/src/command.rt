@@ -21,17 +21,23 @@ pub enum Actor {
     Daemon,
 }
 
-/// What an actor is told to do: `Access` and `Exit` are for a task, `Daemon` for the daemon, all
-/// others for the shell and for control.
+/// What an actor is told to do: `Access`, `Fork`, `Free` and `Exit` are for a task, `Daemon` for the
+/// daemon, all others for the shell and for control.
 #[derive(Debug, Drop)]
 pub enum Command {
     Access { place: Place, op: Op },
+    /// The task makes a child of this number.
+    Fork { child: u32 },
+    /// The task gives a virtual page up.
+    Free { page: u32 },
     /// The task ends.
     Exit,
     /// Makes the group of a path.
     Group(Text),
     /// Starts a task in the group of a path.
     Task { task: u32, path: Text },
+    /// Moves a task to the group of a path.
+    Attach { task: u32, path: Text },
     /// Writes a text to a control file of the group of a path.
     Set { path: Text, file: Text, text: Text },
     /// Prints a control file of the group of a path.
@@ -52,9 +58,15 @@ impl Command {
                 place: *place,
                 op: *op,
             }),
+            Command::Fork { child } => Ok(Command::Fork { child: *child }),
+            Command::Free { page } => Ok(Command::Free { page: *page }),
             Command::Exit => Ok(Command::Exit),
             Command::Group(path) => Ok(Command::Group(path.copy(alloc)?)),
             Command::Task { task, path } => Ok(Command::Task {
+                task: *task,
+                path: path.copy(alloc)?,
+            }),
+            Command::Attach { task, path } => Ok(Command::Attach {
                 task: *task,
                 path: path.copy(alloc)?,
             }),

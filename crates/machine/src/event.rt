@@ -77,8 +77,16 @@ pub enum Event {
     ReclaimOne(GroupId),
     /// A new task of a group.
     Spawn { task: TaskId, group: GroupId },
+    /// A new task in the group of another, whose virtual pages show what the other's show (kernel:
+    /// `copy_process`, `dup_mmap`).
+    Fork { task: TaskId, child: TaskId },
     /// A task ends by itself (kernel: `do_exit`, `exit_mmap`).
     Exit(TaskId),
+    /// A virtual page of a task shows nothing from then on (kernel: `madvise` with MADV_DONTNEED).
+    Free { task: TaskId, page: u32 },
+    /// A task is of this group from then on. What it was charged for stays charged where it is (kernel:
+    /// `cgroup_attach_task`).
+    Attach { task: TaskId, group: GroupId },
     /// A new group, by its path.
     Mkdir(Text),
     /// A control file is written.

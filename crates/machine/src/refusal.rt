@@ -12,7 +12,7 @@ pub enum Refusal {
     Busy,
     /// `ENOSPC`: as many groups, levels, tasks or passes as there can be.
     NoSpace,
-    /// `ESRCH`: no such live task, and it was not killed.
+    /// `ESRCH`: no such live task; where the task itself is told that it was killed, none that was.
     NoTask,
     /// The task's number was used before.
     NumberUsed,
