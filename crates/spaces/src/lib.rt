@@ -9,14 +9,14 @@
 ghost use Rattle.std.specs.Prelude.{◌≡◌, ◌≢◌, ℕ, ◌+◌, ◌<◌, ◌≤◌, [], true, false, Some, None, IfOk, OnOk, OnErr, length, max, vec_capacity, vec_len, option_map};
 ghost use Rattle.machine.specs.Access.{task_pages};
 ghost use Rattle.machine.specs.Slots.{Changes, there_and};
-ghost use Rattle.machine.specs.Tasks.{task_at, lives, is_live_in, has_tasks, group_of_task, is_live_life, SetsTask, table_of, mapped_at, size_of, mappers, Shows, ShowsNothing};
+ghost use Rattle.machine.specs.Tasks.{task_at, lives, is_live_in, has_tasks, group_of, group_of_task, is_live_life, SetsTask, table_of, mapped_at, size_of, mappers, Shows, Copies, ShowsNothing};
 ghost use Rattle.machine.specs.Refusals.{number_refusal};
 
 mod page_table;
 
 use crate::page_table::PageTable;
 use machine::id::{GroupId, PageId, TaskId};
-use machine::limit::{LAST_TASK, MOST_TASKS};
+use machine::limit::{LAST_TASK, MOST_TASKS, TASK_PAGES};
 use machine::record::{Life, Task};
 use machine::refusal::Refusal;
 use std::alloc::{AllocError, Global};
@@ -129,6 +129,38 @@ impl Spaces {
         Ok(())
     }
 
+    /// Starts a task in the group of a live one, with a page table that shows what the other's shows
+    /// (kernel: `copy_process`, `dup_mmap`). Where memory is wanting, nothing changes.
+    pub fn fork(&mut self, parent: TaskId, child: TaskId) -> Result<(), AllocError>
+        requires alive { lives self.old.tasks parent.0 ≡ true }
+        requires number { number_refusal self.old.tasks child.0 ≡ None }
+        ensures starts { OnOk result (SetsTask self.old.tasks child.0 (group_of_task self.old.tasks parent.0) Life.Live self.new.tasks) }
+        ensures shown { OnOk result (Copies self.old.page_tables self.new.page_tables parent.0 child.0) }
+        ensures numbers { OnOk result (self.new.numbers ≡ self.old.numbers) }
+        ensures err { OnErr result (self.new ≡ self.old) }
+    {
+        self.owners();
+        let group = group_of(self.task(parent));
+        self.spawn(child, group)?;
+        for at in 0..TASK_PAGES {
+            if let Some(page) = self.page(parent, at) {
+                self.map(child, at, page);
+            }
+        }
+        Ok(())
+    }
+
+    /// A live task is of another group from now on (kernel: `cgroup_attach_task`).
+    pub fn attach(&mut self, task: TaskId, group: GroupId)
+        requires there { lives self.old.tasks task.0 ≡ true }
+        ensures moves { SetsTask self.old.tasks task.0 group.0 Life.Live self.new.tasks }
+        ensures tables { self.new.page_tables ≡ self.old.page_tables }
+        ensures numbers { self.new.numbers ≡ self.old.numbers }
+    {
+        let life = Life::Live;
+        self.tasks[task.0 as usize] = Some(Task { group, life });
+    }
+
     /// The page that a virtual page of the task shows (kernel: a walk of the page table).
     pub fn page(&self, task: TaskId, at: u32) -> Option<PageId>
         ensures { option_map (λ page. page.0) result ≡ mapped_at self.now.page_tables task.0 at }
@@ -206,10 +238,11 @@ impl Spaces {
     }
 
     /// Nothing is done: what always holds. A virtual page that shows a page is one of a live task,
-    /// and its number is below 1,024.
+    /// and its number is below 1,024; the number of the page is one that there is.
     pub fn owners(&self)
         ensures alive { (t v p : ℕ) → mapped_at self.now.page_tables t v ≡ Some p → lives self.now.tasks t ≡ true }
         ensures within { (t v p : ℕ) → mapped_at self.now.page_tables t v ≡ Some p → v < task_pages }
+        ensures number { (t v p : ℕ) → mapped_at self.now.page_tables t v ≡ Some p → p < self.now.numbers }
     {
         let _ = &self.tasks;
     }
@@ -230,6 +263,16 @@ fn is_live_in(slot: &Option<Task>, group: GroupId) -> bool
     match *slot {
         Some(task) => is_live(task.life) && task.group == group,
         None => false,
+    }
+}
+
+/// The group of a task that is there.
+fn group_of(slot: Option<Task>) -> GroupId
+    ensures { result.0 ≡ group_of slot }
+{
+    match slot {
+        Some(task) => task.group,
+        None => GroupId::ROOT,
     }
 }
 
