@@ -108,19 +108,17 @@ byte_in-changes old new p to changes q o =
       | inr differs ↦ rw differs.0 (ap (λ bytes. byte_of bytes o) (changes.others q differs.1))
     ]
 
--- zeros, and then one byte written
-pub zeros_but : (before after : List ℕ) (offset byte o : ℕ) → ((n : ℕ) → slice_index before n ≡ 0) → slice_index after offset ≡ byte → ((n : ℕ) → n ≢ offset → slice_index after n ≡ slice_index before n) → slice_index after o ≡ (if offset == o then byte else 0)
-zeros_but before after offset byte o cleared written others =
+-- one byte written, over these
+pub but_one : (before after : List ℕ) (offset byte o : ℕ) → slice_index after offset ≡ byte → ((n : ℕ) → n ≢ offset → slice_index after n ≡ slice_index before n) → slice_index after o ≡ (if offset == o then byte else slice_index before o)
+but_one before after offset byte o written others =
     elim (eqb_tells offset o) [
       | inl here ↦ rw (here.0, ← here.1) written
-      | inr elsewhere ↦ rw elsewhere.0 (others o (λ e. elsewhere.1 (sym e)) ∙ cleared o)
+      | inr elsewhere ↦ rw elsewhere.0 (others o (λ e. elsewhere.1 (sym e)))
     ]
 
--- a page is made with these bytes
-pub byte_in-made : (old new : List (Option (List ℕ))) (p : ℕ) (bytes : List ℕ) (offset byte : ℕ) → Changes old new p (Some bytes) → ((o : ℕ) → slice_index bytes o ≡ (if offset == o then byte else 0)) → (q o : ℕ)
-    → byte_in new q o ≡ (if q == p then (if offset == o then byte else 0) else byte_in old q o)
-byte_in-made old new p bytes offset byte changes made q o =
-    byte_in-changes old new p (Some bytes) changes q o ∙ ap (λ b. cond (q == p) b (byte_in old q o)) (made o)
+-- zeros, and then one byte written
+pub zeros_but : (before after : List ℕ) (offset byte o : ℕ) → ((n : ℕ) → slice_index before n ≡ 0) → slice_index after offset ≡ byte → ((n : ℕ) → n ≢ offset → slice_index after n ≡ slice_index before n) → slice_index after o ≡ (if offset == o then byte else 0)
+zeros_but before after offset byte o cleared written others = but_one before after offset byte o written others ∙ ap (cond (offset == o) byte) (cleared o)
 
 -- one byte of a page is written
 pub byte_in-written : (old new : List (Option (List ℕ))) (p : ℕ) (after : Option (List ℕ)) (offset byte : ℕ) → Changes old new p after → WritesByte (at old p) after offset byte → (q o : ℕ)

@@ -1,5 +1,5 @@
 -- What a contract sees of pages, by what they are made of: the numbers that pages have, what the pages own, and the transfers in flight.
-use Rattle.std.specs.Prelude.{◌≡◌, ◌≢◌, ℕ, ◌-◌, ◌<◌, ◌≤◌, List, [], Option, map, option_map, is_some}
+use Rattle.std.specs.Prelude.{◌≡◌, ◌≢◌, ℕ, ◌-◌, ◌<◌, List, [], Option, map, option_map, is_some}
 use Rattle.slab.specs.Slab.{Slab, get, slab_len}
 use Rattle.machine.specs.Slots.{at}
 use Rattle.machine.specs.Pages.{Held, Coming, Going, Away, Page}

@@ -37,8 +37,9 @@ use slab::Slab;
 use std::alloc::{AllocError, Global};
 use std::marker::Model;
 use table::{
-    divide, fill_at, group_of, into_away, into_held, into_moving, list, open_numbers, owned_at,
-    page_under, place, read_at, residence_of, set_zeros_but, take_at, unlist, write_at,
+    bytes_at, divide, fill_at, group_of, into_away, into_held, into_moving, list, open_numbers,
+    owned_at, page_under, place, read_at, residence_of, set_bytes_but, set_zeros_but, take_at,
+    unlist, write_at,
 };
 
 /// The pages by their numbers, and the transfers in flight by theirs. It must be spent, by
@@ -105,6 +106,42 @@ impl Pages {
         ensures others { self.new ≡ record self.old { pages = self.new.pages; bytes = self.new.bytes } }
     {
         set_zeros_but(&mut frame, offset, byte);
+        self.insert(frame, charge)
+    }
+
+    /// A new page in the frame: the bytes of a page that is in a frame, but for one byte (kernel:
+    /// `wp_page_copy`). A number is free for it. Takes no memory.
+    pub fn copy(
+        &mut self,
+        mut frame: Frame,
+        charge: Charge,
+        offset: usize,
+        byte: u8,
+        from: PageId,
+    ) -> PageId
+        requires room { pages_there self.old.pages < self.old.numbers }
+        requires within { offset < page_size }
+        requires held { is_held_in self.old.pages from.0 ≡ true }
+        ensures within { result.0 < self.old.numbers }
+        ensures free { page_at self.old.pages result.0 ≡ None }
+        ensures placed { Changes self.old.pages self.new.pages result.0 (Some (new_page charge frame.number)) }
+        ensures bytes { (q o : ℕ) → byte_in self.new.bytes q o
+            ≡ (if q == result.0 then (if offset == o then byte else byte_in self.old.bytes from.0 o) else byte_in self.old.bytes q o) }
+        ensures others { self.new ≡ record self.old { pages = self.new.pages; bytes = self.new.bytes } }
+    {
+        set_bytes_but(&mut frame, bytes_at(&self.owned, from), offset, byte);
+        self.insert(frame, charge)
+    }
+
+    /// A new page in the frame, of the bytes that are in it. A number is free for it. Takes no memory.
+    fn insert(&mut self, frame: Frame, charge: Charge) -> PageId
+        requires room { pages_there self.old.pages < self.old.numbers }
+        ensures within { result.0 < self.old.numbers }
+        ensures free { page_at self.old.pages result.0 ≡ None }
+        ensures placed { Changes self.old.pages self.new.pages result.0 (Some (new_page charge frame.number)) }
+        ensures bytes { (q o : ℕ) → byte_in self.new.bytes q o ≡ (if q == result.0 then slice_index frame.bytes o else byte_in self.old.bytes q o) }
+        ensures others { self.new ≡ record self.old { pages = self.new.pages; bytes = self.new.bytes } }
+    {
         let page = PageId(self.numbers.insert_reserved(()) as u32);
         place(&mut self.owned, page, OwnedPage::Held { frame, charge });
         page

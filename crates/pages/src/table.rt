@@ -69,6 +69,17 @@ pub(crate) fn read_at(owned: &OwnedPage, offset: usize) -> u8
     }
 }
 
+/// All bytes of a page in a frame.
+pub(crate) fn bytes_at(slots: &[Option<OwnedPage>], page: PageId) -> &[u8; FRAME_BYTES]
+    requires { there_and is_held (option_map page_of (at slots.now page.0)) ≡ true }
+    ensures { option_map bytes_of (at slots.now page.0) ≡ Some result.now }
+{
+    match owned_at(slots, page) {
+        Some(OwnedPage::Held { frame, .. }) => frame.bytes(),
+        _ => unreachable!(),
+    }
+}
+
 /// Changes a byte of the page in a frame that is there.
 pub(crate) fn write_at(slot: &mut Option<OwnedPage>, offset: usize, byte: u8)
     requires held { there_and is_held (option_map page_of slot.old) ≡ true }
@@ -102,6 +113,17 @@ pub(crate) fn set_zeros_but(frame: &mut Frame, offset: usize, byte: u8)
     ensures number { frame.new.number ≡ frame.old.number }
 {
     frame.clear();
+    frame.write(offset, byte);
+}
+
+/// These bytes in place of all of them, but for one.
+#[tactic(auto, using(crate::proofs::TableLemmas::but_one))]
+pub(crate) fn set_bytes_but(frame: &mut Frame, bytes: &[u8; FRAME_BYTES], offset: usize, byte: u8)
+    requires { offset < page_size }
+    ensures bytes { (o : ℕ) → slice_index frame.new.bytes o ≡ (if offset == o then byte else slice_index bytes.now o) }
+    ensures number { frame.new.number ≡ frame.old.number }
+{
+    frame.fill(bytes);
     frame.write(offset, byte);
 }
 

@@ -1,11 +1,9 @@
-use Rattle.std.proofs.Common.{map, Some, ap, refl, ◌∙◌, subst, arith}
+use Rattle.std.proofs.Common.{Some, ap, refl, ◌∙◌, arith}
 use Rattle.std.specs.Prelude.{option_map}
-use Rattle.machine.specs.Slots.{Changes}
-use Rattle.machine.specs.Step.{new_page}
 use Rattle.pages.specs.Records.{page_of, bytes_of}
-use Rattle.pages.proofs.TableLemmas.{at-map, Changes-map, byte_in-made, taken-changes, free-vacant, taken-there}
+use Rattle.pages.proofs.TableLemmas.{at-map, Changes-map, byte_in-changes, taken-changes, free-vacant, taken-there}
 use Rattle.pages.proofs.FlightLemmas.{AreInFlight-apart, AreMemory-owned, IsSettled-is}
-use Rattle.pages.proofs.Pages.hold.Goals as goal
+use Rattle.pages.proofs.Pages.insert.Goals as goal
 
 pub insert_reserved-requires : goal.insert_reserved-requires
 insert_reserved-requires c =
@@ -28,14 +26,7 @@ invariant_of-self c =
     }
 
 pub returns-clause-placed : goal.returns-clause-placed
-returns-clause-placed c =
-    let before = map (option_map page_of) c.self.inside.owned.items in
-    let after = map (option_map page_of) c.place.new.slots.items in
-    let p = c.insert_reserved.result in
-    let placed = subst (λ n. Changes before after p (Some (new_page c.args.charge n))) c.set_zeros_but.ensures.number (Changes-map page_of _ _ p _ c.place.ensures.placed) in
-    rw (← c.self.view_is) placed
+returns-clause-placed c = rw (← c.self.view_is) (Changes-map page_of _ _ c.insert_reserved.result _ c.place.ensures.placed)
 
 pub returns-clause-bytes : goal.returns-clause-bytes
-returns-clause-bytes c =
-    let p = c.insert_reserved.result in
-    rw (← c.self.view_is) (byte_in-made _ _ p c.set_zeros_but.new.frame.bytes c.args.offset c.args.byte (Changes-map bytes_of _ _ p _ c.place.ensures.placed) c.set_zeros_but.ensures.bytes)
+returns-clause-bytes c = rw (← c.self.view_is) (byte_in-changes _ _ c.insert_reserved.result _ (Changes-map bytes_of _ _ c.insert_reserved.result _ c.place.ensures.placed))
