@@ -15,6 +15,7 @@ pub mod TransferLemmas
 pub mod DropLemmas
 pub mod MappedLemmas
 pub mod JoinLemmas
+pub mod MakeLemmas
 pub mod EndingLemmas
 pub mod UnmapLemmas
 pub mod TakeLemmas

@@ -1,6 +1,6 @@
 -- How pages and page tables agree after a change, and where the tasks' groups are.
-use Rattle.std.proofs.Common.{◌≡◌, inl, inr, ℕ, ◌+◌, ◌≤◌, ◌≢◌, ◌==◌, ◌&&◌, not, Bool, true, false, cond, [], Option, Some, None, List, eqb-true, eq-eqb, ne_eqb, refl, sym, ap, ◌∙◌, arith, subst}
-use Rattle.std.specs.Prelude.{IsSome, IfSome}
+use Rattle.std.proofs.Common.{◌≡◌, inl, inr, ℕ, ◌+◌, ◌<◌, ◌≤◌, ◌≢◌, ◌==◌, ◌&&◌, not, Bool, true, false, cond, [], Option, Some, None, List, eqb-true, eq-eqb, ne_eqb, refl, sym, ap, ◌∙◌, arith, subst}
+use Rattle.std.specs.Prelude.{◌⊎◌, IsSome, IfSome}
 use Rattle.std.proofs.lemmas.Bool.Decides.{nat_tests}
 use Rattle.machine.specs.declared.record.Life.{Life}
 use Rattle.machine.specs.declared.record.Life.TheVariants.{Live}
@@ -8,12 +8,13 @@ use Rattle.machine.specs.declared.record.Task.{Task}
 use Rattle.machine.specs.Slots.{Changes, there_and}
 use Rattle.machine.specs.Tree.{Node, is_live}
 use Rattle.machine.specs.Pages.{Residence, Page, Pages, page_at, is_anon, in_transfer_at, is_in_transfer}
-use Rattle.machine.specs.Tasks.{Tasks, PageTables, is_live_life, is_live_task, lives, group_of, group_of_task, SetsTask, mapped_at, mappers, Shows}
+use Rattle.machine.specs.Tasks.{Tasks, PageTables, task_at, is_live_life, is_live_task, lives, group_of, group_of_task, SetsTask, mapped_at, mappers, Shows, Copies}
 use Rattle.machine.specs.Step.{still, or_gone}
 use Rattle.machine.proofs.Values.{unlike}
 use Rattle.machine.proofs.TreeLemmas.{eq_cases}
 use Rattle.machine.proofs.SlotLemmas.{one_if}
-use Rattle.machine.proofs.MappingLemmas.{mapped_at-mappers, mappers-alike, mappers-shows, shown_once}
+use Rattle.machine.proofs.MappingLemmas.{mapped_at-mappers, mappers-alike, mappers-shows, copies-cases, shown_once}
+use Rattle.machine.proofs.MappersLemmas.{Mapper, mappers_some}
 use Rattle.pages.specs.PagesOf.{anon_page}
 use Rattle.page_state.specs.Mapped.{AreMapped, is_settled}
 
@@ -81,7 +82,7 @@ still-moving tables p (Some page) = by_tests (is_anon page.content) (mappers tab
 -- ---- how they agree
 
 pub mapped-open : (pages : Pages) (tables : PageTables) → pages ≡ [] → tables ≡ [] → AreMapped pages tables
-mapped-open pages tables no_pages no_tables = rw (no_pages, no_tables) (record { there = λ p e. refl; least = λ p. omega arith; once = λ p. omega arith })
+mapped-open pages tables no_pages no_tables = rw (no_pages, no_tables) (record { there = λ p e. refl; least = λ p. omega arith })
 
 module _ (pages : Pages) (tables : PageTables) (mapped : AreMapped pages tables) where
   -- what something maps is there
@@ -99,36 +100,99 @@ module _ (pages : Pages) (tables : PageTables) (mapped : AreMapped pages tables)
   settled_one None = omega arith
   settled_one (Some page) = elim (is_in_transfer page) as (λ b. cond b 0 1 ≤ 1) [ true ↦ omega arith | false ↦ omega arith ]
 
-  -- a page more, at a place that showed nothing
-  pub mapped-made : (pages' : Pages) (tables' : PageTables) (t v p : ℕ) (page : Page) → page_at pages p ≡ None → Changes pages pages' p (Some page) → mapped_at tables t v ≡ None → Shows tables tables' t v (Some p)
-      → AreMapped pages' tables'
-  mapped-made pages' tables' t v p page free changes unmapped shows = record { there = there; least = least; once = once }
+  -- a page more, at a place that showed nothing, or a page that others show too
+  pub mapped-made : (pages' : Pages) (tables' : PageTables) (t v p : ℕ) (page : Page) → page_at pages p ≡ None → Changes pages pages' p (Some page)
+      → ((q : ℕ) → mapped_at tables t v ≡ Some q → 1 < mappers tables q) → Shows tables tables' t v (Some p) → AreMapped pages' tables'
+  mapped-made pages' tables' t v p page free changes shared shows = record { there = there; least = least }
     where
-      counts : (q : ℕ) → mappers tables' q ≡ mappers tables q + one_if (p == q)
-      counts q = let more = mappers-shows tables tables' t v q (Some p) shows in let none : shown_once (mapped_at tables t v) q ≡ 0 = ap (λ m. shown_once m q) unmapped in omega (arith, more, none)
+      counts : (q : ℕ) → mappers tables' q + shown_once (mapped_at tables t v) q ≡ mappers tables q + one_if (p == q)
+      counts q = mappers-shows tables tables' t v q (Some p) shows
+
+      -- what the place showed is shown elsewhere too
+      was : (q : ℕ) → (shown_once (mapped_at tables t v) q ≡ 0) ⊎ ((shown_once (mapped_at tables t v) q ≡ 1) × (1 < mappers tables q))
+      was q = by_shown (mapped_at tables t v) refl
+        where
+          by_test : (x : ℕ) (b : Bool) → (x == q) ≡ b → mapped_at tables t v ≡ Some x → (one_if b ≡ 0) ⊎ ((one_if b ≡ 1) × (1 < mappers tables q))
+          by_test x true is shown = inr (refl, shared q (shown ∙ ap (λ (n : ℕ). Some n) (eqb-true x q is)))
+          by_test x false is shown = inl refl
+
+          by_shown : (shown : Option ℕ) → mapped_at tables t v ≡ shown → (shown_once shown q ≡ 0) ⊎ ((shown_once shown q ≡ 1) × (1 < mappers tables q))
+          by_shown None e = inl refl
+          by_shown (Some x) e = by_test x (x == q) refl e
 
       at_p : (q : ℕ) → q ≡ p → mappers tables' q ≡ 1
       at_p q same =
           let more = counts q in
           let hit : one_if (p == q) ≡ 1 = ap one_if (eq-eqb p q (sym same)) in
           let none = mapped.there q (ap (page_at pages) same ∙ free) in
-          omega (arith, more, hit, none)
-
-      elsewhere : (q : ℕ) → q ≢ p → mappers tables' q ≡ mappers tables q
-      elsewhere q other = let more = counts q in let miss : one_if (p == q) ≡ 0 = ap one_if (ne_eqb p q (λ e. other (sym e))) in omega (arith, more, miss)
+          elim (was q) [ inl miss ↦ omega (arith, more, hit, none, miss) | inr two ↦ absurd (let many = two.1 in omega (arith, none, many)) ]
 
       there : (q : ℕ) → page_at pages' q ≡ None → mappers tables' q ≡ 0
-      there q e = elim (eq_cases q p) [ inl same ↦ absurd (let wrong : Some page ≡ None = sym changes.changed ∙ sym (ap (page_at pages') same) ∙ e in cc) | inr other ↦ elsewhere q other ∙ mapped.there q (sym (changes.others q other) ∙ e) ]
+      there q e =
+          elim (eq_cases q p) [
+            | inl same ↦ absurd (let wrong : Some page ≡ None = sym changes.changed ∙ sym (ap (page_at pages') same) ∙ e in cc)
+            | inr other ↦
+                (let more = counts q in
+                let miss : one_if (p == q) ≡ 0 = ap one_if (ne_eqb p q (λ e. other (sym e))) in
+                let none = mapped.there q (sym (changes.others q other) ∙ e) in
+                omega (arith, more, miss, none))
+          ]
 
       least : (q : ℕ) → is_settled (page_at pages' q) ≤ mappers tables' q
       least q =
           elim (eq_cases q p) [
             | inl same ↦ (let one = at_p q same in let now = settled_one (page_at pages' q) in omega (arith, one, now))
-            | inr other ↦ (let kept = elsewhere q other in let before = mapped.least q in let slot = ap is_settled (changes.others q other) in omega (arith, kept, before, slot))
+            | inr other ↦
+                (let more = counts q in
+                let miss : one_if (p == q) ≡ 0 = ap one_if (ne_eqb p q (λ e. other (sym e))) in
+                let before = mapped.least q in
+                let now = settled_one (page_at pages' q) in
+                let slot = ap is_settled (changes.others q other) in
+                elim (was q) [ inl none ↦ omega (arith, more, miss, before, slot, none) | inr two ↦ (let hit = two.0 in let many = two.1 in omega (arith, more, miss, now, hit, many)) ])
           ]
 
-      once : (q : ℕ) → mappers tables' q ≤ 1
-      once q = elim (eq_cases q p) [ inl same ↦ (let one = at_p q same in omega (arith, one)) | inr other ↦ (let kept = elsewhere q other in let before = mapped.once q in omega (arith, kept, before)) ]
+  -- a task more, that shows what another shows
+  pub mapped-copied : (tasks : Tasks) (tables' : PageTables) (parent child : ℕ) → ((t v p : ℕ) → mapped_at tables t v ≡ Some p → lives tasks t ≡ true) → task_at tasks child ≡ None → Copies tables tables' parent child
+      → AreMapped pages tables'
+  mapped-copied tasks tables' parent child owners unused copies = record { there = there; least = least }
+    where
+      -- whoever shows a page from now on shows what was shown
+      was_shown : (p : ℕ) → Mapper tables' p → 1 ≤ mappers tables p
+      was_shown p by =
+          elim (copies-cases tables tables' parent child copies by.task by.place) [
+            | inl new ↦ mapped_at-mappers tables parent by.place p (sym new.1 ∙ by.mapped)
+            | inr old ↦ mapped_at-mappers tables by.task by.place p (sym old.1 ∙ by.mapped)
+          ]
+
+      -- whoever showed a page is no new task, and shows it still
+      still_shown : (p : ℕ) → Mapper tables p → 1 ≤ mappers tables' p
+      still_shown p by = mapped_at-mappers tables' by.task by.place p (copies.others by.task by.place another ∙ by.mapped)
+        where
+          another : by.task ≢ child
+          another same = unlike (lives tasks by.task) (owners by.task by.place p by.mapped) (ap (lives tasks) same ∙ ap (there_and is_live_task) unused)
+
+      there : (p : ℕ) → page_at pages p ≡ None → mappers tables' p ≡ 0
+      there p e = by_test (mappers tables' p == 0) refl
+        where
+          by_test : (b : Bool) → (mappers tables' p == 0) ≡ b → mappers tables' p ≡ 0
+          by_test true is = eqb-true (mappers tables' p) 0 is
+          by_test false is =
+              absurd
+              (let some : 1 ≤ mappers tables' p = grind (arith, nat_tests, is) in
+              let before = was_shown p (mappers_some tables' p some) in
+              let none = mapped.there p e in
+              omega (arith, before, none))
+
+      least : (p : ℕ) → is_settled (page_at pages p) ≤ mappers tables' p
+      least p = by_test (mappers tables p == 0) refl
+        where
+          by_test : (b : Bool) → (mappers tables p == 0) ≡ b → is_settled (page_at pages p) ≤ mappers tables' p
+          by_test true is = let before = mapped.least p in let none = eqb-true (mappers tables p) 0 is in omega (arith, before, none)
+          by_test false is =
+              let some : 1 ≤ mappers tables p = grind (arith, nat_tests, is) in
+              let after = still_shown p (mappers_some tables p some) in
+              let one = settled_one (page_at pages p) in
+              omega (arith, after, one)
 
   -- a page that is in transfer from now on
   pub mapped-begun : (pages' : Pages) (p : ℕ) (page page' : Page) → page_at pages p ≡ Some page → Changes pages pages' p (Some page') → is_in_transfer page' ≡ true → AreMapped pages' tables
@@ -140,7 +204,6 @@ module _ (pages : Pages) (tables : PageTables) (mapped : AreMapped pages tables)
               | inl same ↦ (let now : is_settled (page_at pages' q) ≡ 0 = ap (λ (x : ℕ). is_settled (page_at pages' x)) same ∙ ap is_settled changes.changed ∙ ap (λ b. cond b 0 1) moves in omega (arith, now))
               | inr other ↦ (let least = mapped.least q in let slot = ap is_settled (changes.others q other) in omega (arith, least, slot))
             ];
-        once = mapped.once;
       }
 
   -- one whose transfer ends, and which is gone where nothing maps it
@@ -157,7 +220,6 @@ module _ (pages : Pages) (tables : PageTables) (mapped : AreMapped pages tables)
               | inl same ↦ subst (λ (x : ℕ). is_settled (page_at pages' x) ≤ mappers tables x) (sym same) (subst (λ (slot : Option Page). is_settled slot ≤ mappers tables p) (sym changes.changed) (least_by (mappers tables p) (mappers tables p == 0) refl))
               | inr other ↦ (let least = mapped.least q in let slot = ap is_settled (changes.others q other) in omega (arith, least, slot))
             ];
-        once = mapped.once;
       }
     where
       gone : (b : Bool) → (mappers tables p == 0) ≡ b → cond b None (Some (anon_page g residence)) ≡ None → mappers tables p ≡ 0
@@ -175,7 +237,6 @@ module _ (pages : Pages) (tables : PageTables) (mapped : AreMapped pages tables)
       record {
         there = λ p e. there_by p (page_at pages p) refl (memory p) (sym (drops p) ∙ e);
         least = λ p. subst (λ (slot : Option Page). is_settled slot ≤ mappers tables' p) (sym (drops p)) (least_by p (page_at pages p) (memory p));
-        once = λ p. let before = mapped.once p in let fewer = less p in omega (arith, before, fewer);
       }
     where
       anon : (page : Page) → page ≡ anon_page page.group page.residence → is_anon page.content ≡ true
@@ -206,7 +267,6 @@ mapped-alike pages tables tables' mapped same =
     record {
       there = λ p e. mappers-alike tables tables' p same ∙ mapped.there p e;
       least = λ p. let alike = mappers-alike tables tables' p same in let least = mapped.least p in omega (arith, alike, least);
-      once = λ p. let alike = mappers-alike tables tables' p same in let once = mapped.once p in omega (arith, alike, once);
     }
 
 -- a page that was settled, and then let go where nothing maps it

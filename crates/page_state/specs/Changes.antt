@@ -6,9 +6,9 @@ use Rattle.machine.specs.declared.record.Life.TheVariants.{Live}
 use Rattle.machine.specs.declared.record.Limits.{Limits}
 use Rattle.machine.specs.Slots.{Changes}
 use Rattle.machine.specs.Tree.{is_live}
-use Rattle.machine.specs.Pages.{Residence, Held, Coming, Going, page_at, is_ticket_taken}
+use Rattle.machine.specs.Pages.{Residence, Held, Coming, Going, page_at, is_held_in, is_ticket_taken}
 use Rattle.machine.specs.Counts.{Counted, no_limits}
-use Rattle.machine.specs.Tasks.{SetsTask, group_of_task, mapped_at, Shows, ShowsNothing}
+use Rattle.machine.specs.Tasks.{SetsTask, group_of_task, mapped_at, mappers, Shows, Copies, ShowsNothing}
 use Rattle.machine.specs.State.{State, page_numbers, over_in, is_frame_free}
 use Rattle.machine.specs.Access.{page_size}
 use Rattle.machine.specs.Reclaim.{is_takeable}
@@ -23,7 +23,7 @@ use Rattle.pages.specs.Transfers.{given_ticket}
 use Rattle.memory_events.specs.Tallies.{Tells}
 use Rattle.page_state.specs.declared.room.NoRoom.{NoRoom}
 use Rattle.page_state.specs.declared.room.NoRoom.TheVariants as lacks
-use Rattle.page_state.specs.States.{StateOf}
+use Rattle.page_state.specs.States.{StateOf, byte_shown}
 
 -- ---- room
 
@@ -50,7 +50,13 @@ pub record CountsEvent (old new : StateOf) (g : ℕ) (key : Key) : Type 0 where
 
 -- ---- pages
 
--- a page of zeros but for one byte is made for a virtual page of a task, and charged to the group
+-- a virtual page of a task shows this page in a frame, and others show it too
+pub record SharesPage (s : State) (t v p : ℕ) : Type 0 where
+  pub shown : mapped_at s.page_tables t v ≡ Some p
+  pub held : is_held_in s.pages p ≡ true
+  pub shared : 1 < mappers s.page_tables p
+
+-- a page is made for a virtual page of a task, and charged to the group. Its bytes are those that the virtual page showed, zeros where it showed nothing, but for one byte
 pub record MakesPage (old new : StateOf) (t v g o byte : ℕ) : Type 0 where
   pub page : ℕ
   pub frame : ℕ
@@ -60,7 +66,7 @@ pub record MakesPage (old new : StateOf) (t v g o byte : ℕ) : Type 0 where
   pub placed : Changes old.tables.pages new.tables.pages page (Some (new_page g frame))
   pub shown : Shows old.tables.page_tables new.tables.page_tables t v (Some page)
   pub tables : new.tables ≡ record old.tables { pages = new.tables.pages; page_tables = new.tables.page_tables }
-  pub bytes : (q k : ℕ) → byte_in new.bytes q k ≡ (if q == page then (if o == k then byte else 0) else byte_in old.bytes q k)
+  pub bytes : (q k : ℕ) → byte_in new.bytes q k ≡ (if q == page then (if o == k then byte else byte_shown old.bytes (mapped_at old.tables.page_tables t v) k) else byte_in old.bytes q k)
   pub flights : new.flights ≡ old.flights
   pub held : KeepsLists Youngest old new
   pub cursors : new.order.cursors ≡ old.order.cursors
@@ -130,6 +136,25 @@ pub record StartsTask (old new : StateOf) (t g : ℕ) : Type 0 where
   pub none : (v : ℕ) → mapped_at new.tables.page_tables t v ≡ None
   pub same : (u v : ℕ) → mapped_at new.tables.page_tables u v ≡ mapped_at old.tables.page_tables u v
   pub tables : new.tables ≡ record old.tables { tasks = new.tables.tasks; page_tables = new.tables.page_tables }
+  pub order : new.order ≡ old.order
+  pub bytes : new.bytes ≡ old.bytes
+  pub flights : new.flights ≡ old.flights
+  pub tallies : new.tallies ≡ old.tallies
+
+-- a task begins in the group of another, and shows what that one shows
+pub record ForksTask (old new : StateOf) (parent child : ℕ) : Type 0 where
+  pub starts : SetsTask old.tables.tasks child (group_of_task old.tables.tasks parent) Live new.tables.tasks
+  pub copies : Copies old.tables.page_tables new.tables.page_tables parent child
+  pub tables : new.tables ≡ record old.tables { tasks = new.tables.tasks; page_tables = new.tables.page_tables }
+  pub order : new.order ≡ old.order
+  pub bytes : new.bytes ≡ old.bytes
+  pub flights : new.flights ≡ old.flights
+  pub tallies : new.tallies ≡ old.tallies
+
+-- a live task is of another group, and nothing else changes
+pub record MovesTask (old new : StateOf) (t g : ℕ) : Type 0 where
+  pub moves : SetsTask old.tables.tasks t g Live new.tables.tasks
+  pub tables : new.tables ≡ record old.tables { tasks = new.tables.tasks }
   pub order : new.order ≡ old.order
   pub bytes : new.bytes ≡ old.bytes
   pub flights : new.flights ≡ old.flights

@@ -58,14 +58,14 @@ is_swap_left h = nat_lt (used_swap h.stored.pages) h.swap
 abbrev pub over_of : HoldingsOf → ℕ → Option ℕ
 over_of h g = over h.kin h.limits (charged h.kin h.stored.pages) g
 
--- a page of g came, of zeros but for one byte, into a frame that no page had
-pub record AddsPage (old new : HoldingsOf) (p g offset byte : ℕ) : Type 0 where
+-- a page of g came, with these bytes but for one, into a frame that no page had
+pub record AddsPage (old new : HoldingsOf) (p g : ℕ) (begins : ℕ → ℕ) (offset byte : ℕ) : Type 0 where
   pub frame : ℕ
   pub slot_free : page_at old.stored.pages p ≡ None
   pub in_range : frame < old.frames
   pub unused : is_frame_taken old.stored.pages frame ≡ false
   pub placed : Changes old.stored.pages new.stored.pages p (Some (new_page g frame))
-  pub bytes : (q o : ℕ) → byte_in new.stored.bytes q o ≡ (if q == p then (if offset == o then byte else 0) else byte_in old.stored.bytes q o)
+  pub bytes : (q o : ℕ) → byte_in new.stored.bytes q o ≡ (if q == p then (if offset == o then byte else begins o) else byte_in old.stored.bytes q o)
   pub flights : new.stored.flights ≡ old.stored.flights
   pub order : ListsGoOn Youngest old new
   pub others : new ≡ with_lists old new.stored new.held

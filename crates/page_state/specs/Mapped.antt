@@ -13,5 +13,3 @@ pub record AreMapped (pages : Pages) (tables : PageTables) : Type 0 where
   pub there : (p : ℕ) → page_at pages p ≡ None → mappers tables p ≡ 0
   -- one that is there and in no transfer is mapped
   pub least : (p : ℕ) → is_settled (page_at pages p) ≤ mappers tables p
-  -- and none is mapped twice, since no event yet has tasks share a page
-  pub once : (p : ℕ) → mappers tables p ≤ 1

@@ -1,4 +1,4 @@
-//! Pages that are made, read in and written.
+//! Pages that are made, copied, read in and written.
 
 ghost use Rattle.std.specs.Prelude.{◌≡◌, ℕ, ◌<◌, None, true, IfOk, IfErr, OnOk, OnErr};
 ghost use Rattle.machine.specs.Tree.{is_live};
@@ -7,7 +7,7 @@ ghost use Rattle.machine.specs.Pages.{is_held_in};
 ghost use Rattle.machine.specs.Tasks.{lives, mapped_at};
 ghost use Rattle.machine.specs.Access.{page_size, task_pages};
 ghost use Rattle.pages.specs.PagesOf.{HasResidence};
-ghost use Rattle.page_state.specs.Changes.{HasRoom, LacksRoom, MakesPage, WritesByte, MarksPage, BeginsReadIn};
+ghost use Rattle.page_state.specs.Changes.{HasRoom, LacksRoom, SharesPage, MakesPage, WritesByte, MarksPage, BeginsReadIn};
 
 use crate::joined::State;
 use crate::room::NoRoom;
@@ -38,7 +38,32 @@ impl State {
         requires within { offset < page_size }
         ensures { MakesPage self.old self.new task.0 at group.0 offset byte }
     {
-        let page = self.holdings.hold(group, offset as usize, byte);
+        let page = self.holdings.hold(None, group, offset as usize, byte);
+        self.spaces.map(task, at, page);
+    }
+
+    /// A page with the bytes of the page in a frame that a virtual page of a task shows, but for one byte, for
+    /// that virtual page, which shows it in its place. Others show the page too, and go on to show it. The copy
+    /// is charged to the group, which has room for it (kernel: `do_wp_page`, `wp_page_copy`). Takes no memory.
+    pub fn copy(
+        &mut self,
+        task: TaskId,
+        at: u32,
+        from: PageId,
+        group: GroupId,
+        offset: u32,
+        byte: u8,
+    )
+        requires alive { lives self.old.tables.tasks task.0 ≡ true }
+        requires shared { SharesPage self.old.tables task.0 at from.0 }
+        requires live { is_live self.old.tables.tree group.0 ≡ true }
+        requires room { HasRoom self.old.tables group.0 }
+        requires within { offset < page_size }
+        ensures { MakesPage self.old self.new task.0 at group.0 offset byte }
+    {
+        self.spaces.owners();
+        let page = self.holdings.hold(Some(from), group, offset as usize, byte);
+        self.spaces.unmap(task, at);
         self.spaces.map(task, at, page);
     }
 

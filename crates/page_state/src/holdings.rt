@@ -1,20 +1,22 @@
 //! The pages, with the frames, the charges and the swap slots that they own.
 
-ghost use Rattle.std.specs.Prelude.{◌≡◌, ◌≢◌, ℕ, ◌+◌, ◌<◌, ◌≤◌, ◌==◌, ◌^◌, ◌&&◌, ◌++◌, ◌∷◌, [], true, false, None, Some, IsSome, IfSome, IfOk, IfErr, OnOk, OnErr, nat_lt, length, not, replicate, is_none, slice_set, slice_index, List, if◌then◌else◌};
-ghost use Rattle.machine.specs.Slots.{any_there};
+ghost use Rattle.std.specs.Prelude.{◌≡◌, ◌≢◌, ℕ, ◌+◌, ◌<◌, ◌≤◌, ◌==◌, ◌^◌, ◌&&◌, ◌++◌, ◌∷◌, [], true, false, None, Some, IsSome, IfSome, IfOk, IfErr, OnOk, OnErr, nat_lt, length, not, replicate, is_none, option_map, slice_set, slice_index, List, if◌then◌else◌};
+ghost use Rattle.machine.specs.Slots.{Changes, any_there};
 ghost use Rattle.machine.specs.Tree.{Node, is_live, under};
 ghost use Rattle.machine.specs.Pages as residence;
 ghost use Rattle.machine.specs.Pages.{Page, page_at, is_in_transfer, is_held_in, in_transfer, charged, used_frames, used_swap};
 ghost use Rattle.machine.specs.Counts.{no_limits, limits_at};
 ghost use Rattle.machine.specs.Protection.{effective, min_of};
 ghost use Rattle.machine.specs.Access.{page_size};
+ghost use Rattle.machine.specs.Step.{new_page};
 ghost use Rattle.group_tree.specs.Kin.{AreKin};
 ghost use Rattle.group_tree.specs.Lineages.{bare, IsLineage};
-ghost use Rattle.pages.specs.PagesOf.{byte_in, HasResidence, is_moving_in, AreInFlight};
+ghost use Rattle.pages.specs.PagesOf.{pages_there, byte_in, HasResidence, is_moving_in, AreInFlight};
 ghost use Rattle.pages.specs.Transfers.{residence_after};
 ghost use Rattle.machine.specs.declared.record.Direction.TheVariants.{In, Out};
 ghost use Rattle.machine.specs.Generations.{new_gens, gens_at};
 ghost use Rattle.machine.specs.Lists.{ListsHeld, AreGenerations, with_mark, with_group};
+ghost use Rattle.page_state.specs.States.{byte_shown};
 ghost use Rattle.page_state.specs.Holdings.{with_stored, IsGranted, Lacks, AddsPage, BeginsIn, BeginsOut, Settles, DropsPage, may_take, gives_of, IsTurn, PicksPage};
 
 use crate::held::HeldPages;
@@ -24,13 +26,13 @@ use crate::release::{release, release_last};
 use crate::room::{NoRoom, take_room, take_slot, take_spare};
 use crate::settle::{end_transfer, fill, relist};
 use block_store::Slots;
-use frames::{FRAME_BYTES, Pool};
+use frames::{FRAME_BYTES, Frame, Pool};
 use group_tree::Tree;
 use machine::amount::Amount;
 use machine::bytes::PageBytes;
 use machine::id::{GroupId, PageId, WorkerId};
 use machine::record::Direction;
-use page_counter::Counters;
+use page_counter::{Charge, Counters};
 use pages::{End, InTicket, OutTicket, Pages};
 use protection::effective;
 use reclaim::Cursors;
@@ -283,20 +285,22 @@ impl Holdings {
         Ok(())
     }
 
-    /// A page of the group: zeros, but for one byte. There is room for it. Takes no memory: where a frame is
-    /// free, so is a number, since each page has a frame or a swap slot.
-    pub fn hold(&mut self, group: GroupId, offset: usize, byte: u8) -> PageId
+    /// A page of the group, with the bytes of another that is in a frame, or zeros, but for one byte. There is
+    /// room for it. Takes no memory: where a frame is free, so is a number, since each page has a frame or a
+    /// swap slot.
+    pub fn hold(&mut self, from: Option<PageId>, group: GroupId, offset: usize, byte: u8) -> PageId
+        requires held { IfSome from (λ page. is_held_in self.old.stored.pages page.0 ≡ true) }
         requires live { is_live self.old.kin group.0 ≡ true }
         requires granted { IsGranted self.old group.0 }
         requires within { offset < page_size }
-        ensures adds { AddsPage self.old self.new result.0 group.0 offset byte }
+        ensures adds { AddsPage self.old self.new result.0 group.0 (byte_shown self.old.stored.bytes (option_map (λ page. page.0) from)) offset byte }
         ensures inside { result.0 < self.old.numbers }
     {
         self.counters.are_counted();
         self.pages.are_in_flight();
         self.held.are_generations();
         let (frame, charge) = take_room(&mut self.counters, &mut self.pool, group);
-        let page = self.pages.hold(frame, charge, offset, byte);
+        let page = make_page(&mut self.pages, frame, charge, from, offset, byte);
         self.held.enter(group, page);
         page
     }
@@ -455,6 +459,32 @@ impl Holdings {
         owned.destroy_empty();
         pool.close();
         slots.close();
+    }
+}
+
+/// A new page in the frame, with the bytes of another that is in a frame, or zeros, but for one byte. A number
+/// is free for it.
+fn make_page(
+    pages: &mut Pages,
+    frame: Frame,
+    charge: Charge,
+    from: Option<PageId>,
+    offset: usize,
+    byte: u8,
+) -> PageId
+    requires held { IfSome from (λ page. is_held_in pages.old.pages page.0 ≡ true) }
+    requires room { pages_there pages.old.pages < pages.old.numbers }
+    requires within { offset < page_size }
+    ensures within { result.0 < pages.old.numbers }
+    ensures free { page_at pages.old.pages result.0 ≡ None }
+    ensures placed { Changes pages.old.pages pages.new.pages result.0 (Some (new_page charge frame.number)) }
+    ensures bytes { (q o : ℕ) → byte_in pages.new.bytes q o
+        ≡ (if q == result.0 then (if offset == o then byte else byte_shown pages.old.bytes (option_map (λ page. page.0) from) o) else byte_in pages.old.bytes q o) }
+    ensures others { pages.new ≡ record pages.old { pages = pages.new.pages; bytes = pages.new.bytes } }
+{
+    match from {
+        None => pages.hold(frame, charge, offset, byte),
+        Some(from) => pages.copy(frame, charge, offset, byte, from),
     }
 }
 

@@ -1,10 +1,10 @@
-//! How tasks begin and end.
+//! How tasks begin, move and end.
 
 ghost use Rattle.std.specs.Prelude.{◌≡◌, None, OnOk, OnErr, false, true};
 ghost use Rattle.machine.specs.Tree.{is_live};
 ghost use Rattle.machine.specs.Tasks.{lives, is_live_life};
 ghost use Rattle.machine.specs.Refusals.{number_refusal};
-ghost use Rattle.page_state.specs.Changes.{StartsTask, EndsTask};
+ghost use Rattle.page_state.specs.Changes.{StartsTask, ForksTask, MovesTask, EndsTask};
 
 use crate::joined::State;
 use machine::id::{GroupId, TaskId};
@@ -22,6 +22,28 @@ impl State {
     {
         self.spaces.spawn(task, group)?;
         Ok(())
+    }
+
+    /// A task begins in the group of a live one, and shows what that one shows. `AllocError` where memory for
+    /// its page table is refused, and then nothing changes.
+    pub fn fork(&mut self, parent: TaskId, child: TaskId) -> Result<(), AllocError>
+        requires alive { lives self.old.tables.tasks parent.0 ≡ true }
+        requires number { number_refusal self.old.tables.tasks child.0 ≡ None }
+        ensures forks { OnOk result (ForksTask self.old self.new parent.0 child.0) }
+        ensures err { OnErr result (self.new ≡ self.old) }
+    {
+        self.spaces.owners();
+        self.spaces.fork(parent, child)?;
+        Ok(())
+    }
+
+    /// A live task is of another group from now on. Its pages stay charged where they are. Takes no memory.
+    pub fn attach(&mut self, task: TaskId, group: GroupId)
+        requires alive { lives self.old.tables.tasks task.0 ≡ true }
+        requires live { is_live self.old.tables.tree group.0 ≡ true }
+        ensures { MovesTask self.old self.new task.0 group.0 }
+    {
+        self.spaces.attach(task, group);
     }
 
     /// A live task ends so: its virtual pages show nothing any more, and the pages that nothing else maps go,

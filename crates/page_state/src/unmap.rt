@@ -17,7 +17,7 @@ use spaces::Spaces;
 impl State {
     /// A virtual page of a task shows nothing from now on, and the page that it showed goes where nothing
     /// else maps it (kernel: zap_pte_range). Takes no memory.
-    pub(crate) fn unmap(&mut self, task: TaskId, at: u32)
+    pub fn unmap(&mut self, task: TaskId, at: u32)
         ensures { Unmaps self.old self.new task.0 at }
     {
         self.holdings.are_counted();

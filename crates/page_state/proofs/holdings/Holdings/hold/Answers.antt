@@ -28,49 +28,49 @@ enter-requires c =
     let h = c.self.inside in
     let live = rw (← c.self.view_is) at c.requires.live in
     let numbers = c.self.invariant.held_numbers in
-    let within = c.hold-page.ensures.within in
+    let within = c.make_page-page.ensures.within in
     record {
       group = group-listed h c.self.invariant c.args.group.0 live;
       number = omega (arith, numbers, within);
-      unlisted = absent-unlisted h.pages.pages h.held.lists c.self.invariant.held c.hold-page.result.0 (ap (there_and is_held) c.hold-page.ensures.free);
+      unlisted = absent-unlisted h.pages.pages h.held.lists c.self.invariant.held c.make_page-page.result.0 (ap (there_and is_held) c.make_page-page.ensures.free);
     }
 
-pub hold-page-requires-clause-room : goal.hold-page-requires-clause-room
-hold-page-requires-clause-room c =
+pub make_page-page-requires-clause-room : goal.make_page-page-requires-clause-room
+make_page-page-requires-clause-room c =
     let some = granted-some c.self.inside c.self.invariant c.args.group.0 (subst (λ (h : HoldingsOf). IsGranted h c.args.group.0) (sym c.self.view_is) c.requires.granted) in
     number-free c.self.inside c.self.invariant c.are_in_flight.ensures some
 
-stays : (c : goal.After-enter) → Stays c.self.inside (record (c.self.inside) { pages = c.hold-page.new.self; counters = c.take_room-frame.new.counters; pool = c.take_room-frame.new.pool; held = c.enter.new.self })
+stays : (c : goal.After-enter) → Stays c.self.inside (record (c.self.inside) { pages = c.make_page-page.new.pages; counters = c.take_room-frame.new.counters; pool = c.take_room-frame.new.pool; held = c.enter.new.self })
 stays c = record {
   groups = c.take_room-frame.ensures.charged.groups;
   frames = c.take_room-frame.ensures.frame.frames;
   blocks = refl;
-  numbers = ap (λ (t : PagesOf). t.numbers) c.hold-page.ensures.others;
+  numbers = ap (λ (t : PagesOf). t.numbers) c.make_page-page.ensures.others;
   held_numbers = ap (λ (held : HeldOf). held.numbers) c.enter.ensures;
   held_room = ap (λ (held : HeldOf). held.room) c.enter.ensures;
   moving_room = refl;
 }
 
-goes : (c : goal.After-enter) (g f : ℕ) → page_at c.self.inside.pages.pages c.hold-page.result.0 ≡ None → g ≡ c.args.group.0
-    → Changes c.self.inside.pages.pages c.hold-page.new.self.pages c.hold-page.result.0 (Some (new_page g f)) → GoesOn Youngest c.self.inside.pages.pages c.self.inside.held.lists c.hold-page.new.self.pages c.enter.new.self.lists
+goes : (c : goal.After-enter) (g f : ℕ) → page_at c.self.inside.pages.pages c.make_page-page.result.0 ≡ None → g ≡ c.args.group.0
+    → Changes c.self.inside.pages.pages c.make_page-page.new.pages.pages c.make_page-page.result.0 (Some (new_page g f)) → GoesOn Youngest c.self.inside.pages.pages c.self.inside.held.lists c.make_page-page.new.pages.pages c.enter.new.self.lists
 goes c g f free own placed =
     let h = c.self.inside in
-    subst (λ (held : HeldLists). GoesOn Youngest h.pages.pages h.held.lists c.hold-page.new.self.pages held)
-    (ap (λ (x : ℕ). entered h.held.lists x c.hold-page.result.0 Youngest) own ∙ sym (ap (λ (held : HeldOf). held.lists) c.enter.ensures))
-    (goes-in h.pages.pages h.held.lists c.self.invariant.held c.hold-page.result.0 Youngest c.hold-page.new.self.pages None g f free refl placed)
+    subst (λ (held : HeldLists). GoesOn Youngest h.pages.pages h.held.lists c.make_page-page.new.pages.pages held)
+    (ap (λ (x : ℕ). entered h.held.lists x c.make_page-page.result.0 Youngest) own ∙ sym (ap (λ (held : HeldOf). held.lists) c.enter.ensures))
+    (goes-in h.pages.pages h.held.lists c.self.invariant.held c.make_page-page.result.0 Youngest c.make_page-page.new.pages.pages None g f free refl placed)
 
 pub invariant_of-self : goal.invariant_of-self
 invariant_of-self c =
     let h = c.self.inside in
     let live = rw (← c.self.view_is) at c.requires.live in
-    let p = c.hold-page.result.0 in
+    let p = c.make_page-page.result.0 in
     let g = c.args.group.0 in
     let f = c.take_room-frame.result.0.number in
     let room = c.take_room-frame.ensures in
-    let pages = c.hold-page.new.self.pages in
-    let free = c.hold-page.ensures.free in
-    let placed = subst (λ x. Changes h.pages.pages pages p (Some (new_page x f))) room.group c.hold-page.ensures.placed in
-    let tickets = ap (λ (t : PagesOf). t.tickets) c.hold-page.ensures.others in
+    let pages = c.make_page-page.new.pages.pages in
+    let free = c.make_page-page.ensures.free in
+    let placed = subst (λ x. Changes h.pages.pages pages p (Some (new_page x f))) room.group c.make_page-page.ensures.placed in
+    let tickets = ap (λ (t : PagesOf). t.tickets) c.make_page-page.ensures.others in
     let spares = room.frame.spares in
     holding-step h _ p None (Some (new_page g f))
     (record {
@@ -95,13 +95,13 @@ invariant_of-self c =
 pub returns-clause-adds : goal.returns-clause-adds
 returns-clause-adds c =
     let h = c.self.inside in
-    let p = c.hold-page.result.0 in
+    let p = c.make_page-page.result.0 in
     let g = c.args.group.0 in
     let f = c.take_room-frame.result.0.number in
     let room = c.take_room-frame.ensures in
-    let pages = c.hold-page.new.self.pages in
-    let free = c.hold-page.ensures.free in
-    let placed = subst (λ x. Changes h.pages.pages pages p (Some (new_page x f))) room.group c.hold-page.ensures.placed in
+    let pages = c.make_page-page.new.pages.pages in
+    let free = c.make_page-page.ensures.free in
+    let placed = subst (λ x. Changes h.pages.pages pages p (Some (new_page x f))) room.group c.make_page-page.ensures.placed in
     let frame = granted-frame h c.self.invariant c.take_room-frame.new.counters c.take_room-frame.new.pool _ _ _ room in
     rw (← c.self.view_is)
     (record {
@@ -110,8 +110,8 @@ returns-clause-adds c =
       in_range = frame.0;
       unused = frame.1;
       placed = placed;
-      bytes = c.hold-page.ensures.bytes;
-      flights = ap (λ (t : PagesOf). t.flights) c.hold-page.ensures.others;
+      bytes = c.make_page-page.ensures.bytes;
+      flights = ap (λ (t : PagesOf). t.flights) c.make_page-page.ensures.others;
       order = goes c g f free refl placed;
       others = same-view h _ (stays c);
     })
