@@ -14,7 +14,9 @@ use Rattle.machine.specs.declared.event.Setting.{Setting}
 use Rattle.machine.specs.declared.event.Event.{Event}
 use Rattle.machine.specs.declared.event.Event.TheVariants as event
 use Rattle.machine.specs.declared.reply.Shown.{Shown}
-use Rattle.machine.specs.Pages.{Coming}
+use Rattle.machine.specs.Pages.{Coming, Page}
+use Rattle.machine.specs.Slots.{there_and}
+use Rattle.machine.specs.Access.{is_shared_write}
 use Rattle.machine.specs.Counts.{Counted, limits_at}
 use Rattle.machine.specs.Tasks.{group_of_task}
 use Rattle.machine.specs.State.{over_in}
@@ -29,7 +31,7 @@ use Rattle.memory_events.specs.Tallies.{Tallies, Tells}
 use Rattle.page_state.specs.declared.room.NoRoom.TheVariants as lacks
 use Rattle.page_state.specs.States.{StateOf}
 use Rattle.page_state.specs.Mapped.{AreMapped}
-use Rattle.page_state.specs.Changes.{CountsEvent, MakesPage, MarksPage, WritesByte, BeginsReadIn, BeginsWriteOut, StartsTask, EndsTask, AddsGroup, sets_limits}
+use Rattle.page_state.specs.Changes.{CountsEvent, MakesPage, MarksPage, WritesByte, BeginsReadIn, BeginsWriteOut, StartsTask, ForksTask, MovesTask, Unmaps, EndsTask, AddsGroup, sets_limits}
 use Rattle.page_state.proofs.TallyLemmas.{tells-two}
 use Rattle.book.specs.declared.event.Reply.{Reply as Given}
 use Rattle.book.specs.declared.event.Reply.TheVariants as given
@@ -39,12 +41,12 @@ use Rattle.book.specs.declared.decision.Meeting.TheVariants as meeting
 use Rattle.book.specs.declared.decision.Decision.TheVariants as decision
 use Rattle.book.specs.Events.{reply_of}
 use Rattle.book.specs.Replies.{IsAccessReply}
-use Rattle.book.specs.Effects.{counting}
+use Rattle.book.specs.Effects.{counting, is_in_memory, is_known}
 use Rattle.book.specs.MakesStep.{MakesStep, GivesTicket}
-use Rattle.book.specs.Decisions.{IsTouch, NeedsCharge, ForNew, ForAway, MeetsSo, IsIdleFor, IsOfKilled, AsksPage, WantsRoom, HasItsRoom, FindsNothing, AnswersTo, Carries}
-use Rattle.book.proofs.StepLemmas.{InOrder, makes_step-mkdir, makes_step-set, makes_step-show, makes_step-killed, makes_step-unmapped, makes_step-hit_read, makes_step-busy, makes_step-over, makes_step-no_frame, unmapped-over, unmapped-no_frame, away-over, away-no_frame, makes_step-room, makes_step-wait, makes_step-no_victim, makes_step-reclaim_wait, makes_step-nothing, makes_step-exit_killed}
+use Rattle.book.specs.Decisions.{IsTouch, IsShared, NeedsCharge, ForNew, ForCopy, ForAway, MeetsSo, IsIdleFor, IsOfKilled, AsksPage, WantsRoom, HasItsRoom, FindsNothing, AnswersTo, Carries}
+use Rattle.book.proofs.StepLemmas.{InOrder, makes_step-mkdir, makes_step-set, makes_step-show, makes_step-killed, makes_step-unmapped, makes_step-hit_read, makes_step-busy, makes_step-over, makes_step-no_frame, unmapped-over, unmapped-no_frame, shared-over, shared-no_frame, away-over, away-no_frame, makes_step-room, makes_step-wait, makes_step-no_victim, makes_step-reclaim_wait, makes_step-nothing, makes_step-fork_killed, makes_step-free_killed, makes_step-exit_killed}
 use Rattle.book.proofs.MoveLemmas.{makes_step-fetch, makes_step-taken, replies-out}
-use Rattle.book.proofs.TouchLemmas.{makes_step-hit_write, makes_step-made, makes_step-spawn}
+use Rattle.book.proofs.TouchLemmas.{makes_step-hit_write, makes_step-made, meets-unmapped, meets-shared, makes_step-spawn, makes_step-fork, makes_step-attach, makes_step-free}
 use Rattle.book.proofs.EndLemmas.{makes_step-kill, makes_step-exit}
 
 -- to an event that is this one
@@ -61,6 +63,8 @@ carries-killed s worker entry listed what is = by_event what is.fits
   where
     by_event : (what : Event) → IsOfKilled s.tables what → AnswersTo s worker entry what given.Killed s
     by_event (event.Access t place op) k = record { makes_step = makes_step-killed s worker t.0 place op k.0 k.1 k.2 listed; gives = tt; replies = tt }
+    by_event (event.Fork t child) k = record { makes_step = makes_step-fork_killed s worker t.0 child k.0 k.1 k.2 listed; gives = tt; replies = tt }
+    by_event (event.Free t v) k = record { makes_step = makes_step-free_killed s worker t.0 v k.0 k.1 k.2 listed; gives = tt; replies = tt }
     by_event (event.Exit t) k = record { makes_step = makes_step-exit_killed s worker t.0 k.0 k.1 k.2 listed; gives = tt; replies = tt }
     by_event other k = absurd k
 
@@ -91,13 +95,13 @@ carries-hit_read old new worker entry touch page frame byte listed is meets mark
     tt tt
 
 -- the page is marked, and then written
-pub carries-hit_write : (old marked new : StateOf) (worker entry : ℕ) (touch : Touch) (page : PageId) (frame : FrameId) (byte : ℕ) → AreMapped old.tables.pages old.tables.page_tables → InOrder old → IsTouch old.tables touch
+pub carries-hit_write : (old marked new : StateOf) (worker entry : ℕ) (touch : Touch) (page : PageId) (frame : FrameId) (byte : ℕ) → InOrder old → IsTouch old.tables touch
     → MeetsSo old.tables touch (meeting.Hits page frame) → MarksPage old marked page.0 → touch.op ≡ Write byte → WritesByte marked new page.0 touch.offset byte
     → Carries old worker entry (decision.Access touch (meeting.Hits page frame)) (given.Done byte (Some frame)) new
-carries-hit_write old marked new worker entry touch page frame byte mapped listed is meets marks write writes =
+carries-hit_write old marked new worker entry touch page frame byte listed is meets marks write writes =
     carries-access old new worker entry touch (meeting.Hits page frame) (given.Done byte (Some frame))
     (subst (λ (op : Op). MakesStep old worker (event.Access touch.task (Virtual touch.at touch.offset) op) (reply_of (given.Done byte (Some frame))) new) (sym write)
-    (makes_step-hit_write old new worker touch.task.0 touch.at touch.offset byte page.0 meets.0 frame.0 is.task mapped is.known is.live meets.1 meets.2
+    (makes_step-hit_write old new worker touch.task.0 touch.at touch.offset byte page.0 meets.0 frame.0 is.task (sym (ap (is_shared_write old.tables.page_tables page.0) write) ∙ meets.3) is.known is.live meets.1 meets.2
     written.tables written.bytes written.flights listed written.order (tallies-kept old.tallies new.tallies written.tallies)))
     tt tt
   where
@@ -114,18 +118,37 @@ pub carries-made : (old new : StateOf) (worker entry : ℕ) (touch : Touch) (byt
 carries-made old new worker entry touch byte mapped is meets makes =
     carries-access old new worker entry touch (meeting.NeedsPage byte) (given.Done byte None)
     (subst (λ (op : Op). MakesStep old worker (event.Access touch.task (Virtual touch.at touch.offset) op) (reply_of (given.Done byte None)) new) (sym meets.0)
-    (makes_step-made old new worker touch.task.0 touch.at touch.offset byte own.page own.frame is.task mapped is.known is.live meets.1
-    (ap (λ (g : GroupId). over_in old.tables g.0) is.group ∙ meets.2.under) meets.2.free own.frame_free own.in_range own.number_free own.placed own.shown own.tables own.bytes own.flights own.held own.cursors (tallies-kept old.tallies new.tallies own.tallies)))
+    (makes_step-made old new worker touch.task.0 touch.at touch.offset byte own.page own.frame is.task mapped is.known is.live
+    (ap (is_known old.tables.pages) meets.1)
+    (meets-unmapped old.tables touch.task.0 touch.at touch.offset byte is.task.group.0 meets.1 (ap (λ (g : GroupId). over_in old.tables g.0) is.group ∙ meets.2.under) meets.2.free) own.frame_free own.in_range own.number_free own.placed own.shown own.tables own.bytes own.flights own.held own.cursors (tallies-kept old.tallies new.tallies own.tallies)))
     tt tt
   where
     own : MakesPage old new touch.task.0 touch.at is.task.group.0 touch.offset byte
     own = subst (λ (g : GroupId). MakesPage old new touch.task.0 touch.at g.0 touch.offset byte) (sym is.group) makes
 
-pub carries-fetch : (old new : StateOf) (worker entry : ℕ) (touch : Touch) (page : PageId) (ticket : TicketOf) → AreMapped old.tables.pages old.tables.page_tables → IsTouch old.tables touch
+-- a copy
+pub carries-copied : (old new : StateOf) (worker entry : ℕ) (touch : Touch) (page : PageId) (byte : ℕ) → AreMapped old.tables.pages old.tables.page_tables → IsTouch old.tables touch
+    → MeetsSo old.tables touch (meeting.NeedsCopy page byte) → MakesPage old new touch.task.0 touch.at touch.group.0 touch.offset byte → Carries old worker entry (decision.Access touch (meeting.NeedsCopy page byte)) (given.Done byte None) new
+carries-copied old new worker entry touch page byte mapped is meets makes =
+    carries-access old new worker entry touch (meeting.NeedsCopy page byte) (given.Done byte None)
+    (subst (λ (op : Op). MakesStep old worker (event.Access touch.task (Virtual touch.at touch.offset) op) (reply_of (given.Done byte None)) new) (sym meets.0)
+    (makes_step-made old new worker touch.task.0 touch.at touch.offset byte own.page own.frame is.task mapped is.known is.live
+    (ap (is_known old.tables.pages) shared.shown ∙ ap (there_and (λ (page : Page). is_in_memory page.residence)) shared.held)
+    (meets-shared old.tables touch.task.0 touch.at touch.offset byte page.0 shared.g shared.frame is.task.group.0 shared.shown shared.held shared.shared (ap (λ (g : GroupId). over_in old.tables g.0) is.group ∙ meets.2.under) meets.2.free)
+    own.frame_free own.in_range own.number_free own.placed own.shown own.tables own.bytes own.flights own.held own.cursors (tallies-kept old.tallies new.tallies own.tallies)))
+    tt tt
+  where
+    shared : IsShared old.tables touch page.0
+    shared = meets.1
+
+    own : MakesPage old new touch.task.0 touch.at is.task.group.0 touch.offset byte
+    own = subst (λ (g : GroupId). MakesPage old new touch.task.0 touch.at g.0 touch.offset byte) (sym is.group) makes
+
+pub carries-fetch : (old new : StateOf) (worker entry : ℕ) (touch : Touch) (page : PageId) (ticket : TicketOf) → IsTouch old.tables touch
     → (meets : MeetsSo old.tables touch (meeting.NeedsSwapIn page)) → BeginsReadIn old new page.0 meets.0 meets.1 worker entry ticket → Carries old worker entry (decision.Access touch (meeting.NeedsSwapIn page)) (given.Fetch ticket) new
-carries-fetch old new worker entry touch page ticket mapped is meets begins =
+carries-fetch old new worker entry touch page ticket is meets begins =
     carries-access old new worker entry touch (meeting.NeedsSwapIn page) (given.Fetch ticket)
-    (makes_step-fetch old new worker touch.task.0 touch.at touch.offset page.0 meets.0 begins.frame meets.1 ticket.number touch.op is.task mapped is.known is.live meets.2 meets.3 meets.4.under meets.4.free begins.frame_free
+    (makes_step-fetch old new worker touch.task.0 touch.at touch.offset page.0 meets.0 begins.frame meets.1 ticket.number touch.op is.task is.known is.live meets.2 meets.3 meets.4.under meets.4.free begins.frame_free
     begins.ticket_free begins.placed begins.tables begins.bytes begins.listed begins.held begins.cursors (tallies-kept old.tallies new.tallies begins.tallies)) (
       page.0,
       meets.0,
@@ -149,6 +172,11 @@ carries-over old new worker entry touch a listed is (g, needs, full) counts =
         (makes_step-over old new worker touch.task.0 touch.at touch.offset a.0 (Write byte) is.task is.known is.live
         (unmapped-over old.tables touch.task.0 touch.at touch.offset byte is.task.group.0 a.0 none (ap (λ (h : GroupId). over_in old.tables h.0) is.group ∙ ap (over_in old.tables) (sym own) ∙ full.0))
         tables (ap (λ (s : StateOf). s.bytes) counts.others) (ap (λ (s : StateOf). s.flights) counts.others) listed (ap (λ (s : StateOf). s.order) counts.others) counts.tallied)
+    by_need (ForCopy byte p write shared own) =
+        subst (λ (op : Op). MakesStep old worker (event.Access touch.task (Virtual touch.at touch.offset) op) (reply_of (given.Over a)) new) (sym write)
+        (makes_step-over old new worker touch.task.0 touch.at touch.offset a.0 (Write byte) is.task is.known is.live
+        (shared-over old.tables touch.task.0 touch.at touch.offset byte p shared.g shared.frame is.task.group.0 a.0 shared.shown shared.held shared.shared (ap (λ (h : GroupId). over_in old.tables h.0) is.group ∙ ap (over_in old.tables) (sym own) ∙ full.0))
+        tables (ap (λ (s : StateOf). s.bytes) counts.others) (ap (λ (s : StateOf). s.flights) counts.others) listed (ap (λ (s : StateOf). s.order) counts.others) counts.tallied)
     by_need (ForAway p block shown away) =
         makes_step-over old new worker touch.task.0 touch.at touch.offset a.0 touch.op is.task is.known is.live
         (away-over old.tables touch.task.0 touch.at touch.offset p g is.task.group.0 block a.0 touch.op shown away full.0)
@@ -164,6 +192,11 @@ carries-no_frame s worker entry touch listed is (g, needs, full) =
         subst (λ (op : Op). MakesStep s worker (event.Access touch.task (Virtual touch.at touch.offset) op) (reply_of given.NoFrame) s) (sym write)
         (makes_step-no_frame s s worker touch.task.0 touch.at touch.offset (Write byte) is.task is.known is.live
         (unmapped-no_frame s.tables touch.task.0 touch.at touch.offset byte is.task.group.0 none (ap (λ (h : GroupId). over_in s.tables h.0) is.group ∙ ap (over_in s.tables) (sym own) ∙ full.0) full.1)
+        refl refl refl listed refl (λ counted told. told))
+    by_need (ForCopy byte p write shared own) =
+        subst (λ (op : Op). MakesStep s worker (event.Access touch.task (Virtual touch.at touch.offset) op) (reply_of given.NoFrame) s) (sym write)
+        (makes_step-no_frame s s worker touch.task.0 touch.at touch.offset (Write byte) is.task is.known is.live
+        (shared-no_frame s.tables touch.task.0 touch.at touch.offset byte p shared.g shared.frame is.task.group.0 shared.shown shared.held shared.shared (ap (λ (h : GroupId). over_in s.tables h.0) is.group ∙ ap (over_in s.tables) (sym own) ∙ full.0) full.1)
         refl refl refl listed refl (λ counted told. told))
     by_need (ForAway p block shown away) =
         makes_step-no_frame s s worker touch.task.0 touch.at touch.offset touch.op is.task is.known is.live
@@ -268,6 +301,21 @@ carries-spawn old new worker entry t g listed starts what is =
       gives = tt;
       replies = tt;
     })
+
+pub carries-fork : (old new : StateOf) (worker entry : ℕ) (t child : TaskId) → InOrder old → ForksTask old new t.0 child.0 → Carries old worker entry (decision.Fork t child) given.Ok new
+carries-fork old new worker entry t child listed forks what is =
+    answers-to old new worker entry what (event.Fork t child) given.Ok is.fits
+    (record { makes_step = makes_step-fork old new worker t.0 child.0 is.sound.0 is.sound.1 is.sound.2 forks listed (tallies-kept old.tallies new.tallies forks.tallies); gives = tt; replies = tt })
+
+pub carries-free : (old new : StateOf) (worker entry : ℕ) (t : TaskId) (at : ℕ) → AreMapped old.tables.pages old.tables.page_tables → Unmaps old new t.0 at → Carries old worker entry (decision.Free t at) given.Ok new
+carries-free old new worker entry t at mapped frees what is =
+    answers-to old new worker entry what (event.Free t at) given.Ok is.fits
+    (record { makes_step = makes_step-free old new worker t.0 at is.sound.0 is.sound.1 is.sound.2 mapped frees (tallies-kept old.tallies new.tallies frees.drops.tallies); gives = tt; replies = tt })
+
+pub carries-attach : (old new : StateOf) (worker entry : ℕ) (t : TaskId) (g : GroupId) → InOrder old → MovesTask old new t.0 g.0 → Carries old worker entry (decision.Attach t g) given.Ok new
+carries-attach old new worker entry t g listed moves what is =
+    answers-to old new worker entry what (event.Attach t g) given.Ok is.fits
+    (record { makes_step = makes_step-attach old new worker t.0 g.0 is.sound.0 moves listed (tallies-kept old.tallies new.tallies moves.tallies); gives = tt; replies = tt })
 
 pub carries-exit : (old new : StateOf) (worker entry : ℕ) (t : TaskId) → AreMapped old.tables.pages old.tables.page_tables → EndsTask old new t.0 Exited → Carries old worker entry (decision.Exit t) given.Ok new
 carries-exit old new worker entry t mapped ends what is =

@@ -1,6 +1,5 @@
 -- What a task's end is to the plain machine.
 use Rattle.std.proofs.Common.{◌≡◌, ◌≢◌, inl, inr, ℕ, ◌≤◌, true, false, List, [], ◌∷◌, ◌++◌, Option, Some, None, refl, sym, ap, ◌∙◌, arith}
-use Rattle.std.proofs.lemmas.Bool.{or_right}
 use Rattle.machine.specs.declared.record.Key.TheVariants as key
 use Rattle.machine.specs.declared.record.Life.{Life}
 use Rattle.machine.specs.declared.record.Life.TheVariants.{Live, Exited, Killed}
@@ -20,17 +19,17 @@ use Rattle.machine.specs.Reclaim.{stands, target_of, has_takeable, has_transfer}
 use Rattle.machine.specs.Lists.{Youngest, Orders}
 use Rattle.machine.specs.Victim.{IsVictim}
 use Rattle.machine.specs.Step.{EndsTask as EndsTask_of, count_of}
-use Rattle.machine.specs.History.{InTask, Says, follow}
+use Rattle.machine.specs.History.{InTask}
 use Rattle.machine.proofs.Values.{unlike}
 use Rattle.machine.proofs.TreeLemmas.{eq_cases}
 use Rattle.memory_events.specs.Tallies.{Tallies, Tells}
 use Rattle.page_state.specs.States.{StateOf, byte_shown, byte_at}
-use Rattle.book.specs.Effects.{counting, Steps, Tallied, byte_at_spot, is_in_memory, is_known, ReadsByte}
+use Rattle.book.specs.Effects.{counting, Steps, Tallied, is_in_memory, is_known, ReadsByte}
 use Rattle.page_state.specs.Mapped.{AreMapped}
 use Rattle.page_state.specs.Changes.{EndsTask}
 use Rattle.page_state.proofs.DropLemmas.{mapped_stays, bytes_stay, moving_alike}
-use Rattle.book.specs.MakesStep.{AgesByThree, MakesStep, starts}
-use Rattle.book.proofs.StepLemmas.{IsQuiet, order-on, flights-kept, live_step, relieve_step, stands_counting, relief-needs}
+use Rattle.book.specs.MakesStep.{AgesByThree, MakesStep}
+use Rattle.book.proofs.StepLemmas.{IsQuiet, was, order-on, flights-kept, live_step, relieve_step, stands_counting, relief-needs}
 
 -- the events counted for the end, if any, are counted before it
 module _ (old new : StateOf) (counts : Tallies) (t : ℕ) (life : Life) (dead : is_live_life life ≡ false) (mapped : AreMapped old.tables.pages old.tables.page_tables) (ends : EndsTask (record old { tallies = counts }) new t life) where
@@ -71,25 +70,18 @@ module _ (old new : StateOf) (counts : Tallies) (t : ℕ) (life : Life) (dead : 
         orders = orders.0;
         ages = orders.1;
         tallied = tallied;
-        groups = λ u. groups_kept u ∙ sym (quiet.groups u (group_of_task old.tables.tasks u));
+        groups = λ u. groups_kept u ∙ sym (quiet.groups (group_of_task old.tables.tasks) u);
         reads = reads;
         bytes = λ u v o alive within known.
             (let other = other_of u alive in
-            inr (
+            inr
+            (was old what answer u v o (byte_at new u v o) (quiet.says (InTask u v o)) (
+              lived_before u alive,
+              within,
               known_before u v (mapped_at old.tables.page_tables u v) other refl (sym (ap (is_known new.tables.pages) (ends.shown.others u v other)) ∙ known),
-              same_byte u v o other ∙ sym (ap (λ (said : Says). follow said (byte_at_spot old) (InTask u v o)) (quiet.says (InTask u v o))),
-            ));
-        coming = λ u v q g f b n alive shown stands.
-            (let other = other_of u alive in
-            let before : mapped_at old.tables.page_tables u v ≡ Some q = sym (ends.shown.others u v other) ∙ shown in
-            inr (record {
-              shown = before;
-              stands = sym (stays u v q other before) ∙ stands;
-              quiet = λ o. quiet.says (InTask u v o);
-              other = ap (λ (m : Option ℕ). is_number m n) quiet.ticket;
-            }));
+              same_byte u v o other,
+            )));
         flights = flights-kept old new worker answer quiet.ticket ends.drops.flights;
-        living = λ u h. or_right (starts what answer u) (lives old.tables.tasks u) (lived_before u h);
         kept = (let same : in_transfer new.tables.pages ≡ in_transfer old.tables.pages = moving_alike (record old { tallies = counts }) new ends.drops in omega (arith, same, needs));
         given = quiet.given;
         opening = ap (λ (s : State). s.opening) ends.tables;

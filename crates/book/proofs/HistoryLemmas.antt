@@ -16,9 +16,9 @@ use Rattle.machine.specs.declared.event.Event.TheVariants as event
 use Rattle.machine.specs.declared.reply.Reply.{Reply}
 use Rattle.machine.specs.declared.reply.Reply.TheVariants as reply
 use Rattle.machine.specs.Slots.{at, there_and}
-use Rattle.machine.specs.Pages.{Coming, is_number}
+use Rattle.machine.specs.Pages.{Coming, Pages, page_at}
 use Rattle.machine.specs.Counts.{Counted}
-use Rattle.machine.specs.Tasks.{is_live_task, is_live_life, lives, task_at, group_of_task, mapped_at}
+use Rattle.machine.specs.Tasks.{PageTables, is_live_task, is_live_life, lives, task_at, group_of_task, mapped_at}
 use Rattle.machine.specs.State.{Opening, State, first_state}
 use Rattle.machine.specs.Generations.{new_gens, gens_at}
 use Rattle.machine.specs.Lists.{Order, first_order}
@@ -26,22 +26,17 @@ use Rattle.machine.specs.Access.{page_size}
 use Rattle.machine.specs.Refusals.{refusal}
 use Rattle.machine.specs.Step.{Step, TaskStep, LifeStep}
 use Rattle.machine.specs.Legal.{Legal}
-use Rattle.machine.specs.History.{IsRight, Spot, InTask, Says, Byte, Nothing, says, says_if, follow, at_first, last, Fetched, fetched_by, fetch_of, HoldsLast, IsHonest, Honest, ticket_given, taker_or, taker, entries_by}
+use Rattle.machine.specs.History.{IsRight, Spot, InTask, Says, Byte, As, Nothing, says, follow, at_first, last, Fetched, fetched_by, fetch_of, HoldsLast, IsHonest, Honest, ticket_given, taker_or, taker, entries_by}
 use Rattle.machine.specs.Call.{is_full_for, knows_pass, entry_of}
 use Rattle.machine.proofs.TreeLemmas.{eq_cases}
-use Rattle.pages.specs.PagesOf.{HasResidence}
+use Rattle.machine.proofs.SharedLemmas.{legal-fetched}
+use Rattle.pages.specs.PagesOf.{anon_page}
 use Rattle.pages.specs.declared.flight.Flight.{Flight}
 use Rattle.memory_events.specs.Tallies.{Tells}
 use Rattle.page_state.specs.States.{StateOf, byte_at}
-use Rattle.book.specs.Effects.{counting, counted_after, group_after, byte_at_spot, knows, ReadsByte, Arrives, IsFetchOf, worker_of}
-use Rattle.book.specs.MakesStep.{MakesStep, starts}
-use Rattle.book.specs.Told.{group_in, counted_in, state_of, IsFetched, IsHistory}
-
--- ---- tests
-
-or_true : (a b : Bool) → (a || b) ≡ true → (a ≡ true → ⊥) → b ≡ true
-or_true true b e never = absurd (never refl)
-or_true false b e never = e
+use Rattle.book.specs.Effects.{counting, counted_after, group_after, byte_at_spot, knows, ReadsByte, Arrives, IsSaid, worker_of}
+use Rattle.book.specs.MakesStep.{MakesStep}
+use Rattle.book.specs.Told.{group_in, counted_in, state_of, IsHistory}
 
 -- ---- groups and events counted
 
@@ -77,56 +72,22 @@ read_right c history what answer new counted bytes step reads = tt
 
 -- ---- bytes
 
--- what follows an entry, where it says nothing is what was before
-follow-same : (said : Says) (f g : Spot → ℕ) (spot : Spot) → (said ≡ Nothing → f spot ≡ g spot) → follow said f spot ≡ follow said g spot
-follow-same (Byte b) f g spot same = refl
-follow-same Nothing f g spot same = same refl
-
--- a task's first event says its bytes
-starts-says : (what : Event) (answer : Reply) (t v o : ℕ) → starts what answer t ≡ true → says what answer (InTask t v o) ≡ Nothing → ⊥
-starts-says (event.Spawn u g) reply.Ok t v o first quiet = let said : says (event.Spawn u g) reply.Ok (InTask t v o) ≡ Byte 0 = ap (λ b. says_if b (Byte 0)) first in cc
-starts-says what answer t v o first quiet = cc
+-- a byte that is what an entry says of it is the last write, where the bytes in memory were
+said_last : (old : StateOf) (history : List Entry) → ((t v o : ℕ) → lives old.tables.tasks t ≡ true → o < page_size → knows old t v ≡ true → byte_at old t v o ≡ last at_first history (InTask t v o))
+    → (said : Says) (spot : Spot) (byte : ℕ) → IsSaid old said spot byte → byte ≡ follow said (last at_first history) spot
+said_last old history bytes (Byte b) spot byte is = is
+said_last old history bytes (As (InTask t v o)) spot byte is = is.3 ∙ bytes t v o is.0 is.1 is.2
+said_last old history bytes Nothing (InTask t v o) byte is = is.3 ∙ bytes t v o is.0 is.1 is.2
 
 -- what an honest arrival brought is the last write
-arrived_last : (old : StateOf) (history : List Entry) (what : Event) (answer : Reply) (t v o byte : ℕ)
-    → ((p g f b n : ℕ) → lives old.tables.tasks t ≡ true → mapped_at old.tables.page_tables t v ≡ Some p → HasResidence old.tables.pages p g (Coming f b n) → IsFetched history n t v)
-    → (starts what answer t || lives old.tables.tasks t) ≡ true → IsHonest at_first history what → o < page_size → Arrives old what t v o byte → byte ≡ follow (says what answer (InTask t v o)) (last at_first history) (InTask t v o)
-arrived_last old history (event.Arrived ticket bytes) answer t v o byte coming living honest lt arrives =
-    let fetched = coming arrives.0 arrives.1 arrives.2 arrives.3 ticket.0 living arrives.4 arrives.5 in
-    arrives.6 ∙ subst (λ (f : Option Fetched). HoldsLast at_first bytes f) fetched.found honest o lt ∙ fetched.same o lt
-arrived_last old history what answer t v o byte coming living honest lt arrives = absurd arrives
-
--- ---- transfers
-
--- an entry that begins a read-in is the one of its ticket
-fetch_began : (history : List Entry) (worker : ℕ) (what : Event) (answer : Reply) (t v n : ℕ) → IsFetchOf what answer t v n → IsFetched (entry_of (record { worker = worker }) history what answer ∷ history) n t v
-fetch_began history worker (event.Access u (Virtual w o) Read) (reply.Fetch m) t v n began =
-    record {
-      fetch = record { spot = InTask u.0 w o; earlier = history };
-      found = ap (λ b. cond b (Some (record { spot = InTask u.0 w o; earlier = history })) (fetch_of n history)) (eq-eqb m.0 n began.0);
-      same = λ o lt. ap (λ (u : ℕ). last at_first history (InTask u w o)) began.1 ∙ ap (λ (w : ℕ). last at_first history (InTask t w o)) began.2;
-    }
-fetch_began history worker (event.Access u (Virtual w o) (Write b)) (reply.Fetch m) t v n began =
-    record {
-      fetch = record { spot = InTask u.0 w o; earlier = history };
-      found = ap (λ b. cond b (Some (record { spot = InTask u.0 w o; earlier = history })) (fetch_of n history)) (eq-eqb m.0 n began.0);
-      same = λ o lt. ap (λ (u : ℕ). last at_first history (InTask u w o)) began.1 ∙ ap (λ (w : ℕ). last at_first history (InTask t w o)) began.2;
-    }
-fetch_began history worker what answer t v n began = absurd began
-
--- an entry that gives out another ticket, or none, began no read-in under this one
-fetched_by-other : (n : ℕ) (what : Event) (answer : Reply) (earlier : List Entry) (others : Option Fetched) → is_number (ticket_given answer) n ≡ false → fetched_by n what answer earlier others ≡ others
-fetched_by-other n (event.Access t (Virtual v o) op) (reply.Fetch m) earlier others other = ap (λ b. cond b (Some (record { spot = InTask t.0 v o; earlier = earlier })) others) other
-fetched_by-other n what answer earlier others other = refl
-
-fetch_stays : (history : List Entry) (worker : ℕ) (what : Event) (answer : Reply) (t v n : ℕ) → ((o : ℕ) → says what answer (InTask t v o) ≡ Nothing) → is_number (ticket_given answer) n ≡ false → IsFetched history n t v
-    → IsFetched (entry_of (record { worker = worker }) history what answer ∷ history) n t v
-fetch_stays history worker what answer t v n quiet other fetched =
-    record {
-      fetch = fetched.fetch;
-      found = fetched_by-other n what answer history (fetch_of n history) other ∙ fetched.found;
-      same = λ o lt. fetched.same o lt ∙ sym (ap (λ (said : Says). follow said (last at_first history) (InTask t v o)) (quiet o));
-    }
+arrived_last : (old : StateOf) (history : List Entry) (s : State) → s.pages ≡ old.tables.pages → s.page_tables ≡ old.tables.page_tables → (opening : Opening) → Legal opening history s → (what : Event) (answer : Reply) (t v o byte : ℕ)
+    → IsHonest at_first history what → o < page_size → Arrives old what t v o byte → byte ≡ follow (says what answer (InTask t v o)) (last at_first history) (InTask t v o)
+arrived_last old history s pages tables opening legal (event.Arrived ticket bytes) answer t v o byte honest lt arrives =
+    let there : page_at s.pages arrives.0 ≡ Some (anon_page arrives.1 (Coming arrives.2 arrives.3 ticket.0)) = ap (λ (ps : Pages). page_at ps arrives.0) pages ∙ arrives.5 in
+    let shown : mapped_at s.page_tables t v ≡ Some arrives.0 = ap (λ (ts : PageTables). mapped_at ts t v) tables ∙ arrives.4 in
+    let fetched = legal-fetched opening at_first history s legal arrives.0 arrives.2 arrives.3 ticket.0 _ there refl in
+    arrives.6 ∙ subst (λ (f : Option Fetched). HoldsLast at_first bytes f) fetched.is honest o lt ∙ sym (fetched.same t v o shown)
+arrived_last old history s pages tables opening legal what answer t v o byte honest lt arrives = absurd arrives
 
 -- who took a ticket, where the flights before were their takers'
 taker_on : (flight : Option Flight) (n worker taken : ℕ) (given before : Option ℕ) → IfSome flight (λ f. before ≡ Some f.worker.0) → Some taken ≡ taker_or n given worker (worker_of flight) → taker_or n given worker before ≡ Some taken
@@ -168,21 +129,11 @@ module _ (old new : StateOf) (history : List Entry) (counts : List ℕ) (worker 
   pub read_on : Honest at_first history → IsRight at_first history what answer
   read_on honest = read_right old history what answer _ (counted_in history) (h.told.bytes honest) (h.makes_step.steps (counted_in history) h.told.tallied) h.makes_step.reads
 
-  lived : (t v o : ℕ) → lives new.tables.tasks t ≡ true → says what answer (InTask t v o) ≡ Nothing → lives old.tables.tasks t ≡ true
-  lived t v o alive quiet = or_true (starts what answer t) (lives old.tables.tasks t) (h.makes_step.living t alive) (λ first. starts-says what answer t v o first quiet)
-
   bytes_on : Honest at_first more → (t v o : ℕ) → lives new.tables.tasks t ≡ true → o < page_size → knows new t v ≡ true → byte_at new t v o ≡ last at_first more (InTask t v o)
   bytes_on honest t v o alive lt known =
       elim (h.makes_step.bytes t v o alive lt known) [
-        | inl arrives ↦ arrived_last old history what answer t v o (byte_at new t v o) (h.told.coming t v) (h.makes_step.living t alive) honest.1 lt arrives
-        | inr follows ↦ follows.1 ∙ follow-same (says what answer (InTask t v o)) (byte_at_spot old) (last at_first history) (InTask t v o) (λ quiet. h.told.bytes honest.0 t v o (lived t v o alive quiet) lt follows.0)
-      ]
-
-  coming_on : (t v p g f b n : ℕ) → lives new.tables.tasks t ≡ true → mapped_at new.tables.page_tables t v ≡ Some p → HasResidence new.tables.pages p g (Coming f b n) → IsFetched more n t v
-  coming_on t v p g f b n alive shown stands =
-      elim (h.makes_step.coming t v p g f b n alive shown stands) [
-        | inl began ↦ fetch_began history worker what answer t v n began
-        | inr stays ↦ fetch_stays history worker what answer t v n stays.quiet stays.other (h.told.coming t v p g f b n (lived t v 0 alive (stays.quiet 0)) stays.shown stays.stands)
+        | inl arrives ↦ arrived_last old history (state_of old history) refl refl old.tables.opening h.told.legal what answer t v o (byte_at new t v o) honest.1 lt arrives
+        | inr follows ↦ said_last old history (h.told.bytes honest.0) (says what answer (InTask t v o)) (InTask t v o) (byte_at new t v o) follows
       ]
 
   takers_on : (n : ℕ) → IfSome (at new.flights n) (λ f. taker n more ≡ Some f.worker.0)
@@ -221,9 +172,8 @@ module _ (old new : StateOf) (history : List Entry) (counts : List ℕ) (worker 
         right = λ honest. (h.told.right honest.0, read_on honest.0);
         numbered = (h.told.numbered, refl);
         bytes = bytes_on;
-        coming = coming_on;
         takers = takers_on;
-        groups = λ t. h.makes_step.groups t ∙ ap (group_after what answer t) (h.told.groups t);
+        groups = λ t. h.makes_step.groups t ∙ ap (λ (before : ℕ → ℕ). group_after before what answer t) (agree h.told.groups);
         tallied = subst (λ (c : List Counted). Tells new.tallies c) (counted-same (group_of_task old.tables.tasks) (group_in history) h.told.groups (counted_in history) what answer) (h.makes_step.tallied (counted_in history) h.told.tallied);
         counted = counted_on;
         young = young_on;
@@ -239,7 +189,6 @@ told-first c opening tables order flights tells zeros =
       right = λ honest. tt;
       numbered = tt;
       bytes = λ honest t v o alive within known. zeros t v o;
-      coming = λ t v p g f b n alive shown stands. absurd (let wrong : false ≡ true = sym (ap (λ (s : State). lives s.tasks t) tables) ∙ alive in cc);
       takers = λ n. subst (λ (fs : List (Option Flight)). IfSome (at fs n) (λ f. taker n [] ≡ Some f.worker.0)) (sym flights) tt;
       groups = λ t. ap (λ (s : State). group_of_task s.tasks t) tables;
       tallied = tells;

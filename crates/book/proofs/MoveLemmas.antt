@@ -23,7 +23,7 @@ use Rattle.machine.specs.Call.{fetches, need}
 use Rattle.machine.specs.Reclaim.{stands, target_of, is_takeable, has_takeable}
 use Rattle.machine.specs.Lists.{Youngest, entry_after, TakesNext, Orders}
 use Rattle.machine.specs.Step.{MeetStep, StartsFetch, Takes, RelieveStep, ReclaimOneStep, EndsTransfer, or_gone, in_frame, on_block, IsFreeFrame}
-use Rattle.machine.specs.History.{Spot, InTask, Says, Nothing, says, follow, ticket_given, taker_or}
+use Rattle.machine.specs.History.{Spot, InTask, Nothing, says, ticket_given, taker_or}
 use Rattle.machine.proofs.Values.{unlike}
 use Rattle.machine.proofs.TreeLemmas.{eq_cases}
 use Rattle.machine.proofs.SlotLemmas.{one_if}
@@ -35,8 +35,8 @@ use Rattle.machine.specs.declared.record.Direction.TheVariants.{In, Out}
 use Rattle.memory_events.specs.Tallies.{Tallies, Tells}
 use Rattle.page_state.specs.States.{StateOf, byte_shown}
 use Rattle.page_state.specs.Mapped.{AreMapped}
-use Rattle.book.specs.Effects.{counting, Steps, Tallied, group_after, byte_at_spot, is_in_memory, is_known, ReadsByte, Arrives, Follows, ChangesBytes, IsFetchOf, ChangesComing, ChangesFlights, worker_of}
-use Rattle.book.specs.MakesStep.{AgesByThree, MakesStep, RepliesTo, starts, is_refused}
+use Rattle.book.specs.Effects.{counting, Steps, Tallied, group_after, is_in_memory, is_known, ReadsByte, Arrives, Follows, ChangesBytes, ChangesFlights, worker_of}
+use Rattle.book.specs.MakesStep.{AgesByThree, MakesStep, RepliesTo, is_refused}
 use Rattle.book.specs.declared.event.Reply.TheVariants as given
 use Rattle.pages.specs.Tickets.{TicketOf}
 use Rattle.pages.specs.declared.end.End.{End}
@@ -46,14 +46,7 @@ use Rattle.page_state.specs.Changes.{KeepsLists, BeginsWriteOut, EndsTransfer as
 use Rattle.book.specs.Events.{ended}
 use Rattle.book.specs.Decisions.{AsksPage}
 use Rattle.page_state.proofs.TransferLemmas.{free-other, any-some, under-taken, coming-under, in_transfer-changes}
-use Rattle.book.proofs.StepLemmas.{order-on, flight-kept, live_step, granted_step, stands_counting}
-
-abbrev residence_or : Option Page → Residence
-residence_or None = Held 0
-residence_or (Some page) = page.residence
-
-residence_of : (g g' : ℕ) (r r' : Residence) → Some (anon_page g r) ≡ Some (anon_page g' r') → r ≡ r'
-residence_of g g' r r' e = ap residence_or e
+use Rattle.book.proofs.StepLemmas.{order-on, was, flight-kept, live_step, granted_step, stands_counting}
 
 -- one page comes to stand elsewhere, or goes; the event says nothing of any byte
 pub record IsMove (old new : StateOf) (what : Event) (answer : Reply) (p : ℕ) (to : Option Page) : Type 0 where
@@ -61,13 +54,11 @@ pub record IsMove (old new : StateOf) (what : Event) (answer : Reply) (p : ℕ) 
   pub placed : Changes old.tables.pages new.tables.pages p to
   pub others : (q o : ℕ) → q ≢ p → byte_in new.bytes q o ≡ byte_in old.bytes q o
   pub silent : (spot : Spot) → says what answer spot ≡ Nothing
-  pub groups : (u g : ℕ) → group_after what answer u g ≡ g
+  pub groups : (before : ℕ → ℕ) (u : ℕ) → group_after before what answer u ≡ before u
   pub given : is_refused answer ≡ false
   -- the bytes of the page itself, where it is in memory: they arrive, or are as they were
   pub own : (t v o : ℕ) → mapped_at old.tables.page_tables t v ≡ Some p → there_and (λ page. is_in_memory page.residence) to ≡ true
       → Arrives old what t v o (byte_in new.bytes p o) ⊎ ((there_and (λ page. is_in_memory page.residence) (page_at old.tables.pages p) ≡ true) × (byte_in new.bytes p o ≡ byte_in old.bytes p o))
-  pub coming : (t v g f b n : ℕ) → mapped_at old.tables.page_tables t v ≡ Some p → to ≡ Some (anon_page g (Coming f b n)) → IsFetchOf what answer t v n
-  pub fresh : (n : ℕ) → is_ticket_taken old.tables.pages n ≡ true → is_number (ticket_given answer) n ≡ false
 
 module _ (old new : StateOf) (what : Event) (answer : Reply) (p : ℕ) (to : Option Page) (move : IsMove old new what answer p to) where
   same_place : (t v : ℕ) → mapped_at new.tables.page_tables t v ≡ mapped_at old.tables.page_tables t v
@@ -79,10 +70,9 @@ module _ (old new : StateOf) (what : Event) (answer : Reply) (p : ℕ) (to : Opt
       (by_place (mapped_at old.tables.page_tables t v) refl (sym (ap (is_known new.tables.pages) (same_place t v)) ∙ known))
     where
       follows : (m : Option ℕ) (byte : ℕ) → mapped_at old.tables.page_tables t v ≡ m → is_known old.tables.pages m ≡ true → byte ≡ byte_shown old.bytes m o → Follows old what answer t v o byte
-      follows m byte is there e = (
-        ap (is_known old.tables.pages) is ∙ there,
-        e ∙ ap (λ (m : Option ℕ). byte_shown old.bytes m o) (sym is) ∙ sym (ap (λ (said : Says). follow said (byte_at_spot old) (InTask t v o)) (move.silent (InTask t v o))),
-      )
+      follows m byte is there e =
+          was old what answer t v o byte (move.silent (InTask t v o))
+          (sym (ap (λ (s : State). lives s.tasks t) move.tables) ∙ alive, within, ap (is_known old.tables.pages) is ∙ there, e ∙ ap (λ (m : Option ℕ). byte_shown old.bytes m o) (sym is))
 
       at_page : (q : ℕ) → mapped_at old.tables.page_tables t v ≡ Some q → q ≡ p → is_known new.tables.pages (Some p) ≡ true
           → Arrives old what t v o (byte_in new.bytes p o) ⊎ Follows old what answer t v o (byte_in new.bytes p o)
@@ -105,16 +95,6 @@ module _ (old new : StateOf) (what : Event) (answer : Reply) (p : ℕ) (to : Opt
                 inr (follows (Some q) (byte_in new.bytes q o) is (sym (ap (there_and (λ (page : Page). is_in_memory page.residence)) (move.placed.others q other)) ∙ there) (move.others q o other))
           ]
 
-  moved-coming : ChangesComing old what answer new
-  moved-coming t v q g f b n alive shown stands =
-      let before : mapped_at old.tables.page_tables t v ≡ Some q = sym (same_place t v) ∙ shown in
-      elim (eq_cases q p) [
-        | inl same ↦ inl (move.coming t v g f b n (before ∙ ap Some same) (sym (ap (page_at new.tables.pages) same ∙ move.placed.changed) ∙ stands))
-        | inr other ↦
-            (let stood : HasResidence old.tables.pages q g (Coming f b n) = sym (move.placed.others q other) ∙ stands in
-            inr (record { shown = before; stands = stood; quiet = λ o. move.silent (InTask t v o); other = move.fresh n (under-taken old.tables.pages q n (coming-under old.tables.pages q g f b n stood)) }))
-      ]
-
   pub makes_step-move : (worker : ℕ) → Steps old what answer new → Orders old.tables old.order what answer new.tables new.order × AgesByThree old new → Tallied old what answer new → ReadsByte old what answer → ChangesFlights old worker answer new
       → in_transfer new.tables.pages + 1 ≤ in_transfer old.tables.pages + need old.tables what → MakesStep old worker what answer new
   makes_step-move worker steps orders tallied reads flights kept =
@@ -123,12 +103,10 @@ module _ (old new : StateOf) (what : Event) (answer : Reply) (p : ℕ) (to : Opt
         orders = orders.0;
         ages = orders.1;
         tallied = tallied;
-        groups = λ u. ap (λ (s : State). group_of_task s.tasks u) move.tables ∙ sym (move.groups u (group_of_task old.tables.tasks u));
+        groups = λ u. ap (λ (s : State). group_of_task s.tasks u) move.tables ∙ sym (move.groups (group_of_task old.tables.tasks) u);
         reads = reads;
         bytes = moved-bytes;
-        coming = moved-coming;
         flights = flights;
-        living = λ u h. or_right (starts what answer u) (lives old.tables.tasks u) (sym (ap (λ (s : State). lives s.tasks u) move.tables) ∙ h);
         kept = kept;
         given = move.given;
         opening = ap (λ (s : State). s.opening) move.tables;
@@ -186,7 +164,7 @@ away-fetches s t v o p g b op task known live shown away under free = rw known (
 pub fetch-needs : (s : State) (t : ℕ) (place : Place) (op : Op) → fetches s t place op ≡ true → need s (event.Access (record { 0 = t }) place op) ≡ 2
 fetch-needs s t place op fetch = ap (λ b. cond b 2 1) fetch
 
-pub makes_step-fetch : (old new : StateOf) (worker t v o p g f b n : ℕ) (op : Op) (task : Task) → AreMapped old.tables.pages old.tables.page_tables
+pub makes_step-fetch : (old new : StateOf) (worker t v o p g f b n : ℕ) (op : Op) (task : Task)
     → task_at old.tables.tasks t ≡ Some task → task.life ≡ Live → mapped_at old.tables.page_tables t v ≡ Some p → HasResidence old.tables.pages p g (Away b)
     → over_in old.tables g ≡ None → is_frame_free old.tables ≡ true → IsFreeFrame old.tables f → is_ticket_taken old.tables.pages n ≡ false
     → Changes old.tables.pages new.tables.pages p (Some (anon_page g (Coming f b n)))
@@ -194,7 +172,7 @@ pub makes_step-fetch : (old new : StateOf) (worker t v o p g f b n : ℕ) (op : 
     → ((q k : ℕ) → q ≢ p → byte_in new.bytes q k ≡ byte_in old.bytes q k) → Changes old.flights new.flights n (Some (flight p worker In))
     → KeepsLists Youngest old new → new.order.cursors ≡ old.order.cursors → ((c : List Counted) → Tells old.tallies c → Tells new.tallies c)
     → MakesStep old worker (event.Access (record { 0 = t }) (Virtual v o) op) (reply.Fetch (record { 0 = n })) new
-makes_step-fetch old new worker t v o p g f b n op task mapped known live shown away under free frame fresh placed tables bytes listed goes cursors tells =
+makes_step-fetch old new worker t v o p g f b n op task known live shown away under free frame fresh placed tables bytes listed goes cursors tells =
     makes_step-move old new (event.Access (record { 0 = t }) (Virtual v o) op) (reply.Fetch (record { 0 = n })) p (Some (anon_page g (Coming f b n)))
     (record {
       tables = tables;
@@ -204,8 +182,6 @@ makes_step-fetch old new worker t v o p g f b n op task mapped known live shown 
       groups = λ u g. refl;
       given = refl;
       own = λ u w k is there. unlike false there refl;
-      coming = λ u w g' f' b' m is same. (let place = both_of u w is in (ticket_same g' f' b' m same, place.0, place.1));
-      fresh = λ m taken. free-other old.tables.pages n m fresh taken;
     })
     worker
     (λ c told. live_step (counting old.tables c) _ task _ _ _ known live (fetches c))
@@ -222,17 +198,6 @@ makes_step-fetch old new worker t v o p g f b n op task mapped known live shown 
     fetches : (c : List Counted) → MeetStep (counting old.tables c) t task.group.0 op (meets (counting old.tables c) t (Virtual v o) op) (reply.Fetch (record { 0 = n })) (counting new.tables c)
     fetches c = rw shown (rw away (granted_step (counting old.tables c) _ _ _ _ _ under free (starts_fetch c)))
 
-    ticket_same : (g' f' b' m : ℕ) → Some (anon_page g (Coming f b n)) ≡ Some (anon_page g' (Coming f' b' m)) → n ≡ m
-    ticket_same g' f' b' m e = let same : Coming f b n ≡ Coming f' b' m = residence_of g g' (Coming f b n) (Coming f' b' m) e in cc
-
-    once : mappers old.tables.page_tables p ≤ 1
-    once = mapped.once p
-
-    both_of : (u w : ℕ) → mapped_at old.tables.page_tables u w ≡ Some p → (t ≡ u) × (v ≡ w)
-    both_of u w is =
-        let tests = and_parts (t == u) (v == w) (mapped_at-one old.tables.page_tables t v u w p once shown is) in
-        (eqb-true t u tests.0, eqb-true v w tests.1)
-
 -- ---- a write-out begins
 
 pub relief-two : (s : State) (why : Cause) → stands s why ≡ true → has_takeable s (target_of why) ≡ true → need s (event.Relieve why) ≡ 2
@@ -248,9 +213,6 @@ module _ (old new : StateOf) (target worker entry : ℕ) (ticket : TicketOf) (ta
 
   pub taken-some : has_takeable old.tables target ≡ true
   taken-some = any-some (is_takeable old.tables target) old.tables.pages taken.p (ap (there_and (is_takeable old.tables target)) taken.stood ∙ taken.takeable)
-
-  no_coming : {P : Type 0} (g' f' b' m : ℕ) → Some (anon_page taken.g (Going taken.frame ticket.block ticket.number)) ≡ Some (anon_page g' (Coming f' b' m)) → P
-  no_coming g' f' b' m e = let same : Going taken.frame ticket.block ticket.number ≡ Coming f' b' m = residence_of taken.g g' (Going taken.frame ticket.block ticket.number) (Coming f' b' m) e in absurd (cc)
 
   takes_it : (c : List Counted) → Takes (counting old.tables c) target (reply.Out (record { 0 = ticket.number })) (counting new.tables c)
   takes_it c =
@@ -269,7 +231,7 @@ module _ (old new : StateOf) (target worker entry : ℕ) (ticket : TicketOf) (ta
   -- whatever asks for it
   makes_step-out : (what : Event) → Steps old what (reply.Out (record { 0 = ticket.number })) new → Orders old.tables old.order what (reply.Out (record { 0 = ticket.number })) new.tables new.order
       → Tallied old what (reply.Out (record { 0 = ticket.number })) new → ReadsByte old what (reply.Out (record { 0 = ticket.number }))
-      → ((spot : Spot) → says what (reply.Out (record { 0 = ticket.number })) spot ≡ Nothing) → ((u h : ℕ) → group_after what (reply.Out (record { 0 = ticket.number })) u h ≡ h) → need old.tables what ≡ 2
+      → ((spot : Spot) → says what (reply.Out (record { 0 = ticket.number })) spot ≡ Nothing) → ((before : ℕ → ℕ) (u : ℕ) → group_after before what (reply.Out (record { 0 = ticket.number })) u ≡ before u) → need old.tables what ≡ 2
       → MakesStep old worker what (reply.Out (record { 0 = ticket.number })) new
   makes_step-out what steps orders tallied reads silent groups two =
       makes_step-move old new what (reply.Out (record { 0 = ticket.number })) taken.p (Some (anon_page taken.g (Going taken.frame ticket.block ticket.number)))
@@ -281,8 +243,6 @@ module _ (old new : StateOf) (target worker entry : ℕ) (ticket : TicketOf) (ta
         groups = groups;
         given = refl;
         own = λ u w k is there. inr (ap (there_and (λ (page : Page). is_in_memory page.residence)) taken.stood, taken.bytes taken.p k);
-        coming = λ u w g' f' b' m is same. no_coming g' f' b' m same;
-        fresh = λ m given. free-other old.tables.pages ticket.number m taken.ticket_free given;
       })
       worker steps (orders, taken.ages) tallied reads
       (flights-begun old new worker taken.p ticket.number Out (reply.Out (record { 0 = ticket.number })) refl taken.listed)
@@ -314,7 +274,10 @@ module _ (old new : StateOf) (target worker entry : ℕ) (ticket : TicketOf) (ta
   makes_step-taken (event.Left ticket) asks = absurd asks
   makes_step-taken (event.LeaveFailed ticket) asks = absurd asks
   makes_step-taken (event.Spawn t h) asks = absurd asks
+  makes_step-taken (event.Fork t child) asks = absurd asks
   makes_step-taken (event.Exit t) asks = absurd asks
+  makes_step-taken (event.Free t v) asks = absurd asks
+  makes_step-taken (event.Attach t h) asks = absurd asks
   makes_step-taken (event.Mkdir path) asks = absurd asks
   makes_step-taken (event.Set h setting) asks = absurd asks
   makes_step-taken (event.Show query) asks = absurd asks
@@ -329,7 +292,10 @@ replies-out s (event.FetchFailed number) target ticket asks = absurd asks
 replies-out s (event.Left number) target ticket asks = absurd asks
 replies-out s (event.LeaveFailed number) target ticket asks = absurd asks
 replies-out s (event.Spawn t h) target ticket asks = absurd asks
+replies-out s (event.Fork t child) target ticket asks = absurd asks
 replies-out s (event.Exit t) target ticket asks = absurd asks
+replies-out s (event.Free t v) target ticket asks = absurd asks
+replies-out s (event.Attach t h) target ticket asks = absurd asks
 replies-out s (event.Mkdir path) target ticket asks = absurd asks
 replies-out s (event.Set h setting) target ticket asks = absurd asks
 replies-out s (event.Show query) target ticket asks = absurd asks
@@ -344,17 +310,11 @@ memory_after : (b : Bool) (g : ℕ) (r : Residence) → there_and (λ (page : Pa
 memory_after true g r there = cc
 memory_after false g r there = there
 
-no_coming-after : {P : Type 0} (b : Bool) (g g' f' b' n' : ℕ) (r : Residence) → is_in_transfer (anon_page g r) ≡ false → cond b None (Some (anon_page g r)) ≡ Some (anon_page g' (Coming f' b' n')) → P
-no_coming-after true g g' f' b' n' r rests e = absurd (cc)
-no_coming-after false g g' f' b' n' r rests e =
-    let same : r ≡ Coming f' b' n' = residence_of g g' r (Coming f' b' n') e in
-    unlike (is_in_transfer (anon_page g r)) (ap (λ (r : Residence). is_in_transfer (anon_page g r)) same) rests
-
 -- the end of a transfer, whatever it comes to
 module _ (old new : StateOf) (worker p g n : ℕ) (from to : Residence) (what : Event) (stood : HasResidence old.tables.pages p g from) (moves : is_in_transfer (anon_page g from) ≡ true)
     (rests : is_in_transfer (anon_page g to) ≡ false) (tables : new.tables ≡ record old.tables { pages = new.tables.pages }) (placed : Changes old.tables.pages new.tables.pages p (or_gone old.tables.page_tables p (anon_page g to)))
     (unlisted : Changes old.flights new.flights n None) (bytes : (q k : ℕ) → q ≢ p → byte_in new.bytes q k ≡ byte_in old.bytes q k) where
-  pub makes_step-end : Steps old what reply.Ok new → Orders old.tables old.order what reply.Ok new.tables new.order × AgesByThree old new → Tallied old what reply.Ok new → ReadsByte old what reply.Ok → ((spot : Spot) → says what reply.Ok spot ≡ Nothing) → ((u g : ℕ) → group_after what reply.Ok u g ≡ g)
+  pub makes_step-end : Steps old what reply.Ok new → Orders old.tables old.order what reply.Ok new.tables new.order × AgesByThree old new → Tallied old what reply.Ok new → ReadsByte old what reply.Ok → ((spot : Spot) → says what reply.Ok spot ≡ Nothing) → ((before : ℕ → ℕ) (u : ℕ) → group_after before what reply.Ok u ≡ before u)
       → ((t v o : ℕ) → mapped_at old.tables.page_tables t v ≡ Some p → is_in_memory to ≡ true
       → Arrives old what t v o (byte_in new.bytes p o) ⊎ ((there_and (λ (page : Page). is_in_memory page.residence) (page_at old.tables.pages p) ≡ true) × (byte_in new.bytes p o ≡ byte_in old.bytes p o)))
       → MakesStep old worker what reply.Ok new
@@ -368,8 +328,6 @@ module _ (old new : StateOf) (worker p g n : ℕ) (from to : Residence) (what : 
         groups = groups;
         given = refl;
         own = λ t v o is there. own t v o is (memory_after (mappers old.tables.page_tables p == 0) g to there);
-        coming = λ t v g' f' b' n' is same. no_coming-after (mappers old.tables.page_tables p == 0) g g' f' b' n' to rests same;
-        fresh = λ m taken. refl;
       })
       worker steps orders tallied reads
       (flights-ended old new worker n reply.Ok refl unlisted)

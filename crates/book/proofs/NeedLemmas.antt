@@ -18,7 +18,7 @@ use Rattle.book.specs.declared.decision.Meeting.{Meeting}
 use Rattle.book.specs.declared.decision.Meeting.TheVariants as meeting
 use Rattle.book.specs.declared.decision.Decision.{Decision}
 use Rattle.book.specs.declared.decision.Decision.TheVariants as decision
-use Rattle.book.specs.Decisions.{IsTouch, NeedsCharge, ForNew, ForAway, MeetsSo, IsDecided, IsOfKilled, AsksPage, WantsRoom, HasItsRoom, FindsNothing, entries_for}
+use Rattle.book.specs.Decisions.{IsTouch, NeedsCharge, ForNew, ForCopy, ForAway, MeetsSo, IsDecided, IsOfKilled, AsksPage, WantsRoom, HasItsRoom, FindsNothing, entries_for}
 use Rattle.book.proofs.MoveLemmas.{away-fetches, fetch-needs, relief-two, reclaim-two}
 
 -- ---- accesses
@@ -34,6 +34,7 @@ module _ (s : State) (touch : Touch) (is : IsTouch s touch) where
 
   lacking : (g : ℕ) → NeedsCharge s touch g → (why : NoRoom) → LacksRoom s g why → 1 ≡ need s accessed
   lacking g (ForNew byte write none own) why full = rw is.known (rw is.live (rw none (rw write refl)))
+  lacking g (ForCopy byte p write shared own) why full = rw is.known (rw is.live (rw shared.shown (rw shared.held (rw write (rw shared.shared refl)))))
   lacking g (ForAway p block shown away) (lacks.Over a) full = rw is.known (rw is.live (rw shown (rw away (rw full.0 refl))))
   lacking g (ForAway p block shown away) lacks.NoFrame full = rw is.known (rw is.live (rw shown (rw away (rw full.0 (rw full.1 refl)))))
 
@@ -43,6 +44,7 @@ module _ (s : State) (touch : Touch) (is : IsTouch s touch) where
   access-entries meeting.Transferring (In, p, g, f, b, n, shown, coming) = rw is.known (rw is.live (rw shown (rw coming refl)))
   access-entries meeting.Transferring (Out, p, g, f, b, n, shown, going) = rw is.known (rw is.live (rw shown (rw going refl)))
   access-entries (meeting.NeedsPage byte) meets = rw is.known (rw is.live (rw meets.1 (rw meets.0 refl)))
+  access-entries (meeting.NeedsCopy p byte) (write, shared, room) = rw is.known (rw is.live (rw shared.shown (rw shared.held (rw write (rw shared.shared refl)))))
   access-entries (meeting.NeedsSwapIn p) meets = sym (fetch-needs s touch.task.0 (Virtual touch.at touch.offset) touch.op (away-fetches s touch.task.0 touch.at touch.offset p.0 meets.0 meets.1 touch.op is.task is.known is.live meets.2 meets.3 meets.4.under meets.4.free))
   access-entries (meeting.Lacks why) meets = lacking meets.0 meets.1 why meets.2
 
@@ -50,7 +52,9 @@ module _ (s : State) (touch : Touch) (is : IsTouch s touch) where
 
 of_killed : (s : State) (what : Event) → IsOfKilled s what → 1 ≡ need s what
 of_killed s (event.Access t place op) k = rw k.1 (rw k.2 refl)
+of_killed s (event.Fork t child) k = refl
 of_killed s (event.Exit t) k = refl
+of_killed s (event.Free t v) k = refl
 of_killed s other k = absurd k
 
 has_its_room : (s : State) (what : Event) → HasItsRoom s what → 1 ≡ need s what
@@ -85,6 +89,9 @@ entries-needed s what decision.Nothing is = nothing_found s.tables what is.fits
 entries-needed s what (decision.Kill limit t) is = untaken s.tables what limit.0 (relieved s.tables what limit.0 is.fits) is.sound.1.untakeable
 entries-needed s what (decision.NoVictim limit) is = untaken s.tables what limit.0 (relieved s.tables what limit.0 is.fits) is.sound.1.untakeable
 entries-needed s what (decision.Spawn t g) is = sym (ap (need s.tables) is.fits)
+entries-needed s what (decision.Fork t child) is = sym (ap (need s.tables) is.fits)
+entries-needed s what (decision.Free t at) is = sym (ap (need s.tables) is.fits)
+entries-needed s what (decision.Attach t g) is = sym (ap (need s.tables) is.fits)
 entries-needed s what (decision.Exit t) is = sym (ap (need s.tables) is.fits)
 entries-needed s what (decision.Mkdir parent path) is = sym (ap (need s.tables) is.fits)
 entries-needed s what (decision.Set g setting) is = sym (ap (need s.tables) is.fits)

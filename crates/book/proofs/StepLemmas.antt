@@ -1,11 +1,11 @@
 -- What each change of the parts is to the plain machine: changes that move no page.
 use Rattle.std.proofs.Common.{◌≡◌, inr, ℕ, zero, suc, ◌<◌, ◌≤◌, ◌&&◌, Bool, true, false, cond, List, [], ◌∷◌, ◌++◌, Option, Some, None, refl, sym, ap, subst, ◌∙◌, arith}
-use Rattle.std.specs.Prelude.{IfSome, slice_set}
-use Rattle.std.proofs.lemmas.Bool.{or_right}
+use Rattle.std.specs.Prelude.{IfSome, nat_lt, slice_set}
 use Rattle.machine.specs.declared.record.Key.TheVariants as key
 use Rattle.machine.specs.declared.record.Life.{Life}
 use Rattle.machine.specs.declared.record.Life.TheVariants.{Live, Exited, Killed}
 use Rattle.machine.specs.declared.record.Task.{Task}
+use Rattle.machine.specs.declared.id.TaskId.{TaskId}
 use Rattle.machine.specs.declared.id.FrameId.{FrameId}
 use Rattle.machine.specs.declared.event.Place.{Place}
 use Rattle.machine.specs.declared.event.Place.TheVariants.{Virtual}
@@ -23,7 +23,7 @@ use Rattle.machine.specs.declared.reply.Reply.TheVariants as reply
 use Rattle.machine.specs.Slots.{at, there_and}
 use Rattle.machine.specs.Pages.{Held, Away, Page, Pages, page_at, is_number, is_held, is_held_in, in_transfer}
 use Rattle.machine.specs.Counts.{no_limits, limits_at, Counted}
-use Rattle.machine.specs.Tasks.{Tasks, PageTables, task_at, lives, group_of_task, mapped_at}
+use Rattle.machine.specs.Tasks.{Tasks, PageTables, task_at, lives, group_of_task, mapped_at, mappers}
 use Rattle.machine.specs.State.{State, over_in, is_frame_free}
 use Rattle.machine.specs.Access.{page_size, meets}
 use Rattle.machine.specs.Call.{fetches, need}
@@ -32,7 +32,7 @@ use Rattle.machine.specs.Generations.{Gens, new_gens, gens_at}
 use Rattle.machine.specs.Lists.{HeldLists, Order, ListsHeld, Generation, Youngest, GoesOn, with_mark, AddsLists, Orders}
 use Rattle.machine.specs.Victim.{IsVictim}
 use Rattle.machine.specs.Step.{Step, ChargeStep, MeetStep, TaskStep, LifeStep, RelieveStep, ReclaimOneStep, KillStep, count_of, new_node, with_setting, shown_of}
-use Rattle.machine.specs.History.{Spot, InTask, Says, Nothing, says, follow, ticket_given, taker_or}
+use Rattle.machine.specs.History.{Spot, InTask, Says, Nothing, says, ticket_given, taker_or}
 use Rattle.machine.specs.declared.record.Direction.{Direction}
 use Rattle.machine.specs.declared.record.Direction.TheVariants.{In, Out}
 use Rattle.pages.specs.PagesOf.{byte_in, moving, HasResidence}
@@ -40,8 +40,8 @@ use Rattle.pages.specs.declared.flight.Flight.{Flight}
 use Rattle.memory_events.specs.Tallies.{Tells}
 use Rattle.page_state.specs.States.{StateOf, byte_shown, byte_at}
 use Rattle.page_state.specs.Changes.{MarksPage}
-use Rattle.book.specs.Effects.{counting, Steps, Tallied, group_after, byte_at_spot, is_in_memory, is_known, knows, ReadsByte, ChangesFlights, worker_of}
-use Rattle.book.specs.MakesStep.{AgesByThree, MakesStep, starts, is_refused}
+use Rattle.book.specs.Effects.{counting, Steps, Tallied, group_after, is_in_memory, is_known, knows, ReadsByte, WasByte, IsSaid, Follows, ChangesFlights, worker_of}
+use Rattle.book.specs.MakesStep.{AgesByThree, MakesStep, is_refused}
 use Rattle.machine.proofs.HeldLemmas.{goes-still, goes-max, held-marked}
 
 -- ---- where nothing changes that an event may tell of
@@ -59,7 +59,7 @@ pub record IsStill (old new : StateOf) : Type 0 where
 pub record IsQuiet (what : Event) (answer : Reply) : Type 0 where
   pub says : (spot : Spot) → says what answer spot ≡ Nothing
   pub ticket : ticket_given answer ≡ None
-  pub groups : (u g : ℕ) → group_after what answer u g ≡ g
+  pub groups : (before : ℕ → ℕ) (u : ℕ) → group_after before what answer u ≡ before u
   pub given : is_refused answer ≡ false
 
 pub still-self : (s : StateOf) → IsStill s s
@@ -125,6 +125,12 @@ order-more old new adds = (
       omega (arith, more)),
 )
 
+-- ---- bytes
+
+-- a byte of which nothing is said, and which was in memory
+pub was : (old : StateOf) (what : Event) (answer : Reply) (t v o byte : ℕ) → says what answer (InTask t v o) ≡ Nothing → WasByte old (InTask t v o) byte → Follows old what answer t v o byte
+was old what answer t v o byte quiet h = subst (λ (said : Says). IsSaid old said (InTask t v o) byte) (sym quiet) h
+
 -- ---- an event after which all is still
 
 pub flight-kept : (slot before : Option Flight) → slot ≡ before → IfSome slot (λ f. Some f.worker.0 ≡ worker_of before)
@@ -144,17 +150,11 @@ makes_step-still old new worker what answer still quiet steps orders tallied rea
       orders = orders.0;
       ages = orders.1;
       tallied = tallied;
-      groups = λ u. ap (λ (ts : Tasks). group_of_task ts u) still.tasks ∙ sym (quiet.groups u (group_of_task old.tables.tasks u));
+      groups = λ u. ap (λ (ts : Tasks). group_of_task ts u) still.tasks ∙ sym (quiet.groups (group_of_task old.tables.tasks) u);
       reads = reads;
-      bytes = λ t v o alive within known. inr (sym (same_known t v) ∙ known, same_byte t v o ∙ sym (ap (λ (said : Says). follow said (byte_at_spot old) (InTask t v o)) (quiet.says (InTask t v o))));
-      coming = λ t v p g f b n alive shown stands. inr (record {
-        shown = sym (same_place t v) ∙ shown;
-        stands = sym (ap (λ (ps : Pages). page_at ps p) still.pages) ∙ stands;
-        quiet = λ o. quiet.says (InTask t v o);
-        other = ap (λ (m : Option ℕ). is_number m n) quiet.ticket;
-      });
+      bytes = λ t v o alive within known.
+          inr (was old what answer t v o (byte_at new t v o) (quiet.says (InTask t v o)) (sym (ap (λ (ts : Tasks). lives ts t) still.tasks) ∙ alive, within, sym (same_known t v) ∙ known, same_byte t v o));
       flights = flights-kept old new worker answer quiet.ticket still.flights;
-      living = λ u h. or_right (starts what answer u) (lives old.tables.tasks u) (sym (ap (λ (ts : Tasks). lives ts u) still.tasks) ∙ h);
       kept = (let same = ap in_transfer still.pages in omega (arith, same, needs));
       given = quiet.given;
       opening = still.opening;
@@ -372,6 +372,15 @@ pub unmapped-no_frame : (s : State) (t v o b g : ℕ) → mapped_at s.page_table
     → (c : List Counted) → MeetStep (counting s c) t g (Write b) (meets (counting s c) t (Virtual v o) (Write b)) reply.NoFrame (counting s c)
 unmapped-no_frame s t v o b g none under taken c = rw none (frameless_step (counting s c) _ _ _ under taken)
 
+-- a write to a page in a frame that others show too
+pub shared-over : (s : State) (t v o b p h f g a : ℕ) → mapped_at s.page_tables t v ≡ Some p → HasResidence s.pages p h (Held f) → nat_lt 1 (mappers s.page_tables p) ≡ true → over_in s g ≡ Some a
+    → (c : List Counted) → MeetStep (counting s c) t g (Write b) (meets (counting s c) t (Virtual v o) (Write b)) (reply.Over (record { 0 = a })) (counting s (c ++ count_of a key.Max ∷ []))
+shared-over s t v o b p h f g a shown held shared full c = rw shown (rw held (rw shared (over_step (counting s c) _ _ _ a full)))
+
+pub shared-no_frame : (s : State) (t v o b p h f g : ℕ) → mapped_at s.page_tables t v ≡ Some p → HasResidence s.pages p h (Held f) → nat_lt 1 (mappers s.page_tables p) ≡ true → over_in s g ≡ None → is_frame_free s ≡ false
+    → (c : List Counted) → MeetStep (counting s c) t g (Write b) (meets (counting s c) t (Virtual v o) (Write b)) reply.NoFrame (counting s c)
+shared-no_frame s t v o b p h f g shown held shared under taken c = rw shown (rw held (rw shared (frameless_step (counting s c) _ _ _ under taken)))
+
 -- an access to a page on its block
 pub away-over : (s : State) (t v o p g own b a : ℕ) (op : Op) → mapped_at s.page_tables t v ≡ Some p → HasResidence s.pages p g (Away b) → over_in s g ≡ Some a
     → (c : List Counted) → MeetStep (counting s c) t own op (meets (counting s c) t (Virtual v o) op) (reply.Over (record { 0 = a })) (counting s (c ++ count_of a key.Max ∷ []))
@@ -465,7 +474,17 @@ makes_step-nothing s worker g untakeable settled listed =
         let no_more : has_transfer (counting s.tables c) g ≡ false = settled in
         rw none (rw no_more (refl, refl))
 
--- ---- ends of tasks
+-- ---- events of tasks that were killed
+
+pub makes_step-fork_killed : (s : StateOf) (worker t : ℕ) (child : TaskId) (task : Task) → task_at s.tables.tasks t ≡ Some task → task.life ≡ Killed → InOrder s → MakesStep s worker (event.Fork (record { 0 = t }) child) reply.Killed s
+makes_step-fork_killed s worker t child task is killed listed =
+    makes_step-still s s worker (event.Fork (record { 0 = t }) child) reply.Killed (still-self s) (record { says = λ spot. refl; ticket = refl; groups = λ u g. refl; given = refl })
+    (λ c told. killed_step (counting s.tables c) _ task _ is killed) (order-still s s listed refl refl) (λ c told. told) tt (omega arith)
+
+pub makes_step-free_killed : (s : StateOf) (worker t v : ℕ) (task : Task) → task_at s.tables.tasks t ≡ Some task → task.life ≡ Killed → InOrder s → MakesStep s worker (event.Free (record { 0 = t }) v) reply.Killed s
+makes_step-free_killed s worker t v task is killed listed =
+    makes_step-still s s worker (event.Free (record { 0 = t }) v) reply.Killed (still-self s) (record { says = λ spot. refl; ticket = refl; groups = λ u g. refl; given = refl })
+    (λ c told. killed_step (counting s.tables c) _ task _ is killed) (order-still s s listed refl refl) (λ c told. told) tt (omega arith)
 
 pub makes_step-exit_killed : (s : StateOf) (worker t : ℕ) (task : Task) → task_at s.tables.tasks t ≡ Some task → task.life ≡ Killed → InOrder s → MakesStep s worker (event.Exit (record { 0 = t })) reply.Killed s
 makes_step-exit_killed s worker t task is killed listed =

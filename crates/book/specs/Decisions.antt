@@ -1,5 +1,5 @@
 -- What an event without a ticket will do, as it is decided before anything changes.
-use Rattle.std.specs.Prelude.{◌≡◌, ℕ, ◌<◌, Bool, true, false, Some, None}
+use Rattle.std.specs.Prelude.{◌≡◌, ℕ, ◌<◌, nat_lt, Bool, true, false, Some, None}
 use Rattle.machine.specs.declared.record.Life.TheVariants.{Live, Killed}
 use Rattle.machine.specs.declared.record.Task.{Task}
 use Rattle.machine.specs.declared.record.Direction.{Direction}
@@ -10,10 +10,10 @@ use Rattle.machine.specs.declared.event.Event.TheVariants as event
 use Rattle.machine.specs.Names.{parent_path}
 use Rattle.machine.specs.Tree.{is_live, find_group}
 use Rattle.machine.specs.Pages.{Held, Away}
-use Rattle.machine.specs.Tasks.{task_at, mapped_at}
+use Rattle.machine.specs.Tasks.{task_at, lives, mapped_at, mappers}
 use Rattle.machine.specs.State.{State}
-use Rattle.machine.specs.Access.{page_size, task_pages}
-use Rattle.machine.specs.Refusals.{refusal}
+use Rattle.machine.specs.Access.{page_size, task_pages, is_shared_write}
+use Rattle.machine.specs.Refusals.{refusal, number_refusal}
 use Rattle.machine.specs.Reclaim.{stands, target_of, has_takeable, has_transfer}
 use Rattle.machine.specs.Victim.{IsVictim}
 use Rattle.machine.specs.Lists.{Order, served}
@@ -40,18 +40,28 @@ pub record IsTouch (s : State) (touch : Touch) : Type 0 where
   pub inside : touch.at < task_pages
   pub within : touch.offset < page_size
 
--- it needs a charge to g: a write where nothing is mapped to the task's own group, a page on its block to the page's
+-- the page at the place is in a frame, and others show it too
+pub record IsShared (s : State) (touch : Touch) (p : ℕ) : Type 0 where
+  pub g : ℕ
+  pub frame : ℕ
+  pub shown : mapped_at s.page_tables touch.task.0 touch.at ≡ Some p
+  pub held : HasResidence s.pages p g (Held frame)
+  pub shared : nat_lt 1 (mappers s.page_tables p) ≡ true
+
+-- it needs a charge to g: a write where nothing is mapped, or a shared page is, to the task's own group; a page on its block to the page's
 pub data NeedsCharge (s : State) (touch : Touch) (g : ℕ) : Type 0 where
   ForNew : (byte : ℕ) → touch.op ≡ Write byte → mapped_at s.page_tables touch.task.0 touch.at ≡ None → g ≡ touch.group.0 → NeedsCharge s touch g
+  ForCopy : (byte p : ℕ) → touch.op ≡ Write byte → IsShared s touch p → g ≡ touch.group.0 → NeedsCharge s touch g
   ForAway : (p block : ℕ) → mapped_at s.page_tables touch.task.0 touch.at ≡ Some p → HasResidence s.pages p g (Away block) → NeedsCharge s touch g
 
 -- what it meets, and whether the charge that it needs is granted
 abbrev pub MeetsSo : State → Touch → Meeting → Type 0
 MeetsSo s touch meeting.Unmapped = (touch.op ≡ Read) × (mapped_at s.page_tables touch.task.0 touch.at ≡ None)
-MeetsSo s touch (meeting.Hits p frame) = (g : ℕ) × (mapped_at s.page_tables touch.task.0 touch.at ≡ Some p.0) × HasResidence s.pages p.0 g (Held frame.0)
+MeetsSo s touch (meeting.Hits p frame) = (g : ℕ) × (mapped_at s.page_tables touch.task.0 touch.at ≡ Some p.0) × HasResidence s.pages p.0 g (Held frame.0) × (is_shared_write s.page_tables p.0 touch.op ≡ false)
 MeetsSo s touch meeting.Transferring =
     (direction : Direction) × (p : ℕ) × (g : ℕ) × (f : ℕ) × (b : ℕ) × (n : ℕ) × (mapped_at s.page_tables touch.task.0 touch.at ≡ Some p) × HasResidence s.pages p g (moving direction f b n)
 MeetsSo s touch (meeting.NeedsPage byte) = (touch.op ≡ Write byte) × (mapped_at s.page_tables touch.task.0 touch.at ≡ None) × HasRoom s touch.group.0
+MeetsSo s touch (meeting.NeedsCopy p byte) = (touch.op ≡ Write byte) × IsShared s touch p.0 × HasRoom s touch.group.0
 MeetsSo s touch (meeting.NeedsSwapIn p) = (g : ℕ) × (b : ℕ) × (mapped_at s.page_tables touch.task.0 touch.at ≡ Some p.0) × HasResidence s.pages p.0 g (Away b) × HasRoom s g
 MeetsSo s touch (meeting.Lacks why) = (g : ℕ) × NeedsCharge s touch g × LacksRoom s g why
 
@@ -68,6 +78,9 @@ IsSound s order (decision.Access touch met) = IsTouch s touch × MeetsSo s touch
 IsSound s order (decision.Take target g) = (is_live s.tree target.0 ≡ true) × (served s order target.0 ≡ Some g.0) × (has_takeable s target.0 ≡ true)
 IsSound s order (decision.Kill limit t) = (is_live s.tree limit.0 ≡ true) × IsIdleFor s limit.0 × IsVictim s.tree s.tasks s.page_tables limit.0 (Some t.0)
 IsSound s order (decision.NoVictim limit) = (is_live s.tree limit.0 ≡ true) × IsIdleFor s limit.0 × IsVictim s.tree s.tasks s.page_tables limit.0 None
+IsSound s order (decision.Fork t child) = (task : Task) × (task_at s.tasks t.0 ≡ Some task) × (task.life ≡ Live) × (number_refusal s.tasks child.0 ≡ None)
+IsSound s order (decision.Free t at) = (task : Task) × (task_at s.tasks t.0 ≡ Some task) × (task.life ≡ Live) × (at < task_pages)
+IsSound s order (decision.Attach t g) = (lives s.tasks t.0 ≡ true) × (is_live s.tree g.0 ≡ true)
 IsSound s order (decision.Exit t) = (task : Task) × (task_at s.tasks t.0 ≡ Some task) × (task.life ≡ Live)
 IsSound s order (decision.Mkdir parent path) = (find_group s.tree (parent_path path.now) ≡ Some parent.0) × (is_live s.tree parent.0 ≡ true)
 IsSound s order other = Unit {0}
@@ -75,6 +88,8 @@ IsSound s order other = Unit {0}
 -- an event of a task that was killed
 abbrev pub IsOfKilled : State → Event → Type 0
 IsOfKilled s (event.Access t place op) = (task : Task) × (task_at s.tasks t.0 ≡ Some task) × (task.life ≡ Killed)
+IsOfKilled s (event.Fork t child) = (task : Task) × (task_at s.tasks t.0 ≡ Some task) × (task.life ≡ Killed)
+IsOfKilled s (event.Free t v) = (task : Task) × (task_at s.tasks t.0 ≡ Some task) × (task.life ≡ Killed)
 IsOfKilled s (event.Exit t) = (task : Task) × (task_at s.tasks t.0 ≡ Some task) × (task.life ≡ Killed)
 IsOfKilled s what = ⊥
 
@@ -110,6 +125,9 @@ Fits s what decision.Nothing = FindsNothing s what
 Fits s what (decision.Kill limit t) = WantsRoom s what limit.0
 Fits s what (decision.NoVictim limit) = WantsRoom s what limit.0
 Fits s what (decision.Spawn t g) = what ≡ event.Spawn t g
+Fits s what (decision.Fork t child) = what ≡ event.Fork t child
+Fits s what (decision.Free t at) = what ≡ event.Free t at
+Fits s what (decision.Attach t g) = what ≡ event.Attach t g
 Fits s what (decision.Exit t) = what ≡ event.Exit t
 Fits s what (decision.Mkdir parent path) = what ≡ event.Mkdir path.now
 Fits s what (decision.Set g setting) = what ≡ event.Set g setting
@@ -133,6 +151,7 @@ entries_for other = 1
 abbrev pub makes : Decision → Bool
 makes (decision.Access touch (meeting.NeedsSwapIn p)) = true
 makes (decision.Spawn t g) = true
+makes (decision.Fork t child) = true
 makes (decision.Mkdir parent path) = true
 makes other = false
 

@@ -1,7 +1,6 @@
 -- What an event does to the joined parts, said by itself: to what was counted, to the tasks' groups, to bytes, and to transfers.
 use Rattle.std.specs.Prelude.{◌≡◌, ◌⊎◌, ℕ, ◌<◌, ◌==◌, Bool, true, false, List, [], ◌∷◌, ◌++◌, slice_index, option_map, IfSome, Option, Some, None, if◌then◌else◌}
 use Rattle.machine.specs.declared.record.Key.TheVariants as key
-use Rattle.machine.specs.declared.event.Place.TheVariants.{Virtual}
 use Rattle.machine.specs.declared.event.Op.TheVariants.{Read}
 use Rattle.machine.specs.declared.event.Event.{Event}
 use Rattle.machine.specs.declared.event.Event.TheVariants as event
@@ -15,7 +14,7 @@ use Rattle.machine.specs.State.{State}
 use Rattle.machine.specs.Reclaim.{target_of}
 use Rattle.machine.specs.Step.{Step, count_of}
 use Rattle.machine.specs.Access.{page_size}
-use Rattle.machine.specs.History.{Spot, InTask, spot_of, Nothing, says, follow, ticket_given, taker_or}
+use Rattle.machine.specs.History.{Spot, InTask, spot_of, Says, Byte, As, Nothing, says, ticket_given, taker_or}
 use Rattle.pages.specs.PagesOf.{HasResidence}
 use Rattle.pages.specs.declared.flight.Flight.{Flight}
 use Rattle.memory_events.specs.Tallies.{Tells}
@@ -45,14 +44,16 @@ Tallied old what answer new = (counted : List Counted) → Tells old.tallies cou
 
 -- ---- groups of tasks
 
--- a task's group after an event
-abbrev pub group_after : Event → Reply → ℕ → ℕ → ℕ
-group_after (event.Spawn t g) reply.Ok u before = if t.0 == u then g.0 else before
-group_after what answer u before = before
+-- each task's group after an event, from those before
+abbrev pub group_after : (ℕ → ℕ) → Event → Reply → ℕ → ℕ
+group_after before (event.Spawn t g) reply.Ok u = if t.0 == u then g.0 else before u
+group_after before (event.Fork t child) reply.Ok u = if child.0 == u then before t.0 else before u
+group_after before (event.Attach t g) reply.Ok u = if t.0 == u then g.0 else before u
+group_after before what answer u = before u
 
 -- each task's group is what the event says, or as it was
 abbrev pub ChangesGroups : StateOf → Event → Reply → StateOf → Type 0
-ChangesGroups old what answer new = (t : ℕ) → group_of_task new.tables.tasks t ≡ group_after what answer t (group_of_task old.tables.tasks t)
+ChangesGroups old what answer new = (t : ℕ) → group_of_task new.tables.tasks t ≡ group_after (group_of_task old.tables.tasks) what answer t
 
 -- ---- bytes
 
@@ -87,9 +88,19 @@ Arrives old (event.Arrived ticket arrived) t v o byte =
     (p : ℕ) × (g : ℕ) × (f : ℕ) × (b : ℕ) × (mapped_at old.tables.page_tables t v ≡ Some p) × HasResidence old.tables.pages p g (Coming f b ticket.0) × (byte ≡ slice_index arrived o)
 Arrives old what t v o byte = ⊥
 
--- the byte was in memory, and is what the event says of it, or as it was
+-- this byte of a live task was in memory
+abbrev pub WasByte : StateOf → Spot → ℕ → Type 0
+WasByte old (InTask t v o) byte = (lives old.tables.tasks t ≡ true) × (o < page_size) × (knows old t v ≡ true) × (byte ≡ byte_at old t v o)
+
+-- a byte is what is said of it: written; what another byte was; or what it was
+abbrev pub IsSaid : StateOf → Says → Spot → ℕ → Type 0
+IsSaid old (Byte b) spot byte = byte ≡ b
+IsSaid old (As other) spot byte = WasByte old other byte
+IsSaid old Nothing spot byte = WasByte old spot byte
+
+-- the byte is what the event says of it
 abbrev pub Follows : StateOf → Event → Reply → ℕ → ℕ → ℕ → ℕ → Type 0
-Follows old what answer t v o byte = (knows old t v ≡ true) × (byte ≡ follow (says what answer (InTask t v o)) (byte_at_spot old) (InTask t v o))
+Follows old what answer t v o byte = IsSaid old (says what answer (InTask t v o)) (InTask t v o) byte
 
 -- each byte of a live task that is in memory
 abbrev pub ChangesBytes : StateOf → Event → Reply → StateOf → Type 0
@@ -98,24 +109,6 @@ ChangesBytes old what answer new =
     → Arrives old what t v o (byte_at new t v o) ⊎ Follows old what answer t v o (byte_at new t v o)
 
 -- ---- transfers
-
--- the event began to read in the page at the place, under this ticket
-abbrev pub IsFetchOf : Event → Reply → ℕ → ℕ → ℕ → Type 0
-IsFetchOf (event.Access u (Virtual w o) op) (reply.Fetch m) t v n = (m.0 ≡ n) × (u.0 ≡ t) × (w ≡ v)
-IsFetchOf what answer t v n = ⊥
-
--- the page at the place was being read in before, and the event says nothing of it
-pub record StaysComing (old : StateOf) (what : Event) (answer : Reply) (t v p g f b n : ℕ) : Type 0 where
-  pub shown : mapped_at old.tables.page_tables t v ≡ Some p
-  pub stands : HasResidence old.tables.pages p g (Coming f b n)
-  pub quiet : (o : ℕ) → says what answer (InTask t v o) ≡ Nothing
-  pub other : is_number (ticket_given answer) n ≡ false
-
--- each page of a live task that is being read in
-abbrev pub ChangesComing : StateOf → Event → Reply → StateOf → Type 0
-ChangesComing old what answer new =
-    (t v p g f b n : ℕ) → lives new.tables.tasks t ≡ true → mapped_at new.tables.page_tables t v ≡ Some p → HasResidence new.tables.pages p g (Coming f b n)
-    → IsFetchOf what answer t v n ⊎ StaysComing old what answer t v p g f b n
 
 abbrev pub worker_of : Option Flight → Option ℕ
 worker_of flight = option_map (λ (f : Flight). f.worker.0) flight

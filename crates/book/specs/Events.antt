@@ -25,7 +25,10 @@ event_of (event.LeaveFailed ticket) = plain.LeaveFailed (record { 0 = ticket.num
 event_of (event.Relieve cause) = plain.Relieve cause
 event_of (event.ReclaimOne g) = plain.ReclaimOne g
 event_of (event.Spawn task group) = plain.Spawn task group
+event_of (event.Fork task child) = plain.Fork task child
 event_of (event.Exit task) = plain.Exit task
+event_of (event.Free task page) = plain.Free task page
+event_of (event.Attach task group) = plain.Attach task group
 event_of (event.Mkdir path) = plain.Mkdir path
 event_of (event.Set group setting) = plain.Set group setting
 event_of (event.Show query) = plain.Show query

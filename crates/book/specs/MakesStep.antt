@@ -14,14 +14,9 @@ use Rattle.pages.specs.PagesOf.{byte_in, HasResidence}
 use Rattle.pages.specs.Transfers.{given_ticket}
 use Rattle.book.specs.declared.event.Reply.{Reply as Given}
 use Rattle.book.specs.declared.event.Reply.TheVariants as given
-use Rattle.book.specs.Replies.{IsAccessReply, IsReliefReply, IsReclaimReply, IsOkReply, IsExitReply, IsShownReply}
+use Rattle.book.specs.Replies.{IsAccessReply, IsReliefReply, IsReclaimReply, IsOkReply, IsTaskReply, IsShownReply}
 use Rattle.page_state.specs.States.{StateOf}
-use Rattle.book.specs.Effects.{Steps, Tallied, ChangesGroups, ReadsByte, ChangesBytes, ChangesComing, ChangesFlights}
-
--- the event is the task's first
-abbrev pub starts : Event → Reply → ℕ → Bool
-starts (event.Spawn t g) reply.Ok u = t.0 == u
-starts what answer u = false
+use Rattle.book.specs.Effects.{Steps, Tallied, ChangesGroups, ReadsByte, ChangesBytes, ChangesFlights}
 
 abbrev pub is_refused : Reply → Bool
 is_refused (reply.Refused why) = true
@@ -40,9 +35,7 @@ pub record MakesStep (old : StateOf) (worker : ℕ) (what : Event) (answer : Rep
   pub groups : ChangesGroups old what answer new
   pub reads : ReadsByte old what answer
   pub bytes : ChangesBytes old what answer new
-  pub coming : ChangesComing old what answer new
   pub flights : ChangesFlights old worker answer new
-  pub living : (t : ℕ) → lives new.tables.tasks t ≡ true → (starts what answer t || lives old.tables.tasks t) ≡ true
   -- a transfer that begins has room for its end, and one that ends gives it back
   pub kept : in_transfer new.tables.pages + 1 ≤ in_transfer old.tables.pages + need old.tables what
   pub given : is_refused answer ≡ false
@@ -63,7 +56,10 @@ RepliesTo (event.Access task place op) said = IsAccessReply said
 RepliesTo (event.Relieve cause) said = IsReliefReply said
 RepliesTo (event.ReclaimOne group) said = IsReclaimReply said
 RepliesTo (event.Spawn task group) said = IsOkReply said
-RepliesTo (event.Exit task) said = IsExitReply said
+RepliesTo (event.Fork task child) said = IsTaskReply said
+RepliesTo (event.Exit task) said = IsTaskReply said
+RepliesTo (event.Free task page) said = IsTaskReply said
+RepliesTo (event.Attach task group) said = IsOkReply said
 RepliesTo (event.Mkdir path) said = IsOkReply said
 RepliesTo (event.Set group setting) said = IsOkReply said
 RepliesTo (event.Show query) said = IsShownReply said

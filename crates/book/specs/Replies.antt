@@ -44,11 +44,12 @@ IsOkReply reply.Ok = Unit {0}
 IsOkReply (reply.Refused why) = Unit {0}
 IsOkReply said = ⊥
 
-abbrev pub IsExitReply : Reply → Type 0
-IsExitReply reply.Ok = Unit {0}
-IsExitReply reply.Killed = Unit {0}
-IsExitReply (reply.Refused why) = Unit {0}
-IsExitReply said = ⊥
+-- an event of a task, which may have been killed before
+abbrev pub IsTaskReply : Reply → Type 0
+IsTaskReply reply.Ok = Unit {0}
+IsTaskReply reply.Killed = Unit {0}
+IsTaskReply (reply.Refused why) = Unit {0}
+IsTaskReply said = ⊥
 
 abbrev pub IsShownReply : Reply → Type 0
 IsShownReply (reply.Shown numbers) = Unit {0}
@@ -75,7 +76,10 @@ Replies (event.LeaveFailed ticket) said = IsOutReply said
 Replies (event.Relieve cause) said = IsReliefReply said
 Replies (event.ReclaimOne group) said = IsReclaimReply said
 Replies (event.Spawn task group) said = IsOkReply said
-Replies (event.Exit task) said = IsExitReply said
+Replies (event.Fork task child) said = IsTaskReply said
+Replies (event.Exit task) said = IsTaskReply said
+Replies (event.Free task page) said = IsTaskReply said
+Replies (event.Attach task group) said = IsOkReply said
 Replies (event.Mkdir path) said = IsOkReply said
 Replies (event.Set group setting) said = IsOkReply said
 Replies (event.Show query) said = IsShownReply said

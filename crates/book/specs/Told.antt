@@ -18,7 +18,7 @@ use Rattle.book.specs.Effects.{counting, counted_after, group_after, knows}
 -- the group that a task was last put in
 abbrev pub group_in : List Entry → ℕ → ℕ
 group_in [] t = 0
-group_in (entry ∷ earlier) t = group_after entry.event entry.reply t (group_in earlier t)
+group_in (entry ∷ earlier) t = group_after (group_in earlier) entry.event entry.reply t
 
 -- the events counted
 abbrev pub counted_in : List Entry → List Counted
@@ -29,12 +29,6 @@ counted_in (entry ∷ earlier) = counted_after (group_in earlier) (counted_in ea
 abbrev pub state_of : StateOf → List Entry → State
 state_of c history = counting c.tables (counted_in history)
 
--- the read-in under a ticket began at this place, and what was last written there has not changed since
-pub record IsFetched (history : List Entry) (n t v : ℕ) : Type 0 where
-  pub fetch : Fetched
-  pub found : fetch_of n history ≡ Some fetch
-  pub same : (o : ℕ) → o < page_size → last at_first fetch.earlier (at_offset o fetch.spot) ≡ last at_first history (InTask t v o)
-
 -- the history leads to the tables, gave each read the last write where every arrival brought it, and is numbered by worker
 pub record IsHistory (c : StateOf) (history : List Entry) (counts : List ℕ) : Type 0 where
   pub legal : Legal c.tables.opening history (state_of c history)
@@ -42,7 +36,6 @@ pub record IsHistory (c : StateOf) (history : List Entry) (counts : List ℕ) : 
   pub numbered : Numbered history
   -- the byte at each live task's place that is in memory is the one last written there
   pub bytes : Honest at_first history → (t v o : ℕ) → lives c.tables.tasks t ≡ true → o < page_size → knows c t v ≡ true → byte_at c t v o ≡ last at_first history (InTask t v o)
-  pub coming : (t v p g f b n : ℕ) → lives c.tables.tasks t ≡ true → mapped_at c.tables.page_tables t v ≡ Some p → HasResidence c.tables.pages p g (Coming f b n) → IsFetched history n t v
   pub takers : (n : ℕ) → IfSome (at c.flights n) (λ f. taker n history ≡ Some f.worker.0)
   pub groups : (t : ℕ) → group_of_task c.tables.tasks t ≡ group_in history t
   pub tallied : Tells c.tallies (counted_in history)

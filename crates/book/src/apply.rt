@@ -60,6 +60,18 @@ pub fn apply(
             state.spawn(task, group)?;
             Ok(Reply::Ok)
         }
+        Decision::Fork { task, child } => {
+            state.fork(task, child)?;
+            Ok(Reply::Ok)
+        }
+        Decision::Free { task, at } => {
+            state.unmap(task, at);
+            Ok(Reply::Ok)
+        }
+        Decision::Attach { task, group } => {
+            state.attach(task, group);
+            Ok(Reply::Ok)
+        }
         Decision::Exit(task) => {
             state.end_task(task, Life::Exited);
             Ok(Reply::Ok)
@@ -96,6 +108,10 @@ fn access(
         Meeting::Transferring => Ok(Reply::Busy),
         Meeting::NeedsPage(byte) => {
             state.hold(touch.task, touch.at, touch.group, touch.offset, byte);
+            Ok(Reply::Done { byte, hit: None })
+        }
+        Meeting::NeedsCopy(page, byte) => {
+            state.copy(touch.task, touch.at, page, touch.group, touch.offset, byte);
             Ok(Reply::Done { byte, hit: None })
         }
         Meeting::NeedsSwapIn(page) => {

@@ -145,7 +145,12 @@ impl Book {
             Event::Relieve(cause) => self.ask(worker, PlainEvent::Relieve(cause)),
             Event::ReclaimOne(group) => self.ask(worker, PlainEvent::ReclaimOne(group)),
             Event::Spawn { task, group } => self.ask(worker, PlainEvent::Spawn { task, group }),
+            Event::Fork { task, child } => self.ask(worker, PlainEvent::Fork { task, child }),
             Event::Exit(task) => self.ask(worker, PlainEvent::Exit(task)),
+            Event::Free { task, page } => self.ask(worker, PlainEvent::Free { task, page }),
+            Event::Attach { task, group } => {
+                self.ask(worker, PlainEvent::Attach { task, group })
+            }
             Event::Mkdir(path) => self.ask(worker, PlainEvent::Mkdir(path)),
             Event::Set { group, setting } => {
                 self.ask(worker, PlainEvent::Set { group, setting })

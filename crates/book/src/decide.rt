@@ -6,16 +6,16 @@ ghost use Rattle.machine.specs.declared.event.Event.TheVariants as event;
 ghost use Rattle.machine.specs.Tree.{is_live};
 ghost use Rattle.machine.specs.Pages as residence;
 ghost use Rattle.pages.specs.PagesOf.{HasResidence};
-ghost use Rattle.machine.specs.Tasks.{task_at, mapped_at};
+ghost use Rattle.machine.specs.Tasks.{task_at, lives, mapped_at};
 ghost use Rattle.machine.specs.Reclaim.{stands, target_of};
-ghost use Rattle.machine.specs.Refusals.{refusal, below_target, bars_children, bars_tasks, file_refusal, show_refusal, spawn_refusal};
+ghost use Rattle.machine.specs.Refusals.{refusal, below_target, bars_children, bars_tasks, file_refusal, show_refusal, spawn_refusal, attach_refusal};
 ghost use Rattle.book.specs.MakesStep.{IsAsked};
-ghost use Rattle.book.specs.Decisions.{IsTouch, MeetsSo, IsDecided};
+ghost use Rattle.book.specs.Decisions.{IsTouch, IsShared, MeetsSo, IsDecided};
 
 use crate::decision::{Decision, Meeting, Touch};
 use machine::bytes::PAGE_BYTES;
 use machine::event::{Cause, Event, Op, Place, Query, Setting};
-use machine::id::{GroupId, PageId, TaskId};
+use machine::id::{FrameId, GroupId, PageId, TaskId};
 use machine::limit::TASK_PAGES;
 use machine::record::Life;
 use machine::refusal::Refusal;
@@ -34,7 +34,10 @@ pub fn decide<'e>(state: &State, event: &'e Event) -> Result<Decision<'e>, Refus
         Event::Relieve(cause) => Ok(decide_relief(state, *cause)),
         Event::ReclaimOne(group) => decide_reclaim(state, *group),
         Event::Spawn { task, group } => decide_spawn(state, *task, *group),
+        Event::Fork { task, child } => decide_fork(state, *task, *child),
         Event::Exit(task) => decide_exit(state, *task),
+        Event::Free { task, page } => decide_free(state, *task, *page),
+        Event::Attach { task, group } => decide_attach(state, *task, *group),
         Event::Mkdir(path) => decide_mkdir(state, path.as_str()),
         Event::Set { group, setting } => decide_set(state, *group, *setting),
         Event::Show(query) => decide_show(state, *query),
@@ -122,7 +125,8 @@ fn meet_nothing(state: &State, touch: Touch) -> Meeting
 
 /// An access to a page that is mapped.
 fn meet_page(state: &State, touch: Touch, page: PageId) -> Meeting
-    requires { mapped_at state.now.tables.page_tables touch.task.0 touch.at ≡ Some page.0 }
+    requires touch { IsTouch state.now.tables touch }
+    requires shown { mapped_at state.now.tables.page_tables touch.task.0 touch.at ≡ Some page.0 }
     ensures { MeetsSo state.now.tables touch result }
 {
     state.is_joined();
@@ -130,9 +134,42 @@ fn meet_page(state: &State, touch: Touch, page: PageId) -> Meeting
         unreachable!()
     };
     match residence {
-        Residence::Held(frame) => Meeting::Hits(page, frame),
+        Residence::Held(frame) => meet_held(state, touch, page, frame),
         Residence::Coming | Residence::Going => Meeting::Transferring,
         Residence::Away(_) => meet_away(state, touch, page),
+    }
+}
+
+/// An access to a page in a frame. A write in place would change what others see that show the page too.
+fn meet_held(state: &State, touch: Touch, page: PageId, frame: FrameId) -> Meeting
+    requires touch { IsTouch state.now.tables touch }
+    requires shown { mapped_at state.now.tables.page_tables touch.task.0 touch.at ≡ Some page.0 }
+    requires held { (g : ℕ) × HasResidence state.now.tables.pages page.0 g (residence.Held frame.0) }
+    ensures { MeetsSo state.now.tables touch result }
+{
+    match touch.op {
+        Op::Read => Meeting::Hits(page, frame),
+        Op::Write(byte) => {
+            if state.spaces().mappers(page) > 1 {
+                meet_shared(state, touch, page, byte)
+            } else {
+                Meeting::Hits(page, frame)
+            }
+        }
+    }
+}
+
+/// A write to a page in a frame that others show too.
+fn meet_shared(state: &State, touch: Touch, page: PageId, byte: u8) -> Meeting
+    requires touch { IsTouch state.now.tables touch }
+    requires writes { touch.op ≡ Op.Write byte }
+    requires shared { IsShared state.now.tables touch page.0 }
+    ensures { MeetsSo state.now.tables touch result }
+{
+    state.is_joined();
+    match state.room_for(touch.group) {
+        Ok(()) => Meeting::NeedsCopy(page, byte),
+        Err(why) => Meeting::Lacks(why),
     }
 }
 
@@ -241,6 +278,78 @@ fn spawn_refusal(state: &State, task: TaskId, group: GroupId) -> Option<Refusal>
         return Some(Refusal::Busy);
     }
     state.spaces().number_refusal(task)
+}
+
+fn decide_fork<'e>(state: &State, task: TaskId, child: TaskId) -> Result<Decision<'e>, Refusal>
+    ensures { MatchResult result (λ decided. IsDecided state.now (event.Fork task child) decided) (λ why. refusal state.now.tables (event.Fork task child) ≡ Some why) }
+{
+    let Some(known) = state.spaces().task(task) else {
+        return Err(Refusal::NoTask);
+    };
+    match known.life {
+        Life::Exited => Err(Refusal::NoTask),
+        Life::Killed => Ok(Decision::Killed),
+        Life::Live => match state.spaces().number_refusal(child) {
+            Some(why) => Err(why),
+            None => Ok(Decision::Fork { task, child }),
+        },
+    }
+}
+
+fn decide_free<'e>(state: &State, task: TaskId, at: u32) -> Result<Decision<'e>, Refusal>
+    ensures { MatchResult result (λ decided. IsDecided state.now (event.Free task at) decided) (λ why. refusal state.now.tables (event.Free task at) ≡ Some why) }
+{
+    let Some(known) = state.spaces().task(task) else {
+        return Err(Refusal::NoTask);
+    };
+    match known.life {
+        Life::Exited => Err(Refusal::NoTask),
+        Life::Killed => Ok(Decision::Killed),
+        Life::Live => {
+            if at >= TASK_PAGES {
+                Err(Refusal::BadPlace)
+            } else {
+                Ok(Decision::Free { task, at })
+            }
+        }
+    }
+}
+
+fn decide_attach<'e>(state: &State, task: TaskId, group: GroupId) -> Result<Decision<'e>, Refusal>
+    ensures { MatchResult result (λ decided. IsDecided state.now (event.Attach task group) decided) (λ why. refusal state.now.tables (event.Attach task group) ≡ Some why) }
+{
+    match attach_refusal(state, task, group) {
+        Some(why) => Err(why),
+        None => Ok(Decision::Attach { task, group }),
+    }
+}
+
+fn attach_refusal(state: &State, task: TaskId, group: GroupId) -> Option<Refusal>
+    ensures { result ≡ attach_refusal state.now.tables task.0 group.0 }
+{
+    if !state.tree().is_live(group) {
+        return Some(Refusal::NoEntry);
+    }
+    if !lives(state, task) {
+        return Some(Refusal::NoTask);
+    }
+    if bars_tasks(state, group) {
+        return Some(Refusal::Busy);
+    }
+    None
+}
+
+/// Whether the task is there and runs.
+fn lives(state: &State, task: TaskId) -> bool
+    ensures { result ≡ lives state.now.tables.tasks task.0 }
+{
+    let Some(known) = state.spaces().task(task) else {
+        return false;
+    };
+    match known.life {
+        Life::Live => true,
+        Life::Exited | Life::Killed => false,
+    }
 }
 
 fn decide_exit<'e>(state: &State, task: TaskId) -> Result<Decision<'e>, Refusal>

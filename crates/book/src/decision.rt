@@ -31,9 +31,11 @@ pub enum Meeting {
     Transferring,
     /// A write of this byte where nothing is mapped: a page is made.
     NeedsPage(u8),
+    /// A write of this byte to a page in a frame that others show too: a copy is made.
+    NeedsCopy(PageId, u8),
     /// A page on its block: it is read in.
     NeedsSwapIn(PageId),
-    /// A page would be made or read in, and there is no room for it.
+    /// A page would be made, copied or read in, and there is no room for it.
     Lacks(NoRoom),
 }
 
@@ -58,6 +60,12 @@ pub enum Decision<'e> {
     NoVictim(GroupId),
     /// A task begins.
     Spawn { task: TaskId, group: GroupId },
+    /// A task begins that shows what this live one shows.
+    Fork { task: TaskId, child: TaskId },
+    /// A virtual page of a live task shows nothing any more.
+    Free { task: TaskId, at: u32 },
+    /// A live task goes to another group.
+    Attach { task: TaskId, group: GroupId },
     /// A live task ends by itself.
     Exit(TaskId),
     /// A group is made below this one.

@@ -27,8 +27,14 @@ pub enum Event {
     ReclaimOne(GroupId),
     /// A new task of a group.
     Spawn { task: TaskId, group: GroupId },
+    /// A new task in the group of another, that shows what the other shows.
+    Fork { task: TaskId, child: TaskId },
     /// A task ends by itself.
     Exit(TaskId),
+    /// A virtual page of a task shows nothing from then on.
+    Free { task: TaskId, page: u32 },
+    /// A task goes to another group.
+    Attach { task: TaskId, group: GroupId },
     /// A new group, by its path.
     Mkdir(Text),
     /// A control file is written.

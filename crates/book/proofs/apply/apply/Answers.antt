@@ -1,4 +1,4 @@
-use Rattle.book.proofs.CarryLemmas.{carries-killed, carries-room, carries-out, carries-wait, carries-nothing, carries-no_victim, carries-spawn, carries-exit, carries-mkdir, carries-show}
+use Rattle.book.proofs.CarryLemmas.{carries-killed, carries-room, carries-out, carries-wait, carries-nothing, carries-no_victim, carries-spawn, carries-fork, carries-free, carries-attach, carries-exit, carries-mkdir, carries-show}
 use Rattle.book.proofs.apply.apply.Goals as goal
 
 pub returns-in-Killed-clause-carries : goal.returns-in-Killed-clause-carries
@@ -24,6 +24,15 @@ returns-in-NoVictim-clause-carries c = rw c.in-NoVictim.is (carries-no_victim c.
 
 pub returns-in_ok-spawn-in-Spawn-clause-carries : goal.returns-in_ok-spawn-in-Spawn-clause-carries
 returns-in_ok-spawn-in-Spawn-clause-carries c = rw c.in-Spawn.is (carries-spawn c.args.state.now c.spawn.new.self c.args.worker.0 c.args.entry c.in-Spawn.task c.in-Spawn.group c.is_joined.ensures.listed c.in_ok-spawn-in-Spawn.ensures.starts)
+
+pub returns-in_ok-fork-in-Fork-clause-carries : goal.returns-in_ok-fork-in-Fork-clause-carries
+returns-in_ok-fork-in-Fork-clause-carries c = rw c.in-Fork.is (carries-fork c.args.state.now c.fork.new.self c.args.worker.0 c.args.entry c.in-Fork.task c.in-Fork.child c.is_joined.ensures.listed c.in_ok-fork-in-Fork.ensures.forks)
+
+pub returns-in-Free-clause-carries : goal.returns-in-Free-clause-carries
+returns-in-Free-clause-carries c = rw c.in-Free.is (carries-free c.args.state.now c.unmap.new.self c.args.worker.0 c.args.entry c.in-Free.task c.in-Free.at c.is_joined.ensures.mapped c.unmap.ensures)
+
+pub returns-in-Attach-clause-carries : goal.returns-in-Attach-clause-carries
+returns-in-Attach-clause-carries c = rw c.in-Attach.is (carries-attach c.args.state.now c.attach.new.self c.args.worker.0 c.args.entry c.in-Attach.task c.in-Attach.group c.is_joined.ensures.listed c.attach.ensures)
 
 pub returns-in-Exit-clause-carries : goal.returns-in-Exit-clause-carries
 returns-in-Exit-clause-carries c = rw c.in-Exit.is (carries-exit c.args.state.now c.end_task.new.self c.args.worker.0 c.args.entry c.in-Exit.task c.is_joined.ensures.mapped c.end_task.ensures)

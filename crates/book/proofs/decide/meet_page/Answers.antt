@@ -13,7 +13,7 @@ unreachable-requires c =
     let p = c.args.page.0 in
     let found : c.residence.result ≡ option_map (λ (page : Page). residence_of page.residence) (page_at s.tables.pages p) =
     c.residence.ensures.residence ∙ ap (λ (ps : Pages). option_map (λ (page : Page). residence_of page.residence) (page_at ps p)) c.pages.ensures.pages in
-    residence-none (page_at s.tables.pages p) (mapped_there s.tables.pages s.tables.page_tables c.is_joined.ensures.mapped c.args.touch.task.0 c.args.touch.at p c.requires) (sym found ∙ c.in_default.is)
+    residence-none (page_at s.tables.pages p) (mapped_there s.tables.pages s.tables.page_tables c.is_joined.ensures.mapped c.args.touch.task.0 c.args.touch.at p c.requires.shown) (sym found ∙ c.in_default.is)
 
 pub returns-in-Coming : goal.returns-in-Coming
 returns-in-Coming c =
@@ -24,4 +24,4 @@ returns-in-Coming c =
     let so = residence-some s.tables.pages s.flights c.is_joined.ensures.flights p c.in-Some.residence (sym c.in-Some.is ∙ found) in
     let said : (residence_of so.1 ≡ code.Coming) ⊎ (residence_of so.1 ≡ code.Going) = elim c.in-Coming.is [ inl is ↦ inl (so.3 ∙ is) | inr is ↦ inr (so.3 ∙ is) ] in
     let at = transfer-stands s.tables.pages p so.0 so.1 so.2 said in
-    (at.0, p, so.0, at.1, at.2, at.3, c.requires, at.4)
+    (at.0, p, so.0, at.1, at.2, at.3, c.requires.shown, at.4)
