@@ -13,14 +13,14 @@ use Rattle.machine.specs.declared.event.Event.TheVariants as event
 use Rattle.machine.specs.declared.reply.Reply.{Reply}
 use Rattle.machine.specs.declared.reply.Reply.TheVariants as reply
 use Rattle.machine.specs.declared.refusal.Refusal.{Refusal}
-use Rattle.machine.specs.declared.refusal.Refusal.TheVariants.{Stranger, Exists, NoEntry, Busy, NoSpace, NumberUsed, BadPlace, Invalid, TraceFull}
+use Rattle.machine.specs.declared.refusal.Refusal.TheVariants.{Stranger, Exists, NoEntry, Busy, NoSpace, NoTask, NumberUsed, BadPlace, Invalid, TraceFull}
 use Rattle.machine.specs.declared.command.Word.{Word}
 use Rattle.machine.specs.declared.command.Word.TheVariants as word
 use Rattle.machine.specs.Names.{is_path, parent_path}
 use Rattle.machine.specs.Tree.{Node, is_live, chain, live_groups, find_group}
-use Rattle.machine.specs.Tasks.{Tasks, task_at, live_tasks}
+use Rattle.machine.specs.Tasks.{Tasks, task_at, lives, live_tasks}
 use Rattle.machine.specs.State.{State}
-use Rattle.machine.specs.Access.{is_place}
+use Rattle.machine.specs.Access.{is_place, task_pages}
 use Rattle.machine.specs.Refusals.{refusal, first_cause, bars_children, bars_tasks, number_refusal, life_refusal, task_refusal, below_refusal, mkdir_refusal, file_refusal, below_target, show_refusal}
 use Rattle.machine.specs.Call.{Past, Caller, Answers, Refuses, Answered, JudgedBy, Called, knows_pass, is_trace_full}
 use Rattle.pages.specs.Tickets.{TicketOf}
@@ -35,7 +35,7 @@ use Rattle.driver.specs.declared.turn.Pending.{Pending}
 use Rattle.driver.specs.declared.turn.Pending.TheVariants as pending
 use Rattle.driver.specs.declared.turn.Transition.{Transition}
 use Rattle.driver.specs.declared.turn.Transition.TheVariants.{Goes}
-use Rattle.driver.specs.Turns.{Tried, MadeRoom, MaxSet, Lowered, Reclaimed, Balanced, Made, Ended, WasShown, Closed, Told, ends_with, ends_refused, byte_answer, resumes_at}
+use Rattle.driver.specs.Turns.{Tried, MadeRoom, MaxSet, Lowered, Reclaimed, Balanced, Made, TaskDid, WasShown, Closed, Told, ends_with, ends_refused, byte_answer, resumes_at}
 use Rattle.driver.specs.Schedule.{outcome_of, left_of}
 use Rattle.driver.proofs.Keeps.{number_at, pages_none, Fine, FineOutcome}
 
@@ -94,7 +94,11 @@ refusal_causes s (event.LeaveFailed ticket) = no_cause
 refusal_causes s (event.Relieve why) = no_cause
 refusal_causes s (event.ReclaimOne g) = causes (not (is_live s.tree g.0)) NoEntry None (λ e. cc) no_cause
 refusal_causes s (event.Spawn t g) = causes (not (is_live s.tree g.0)) NoEntry _ (λ e. cc) (causes (bars_tasks s.tree g.0) Busy _ (λ e. cc) (number_causes s.tasks t.0))
+refusal_causes s (event.Fork t child) = task_causes (task_at s.tasks t.0) _ (number_causes s.tasks child.0)
 refusal_causes s (event.Exit t) = task_causes (task_at s.tasks t.0) None no_cause
+refusal_causes s (event.Free t v) = task_causes (task_at s.tasks t.0) _ (causes (not (nat_lt v task_pages)) BadPlace None (λ e. cc) no_cause)
+refusal_causes s (event.Attach t g) =
+    causes (not (is_live s.tree g.0)) NoEntry _ (λ e. cc) (causes (not (lives s.tasks t.0)) NoTask _ (λ e. cc) (causes (bars_tasks s.tree g.0) Busy None (λ e. cc) no_cause))
 refusal_causes s (event.Mkdir path) = mkdir_causes s.tree (bars_children s.tasks) path
 refusal_causes s (event.Set g setting) = file_causes s.tree g.0
 refusal_causes s (event.Show what) = show_causes s what
@@ -224,11 +228,11 @@ made_next said.Ok transition h known = handless _ transition _ h refl (λ e. cc)
 made_next (said.Refused why) transition h known = says_refused _ transition why refl known h
 made_next answered transition h known = absurd h
 
-ended_next : (answered : Book_reply) (transition : Transition) → Ended answered transition → KnownReply answered → Next answered transition
-ended_next said.Ok transition h known = handless _ transition _ h refl (λ e. cc)
-ended_next said.Killed transition h known = says_word _ transition word.Killed h (λ e. cc)
-ended_next (said.Refused why) transition h known = says_refused _ transition why refl known h
-ended_next answered transition h known = absurd h
+did_next : (answered : Book_reply) (transition : Transition) → TaskDid answered transition → KnownReply answered → Next answered transition
+did_next said.Ok transition h known = handless _ transition _ h refl (λ e. cc)
+did_next said.Killed transition h known = says_word _ transition word.Killed h (λ e. cc)
+did_next (said.Refused why) transition h known = says_refused _ transition why refl known h
+did_next answered transition h known = absurd h
 
 shown_next : (answered : Book_reply) (transition : Transition) → WasShown answered transition → KnownReply answered → Next answered transition
 shown_next (said.Shown numbers) transition h known = handless _ transition _ h refl (λ e. cc)
@@ -249,7 +253,7 @@ told_next (pending.Lower g) answered transition h known = lower_next g.0 answere
 told_next (pending.Reclaim g left) answered transition h known = reclaimed_next g.0 left answered transition h known
 told_next pending.Balance answered transition h known = balanced_next answered transition h known
 told_next pending.Make answered transition h known = made_next answered transition h known
-told_next pending.Exit answered transition h known = ended_next answered transition h known
+told_next pending.OfTask answered transition h known = did_next answered transition h known
 told_next pending.Show answered transition h known = shown_next answered transition h known
 told_next (pending.Arrive access) answered transition h known = closed_next _ answered transition refl tt h known
 told_next pending.FetchFail answered transition h known = closed_next _ answered transition refl (λ e. cc) h known

@@ -45,7 +45,7 @@ use Rattle.driver.specs.declared.turn.Outcome.{Outcome}
 use Rattle.driver.specs.declared.turn.Activity.{Activity}
 use Rattle.driver.specs.declared.turn.Activity.TheVariants.{Rests, Begun, Does}
 use Rattle.driver.specs.declared.turn.Seat.{Seat}
-use Rattle.driver.specs.Turns.{wants_pages, wants_balance, wants_watch, done, byte_answer, resumes_at, Tried, MadeRoom, MaxSet, Lowered, Reclaimed, Balanced, Made, Ended, WasShown, Closed, Told, ReadsIn, WritesOut, after_read, after_write, Judged, with_group, with_file, with_amount, reads_file, writes_file, reclaims, task_judged, shell_judged, daemon_judged, judged}
+use Rattle.driver.specs.Turns.{wants_pages, wants_balance, wants_watch, done, byte_answer, resumes_at, Tried, MadeRoom, MaxSet, Lowered, Reclaimed, Balanced, Made, TaskDid, WasShown, Closed, Told, ReadsIn, WritesOut, after_read, after_write, Judged, with_group, with_file, with_amount, reads_file, writes_file, reclaims, task_judged, shell_judged, daemon_judged, judged}
 use Rattle.driver.specs.Schedule.{World, first_world, is_of, activity_of, with_activity, outcome_of, left_of, WantTurn, wants_at, StageTurn, JudgedTurn, ActivityTurn, said_at, all_said, Goings, EndsIn, RunsOut, Begins, Stepped, Runs, is_error, errors}
 use Rattle.machine.proofs.SlotLemmas.{one_if}
 
@@ -141,11 +141,11 @@ made-cost reply.Ok transition h = rw h refl
 made-cost (reply.Refused why) transition h = rw h refl
 made-cost said transition h = absurd h
 
-ended-cost : (said : Reply) (transition : Transition) → Ended said transition → cost transition ≡ 0
-ended-cost reply.Ok transition h = rw h refl
-ended-cost reply.Killed transition h = rw h refl
-ended-cost (reply.Refused why) transition h = rw h refl
-ended-cost said transition h = absurd h
+did-cost : (said : Reply) (transition : Transition) → TaskDid said transition → cost transition ≡ 0
+did-cost reply.Ok transition h = rw h refl
+did-cost reply.Killed transition h = rw h refl
+did-cost (reply.Refused why) transition h = rw h refl
+did-cost said transition h = absurd h
 
 shown-cost : (said : Reply) (transition : Transition) → WasShown said transition → cost transition ≡ 0
 shown-cost (reply.Shown numbers) transition h = rw h refl
@@ -169,7 +169,7 @@ told-cost (pending.Lower g) said transition h = none-cost transition (lowered-co
 told-cost (pending.Reclaim g left) said transition h = none-cost transition (reclaimed-cost g.0 left said transition h)
 told-cost pending.Balance said transition h = none-cost transition (balanced-cost said transition h)
 told-cost pending.Make said transition h = none-cost transition (made-cost said transition h)
-told-cost pending.Exit said transition h = none-cost transition (ended-cost said transition h)
+told-cost pending.OfTask said transition h = none-cost transition (did-cost said transition h)
 told-cost pending.Show said transition h = none-cost transition (shown-cost said transition h)
 told-cost (pending.Arrive access) said transition h = closed-cost (Goes (stage.Try access)) said transition h
 told-cost pending.FetchFail said transition h = closed-cost (Ends (answer.Word word.Io)) said transition h
@@ -289,15 +289,20 @@ writes-owed g text file.Reclaim = amount-owed (amount_of text) _ (reclaims-owed 
 
 task-owed : (t : ℕ) (what : Command) → owed_judged (task_judged t what) ≡ 0
 task-owed t (command.Access place op) = refl
+task-owed t (command.Fork child) = refl
+task-owed t (command.Free page) = refl
 task-owed t command.Exit = refl
 task-owed t others = refl
 
 shell-owed : (tree : List Node) (what : Command) → owed_judged (shell_judged tree what) ≡ 0
 shell-owed tree (command.Access place op) = refl
+shell-owed tree (command.Fork child) = refl
+shell-owed tree (command.Free page) = refl
 shell-owed tree command.Exit = refl
 shell-owed tree command.Daemon = refl
 shell-owed tree (command.Group path) = refl
 shell-owed tree (command.Task t path) = group-owed (find_group tree path) _ (λ g. refl)
+shell-owed tree (command.Attach t path) = group-owed (find_group tree path) _ (λ g. refl)
 shell-owed tree (command.Set path name text) = group-owed (find_group tree path) _ (λ g. file-owed g (file_named name) _ (writes-owed g text))
 shell-owed tree (command.Cat path name) = group-owed (find_group tree path) _ (λ g. file-owed g (file_named name) _ (reads-owed g))
 shell-owed tree (command.Protection target path) = group-owed (find_group tree target) _ (λ t. group-owed (find_group tree path) _ (λ g. refl))

@@ -1,5 +1,5 @@
 -- What the device holds of each page that has no frame, and what each actor brings in or takes out: so that a run is honest.
-use Rattle.std.proofs.Common.{◌≡◌, inl, inr, ℕ, ◌<◌, ◌≤◌, ◌==◌, Bool, true, false, cond, List, [], length, Option, Some, None, eqb-true, eq-eqb, refl, sym, ap, ◌∙◌, subst, arith, get_or-set_other}
+use Rattle.std.proofs.Common.{◌≡◌, inl, inr, ℕ, ◌<◌, ◌≤◌, ◌==◌, Bool, true, false, cond, List, [], length, Option, Some, None, eq-eqb, refl, sym, ap, ◌∙◌, subst, arith, get_or-set_other}
 use Rattle.std.specs.Prelude.{Result, Ok, Err, slice_index, nat_le}
 use Rattle.std.proofs.Math.ListN.{length-set}
 use Rattle.std.proofs.lemmas.Bool.{and_parts}
@@ -18,14 +18,12 @@ use Rattle.machine.specs.declared.event.Place.TheVariants.{Virtual}
 use Rattle.machine.specs.declared.event.Event.{Event as Plain_event}
 use Rattle.machine.specs.declared.event.Event.TheVariants as plain
 use Rattle.machine.specs.declared.reply.Reply.{Reply as Plain_reply}
-use Rattle.machine.specs.declared.reply.Reply.TheVariants as reply
 use Rattle.machine.specs.Pages.{Residence, Held, Coming, Going, Away, Page, page_at, is_held_at, block_at, ticket_at, is_ticket_taken, is_anon}
 use Rattle.machine.specs.Tasks.{mapped_at}
 use Rattle.machine.specs.State.{Opening, opening_of, blocks_of, is_config}
 use Rattle.machine.specs.Access.{page_size}
-use Rattle.machine.specs.History.{InTask, spot_of, Nothing, says, follow, at_first, last, Fetched, fetched_by, fetch_of, HoldsLast, IsHonest, Honest, ticket_given}
+use Rattle.machine.specs.History.{InTask, at_first, last, Fetched, fetched_by, fetch_of, HoldsLast, IsHonest, Honest, ticket_given}
 use Rattle.machine.specs.Call.{Past}
-use Rattle.machine.specs.Legal.{Legal}
 use Rattle.machine.proofs.Values.{some_inj, never_some, unlike}
 use Rattle.block_store.specs.declared.device.Fault.{Fault}
 use Rattle.block_store.specs.Device.{Disk, bytes_on, KeepsOthers, ReadsBlock, WritesBlock}
@@ -49,11 +47,12 @@ use Rattle.driver.specs.declared.turn.Activity.{Activity}
 use Rattle.driver.specs.declared.turn.Activity.TheVariants.{Rests, Begun, Does}
 use Rattle.driver.specs.Turns.{ReadsIn, WritesOut, after_read, after_write}
 use Rattle.driver.specs.Schedule.{World, first_caller, first_world, activity_of, with_activity, left_of, Asks, WantTurn, wants_at, StageTurn, Runs, fits}
-use Rattle.machine.proofs.Effects.{AllLive, Fetches, EndsOnBlock, Stood, InFrame, ItStays, ItFetches, ItLeaves, OnBlock, Effect, step_effect}
+use Rattle.machine.proofs.Effects.{ComesFrom, Fetches, EndsOnBlock, Stood, InFrame, ItStays, ItFetches, ItLeaves, OnBlock, Effect}
+use Rattle.machine.proofs.SharedLemmas.{fetch_other}
 use Rattle.machine.proofs.SoundLemmas.{pages_share_no_block, pages_share_no_ticket, legal-fit}
 use Rattle.driver.proofs.Keeps.{number_pending, number_wanted, in_hand, Alike, Same, Ticketless, wants_alike, number_at, is_idle, idle_none, FineOutcome, IsAt, runs_keep}
 use Rattle.driver.proofs.CallCases.{IsRefused, IsServed, Comes, ByRefusal, ByEntry, called_comes, Next, Handless, Reads, Writes, told_next}
-use Rattle.driver.proofs.Tickets.{IsGoing, KeepsPending, KeepsWanted, KeepsAt, at_flies, flies_taken, pending_known, not_out, still_known, Tickets, seats_all, tickets_rest, first_turns, tickets_turn, tickets_first, own_keeps, others_differ}
+use Rattle.driver.proofs.Tickets.{IsGoing, KeepsPending, KeepsWanted, KeepsAt, at_flies, flies_taken, pending_known, not_out, still_known, LegalPast, served_effect, served_legal, Tickets, seats_all, tickets_rest, first_turns, tickets_turn, tickets_first, own_keeps, others_differ}
 
 -- ---- words
 
@@ -99,8 +98,7 @@ IsFetched past contents =
 
 -- what is known of a past and of a device
 pub record Holds (opening : Opening) (past : Past) (contents : List (List ℕ)) : Type 0 where
-  pub live : AllLive past.state.page_tables past.state.tasks
-  pub legal : Legal opening past.history past.state
+  pub legal : LegalPast opening past
   pub honest : Honest at_first past.history
   pub room : opening.swap ≤ length contents
   pub stored : IsStored past contents
@@ -175,27 +173,15 @@ left_event (event.Left own) ticket e = (own, refl, number e)
     number f = ap (λ (t : TicketId). t.0) (let same : record { 0 = own.number } ≡ ticket = cc in same)
 left_event what ticket e = cc
 
--- an entry that gives no such ticket begins no such read-in
-fetch_other : (n : ℕ) (what : Plain_event) (answer : Plain_reply) (earlier : List Entry) (others : Option Fetched) → (ticket_given answer ≡ Some n → ⊥) → fetched_by n what answer earlier others ≡ others
-fetch_other n (plain.Access t place op) (reply.Fetch m) earlier others other =
-    elim (m.0 == n) as (λ b. (m.0 == n) ≡ b → cond b (Some (record { spot = spot_of t.0 place; earlier = earlier })) others ≡ others) [
-      | true ↦ λ is. absurd (other (ap (λ (x : ℕ). Some x) (eqb-true m.0 n is)))
-      | false ↦ λ is. refl
-    ] refl
-fetch_other n what answer earlier others other = refl
-
 -- ---- an entry more
 
 module _ (opening : Opening) (old new : Past) (contents : List (List ℕ)) (what : Event) (answered : Reply)
     (h : Holds opening old contents) (keeps : KeepsPending old what) (brings : BringsPending old contents what) (went : IsServed old first_caller (event_of what) (reply_of answered) new) where
   effect : Effect old.state (event_of what) (reply_of answered) new.state
-  effect = step_effect old.state new.state h.live (event_of what) (reply_of answered) went.unrefused went.answers.steps
+  effect = served_effect opening old new h.legal (event_of what) (reply_of answered) went
 
-  legal_on : Legal opening new.history new.state
-  legal_on = rw went.answers.history (old.state, h.legal, record { known = pending_known old what keeps; unrefused = went.unrefused; room = went.room; steps = went.answers.steps })
-
-  last_on : (t v o : ℕ) → says (event_of what) (reply_of answered) (InTask t v o) ≡ Nothing → last at_first new.history (InTask t v o) ≡ last at_first old.history (InTask t v o)
-  last_on t v o silent = ap (λ (es : List Entry). last at_first es (InTask t v o)) went.answers.history ∙ ap (λ s. follow s (last at_first old.history) (InTask t v o)) silent
+  legal_on : LegalPast opening new
+  legal_on = served_legal opening old new h.legal what answered keeps went
 
   fetch_on : (n : ℕ) → (ticket_given (reply_of answered) ≡ Some n → ⊥) → fetch_of n new.history ≡ fetch_of n old.history
   fetch_on n other = ap (fetch_of n) went.answers.history ∙ fetch_other n (event_of what) (reply_of answered) old.history (fetch_of n old.history) other
@@ -204,10 +190,13 @@ module _ (opening : Opening) (old new : Past) (contents : List (List ℕ)) (what
   not_given : (p n : ℕ) (page : Page) → page_at old.state.pages p ≡ Some page → ticket_at page.residence ≡ Some n → ticket_given (reply_of answered) ≡ Some n → ⊥
   not_given p n page there ticket given = unlike (is_ticket_taken old.state.pages n) (flies_taken old n (record { p = p; page = page; there = there; ticket = ticket })) (effect.fresh n given)
 
-  -- a place of a page without a frame of its own showed it before, and its bytes are what they were
-  place_on : (t v p : ℕ) (page : Page) → mapped_at new.state.page_tables t v ≡ Some p → page_at new.state.pages p ≡ Some page → is_held_at page.residence ≡ false
-      → (mapped_at old.state.page_tables t v ≡ Some p) × ((o : ℕ) → last at_first new.history (InTask t v o) ≡ last at_first old.history (InTask t v o))
-  place_on t v p page mapped there away = let before = effect.places.place t v p page mapped there away in (before.0, λ o. last_on t v o (before.1 o))
+  -- a place of a page that stands in no frame alone comes from one that showed it before
+  abbrev Came : ℕ → ℕ → ℕ → Type 0
+  Came t v p = ComesFrom old.state (event_of what) (reply_of answered) t v p
+
+  -- and has the bytes that were last written there
+  came_last : (t v p : ℕ) (from : Came t v p) (o : ℕ) → last at_first new.history (InTask t v o) ≡ last at_first old.history (InTask from.task v o)
+  came_last t v p from o = ap (λ (es : List Entry). last at_first es (InTask t v o)) went.answers.history ∙ from.follows (last at_first old.history) o
 
   -- the page of an ending in hand is the one of that number
   going_block : (ticket : TicketOf) (p f b : ℕ) (before : Page) → IsGoing old ticket → page_at old.state.pages p ≡ Some before → before.residence ≡ Going f b ticket.number → b ≡ ticket.block
@@ -219,11 +208,11 @@ module _ (opening : Opening) (old new : Past) (contents : List (List ℕ)) (what
   stored_on : IsStored new contents
   stored_on t v p b o page mapped there stands within = by_stood (effect.pages.stood p page there)
     where
-      place : (mapped_at old.state.page_tables t v ≡ Some p) × ((o : ℕ) → last at_first new.history (InTask t v o) ≡ last at_first old.history (InTask t v o))
-      place = place_on t v p page mapped there (stored_frameless page.residence b stands)
+      from : Came t v p
+      from = effect.places.place t v p page mapped there (stored_frameless page.residence b stands)
 
       before_stored : (before : Page) → page_at old.state.pages p ≡ Some before → stored_at before.residence ≡ Some b → slice_index (bytes_on contents b) o ≡ last at_first new.history (InTask t v o)
-      before_stored before at block = h.stored t v p b o before place.0 at block within ∙ sym (place.1 o)
+      before_stored before at block = h.stored from.task v p b o before from.mapped at block within ∙ sym (came_last t v p from o)
 
       by_left : (k : EndsOnBlock Out old.state (event_of what) p page.residence) → (own : TicketOf) → what ≡ event.Left own → own.number ≡ k.ticket.0 → k.block ≡ b → slice_index (bytes_on contents b) o ≡ last at_first new.history (InTask t v o)
       by_left k own is number block =
@@ -231,7 +220,7 @@ module _ (opening : Opening) (old new : Past) (contents : List (List ℕ)) (what
           let kept : IsGoing old own = subst (λ (e : Event). KeepsPending old e) is keeps in
           let going : k.before.residence ≡ Going k.frame k.block own.number = k.flew ∙ ap (λ n. Going k.frame k.block n) (sym number) in
           let same : own.block ≡ b = sym (going_block own p k.frame k.block k.before kept k.there going) ∙ block in
-          ap (λ x. slice_index (bytes_on contents x) o) (sym same) ∙ hold p k.frame k.block t v o k.before k.there going place.0 within ∙ sym (place.1 o)
+          ap (λ x. slice_index (bytes_on contents x) o) (sym same) ∙ hold p k.frame k.block from.task v o k.before k.there going from.mapped within ∙ sym (came_last t v p from o)
 
       by_stood : Stood old.state (event_of what) (reply_of answered) p page.residence → slice_index (bytes_on contents b) o ≡ last at_first new.history (InTask t v o)
       by_stood (InFrame f e) = never_some (stored_at page.residence) (ap stored_at e) stands
@@ -278,12 +267,12 @@ module _ (opening : Opening) (old new : Past) (contents : List (List ℕ)) (what
   hold_on : (number : ℕ) (bytes : List ℕ) → (ticket_given (reply_of answered) ≡ Some number → ⊥) → PlacesHold old number bytes → PlacesHold new number bytes
   hold_on number bytes other hold p f b t v o page there going mapped within = by_stood (effect.pages.stood p page there)
     where
-      place : (mapped_at old.state.page_tables t v ≡ Some p) × ((o : ℕ) → last at_first new.history (InTask t v o) ≡ last at_first old.history (InTask t v o))
-      place = place_on t v p page mapped there (ap is_held_at going)
+      from : Came t v p
+      from = effect.places.place t v p page mapped there (ap is_held_at going)
 
       by_stood : Stood old.state (event_of what) (reply_of answered) p page.residence → slice_index bytes o ≡ last at_first new.history (InTask t v o)
       by_stood (InFrame f' e) = going_held page.residence f b number f' going e
-      by_stood (ItStays k) = hold p f b t v o k.before k.there (sym k.same ∙ going) place.0 within ∙ sym (place.1 o)
+      by_stood (ItStays k) = hold p f b from.task v o k.before k.there (sym k.same ∙ going) from.mapped within ∙ sym (came_last t v p from o)
       by_stood (ItFetches k) = coming_going page.residence k.frame k.block k.ticket.0 f b number k.coming going
       by_stood (ItLeaves k) =
           let number_is : k.ticket.0 ≡ number = some_inj (ap ticket_at (sym k.going ∙ going)) in
@@ -310,7 +299,7 @@ module _ (opening : Opening) (old new : Past) (contents : List (List ℕ)) (what
   flies_ungiven at kept n number given = let flies = at_flies old at n kept number in not_given flies.p n flies.page flies.there flies.ticket given
 
   holds_on : Holds opening new contents
-  holds_on = record { live = effect.places.live; legal = legal_on; honest = honest_on; room = h.room; stored = stored_on; fetched = fetched_on }
+  holds_on = record { legal = legal_on; honest = honest_on; room = h.room; stored = stored_on; fetched = fetched_on }
 
   -- the bytes of a page that begins to be written out
   sends : (ticket : TicketOf) → GivesOut new 0 ticket → PlacesHold new ticket.number ticket.bytes
@@ -356,7 +345,7 @@ module _ (opening : Opening) (past : Past) (contents contents' : List (List ℕ)
       (h.fetched p f b n page there coming)
 
   holds_written : Holds opening past contents'
-  holds_written = record { live = h.live; legal = h.legal; honest = h.honest; room = (let room = h.room in let blocks = kept.blocks in omega (arith, room, blocks)); stored = stored_written; fetched = fetched_written }
+  holds_written = record { legal = h.legal; honest = h.honest; room = (let room = h.room in let blocks = kept.blocks in omega (arith, room, blocks)); stored = stored_written; fetched = fetched_written }
 
   pending_written : (e : Event) → ((n : ℕ) → number_pending e ≡ Some n → Some ticket.number ≡ Some n → ⊥) → KeepsPending past e → BringsPending past contents e → BringsPending past contents' e
   pending_written (event.Arrived own) differ coming brought =
@@ -440,14 +429,14 @@ module _ (opening : Opening) (old new : Past) (disk disk' : Disk) (h : Holds ope
       own : IsRefused old (reply_of asks.said) new → Next asks.said transition → BringsAt old disk.contents (left_of transition)
       own still (Handless none fine) = brings_none old disk.contents (left_of transition) none
       own still (Reads access ticket is goes) = subst (λ (t : Transition). BringsAt old disk.contents (left_of t)) (sym goes) tt
-      own still (Writes on ticket is goes) = absurd (not_out old new h.live asks.said ticket still is)
+      own still (Writes on ticket is goes) = absurd (not_out old new asks.said ticket still is)
 
       by_comes : Comes old first_caller (event_of what) (reply_of asks.said) new → TurnsFaithful opening old disk.contents (want.Call remembers what) transition new disk.contents
       by_comes (ByRefusal still) =
           subst (λ (p : Past). TurnsFaithful opening old disk.contents (want.Call remembers what) transition p disk.contents) (sym still.same)
           (record {
             holds = h;
-            own = own still (told_next remembers asks.said transition asks.told (still_known old new h.live asks.said still));
+            own = own still (told_next remembers asks.said transition asks.told (still_known old new asks.said still));
             others = λ at differ kept brought. brought;
           })
       by_comes (ByEntry went) =
@@ -472,7 +461,7 @@ module _ (opening : Opening) (old new : Past) (disk disk' : Disk) (h : Holds ope
 -- ---- worlds
 
 pub record Faithful (opening : Opening) (w : World) : Type 0 where
-  pub tickets : Tickets w
+  pub tickets : Tickets opening w
   pub holds : Holds opening w.past w.disk.contents
   pub brings : (a : Actor) → BringsAt w.past w.disk.contents (activity_of a w.seats)
 
@@ -480,7 +469,7 @@ module _ (opening : Opening) where
   faithful_rest : (w : World) (who : Actor) (what : Activity) → is_idle what ≡ true → Faithful opening w → Faithful opening (record w { seats = with_activity who what w.seats })
   faithful_rest w who what idle h =
       record {
-        tickets = tickets_rest w who what idle h.tickets;
+        tickets = tickets_rest opening w who what idle h.tickets;
         holds = h.holds;
         brings = seats_all (BringsAt w.past w.disk.contents) who what w.seats (brings_none w.past w.disk.contents what (idle_none what idle)) (λ a differs. h.brings a);
       }
@@ -494,14 +483,14 @@ module _ (opening : Opening) where
 
   faithful_turn : (old new : World) (who : Actor) (now : Stage) (outcome : Outcome) → IsAt old who now → StageTurn old who now outcome new → Faithful opening old → Faithful opening new × FineOutcome outcome
   faithful_turn old new who now outcome at turn h =
-      let ticketed = tickets_turn old new who now outcome at turn h.tickets in
-      let turns = want_faithful opening old.past new.past old.disk new.disk h.holds (wants_at old.past now) turn.transition (own_keeps old who now at h.tickets) (own_brings old who now at h) (first_turns old new who now outcome turn h.tickets) in (
+      let ticketed = tickets_turn opening old new who now outcome at turn h.tickets in
+      let turns = want_faithful opening old.past new.past old.disk new.disk h.holds (wants_at old.past now) turn.transition (own_keeps opening old who now at h.tickets) (own_brings old who now at h) (first_turns opening old new who now outcome turn h.tickets) in (
         record {
           tickets = ticketed.0;
           holds = turns.holds;
           brings = subst (λ (ss : List Seat). (a : Actor) → BringsAt new.past new.disk.contents (activity_of a ss)) (sym turn.leaves)
               (seats_all (BringsAt new.past new.disk.contents) who (left_of turn.transition) old.seats turns.own
-              (λ a differs. turns.others (activity_of a old.seats) (others_differ old who now at h.tickets a differs) (h.tickets.keeps a) (h.brings a)));
+              (λ a differs. turns.others (activity_of a old.seats) (others_differ opening old who now at h.tickets a differs) (h.tickets.keeps a) (h.brings a)));
         },
         ticketed.1,
       )
@@ -510,7 +499,7 @@ faithful_first : (config : Config) (disk : Disk) → fits config disk ≡ true �
 faithful_first config disk fit =
     record {
       tickets = tickets_first config disk;
-      holds = record { live = λ t v p e. cc; legal = refl; honest = tt; room = within (and_parts (is_config config) (nat_le (blocks_of config) (length disk.contents)) fit).1; stored = λ t v p b o page mapped there stands within. cc; fetched = λ p f b n page there coming. cc };
+      holds = record { legal = refl; honest = tt; room = within (and_parts (is_config config) (nat_le (blocks_of config) (length disk.contents)) fit).1; stored = λ t v p b o page mapped there stands within. cc; fetched = λ p f b n page there coming. cc };
       brings = λ a. tt;
     }
   where

@@ -239,10 +239,13 @@ judged-plain tree who what = by_actor who
 
     by_shell : (what : Command) → Plain (shell_judged tree what)
     by_shell (command.Access place op) = λ e. cc
+    by_shell (command.Fork child) = λ e. cc
+    by_shell (command.Free page) = λ e. cc
     by_shell command.Exit = λ e. cc
     by_shell command.Daemon = λ e. cc
     by_shell (command.Group path) = refl
     by_shell (command.Task t path) = by_group (find_group tree path) _ (λ g. refl)
+    by_shell (command.Attach t path) = by_group (find_group tree path) _ (λ g. refl)
     by_shell (command.Set path name text) = by_group (find_group tree path) _ (λ g. by_file g (file_named name) _ (writes g text))
     by_shell (command.Cat path name) = by_group (find_group tree path) _ (λ g. by_file g (file_named name) _ (reads g))
     by_shell (command.Protection target path) = by_group (find_group tree target) _ (λ t. by_group (find_group tree path) _ (λ g. refl))
@@ -253,6 +256,8 @@ judged-plain tree who what = by_actor who
 
     by_task : (t : ℕ) (what : Command) → Plain (task_judged t what)
     by_task t (command.Access place op) = refl
+    by_task t (command.Fork child) = refl
+    by_task t (command.Free page) = refl
     by_task t command.Exit = refl
     by_task t others = λ e. cc
 

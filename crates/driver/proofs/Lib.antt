@@ -7,3 +7,4 @@ pub mod TicketLemmas
 pub mod SeatLists
 pub mod Runs
 pub mod TurnExamples
+pub mod TaskExamples

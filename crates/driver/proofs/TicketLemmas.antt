@@ -33,7 +33,7 @@ use Rattle.driver.specs.declared.turn.Want.{Want}
 use Rattle.driver.specs.declared.turn.Want.TheVariants as want
 use Rattle.driver.specs.declared.turn.Transition.{Transition}
 use Rattle.driver.specs.declared.turn.Transition.TheVariants.{Goes}
-use Rattle.driver.specs.Turns.{done, wants_pages, wants_balance, wants, ends_with, resumes_at, Tried, MadeRoom, MaxSet, Lowered, Reclaimed, Balanced, Made, Ended, WasShown, Closed, Told, Judged, judged, task_judged, shell_judged, daemon_judged, with_group, with_file, with_amount, reads_file, reclaims, writes_file}
+use Rattle.driver.specs.Turns.{done, wants_pages, wants_balance, wants, ends_with, resumes_at, Tried, MadeRoom, MaxSet, Lowered, Reclaimed, Balanced, Made, TaskDid, WasShown, Closed, Told, Judged, judged, task_judged, shell_judged, daemon_judged, with_group, with_file, with_amount, reads_file, reclaims, writes_file}
 use Rattle.driver.specs.Schedule.{wants_at}
 use Rattle.machine.proofs.SoundLemmas.{legal-fit}
 use Rattle.driver.specs.Tickets.{IsOwn, OwnEvent, OwnReply, OwnStage, OwnTransition}
@@ -82,7 +82,10 @@ module _ (swap : ℕ) (marks : Watermarks) (free : ℕ) where
   wants_own stage.Watch own = unless_own (nat_le marks.low free) (wants_balance marks free) balance_own
   wants_own stage.Balance own = balance_own
   wants_own (stage.Spawn t g) own = tt
+  wants_own (stage.Fork t child) own = tt
   wants_own (stage.Exit t) own = tt
+  wants_own (stage.Free t v) own = tt
+  wants_own (stage.Attach t g) own = tt
   wants_own (stage.Mkdir path) own = tt
   wants_own (stage.Show what) own = tt
   wants_own (stage.Read access ticket) own = own
@@ -149,11 +152,11 @@ made_own swap reply.Ok transition own h = rw h tt
 made_own swap (reply.Refused why) transition own h = rw h tt
 made_own swap said transition own h = absurd h
 
-ended_own : (swap : ℕ) (said : Reply) (transition : Transition) → OwnReply swap said → Ended said transition → OwnTransition swap transition
-ended_own swap reply.Ok transition own h = rw h tt
-ended_own swap reply.Killed transition own h = rw h tt
-ended_own swap (reply.Refused why) transition own h = rw h tt
-ended_own swap said transition own h = absurd h
+did_own : (swap : ℕ) (said : Reply) (transition : Transition) → OwnReply swap said → TaskDid said transition → OwnTransition swap transition
+did_own swap reply.Ok transition own h = rw h tt
+did_own swap reply.Killed transition own h = rw h tt
+did_own swap (reply.Refused why) transition own h = rw h tt
+did_own swap said transition own h = absurd h
 
 shown_own : (swap : ℕ) (said : Reply) (transition : Transition) → OwnReply swap said → WasShown said transition → OwnTransition swap transition
 shown_own swap (reply.Shown numbers) transition own h = rw h tt
@@ -180,7 +183,7 @@ told_own swap (pending.Lower g) said transition own h = lowered_own swap g.0 sai
 told_own swap (pending.Reclaim g left) said transition own h = reclaimed_own swap g.0 left said transition own h
 told_own swap pending.Balance said transition own h = balanced_own swap said transition own h
 told_own swap pending.Make said transition own h = made_own swap said transition own h
-told_own swap pending.Exit said transition own h = ended_own swap said transition own h
+told_own swap pending.OfTask said transition own h = did_own swap said transition own h
 told_own swap pending.Show said transition own h = shown_own swap said transition own h
 told_own swap (pending.Arrive access) said transition own h = closed_own swap (Goes (stage.Try access)) tt said transition own h
 told_own swap pending.FetchFail said transition own h = closed_own swap (ends_with word.Io) tt said transition own h
@@ -236,15 +239,20 @@ module _ (swap : ℕ) where
 
   task_own : (t : ℕ) (what : Command) → OwnJudged (task_judged t what)
   task_own t (command.Access place op) = tt
+  task_own t (command.Fork child) = tt
+  task_own t (command.Free page) = tt
   task_own t command.Exit = tt
   task_own t others = tt
 
   shell_own : (tree : List Node) (what : Command) → OwnJudged (shell_judged tree what)
   shell_own tree (command.Access place op) = tt
+  shell_own tree (command.Fork child) = tt
+  shell_own tree (command.Free page) = tt
   shell_own tree command.Exit = tt
   shell_own tree command.Daemon = tt
   shell_own tree (command.Group path) = tt
   shell_own tree (command.Task t path) = with_group_own (find_group tree path) _ (λ g. tt)
+  shell_own tree (command.Attach t path) = with_group_own (find_group tree path) _ (λ g. tt)
   shell_own tree (command.Set path name text) = with_group_own (find_group tree path) _ (λ g. with_file_own g (file_named name) _ (writes_own g text))
   shell_own tree (command.Cat path name) = with_group_own (find_group tree path) _ (λ g. with_file_own g (file_named name) _ (reads_own g))
   shell_own tree (command.Protection target path) = with_group_own (find_group tree target) _ (λ t. with_group_own (find_group tree path) _ (λ g. tt))

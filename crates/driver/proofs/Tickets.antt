@@ -12,9 +12,11 @@ use Rattle.machine.specs.declared.command.Actor.{Actor}
 use Rattle.machine.specs.declared.command.Answer.{Answer}
 use Rattle.machine.specs.Slots.{at, there_and, any_there}
 use Rattle.machine.specs.declared.record.Direction.TheVariants.{In, Out}
-use Rattle.machine.specs.Pages.{Coming, Going, Page, Pages, page_at, is_number, ticket_at, is_ticket_taken, is_flying_at, is_in_flight}
+use Rattle.machine.specs.Pages.{Coming, Going, Page, Pages, page_at, ticket_at, is_ticket_taken, is_flying_at, is_in_flight}
 use Rattle.machine.specs.History.{ticket_given, taker_or, taker}
+use Rattle.machine.specs.State.{Opening, opening_of}
 use Rattle.machine.specs.Call.{Past, Caller, is_worker, took, knows_pass}
+use Rattle.machine.specs.Legal.{Legal}
 use Rattle.machine.proofs.Values.{never_some, unlike}
 use Rattle.machine.proofs.TreeLemmas.{eq_cases}
 use Rattle.block_store.specs.declared.device.Fault.{Fault}
@@ -40,7 +42,9 @@ use Rattle.driver.specs.declared.turn.Activity.TheVariants.{Rests, Begun, Does}
 use Rattle.driver.specs.declared.turn.Seat.{Seat}
 use Rattle.driver.specs.Turns.{ReadsIn, WritesOut, after_read, after_write}
 use Rattle.driver.specs.Schedule.{number_of, activity_of, with_activity, World, first_caller, first_world, Asks, WantTurn, wants_at, StageTurn, outcome_of, left_of}
-use Rattle.machine.proofs.Effects.{ends, AllLive, Effect, step_effect}
+use Rattle.machine.proofs.Effects.{ends, Effect, step_effect}
+use Rattle.machine.proofs.ShownLemmas.{shows_pages-legal}
+use Rattle.machine.proofs.SharedLemmas.{legal-live, ticket_taken}
 use Rattle.driver.proofs.Keeps.{activity_of-own, activity_of-other, number_pending, number_wanted, in_hand, Alike, Same, Ticketless, wants_alike, wanted_in_hand, number_at, is_idle, idle_none, Fine, FineOutcome, FineWant, wants_fine, IsAt}
 use Rattle.driver.proofs.CallCases.{IsRefused, IsServed, Comes, ByRefusal, ByEntry, called_comes, Next, Handless, Reads, Writes, told_next}
 
@@ -82,9 +86,13 @@ KeepsAt past Rests = Unit {0}
 KeepsAt past (Begun what) = Unit {0}
 KeepsAt past (Does stage) = KeepsWanted past (in_hand stage)
 
-pub record Tickets (w : World) : Type 0 where
+-- the past is one that a legal history leads to
+abbrev pub LegalPast : Opening → Past → Type 0
+LegalPast opening past = Legal opening past.history past.state
+
+pub record Tickets (opening : Opening) (w : World) : Type 0 where
   pub first : w.caller ≡ first_caller
-  pub live : AllLive w.past.state.page_tables w.past.state.tasks
+  pub legal : LegalPast opening w.past
   pub keeps : (a : Actor) → KeepsAt w.past (activity_of a w.seats)
   pub apart : (a b : Actor) (n : ℕ) → number_at (activity_of a w.seats) ≡ Some n → number_at (activity_of b w.seats) ≡ Some n → number_of a ≡ number_of b
 
@@ -153,7 +161,7 @@ at_flies past (Begun what) n h e = cc
 at_flies past (Does stage) n h e = wanted_flies past (in_hand stage) n h e
 
 pub flies_taken : (past : Past) (n : ℕ) → InFlight past n → is_ticket_taken past.state.pages n ≡ true
-flies_taken past n h = page_passes _ past.state.pages h.p h.page h.there (ap (λ (m : Option ℕ). is_number m n) h.ticket ∙ eq-eqb n n refl)
+flies_taken past n h = ticket_taken past.state h.p n h.page h.there h.ticket
 
 -- ---- what goes on
 
@@ -203,15 +211,7 @@ taker_entry (Some m) n others e = by_test (m == n)
 taker_given : (given : Option ℕ) (n : ℕ) (others : Option ℕ) → given ≡ Some n → taker_or n given 0 others ≡ Some 0
 taker_given given n others e = rw e (ap (λ b. cond b (Some 0) others) (eq-eqb n n refl))
 
--- ---- a turn
-
--- what one turn leaves in the hand of its actor and in those of others
-pub record TurnsWell (old : Past) (want : Want) (transition : Transition) (new : Past) : Type 0 where
-  pub live : AllLive new.state.page_tables new.state.tasks
-  pub own : KeepsAt new (left_of transition)
-  pub others : (at : Activity) → ((n : ℕ) → number_at at ≡ Some n → number_wanted want ≡ Some n → ⊥) → KeepsAt old at → KeepsAt new at
-  pub number : (n : ℕ) → number_at (left_of transition) ≡ Some n → (number_wanted want ≡ Some n) ⊎ ((at : Activity) → KeepsAt old at → number_at at ≡ Some n → ⊥)
-  pub fine : FineOutcome (outcome_of transition)
+-- ---- what an entry does
 
 known_coming : (past : Past) (ticket : TicketOf) → IsComing past ticket → took past.state.pages past.history first_caller In ticket.number ≡ true
 known_coming past ticket h =
@@ -233,46 +233,66 @@ pending_known past (event.Left ticket) h = known_going past ticket h
 pending_known past (event.LeaveFailed ticket) h = known_going past ticket h
 pending_known past what h = refl
 
-module _ (old new : Past) (alive : AllLive old.state.page_tables old.state.tasks) where
+module _ (opening : Opening) (old new : Past) (legal : LegalPast opening old) where
+  -- what the machine's step did
+  pub served_effect : (what : Plain_event) (answer : Plain_reply) → IsServed old first_caller what answer new → Effect old.state what answer new.state
+  served_effect what answer h =
+      step_effect old.state new.state (legal-live opening old.history old.state legal) (shows_pages-legal opening old.history old.state legal) what answer h.unrefused h.answers.steps
+
+  -- and the history is legal still
+  pub served_legal : (what : Event) (answered : Reply) → KeepsPending old what → IsServed old first_caller (event_of what) (reply_of answered) new → LegalPast opening new
+  served_legal what answered keeps h =
+      rw h.answers.history (old.state, legal, record { known = pending_known old what keeps; unrefused = h.unrefused; room = h.room; steps = h.answers.steps })
+
+-- ---- refusals
+
+not_fetch : (old new : Past) (answered : Reply) (ticket : TicketOf) → IsRefused old (reply_of answered) new → answered ≡ said.Fetch ticket → ⊥
+not_fetch old new answered ticket still is = absurd (never (sym still.refused ∙ ap reply_of is))
+  where
+    never : reply.Refused still.why ≡ reply.Fetch (record { 0 = ticket.number }) → ⊥
+    never e = cc
+
+pub not_out : (old new : Past) (answered : Reply) (ticket : TicketOf) → IsRefused old (reply_of answered) new → answered ≡ said.Out ticket → ⊥
+not_out old new answered ticket still is = absurd (never (sym still.refused ∙ ap reply_of is))
+  where
+    never : reply.Refused still.why ≡ reply.Out (record { 0 = ticket.number }) → ⊥
+    never e = cc
+
+pub still_known : (old new : Past) (answered : Reply) → IsRefused old (reply_of answered) new → reply_of answered ≡ reply.Refused Stranger → ⊥
+still_known old new answered still e = still.known (refused_inj (sym still.refused ∙ e))
+  where
+    refused_inj : reply.Refused still.why ≡ reply.Refused Stranger → still.why ≡ Stranger
+    refused_inj f = cc
+
+-- ---- a turn
+
+-- what one turn leaves in the hand of its actor and in those of others
+pub record TurnsWell (opening : Opening) (old : Past) (want : Want) (transition : Transition) (new : Past) : Type 0 where
+  pub legal : LegalPast opening new
+  pub own : KeepsAt new (left_of transition)
+  pub others : (at : Activity) → ((n : ℕ) → number_at at ≡ Some n → number_wanted want ≡ Some n → ⊥) → KeepsAt old at → KeepsAt new at
+  pub number : (n : ℕ) → number_at (left_of transition) ≡ Some n → (number_wanted want ≡ Some n) ⊎ ((at : Activity) → KeepsAt old at → number_at at ≡ Some n → ⊥)
+  pub fine : FineOutcome (outcome_of transition)
+
+module _ (opening : Opening) (old new : Past) (legal : LegalPast opening old) where
   -- the past is the same: a turn of the device, or a refusal
   same_turn : (want : Want) (transition : Transition) → new ≡ old → KeepsAt old (left_of transition) → ((n : ℕ) → number_at (left_of transition) ≡ Some n → number_wanted want ≡ Some n) → FineOutcome (outcome_of transition)
-      → TurnsWell old want transition new
+      → TurnsWell opening old want transition new
   same_turn want transition same own number fine =
       record {
-        live = subst (λ (p : Past). AllLive p.state.page_tables p.state.tasks) (sym same) alive;
+        legal = subst (LegalPast opening) (sym same) legal;
         own = subst (λ (p : Past). KeepsAt p (left_of transition)) (sym same) own;
         others = λ at other h. subst (λ (p : Past). KeepsAt p at) (sym same) h;
         number = λ n e. inl (number n e);
         fine = fine;
       }
 
-  effect_of : (what : Plain_event) (answer : Plain_reply) → IsServed old first_caller what answer new → Effect old.state what answer new.state
-  effect_of what answer h = step_effect old.state new.state alive what answer h.unrefused h.answers.steps
-
   goes_of : (what : Plain_event) (answer : Plain_reply) → IsServed old first_caller what answer new → TicketsGoOn old new (ends what)
   goes_of what answer h =
       record {
-        stays = (effect_of what answer h).pages.stays;
+        stays = (served_effect opening old new legal what answer h).pages.stays;
         taken = λ n e. subst (λ (es : List Entry). taker n es ≡ Some 0) (sym h.answers.history) (taker_entry (ticket_given answer) n (taker n old.history) e);
       }
-
-  not_fetch : (answered : Reply) (ticket : TicketOf) → IsRefused old (reply_of answered) new → answered ≡ said.Fetch ticket → ⊥
-  not_fetch answered ticket still is = absurd (never (sym still.refused ∙ ap reply_of is))
-    where
-      never : reply.Refused still.why ≡ reply.Fetch (record { 0 = ticket.number }) → ⊥
-      never e = cc
-
-  pub not_out : (answered : Reply) (ticket : TicketOf) → IsRefused old (reply_of answered) new → answered ≡ said.Out ticket → ⊥
-  not_out answered ticket still is = absurd (never (sym still.refused ∙ ap reply_of is))
-    where
-      never : reply.Refused still.why ≡ reply.Out (record { 0 = ticket.number }) → ⊥
-      never e = cc
-
-  pub still_known : (answered : Reply) → IsRefused old (reply_of answered) new → reply_of answered ≡ reply.Refused Stranger → ⊥
-  still_known answered still e = still.known (refused_inj (sym still.refused ∙ e))
-    where
-      refused_inj : reply.Refused still.why ≡ reply.Refused Stranger → still.why ≡ Stranger
-      refused_inj f = cc
 
   -- the ticket that a reply gave is the turn's new one
   module _ (remembers : Pending) (what : Event) (answered : Reply) (transition : Transition) (went : IsServed old first_caller (event_of what) (reply_of answered) new) where
@@ -284,52 +304,52 @@ module _ (old new : Past) (alive : AllLive old.state.page_tables old.state.tasks
 
     given_fresh : (n : ℕ) → ticket_given (reply_of answered) ≡ Some n → (at : Activity) → KeepsAt old at → number_at at ≡ Some n → ⊥
     given_fresh n e at h number =
-        unlike (is_ticket_taken old.state.pages n) (flies_taken old n (at_flies old at n h number)) ((effect_of (event_of what) (reply_of answered) went).fresh n e)
+        unlike (is_ticket_taken old.state.pages n) (flies_taken old n (at_flies old at n h number)) ((served_effect opening old new legal (event_of what) (reply_of answered) went).fresh n e)
 
-    on_turn : HandsOut new 0 answered → Next answered transition → TurnsWell old (want.Call remembers what) transition new
-    on_turn gives (Handless none fine) =
+    on_turn : KeepsPending old what → HandsOut new 0 answered → Next answered transition → TurnsWell opening old (want.Call remembers what) transition new
+    on_turn keeps gives (Handless none fine) =
         record {
-          live = (effect_of (event_of what) (reply_of answered) went).places.live;
+          legal = served_legal opening old new legal what answered keeps went;
           own = at_none new (left_of transition) none;
           others = on_others;
           number = λ n e. never_some (number_at (left_of transition)) none e;
           fine = fine;
         }
-    on_turn gives (Reads access ticket is goes) =
+    on_turn keeps gives (Reads access ticket is goes) =
         let given : GivesIn new 0 ticket = subst (λ (r : Reply). HandsOut new 0 r) is gives in
         let ticketed : ticket_given (reply_of answered) ≡ Some ticket.number = ap (λ (r : Reply). ticket_given (reply_of r)) is in
         record {
-          live = (effect_of (event_of what) (reply_of answered) went).places.live;
+          legal = served_legal opening old new legal what answered keeps went;
           own = subst (λ (t : Transition). KeepsAt new (left_of t)) (sym goes) (record { p = given.p; page = given.page; frame = given.frame; there = given.there; coming = given.coming; taken = given_taken ticket.number ticketed });
           others = on_others;
           number = λ n e. inr (given_fresh n (ticketed ∙ sym (ap (λ (t : Transition). number_at (left_of t)) goes) ∙ e));
           fine = subst (λ (t : Transition). FineOutcome (outcome_of t)) (sym goes) tt;
         }
-    on_turn gives (Writes on ticket is goes) =
+    on_turn keeps gives (Writes on ticket is goes) =
         let given : GivesOut new 0 ticket = subst (λ (r : Reply). HandsOut new 0 r) is gives in
         let ticketed : ticket_given (reply_of answered) ≡ Some ticket.number = ap (λ (r : Reply). ticket_given (reply_of r)) is in
         record {
-          live = (effect_of (event_of what) (reply_of answered) went).places.live;
+          legal = served_legal opening old new legal what answered keeps went;
           own = subst (λ (t : Transition). KeepsAt new (left_of t)) (sym goes) (record { p = given.p; page = given.page; frame = given.frame; there = given.there; going = given.going; taken = given_taken ticket.number ticketed });
           others = on_others;
           number = λ n e. inr (given_fresh n (ticketed ∙ sym (ap (λ (t : Transition). number_at (left_of t)) goes) ∙ e));
           fine = subst (λ (t : Transition). FineOutcome (outcome_of t)) (sym goes) tt;
         }
 
-  still_turn : (remembers : Pending) (what : Event) (answered : Reply) (transition : Transition) → IsRefused old (reply_of answered) new → Next answered transition → TurnsWell old (want.Call remembers what) transition new
+  still_turn : (remembers : Pending) (what : Event) (answered : Reply) (transition : Transition) → IsRefused old (reply_of answered) new → Next answered transition → TurnsWell opening old (want.Call remembers what) transition new
   still_turn remembers what answered transition still (Handless none fine) =
       same_turn (want.Call remembers what) transition still.same (at_none old (left_of transition) none) (λ n e. never_some (number_at (left_of transition)) none e) fine
-  still_turn remembers what answered transition still (Reads access ticket is goes) = absurd (not_fetch answered ticket still is)
-  still_turn remembers what answered transition still (Writes on ticket is goes) = absurd (not_out answered ticket still is)
+  still_turn remembers what answered transition still (Reads access ticket is goes) = absurd (not_fetch old new answered ticket still is)
+  still_turn remembers what answered transition still (Writes on ticket is goes) = absurd (not_out old new answered ticket still is)
 
-  asks_turn : (remembers : Pending) (what : Event) (transition : Transition) → KeepsPending old what → Asks first_caller old remembers what transition new → TurnsWell old (want.Call remembers what) transition new
+  asks_turn : (remembers : Pending) (what : Event) (transition : Transition) → KeepsPending old what → Asks first_caller old remembers what transition new → TurnsWell opening old (want.Call remembers what) transition new
   asks_turn remembers what transition keeps asks = by_comes (called_comes old new first_caller (event_of what) (reply_of asks.said) (pending_known old what keeps) asks.called)
     where
-      by_comes : Comes old first_caller (event_of what) (reply_of asks.said) new → TurnsWell old (want.Call remembers what) transition new
-      by_comes (ByRefusal still) = still_turn remembers what asks.said transition still (told_next remembers asks.said transition asks.told (still_known asks.said still))
-      by_comes (ByEntry went) = on_turn remembers what asks.said transition went asks.gives (told_next remembers asks.said transition asks.told (went.done Stranger))
+      by_comes : Comes old first_caller (event_of what) (reply_of asks.said) new → TurnsWell opening old (want.Call remembers what) transition new
+      by_comes (ByRefusal still) = still_turn remembers what asks.said transition still (told_next remembers asks.said transition asks.told (still_known old new asks.said still))
+      by_comes (ByEntry went) = on_turn remembers what asks.said transition went keeps asks.gives (told_next remembers asks.said transition asks.told (went.done Stranger))
 
-  reads_turn : (disk disk' : Disk) (access : Access) (ticket : TicketOf) (transition : Transition) → IsComing old ticket → new ≡ old → ReadsIn disk access ticket transition disk' → TurnsWell old (want.Read access ticket) transition new
+  reads_turn : (disk disk' : Disk) (access : Access) (ticket : TicketOf) (transition : Transition) → IsComing old ticket → new ≡ old → ReadsIn disk access ticket transition disk' → TurnsWell opening old (want.Read access ticket) transition new
   reads_turn disk disk' access ticket transition coming same reads =
       same_turn (want.Read access ticket) transition same
       (subst (λ (t : Transition). KeepsAt old (left_of t)) (sym reads.goes) (own reads.answered))
@@ -349,7 +369,7 @@ module _ (old new : Past) (alive : AllLive old.state.page_tables old.state.tasks
       number (Ok done) = ap (λ (t : TicketOf). Some t.number) reads.same
       number (Err fault) = ap (λ (t : TicketOf). Some t.number) reads.same
 
-  writes_turn : (disk disk' : Disk) (on : Resume) (ticket : TicketOf) (transition : Transition) → IsGoing old ticket → new ≡ old → WritesOut disk on ticket transition disk' → TurnsWell old (want.Write on ticket) transition new
+  writes_turn : (disk disk' : Disk) (on : Resume) (ticket : TicketOf) (transition : Transition) → IsGoing old ticket → new ≡ old → WritesOut disk on ticket transition disk' → TurnsWell opening old (want.Write on ticket) transition new
   writes_turn disk disk' on ticket transition going same writes =
       same_turn (want.Write on ticket) transition same
       (subst (λ (t : Transition). KeepsAt old (left_of t)) (sym writes.goes) (own writes.answered))
@@ -364,14 +384,14 @@ module _ (old new : Past) (alive : AllLive old.state.page_tables old.state.tasks
       number (Ok done) = refl
       number (Err fault) = refl
 
-  ends_turn : (said : Answer) (transition : Transition) → Fine said → new ≡ old → transition ≡ Ends said → TurnsWell old (want.End said) transition new
+  ends_turn : (said : Answer) (transition : Transition) → Fine said → new ≡ old → transition ≡ Ends said → TurnsWell opening old (want.End said) transition new
   ends_turn said transition fine same ends =
       same_turn (want.End said) transition same
       (subst (λ (t : Transition). KeepsAt old (left_of t)) (sym ends) tt)
       (λ n e. never_some (number_at (left_of transition)) (ap (λ (t : Transition). number_at (left_of t)) ends) e)
       (subst (λ (t : Transition). FineOutcome (outcome_of t)) (sym ends) fine)
 
-  pub want_turn : (disk disk' : Disk) (want : Want) (transition : Transition) → FineWant want → KeepsWanted old want → WantTurn first_caller old disk want transition new disk' → TurnsWell old want transition new
+  pub want_turn : (disk disk' : Disk) (want : Want) (transition : Transition) → FineWant want → KeepsWanted old want → WantTurn first_caller old disk want transition new disk' → TurnsWell opening old want transition new
   want_turn disk disk' (want.Call remembers what) transition fine keeps turn = asks_turn remembers what transition keeps turn.0
   want_turn disk disk' (want.Read access ticket) transition fine keeps turn = reads_turn disk disk' access ticket transition keeps turn.1 turn.0
   want_turn disk disk' (want.Write on ticket) transition fine keeps turn = writes_turn disk disk' on ticket transition keeps turn.1 turn.0
@@ -406,52 +426,52 @@ seats_apart who what seats own apart a b n e f =
           ]
     ]
 
-pub tickets_rest : (w : World) (who : Actor) (what : Activity) → is_idle what ≡ true → Tickets w → Tickets (record w { seats = with_activity who what w.seats })
-tickets_rest w who what idle h =
+pub tickets_rest : (opening : Opening) (w : World) (who : Actor) (what : Activity) → is_idle what ≡ true → Tickets opening w → Tickets opening (record w { seats = with_activity who what w.seats })
+tickets_rest opening w who what idle h =
     record {
       first = h.first;
-      live = h.live;
+      legal = h.legal;
       keeps = seats_all (KeepsAt w.past) who what w.seats (at_none w.past what (idle_none what idle)) (λ a differs. h.keeps a);
       apart = seats_apart who what w.seats (λ a n differs e f. never_some (number_at what) (idle_none what idle) e) h.apart;
     }
 
 -- the actor's own ticket, and that no other has it
-pub own_keeps : (w : World) (who : Actor) (now : Stage) → IsAt w who now → Tickets w → KeepsWanted w.past (wants_at w.past now)
-own_keeps w who now at h = wanted_alike w.past (wants_at w.past now) (in_hand now) (wants_alike w.past now) (held at)
+pub own_keeps : (opening : Opening) (w : World) (who : Actor) (now : Stage) → IsAt w who now → Tickets opening w → KeepsWanted w.past (wants_at w.past now)
+own_keeps opening w who now at h = wanted_alike w.past (wants_at w.past now) (in_hand now) (wants_alike w.past now) (held at)
   where
     held : IsAt w who now → KeepsWanted w.past (in_hand now)
     held (inl is) = subst (λ (at : Activity). KeepsAt w.past at) is (h.keeps who)
     held (inr none) = wanted_none w.past (in_hand now) none
 
-pub others_differ : (w : World) (who : Actor) (now : Stage) → IsAt w who now → Tickets w → (a : Actor) → (number_of a ≡ number_of who → ⊥) → (n : ℕ) → number_at (activity_of a w.seats) ≡ Some n
+pub others_differ : (opening : Opening) (w : World) (who : Actor) (now : Stage) → IsAt w who now → Tickets opening w → (a : Actor) → (number_of a ≡ number_of who → ⊥) → (n : ℕ) → number_at (activity_of a w.seats) ≡ Some n
     → number_wanted (wants_at w.past now) ≡ Some n → ⊥
-others_differ w who now at h a differs n e f = differ at (sym (wanted_in_hand w.past now) ∙ f)
+others_differ opening w who now at h a differs n e f = differ at (sym (wanted_in_hand w.past now) ∙ f)
   where
     differ : IsAt w who now → number_wanted (in_hand now) ≡ Some n → ⊥
     differ (inl is) g = differs (h.apart a who n e (ap number_at is ∙ g))
     differ (inr none) g = never_some (number_wanted (in_hand now)) none g
 
 -- it is the first caller's turn
-pub first_turns : (old new : World) (who : Actor) (now : Stage) (outcome : Outcome) (turn : StageTurn old who now outcome new) → Tickets old
+pub first_turns : (opening : Opening) (old new : World) (who : Actor) (now : Stage) (outcome : Outcome) (turn : StageTurn old who now outcome new) → Tickets opening old
     → WantTurn first_caller old.past old.disk (wants_at old.past now) turn.transition new.past new.disk
-first_turns old new who now outcome turn h = subst (λ (caller : Caller). WantTurn caller old.past old.disk (wants_at old.past now) turn.transition new.past new.disk) h.first turn.turns
+first_turns opening old new who now outcome turn h = subst (λ (caller : Caller). WantTurn caller old.past old.disk (wants_at old.past now) turn.transition new.past new.disk) h.first turn.turns
 
-pub turns_well : (old new : World) (who : Actor) (now : Stage) (outcome : Outcome) → IsAt old who now → (turn : StageTurn old who now outcome new) → Tickets old → TurnsWell old.past (wants_at old.past now) turn.transition new.past
-turns_well old new who now outcome at turn h = want_turn old.past new.past h.live old.disk new.disk (wants_at old.past now) turn.transition (wants_fine old.past now) (own_keeps old who now at h) (first_turns old new who now outcome turn h)
+pub turns_well : (opening : Opening) (old new : World) (who : Actor) (now : Stage) (outcome : Outcome) → IsAt old who now → (turn : StageTurn old who now outcome new) → Tickets opening old → TurnsWell opening old.past (wants_at old.past now) turn.transition new.past
+turns_well opening old new who now outcome at turn h = want_turn opening old.past new.past h.legal old.disk new.disk (wants_at old.past now) turn.transition (wants_fine old.past now) (own_keeps opening old who now at h) (first_turns opening old new who now outcome turn h)
 
-pub tickets_turn : (old new : World) (who : Actor) (now : Stage) (outcome : Outcome) → IsAt old who now → StageTurn old who now outcome new → Tickets old → Tickets new × FineOutcome outcome
-tickets_turn old new who now outcome at turn h =
-    let well = turns_well old new who now outcome at turn h in (
+pub tickets_turn : (opening : Opening) (old new : World) (who : Actor) (now : Stage) (outcome : Outcome) → IsAt old who now → StageTurn old who now outcome new → Tickets opening old → Tickets opening new × FineOutcome outcome
+tickets_turn opening old new who now outcome at turn h =
+    let well = turns_well opening old new who now outcome at turn h in (
       record {
         first = turn.same ∙ h.first;
-        live = well.live;
+        legal = well.legal;
         keeps = subst (λ (ss : List Seat). (a : Actor) → KeepsAt new.past (activity_of a ss)) (sym turn.leaves)
-            (seats_all (KeepsAt new.past) who (left_of turn.transition) old.seats well.own (λ a differs. well.others (activity_of a old.seats) (others_differ old who now at h a differs) (h.keeps a)));
+            (seats_all (KeepsAt new.past) who (left_of turn.transition) old.seats well.own (λ a differs. well.others (activity_of a old.seats) (others_differ opening old who now at h a differs) (h.keeps a)));
         apart = subst (λ (ss : List Seat). (a b : Actor) (n : ℕ) → number_at (activity_of a ss) ≡ Some n → number_at (activity_of b ss) ≡ Some n → number_of a ≡ number_of b) (sym turn.leaves)
             (seats_apart who (left_of turn.transition) old.seats
             (λ a n differs e f.
             elim (well.number n e) [
-              | inl wanted ↦ others_differ old who now at h a differs n f wanted
+              | inl wanted ↦ others_differ opening old who now at h a differs n f wanted
               | inr fresh ↦ fresh (activity_of a old.seats) (h.keeps a) f
             ])
             h.apart);
@@ -459,5 +479,5 @@ tickets_turn old new who now outcome at turn h =
       subst FineOutcome (sym turn.shows) well.fine,
     )
 
-pub tickets_first : (config : Config) (disk : Disk) → Tickets (first_world config disk)
-tickets_first config disk = record { first = refl; live = λ t v p e. cc; keeps = λ a. tt; apart = λ a b n e f. cc }
+pub tickets_first : (config : Config) (disk : Disk) → Tickets (opening_of config) (first_world config disk)
+tickets_first config disk = record { first = refl; legal = refl; keeps = λ a. tt; apart = λ a b n e f. cc }

@@ -45,26 +45,26 @@ empty = record {
 }
 
 -- no page on a list, and none marked
-abbrev lists : HeldLists
+abbrev pub lists : HeldLists
 lists = record { groups = new_gens ∷ new_gens ∷ []; marks = false ∷ false ∷ [] }
 
-abbrev order : Order
+abbrev pub order : Order
 order = record { held = lists; cursors = None ∷ None ∷ [] }
 
-abbrev caller : Caller
+abbrev pub caller : Caller
 caller = record { worker = 0 }
 
 abbrev opened : Past
 opened = record { state = empty; history = []; order = order; passes = 1 }
 
 -- the past after an event that was answered so: its entry, and this state
-abbrev after : Past → Plain_event → Plain_reply → State → Past
+abbrev pub after : Past → Plain_event → Plain_reply → State → Past
 after old what said new = record { state = new; history = entries_of caller old.history what said ++ old.history; order = order; passes = 1 }
 
 abbrev set_max : Command
 set_max = command.Set (codes "/r") (codes "memory.max") (codes "4096")
 
-abbrev disk : Disk
+abbrev pub disk : Disk
 disk = record { contents = []; failures = 0; fault_limit = 0 }
 
 -- the shell is at this, and nobody else has a command

@@ -29,7 +29,7 @@ use Rattle.book.specs.declared.event.Event.{Event}
 use Rattle.book.specs.declared.event.Event.TheVariants as event
 use Rattle.book.specs.declared.event.Reply.{Reply}
 use Rattle.book.specs.declared.event.Reply.TheVariants as reply
-use Rattle.book.specs.Replies.{Replies, IsAccessReply, IsReliefReply, IsReclaimReply, IsOkReply, IsExitReply, IsShownReply, IsInReply, IsOutReply}
+use Rattle.book.specs.Replies.{Replies, IsAccessReply, IsReliefReply, IsReclaimReply, IsOkReply, IsTaskReply, IsShownReply, IsInReply, IsOutReply}
 use Rattle.driver.specs.declared.turn.Access.{Access}
 use Rattle.driver.specs.declared.turn.Resume.{Resume}
 use Rattle.driver.specs.declared.turn.Resume.TheVariants as resume
@@ -74,7 +74,10 @@ wants marks free (stage.Reclaim g left) = wants_pages g.0 left
 wants marks free stage.Watch = wants_watch marks free
 wants marks free stage.Balance = wants_balance marks free
 wants marks free (stage.Spawn t g) = want.Call pending.Make (event.Spawn t g)
-wants marks free (stage.Exit t) = want.Call pending.Exit (event.Exit t)
+wants marks free (stage.Fork t child) = want.Call pending.OfTask (event.Fork t child)
+wants marks free (stage.Exit t) = want.Call pending.OfTask (event.Exit t)
+wants marks free (stage.Free t v) = want.Call pending.OfTask (event.Free t v)
+wants marks free (stage.Attach t g) = want.Call pending.Make (event.Attach t g)
 wants marks free (stage.Mkdir path) = want.Call pending.Make (event.Mkdir path)
 wants marks free (stage.Show what) = want.Call pending.Show (event.Show what)
 wants marks free (stage.Read access ticket) = want.Read access ticket
@@ -150,18 +153,18 @@ Balanced reply.Nothing transition = transition ≡ Ends answer.Done
 Balanced (reply.Refused why) transition = transition ≡ ends_refused why
 Balanced said transition = ⊥
 
--- a task or a group is made or a min is set, and a file is shown
+-- a task or a group is made, a task is moved, or a min is set
 abbrev pub Made : Reply → Transition → Type 0
 Made reply.Ok transition = transition ≡ Ends answer.Done
 Made (reply.Refused why) transition = transition ≡ ends_refused why
 Made said transition = ⊥
 
--- a task has ended, or was killed before
-abbrev pub Ended : Reply → Transition → Type 0
-Ended reply.Ok transition = transition ≡ Ends answer.Done
-Ended reply.Killed transition = transition ≡ ends_with word.Killed
-Ended (reply.Refused why) transition = transition ≡ ends_refused why
-Ended said transition = ⊥
+-- a task has forked, freed a page or ended; or it was killed before
+abbrev pub TaskDid : Reply → Transition → Type 0
+TaskDid reply.Ok transition = transition ≡ Ends answer.Done
+TaskDid reply.Killed transition = transition ≡ ends_with word.Killed
+TaskDid (reply.Refused why) transition = transition ≡ ends_refused why
+TaskDid said transition = ⊥
 
 abbrev pub WasShown : Reply → Transition → Type 0
 WasShown (reply.Shown numbers) transition = transition ≡ Ends (answer.Text (text_of numbers))
@@ -190,7 +193,7 @@ Told (pending.Lower g) said transition = Lowered g.0 said transition
 Told (pending.Reclaim g left) said transition = Reclaimed g.0 left said transition
 Told pending.Balance said transition = Balanced said transition
 Told pending.Make said transition = Made said transition
-Told pending.Exit said transition = Ended said transition
+Told pending.OfTask said transition = TaskDid said transition
 Told pending.Show said transition = WasShown said transition
 Told (pending.Arrive access) said transition = Closed (Goes (stage.Try access)) said transition
 Told pending.FetchFail said transition = Closed (ends_with word.Io) said transition
@@ -206,7 +209,7 @@ Awaits (pending.Lower g) said = IsReliefReply said
 Awaits (pending.Reclaim g left) said = IsReclaimReply said
 Awaits pending.Balance said = IsReclaimReply said
 Awaits pending.Make said = IsOkReply said
-Awaits pending.Exit said = IsExitReply said
+Awaits pending.OfTask said = IsTaskReply said
 Awaits pending.Show said = IsShownReply said
 Awaits (pending.Arrive access) said = IsInReply said
 Awaits pending.FetchFail said = IsInReply said
@@ -287,15 +290,20 @@ writes_file g text file.Reclaim = with_amount (amount_of text) (reclaims g)
 
 abbrev pub task_judged : ℕ → Command → Judged
 task_judged t (command.Access place op) = Ok (stage.Try (record { task = record { 0 = t }; place = place; op = op }))
+task_judged t (command.Fork child) = Ok (stage.Fork (record { 0 = t }) (record { 0 = child }))
+task_judged t (command.Free page) = Ok (stage.Free (record { 0 = t }) page)
 task_judged t command.Exit = Ok (stage.Exit (record { 0 = t }))
 task_judged t others = Err Invalid
 
 abbrev pub shell_judged : List Node → Command → Judged
 shell_judged tree (command.Access place op) = Err Invalid
+shell_judged tree (command.Fork child) = Err Invalid
+shell_judged tree (command.Free page) = Err Invalid
 shell_judged tree command.Exit = Err Invalid
 shell_judged tree command.Daemon = Err Invalid
 shell_judged tree (command.Group path) = Ok (stage.Mkdir path)
 shell_judged tree (command.Task t path) = with_group (find_group tree path) (λ g. Ok (stage.Spawn (record { 0 = t }) (record { 0 = g })))
+shell_judged tree (command.Attach t path) = with_group (find_group tree path) (λ g. Ok (stage.Attach (record { 0 = t }) (record { 0 = g })))
 shell_judged tree (command.Set path name text) = with_group (find_group tree path) (λ g. with_file g (file_named name) (writes_file g text))
 shell_judged tree (command.Cat path name) = with_group (find_group tree path) (λ g. with_file g (file_named name) (reads_file g))
 shell_judged tree (command.Protection target path) =

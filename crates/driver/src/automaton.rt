@@ -3,8 +3,8 @@
 //! this one.
 
 ghost use Rattle.std.specs.Prelude.{◌≡◌, true, IfOk, IfErr};
-ghost use Rattle.book.specs.Replies.{IsAccessReply, IsReliefReply, IsReclaimReply, IsOkReply, IsExitReply, IsShownReply, IsInReply, IsOutReply};
-ghost use Rattle.driver.specs.Turns.{access_event, wants_pages, wants_balance, wants_watch, wants, ends_with, ends_refused, byte_answer, resumes_at, Tried, MadeRoom, MaxSet, Lowered, Reclaimed, Balanced, Made, Ended, WasShown, Closed, Told, Awaits, AwaitsAll};
+ghost use Rattle.book.specs.Replies.{IsAccessReply, IsReliefReply, IsReclaimReply, IsOkReply, IsTaskReply, IsShownReply, IsInReply, IsOutReply};
+ghost use Rattle.driver.specs.Turns.{access_event, wants_pages, wants_balance, wants_watch, wants, ends_with, ends_refused, byte_answer, resumes_at, Tried, MadeRoom, MaxSet, Lowered, Reclaimed, Balanced, Made, TaskDid, WasShown, Closed, Told, Awaits, AwaitsAll};
 ghost use Rattle.driver.specs.Tickets.{IsHanded, IsSpendableReply};
 
 use crate::turn::{Access, Pending, Resume, Stage, Transition, Want};
@@ -51,7 +51,10 @@ pub fn ask(stage: Stage, marks: Watermarks, free: u32) -> Want
         Stage::Watch => watch(marks, free),
         Stage::Balance => balance(marks, free),
         Stage::Spawn { task, group } => Want::Call(Pending::Make, Event::Spawn { task, group }),
-        Stage::Exit(task) => Want::Call(Pending::Exit, Event::Exit(task)),
+        Stage::Fork { task, child } => Want::Call(Pending::OfTask, Event::Fork { task, child }),
+        Stage::Exit(task) => Want::Call(Pending::OfTask, Event::Exit(task)),
+        Stage::Free { task, page } => Want::Call(Pending::OfTask, Event::Free { task, page }),
+        Stage::Attach { task, group } => Want::Call(Pending::Make, Event::Attach { task, group }),
         Stage::Mkdir(path) => Want::Call(Pending::Make, Event::Mkdir(path)),
         Stage::Show(query) => Want::Call(Pending::Show, Event::Show(query)),
         Stage::Read(access, ticket) => Want::Read(access, ticket),
@@ -126,7 +129,7 @@ pub fn told(alloc: Global, pending: Pending, reply: Reply) -> Result<Transition,
         Pending::Reclaim { group, left } => Ok(reclaimed(group, left, reply)),
         Pending::Balance => Ok(balanced(reply)),
         Pending::Make => Ok(made(reply)),
-        Pending::Exit => Ok(ended(reply)),
+        Pending::OfTask => Ok(task_did(reply)),
         Pending::Show => shown(alloc, reply),
         Pending::Arrive(access) => Ok(arrived(access, reply)),
         Pending::FetchFail => Ok(fetch_failed(reply)),
@@ -278,9 +281,9 @@ fn made(reply: Reply) -> Transition
     }
 }
 
-fn ended(reply: Reply) -> Transition
-    requires { IsExitReply reply }
-    ensures { Ended reply result }
+fn task_did(reply: Reply) -> Transition
+    requires { IsTaskReply reply }
+    ensures { TaskDid reply result }
 {
     match reply {
         Reply::Ok => Transition::Ends(Answer::Done),

@@ -94,7 +94,9 @@ fn give_up_stage(book: &mut Book, pass: &mut Pass, stage: Stage)
         Stage::Try(_) | Stage::MakeRoom(_, _) | Stage::SetMax { group: _, max: _ } => {}
         Stage::Lower(_) | Stage::SetMin { group: _, min: _ } => {}
         Stage::Reclaim { group: _, left: _ } | Stage::Watch | Stage::Balance => {}
-        Stage::Spawn { task: _, group: _ } | Stage::Exit(_) => {}
+        Stage::Spawn { task: _, group: _ } | Stage::Fork { task: _, child: _ } => {}
+        Stage::Exit(_) | Stage::Free { task: _, page: _ } => {}
+        Stage::Attach { task: _, group: _ } => {}
         Stage::Mkdir(_) | Stage::Show(_) => {}
     }
 }

@@ -37,6 +37,14 @@ fn judge_task(task: u32, command: Command) -> Result<Stage, Refusal>
             place,
             op,
         })),
+        Command::Fork { child } => Ok(Stage::Fork {
+            task: TaskId(task),
+            child: TaskId(child),
+        }),
+        Command::Free { page } => Ok(Stage::Free {
+            task: TaskId(task),
+            page,
+        }),
         Command::Exit => Ok(Stage::Exit(TaskId(task))),
         _ => Err(Refusal::Invalid),
     }
@@ -56,9 +64,13 @@ fn judge_shell(book: &Book, pass: &mut Pass, command: Command) -> Result<Stage, 
     ensures pass { pass.new.worker ≡ pass.old.worker }
 {
     match command {
-        Command::Access { .. } | Command::Exit | Command::Daemon => Err(Refusal::Invalid),
+        Command::Access { .. } | Command::Fork { .. } | Command::Free { .. } => {
+            Err(Refusal::Invalid)
+        }
+        Command::Exit | Command::Daemon => Err(Refusal::Invalid),
         Command::Group(path) => Ok(Stage::Mkdir(path)),
         Command::Task { task, path } => judge_spawn(book.find(pass, path.as_str()), task),
+        Command::Attach { task, path } => judge_attach(book.find(pass, path.as_str()), task),
         Command::Set { path, file, text } => judge_set(
             book.find(pass, path.as_str()),
             file.as_str(),
@@ -78,6 +90,18 @@ fn judge_spawn(group: Option<GroupId>, task: u32) -> Result<Stage, Refusal>
     match group {
         None => Err(Refusal::NoEntry),
         Some(group) => Ok(Stage::Spawn {
+            task: TaskId(task),
+            group,
+        }),
+    }
+}
+
+fn judge_attach(group: Option<GroupId>, task: u32) -> Result<Stage, Refusal>
+    ensures { result ≡ with_group (option_map (λ g. g.0) group) (λ g. Ok (Stage.Attach (record { 0 = task }) (record { 0 = g }))) }
+{
+    match group {
+        None => Err(Refusal::NoEntry),
+        Some(group) => Ok(Stage::Attach {
             task: TaskId(task),
             group,
         }),

@@ -49,7 +49,10 @@ pub enum Stage {
     /// The daemon takes pages (kernel: balance_pgdat).
     Balance,
     Spawn { task: TaskId, group: GroupId },
+    Fork { task: TaskId, child: TaskId },
     Exit(TaskId),
+    Free { task: TaskId, page: u32 },
+    Attach { task: TaskId, group: GroupId },
     Mkdir(Text),
     Show(Query),
     /// The ticket's block is read, for the access.
@@ -77,10 +80,10 @@ pub enum Pending {
     Reclaim { group: GroupId, left: u64 },
     /// A page is taken for the daemon.
     Balance,
-    /// A task or a group is made, or a min is set.
+    /// A task or a group is made, a task is moved, or a min is set.
     Make,
-    /// A task ends by itself.
-    Exit,
+    /// A task forks, frees a page or ends by itself.
+    OfTask,
     /// A control file is shown.
     Show,
     Arrive(Access),
