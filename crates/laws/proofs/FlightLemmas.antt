@@ -208,15 +208,15 @@ module _ (old new : State) where
       by_residence (Going frame block ticket) held k = absurd k
       by_residence (Away block) held k = absurd k
 
-  -- the pages in transfer stay when a task ends
-  task_ends : (what : Event) (answer : Reply) (t : ℕ) (life : Life) (counted : List Counted) → ends_transfer what ≡ false → begins_transfer answer ≡ false → EndsTask old t life counted new → Flies old what answer new
-  task_ends what answer t ended_as counted other none h =
-      let fewer = count-less is_in_transfer old.pages new.pages (λ n e. still_passes new.page_tables n is_in_transfer (page_at old.pages n) (sym (ap (there_and is_in_transfer) (h.pages n)) ∙ e)) in
-      let more = count-less is_in_transfer new.pages old.pages (λ n e. ap (there_and is_in_transfer) (h.pages n) ∙ still_flies new.page_tables n (page_at old.pages n) e) in
+  -- the pages in transfer stay where others go that nothing maps any more
+  pages_still : (what : Event) (answer : Reply) → ends_transfer what ≡ false → begins_transfer answer ≡ false → ((p : ℕ) → page_at new.pages p ≡ still new.page_tables p (page_at old.pages p)) → Flies old what answer new
+  pages_still what answer other none pages =
+      let fewer = count-less is_in_transfer old.pages new.pages (λ n e. still_passes new.page_tables n is_in_transfer (page_at old.pages n) (sym (ap (there_and is_in_transfer) (pages n)) ∙ e)) in
+      let more = count-less is_in_transfer new.pages old.pages (λ n e. ap (there_and is_in_transfer) (pages n) ∙ still_flies new.page_tables n (page_at old.pages n) e) in
       quiet what answer other none (omega (arith, fewer, more))
 
   kills : (why : Cause) (limit : ℕ) (answer : Reply) → KillStep old limit answer new → Flies old (event.Relieve why) answer new
-  kills why limit (reply.KilledTask t) h = task_ends (event.Relieve why) (reply.KilledTask t) t.0 Killed _ refl refl h.1
+  kills why limit (reply.KilledTask t) h = pages_still (event.Relieve why) (reply.KilledTask t) refl refl h.1.pages
   kills why limit reply.NoVictim h = same_pages (event.Relieve why) reply.NoVictim refl refl (ap (λ (s : State). s.pages) h.1)
   kills why limit answer h = absurd h
 
@@ -237,14 +237,16 @@ module _ (old new : State) where
           reclaims (event.Relieve why) (target_of why) _ answer refl (λ some. ap (λ b. if b && has_takeable old (target_of why) then 2 else 1) is ∙ ap (λ b. if b then 2 else 1) some) (kills why (target_of why) answer) h
       by_standing false is h = same_pages (event.Relieve why) answer refl (ap begins_transfer h.0) (ap (λ (s : State). s.pages) h.1)
 
-  exits : (t : TaskId) (answer : Reply) (slot : Option Task) → TaskStep old slot (λ task. Exits old t.0 answer new) answer new → Flies old (event.Exit t) answer new
-  exits t answer None h = absurd h
-  exits t answer (Some task) h = by_life task.life h
+  -- an event of a task
+  of_task : (what : Event) (answer : Reply) (slot : Option Task) (Live_step : Task → Type 0) → ends_transfer what ≡ false → ((task : Task) → Live_step task → Flies old what answer new) → TaskStep old slot Live_step answer new
+      → Flies old what answer new
+  of_task what answer None Live_step other living h = absurd h
+  of_task what answer (Some task) Live_step other living h = by_life task.life h
     where
-      by_life : (life : Life) → LifeStep old life (Exits old t.0 answer new) answer new → Flies old (event.Exit t) answer new
-      by_life Live k = task_ends (event.Exit t) answer t.0 Exited old.counted refl (ap begins_transfer k.0) k.1
+      by_life : (life : Life) → LifeStep old life (Live_step task) answer new → Flies old what answer new
+      by_life Live k = living task k
       by_life Exited k = absurd k
-      by_life Killed k = same_pages (event.Exit t) answer refl (ap begins_transfer k.0) (ap (λ (s : State). s.pages) k.1)
+      by_life Killed k = same_pages what answer other (ap begins_transfer k.0) (ap (λ (s : State). s.pages) k.1)
 
   -- ---- ends of transfers
 
@@ -258,7 +260,7 @@ module _ (old new : State) where
       let rests : flying (to old.page_tables h.p h.page h.frame h.block) ≡ 0 =
       elim (cases old.page_tables h.p h.page h.frame h.block) [
         | inl none ↦ ap flying none.0
-        | inr some ↦ ap flying some ∙ ap one_if (lands h.frame h.block)
+        | inr some ↦ ap flying some.0 ∙ ap one_if (lands h.frame h.block)
       ] in
       let end : one_if (ends_transfer what) ≡ 1 = ap one_if ends in
       let no_begin : one_if (begins_transfer answer) ≡ 0 = ap (λ a. one_if (begins_transfer a)) h.answers in
@@ -274,7 +276,13 @@ step_flies old new (event.Relieve why) answer h = relieves old new why answer h
 step_flies old new (event.ReclaimOne g) answer h =
     reclaims old new (event.ReclaimOne g) g.0 _ answer refl (λ some. ap (λ b. if b then 2 else 1) some) (λ n. same_pages old new _ answer refl (ap begins_transfer n.0) (ap (λ (s : State). s.pages) n.1)) h
 step_flies old new (event.Spawn t g) reply.Ok h = same_pages old new _ reply.Ok refl refl (ap (λ (s : State). s.pages) h.2)
-step_flies old new (event.Exit t) answer h = exits old new t answer (task_at old.tasks t.0) h
+step_flies old new (event.Fork t child) answer h =
+    of_task old new (event.Fork t child) answer (task_at old.tasks t.0) _ refl (λ task k. same_pages old new (event.Fork t child) answer refl (ap begins_transfer k.0) (ap (λ (s : State). s.pages) k.3)) h
+step_flies old new (event.Exit t) answer h =
+    of_task old new (event.Exit t) answer (task_at old.tasks t.0) _ refl (λ task k. pages_still old new (event.Exit t) answer refl (ap begins_transfer k.0) k.1.pages) h
+step_flies old new (event.Free t v) answer h =
+    of_task old new (event.Free t v) answer (task_at old.tasks t.0) _ refl (λ task k. pages_still old new (event.Free t v) answer refl (ap begins_transfer k.answers) k.pages) h
+step_flies old new (event.Attach t g) reply.Ok h = same_pages old new (event.Attach t g) reply.Ok refl refl (ap (λ (s : State). s.pages) h.1)
 step_flies old new (event.Mkdir path) reply.Ok h = same_pages old new _ reply.Ok refl refl (ap (λ (s : State). s.pages) h)
 step_flies old new (event.Set g what) reply.Ok h = same_pages old new _ reply.Ok refl refl (ap (λ (s : State). s.pages) h)
 step_flies old new (event.Show what) (reply.Shown numbers) h = same_pages old new _ (reply.Shown numbers) refl refl (ap (λ (s : State). s.pages) h.1)

@@ -18,19 +18,18 @@ use Rattle.driver.specs.Schedule.{World, first_world, with_activity, WantTurn, w
 use Rattle.driver.proofs.Keeps.{is_idle, FineOutcome, IsAt, runs_keep}
 use Rattle.driver.proofs.Tickets.{Tickets, tickets_rest, tickets_turn, tickets_first}
 use Rattle.laws.specs.Laws.{HeldPagesAreListed, GenerationsHold, GroupsHaveCursors, HitsMark, PagesLeaveInOrder, MarkedPagesStay}
-use Rattle.laws.proofs.Legals.{IsLegal, legal-want}
+use Rattle.laws.proofs.Legals.{IsLegal}
 use Rattle.laws.proofs.CallLemmas.{IsOrdered, ordered-first, ordered-called, called_marks, called_leaves, called_stays}
 
 -- ---- runs
 
 module _ (opening : Opening) where
   pub record Ordered (w : World) : Type 0 where
-    pub tickets : Tickets w
-    pub legal : IsLegal opening w.past
+    pub tickets : Tickets opening w
     pub order : IsOrdered w.past
 
   ordered_rest : (w : World) (who : Actor) (what : Activity) → is_idle what ≡ true → Ordered w → Ordered (record w { seats = with_activity who what w.seats })
-  ordered_rest w who what idle h = record { tickets = tickets_rest w who what idle h.tickets; legal = h.legal; order = h.order }
+  ordered_rest w who what idle h = record { tickets = tickets_rest opening w who what idle h.tickets; order = h.order }
 
   want_ordered : (caller : Caller) (past past' : Past) (disk disk' : Disk) (wanted : Want) (transition : Transition) → WantTurn caller past disk wanted transition past' disk' → IsLegal opening past' → IsOrdered past → IsOrdered past'
   want_ordered caller past past' disk disk' (want.Call remembers what) transition turn legal h = ordered-called opening past past' caller (event_of what) (reply_of turn.0.said) legal turn.0.called h
@@ -40,12 +39,11 @@ module _ (opening : Opening) where
 
   ordered_turn : (old new : World) (who : Actor) (now : Stage) (outcome : Outcome) → IsAt old who now → StageTurn old who now outcome new → Ordered old → Ordered new × FineOutcome outcome
   ordered_turn old new who now outcome at turn h =
-      let ticketed = tickets_turn old new who now outcome at turn h.tickets in
-      let legal = legal-want opening old.caller old.past new.past old.disk new.disk (wants_at old.past now) turn.transition turn.turns h.legal in
-      (record { tickets = ticketed.0; legal = legal; order = want_ordered old.caller old.past new.past old.disk new.disk (wants_at old.past now) turn.transition turn.turns legal h.order }, ticketed.1)
+      let ticketed = tickets_turn opening old new who now outcome at turn h.tickets in
+      (record { tickets = ticketed.0; order = want_ordered old.caller old.past new.past old.disk new.disk (wants_at old.past now) turn.transition turn.turns ticketed.0.legal h.order }, ticketed.1)
 
 ordered_first : (config : Config) (disk : Disk) → Ordered (opening_of config) (first_world config disk)
-ordered_first config disk = record { tickets = tickets_first config disk; legal = refl; order = ordered-first (opening_of config) }
+ordered_first config disk = record { tickets = tickets_first config disk; order = ordered-first (opening_of config) }
 
 module _ (config : Config) (before : Disk) (lines : List Line) (answers : List Told_by) (end : World) (runs : Runs (first_world config before) lines answers end) where
   runs_ordered : Ordered (opening_of config) end
@@ -67,7 +65,7 @@ groups_have_cursors config before lines answers end runs = (runs_ordered config 
 pub hits_mark : HitsMark
 hits_mark config before lines answers end runs after caller t place op byte frame called =
     let h = runs_ordered config before lines answers end runs in
-    let marks = called_marks (opening_of config) end.past after caller t place op byte frame h.legal h.order called in
+    let marks = called_marks (opening_of config) end.past after caller t place op byte frame h.tickets.legal h.order called in
     (marks.p, marks.shown, marks.marked)
 
 pub pages_leave_in_order : PagesLeaveInOrder

@@ -13,13 +13,14 @@ use Rattle.machine.specs.Slots.{at, there_and, count_there, Changes}
 use Rattle.machine.specs.Tree.{Node, no_node, is_live, under, IsTree}
 use Rattle.machine.specs.Pages.{Residence, Page, Pages, page_at, frame_at, is_some_number, has_frame, is_charged, charged}
 use Rattle.machine.specs.State.{Opening, State, usage}
+use Rattle.machine.specs.Step.{still}
 use Rattle.machine.specs.Legal.{Legal}
 use Rattle.machine.specs.declared.entry.Entry.{Entry}
 use Rattle.machine.proofs.TreeLemmas.{under_at-append}
 use Rattle.machine.proofs.SlotLemmas.{one_if, count_there-changes}
 use Rattle.laws.specs.Laws.{OnlyAccessesCharge, WriteOutsStayCharged}
 use Rattle.machine.proofs.SoundLemmas.{bool_le, count-less, still_passes, legal-sound, legal-fit}
-use Rattle.machine.proofs.Did.{is_access, is_out, Moves, Rests, Comes, Goes, Lands, Lies, Did, Kept, Made, Moved, Dropped, Ended, Spawned, Grown, step_did}
+use Rattle.machine.proofs.Did.{is_access, is_out, Moves, Rests, Comes, Goes, Lands, Lies, Did, Kept, Made, Moved, Dropped, Ended, Spawned, Forked, Freed, Attached, Grown, step_did}
 use Rattle.machine.proofs.Values.{unlike}
 
 -- whoever passes one test passes another
@@ -91,22 +92,30 @@ module _ (before after : State) (a : ℕ) where
   framed what answer page now other (Lands frame out had is) e = ap is_some_number had
   framed what answer page now other (Lies frame block out had on is) e = ap is_some_number had
 
+  -- the pages that nothing maps any more are gone
+  stilled_less : after.tree ≡ before.tree → ((p : ℕ) → page_at after.pages p ≡ still after.page_tables p (page_at before.pages p)) → Less
+  unfolding Less
+  stilled_less tree pages =
+      let same = recounted tree in
+      let fewer = count-less (is_charged before.tree a) before.pages after.pages
+      (λ n e. still_passes after.page_tables n (is_charged before.tree a) (page_at before.pages n) (sym (ap (there_and (is_charged before.tree a)) (pages n)) ∙ e)) in
+      omega (arith, same, fewer)
+
   did_less : (what : Event) (answer : Reply) → is_access what ≡ false → IsTree before.tree → ((p : ℕ) → IfSome (page_at before.pages p) (λ page. is_live before.tree page.group ≡ true)) → Did before what answer after → Less
   unfolding Less
   did_less what answer other falls groups (Kept limits counted e) = let same : usage after a ≡ usage before a = ap (λ (s : State). usage s a) e in omega (arith, same)
-  did_less what answer other falls groups (Made t v p frame access out alive within free unused placed shown e) = unlike (is_access what) access other
-  did_less what answer other falls groups (Moved p page dirty now counted there placed moves e) =
+  did_less what answer other falls groups (Made t v p frame access out alive shared within free unused placed shown e) = unlike (is_access what) access other
+  did_less what answer other falls groups (Moved p page dirty now counted there placed moves mapped e) =
       let one = one_changes p (Some page) _ (ap (λ (s : State). s.tree) e) there placed in
       let less : one_if (is_some_number (frame_at now) && under before.tree a page.group) ≤ one_if (is_charged before.tree a page) =
       bool_le _ _ (λ is. let both = and_parts (is_some_number (frame_at now)) (under before.tree a page.group) is in rw (framed what answer page now other moves both.0, both.1) refl) in
       omega (arith, one, less)
   did_less what answer other falls groups (Dropped p page counted out there may_go gone e) = let one = one_changes p (Some page) None (ap (λ (s : State). s.tree) e) there gone in omega (arith, one)
-  did_less what answer other falls groups (Ended t ending counted out dead ends) =
-      let same = recounted (ap (λ (s : State). s.tree) ends.state) in
-      let fewer = count-less (is_charged before.tree a) before.pages after.pages
-      (λ n e. still_passes after.page_tables n (is_charged before.tree a) (page_at before.pages n) (sym (ap (there_and (is_charged before.tree a)) (ends.pages n)) ∙ e)) in
-      omega (arith, same, fewer)
+  did_less what answer other falls groups (Ended t ending counted out dead ends) = stilled_less (ap (λ (s : State). s.tree) ends.state) ends.pages
   did_less what answer other falls groups (Spawned t g is sets shown e) = let same : usage after a ≡ usage before a = ap (λ (s : State). usage s a) e in omega (arith, same)
+  did_less what answer other falls groups (Forked t child is out alive sets copies e) = let same : usage after a ≡ usage before a = ap (λ (s : State). usage s a) e in omega (arith, same)
+  did_less what answer other falls groups (Freed t v is out alive frees) = stilled_less (ap (λ (s : State). s.tree) frees.state) frees.pages
+  did_less what answer other falls groups (Attached t g is out sets e) = let same : usage after a ≡ usage before a = ap (λ (s : State). usage s a) e in omega (arith, same)
   did_less what answer other falls groups (Grown path is out e) = made_less _ _ falls groups e
 
   -- a page has a frame when it begins to be written out, and had one before
@@ -120,8 +129,8 @@ module _ (before after : State) (a : ℕ) where
   did_keep : (what : Event) (answer : Reply) → is_out answer ≡ true → Did before what answer after → Kept_so
   unfolding Kept_so
   did_keep what answer out (Kept limits counted e) = ap (λ (s : State). usage s a) e
-  did_keep what answer out (Made t v p frame access other alive within free unused placed shown e) = unlike (is_out answer) out other
-  did_keep what answer out (Moved p page dirty now counted there placed moves e) =
+  did_keep what answer out (Made t v p frame access other alive shared within free unused placed shown e) = unlike (is_out answer) out other
+  did_keep what answer out (Moved p page dirty now counted there placed moves mapped e) =
       let one = one_changes p (Some page) _ (ap (λ (s : State). s.tree) e) there placed in
       let same : one_if (is_some_number (frame_at now) && under before.tree a page.group) ≡ one_if (is_charged before.tree a page) =
       ap (λ o. one_if (is_some_number o && under before.tree a page.group)) (framed_still what answer page now out moves) in
@@ -129,6 +138,9 @@ module _ (before after : State) (a : ℕ) where
   did_keep what answer out (Dropped p page counted other there may_go gone e) = unlike (is_out answer) out other
   did_keep what answer out (Ended t ending counted other dead ends) = unlike (is_out answer) out other
   did_keep what answer out (Spawned t g is sets shown e) = ap (λ (s : State). usage s a) e
+  did_keep what answer out (Forked t child is other alive sets copies e) = unlike (is_out answer) out other
+  did_keep what answer out (Freed t v is other alive frees) = unlike (is_out answer) out other
+  did_keep what answer out (Attached t g is other sets e) = unlike (is_out answer) out other
   did_keep what answer out (Grown path is other e) = unlike (is_out answer) out other
 
 pub write_outs_stay_charged : WriteOutsStayCharged

@@ -37,7 +37,7 @@ use Rattle.machine.specs.Victim.{is_candidate}
 use Rattle.machine.specs.Step.{Step}
 use Rattle.machine.specs.Call.{Past, Caller, Called, AreAlike}
 use Rattle.machine.specs.Legal.{Legal}
-use Rattle.machine.specs.History.{at_first, Right, IsRight, Honest}
+use Rattle.machine.specs.History.{Spot, InTask, at_first, last, Right, IsRight, Honest}
 use Rattle.machine.specs.declared.command.Answer.TheVariants as answer
 use Rattle.machine.specs.declared.command.Word.TheVariants as word
 use Rattle.machine.specs.declared.refusal.Refusal.TheVariants.{Stranger, NoMemory}
@@ -277,6 +277,41 @@ PagesAreMemory =
 abbrev pub MappingsShowPages : Type 0
 MappingsShowPages =
     (opening : Opening) (history : List Entry) (s : State) → Legal opening history s → (t v p : ℕ) → mapped_at s.page_tables t v ≡ Some p → (page : Page) × (page_at s.pages p ≡ Some page)
+
+-- each page that is in no transfer is shown by a virtual page of a live task. (Excludes a page that outlives its last mapper, which nobody could give back.)
+abbrev pub MemoryWithoutAMappingIsGone : Type 0
+MemoryWithoutAMappingIsGone =
+    (opening : Opening) (history : List Entry) (s : State) → Legal opening history s → (p : ℕ) (page : Page) → page_at s.pages p ≡ Some page → is_in_transfer page ≡ false
+    → (t : ℕ) × (v : ℕ) × (lives s.tasks t ≡ true) × (mapped_at s.page_tables t v ≡ Some p)
+
+-- two virtual pages that show one page have one last write at each offset, whatever bytes were at first. (Excludes a write that one of them sees and the other does not, and a
+-- shared page that is written in place.)
+abbrev pub SharedBytesAgree : Type 0
+SharedBytesAgree =
+    (opening : Opening) (first : Spot → ℕ) (history : List Entry) (s : State) → Legal opening history s
+    → (t v u w p o : ℕ) → mapped_at s.page_tables t v ≡ Some p → mapped_at s.page_tables u w ≡ Some p → last first history (InTask t v o) ≡ last first history (InTask u w o)
+
+-- a new live task of its parent's group shows what its parent showed, in transfer and in swap too, and has its parent's bytes. No page comes, goes or changes, and no group's count does
+pub record IsChild (before : State) (earlier : List Entry) (t child : ℕ) (entry : Entry) (after : State) : Type 0 where
+  pub lives : lives after.tasks child ≡ true
+  pub group : group_of_task after.tasks child ≡ group_of_task before.tasks t
+  pub shows : (v : ℕ) → mapped_at after.page_tables child v ≡ mapped_at before.page_tables t v
+  pub others : (u v : ℕ) → u ≢ child → mapped_at after.page_tables u v ≡ mapped_at before.page_tables u v
+  pub bytes : (first : Spot → ℕ) (v o : ℕ) → last first (entry ∷ earlier) (InTask child v o) ≡ last first earlier (InTask t v o)
+  pub pages : after.pages ≡ before.pages
+  pub usage : (a : ℕ) → usage after a ≡ usage before a
+
+-- so it is after a fork. (Excludes a child that begins in the root, one that shares held pages alone, and one that is charged for what it shares.)
+abbrev pub ForksShare : Type 0
+ForksShare =
+    (before after : State) (earlier : List Entry) (t child : TaskId) (entry : Entry) → entry.event ≡ event.Fork t child → entry.reply ≡ reply.Ok → Step before entry.event entry.reply after
+    → IsChild before earlier t.0 child.0 entry after
+
+-- a task that moves is in its new group; no page changes, and no group's count does. (Excludes a move that takes charges along.)
+abbrev pub MovesTakeNoCharge : Type 0
+MovesTakeNoCharge =
+    (before after : State) (t : TaskId) (g : GroupId) (answer : Reply) → Step before (event.Attach t g) answer after
+    → (group_of_task after.tasks t.0 ≡ g.0) × (after.pages ≡ before.pages) × ((a : ℕ) → usage after a ≡ usage before a)
 
 -- the entries, and those kept for the ends of the transfers in flight, are within the trace's limit. (Excludes an end of a transfer that finds no room.)
 abbrev pub TraceHasRoom : Type 0

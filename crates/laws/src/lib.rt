@@ -2,7 +2,7 @@
 //! a function that does nothing.
 #![tactic(auto)]
 
-ghost use Rattle.laws.specs.Laws.{RunsAreLegal, RunsAreHonest, NoStrangers, ErrorsAreFailures, CurrentCountsPages, EventsAreThoseCounted, ChargesStayWithinMax, OnlyAccessesCharge, KillsComeLast, ReadsGiveLastWrites, PagesShareNoFrame, PagesShareNoBlock, BlocksAreThere, PagesShareNoTicket, PagesAreMemory, MappingsShowPages, TraceHasRoom, TransfersAreBegunLessEnded, TransfersStayCharged, RepliesAreSettled, OrdersAreSettled, WriteOutsStayCharged, ReclaimsSpareTheProtected, ReclaimsGiveUpLast, ReclaimsKillNobody, HeldPagesAreListed, GenerationsHold, GroupsHaveCursors, HeldPagesGoOn, OnlyTakesAge, HitsMark, OnlyHitsMark, PagesLeaveInOrder, MarkedPagesStay, GroupsAreThere};
+ghost use Rattle.laws.specs.Laws.{RunsAreLegal, RunsAreHonest, NoStrangers, ErrorsAreFailures, CurrentCountsPages, EventsAreThoseCounted, ChargesStayWithinMax, OnlyAccessesCharge, KillsComeLast, ReadsGiveLastWrites, PagesShareNoFrame, PagesShareNoBlock, BlocksAreThere, PagesShareNoTicket, PagesAreMemory, MappingsShowPages, MemoryWithoutAMappingIsGone, SharedBytesAgree, ForksShare, MovesTakeNoCharge, TraceHasRoom, TransfersAreBegunLessEnded, TransfersStayCharged, RepliesAreSettled, OrdersAreSettled, WriteOutsStayCharged, ReclaimsSpareTheProtected, ReclaimsGiveUpLast, ReclaimsKillNobody, HeldPagesAreListed, GenerationsHold, GroupsHaveCursors, HeldPagesGoOn, OnlyTakesAge, HitsMark, OnlyHitsMark, PagesLeaveInOrder, MarkedPagesStay, GroupsAreThere};
 
 /// The history of every run leads from the opening to the run's state, one step of the plain machine
 /// an entry.
@@ -173,6 +173,29 @@ pub fn pages_are_memory()
 /// there.
 pub fn mappings_show_pages()
     ensures { MappingsShowPages }
+{}
+
+/// Whatever state a run's history leads to, each page that is in no transfer is shown by a virtual page
+/// of a live task: a page goes with its last mapper.
+pub fn memory_without_a_mapping_is_gone()
+    ensures { MemoryWithoutAMappingIsGone }
+{}
+
+/// Whatever state a run's history leads to, two virtual pages that show one page have one last write at
+/// each offset.
+pub fn shared_bytes_agree()
+    ensures { SharedBytesAgree }
+{}
+
+/// A child begins in its parent's group, shows what its parent shows, and has its parent's bytes. No page
+/// changes with a fork, and no group's count does.
+pub fn forks_share()
+    ensures { ForksShare }
+{}
+
+/// A task that moves to another group takes no charge along: no page changes, and no group's count does.
+pub fn moves_take_no_charge()
+    ensures { MovesTakeNoCharge }
 {}
 
 /// Whatever state a run's history leads to, its entries and the transfers in flight are together no
