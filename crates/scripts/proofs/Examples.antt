@@ -115,6 +115,87 @@ set_anything = refl
 set_missing : cause (codes "set / x") ≡ Some MissingArgument
 set_missing = refl
 
+-- ---- lines that fork a task, free a page and attach a task
+
+-- behind `fork` stands the child's number
+fork : cause (codes "1 fork 2") ≡ None
+fork = refl
+
+fork_missing : cause (codes "1 fork") ≡ Some MissingArgument
+fork_missing = refl
+
+fork_extra : cause (codes "1 fork 2 3") ≡ Some ExtraArgument
+fork_extra = refl
+
+-- whether a task may have the child's number is not the script's to say
+fork_70000 : cause (codes "1 fork 70000") ≡ None
+fork_70000 = refl
+
+-- but that it is a number is
+fork_letter : cause (codes "1 fork x") ≡ Some BadNumber
+fork_letter = refl
+
+fork_too_large : cause (codes "1 fork 4294967296") ≡ Some BadNumber
+fork_too_large = refl
+
+-- the parent's stands in front
+fork_parent : cause (codes "4294967296 fork 2") ≡ Some BadNumber
+fork_parent = refl
+
+-- and is not left out
+fork_alone : cause (codes "fork 2") ≡ Some UnknownWord
+fork_alone = refl
+
+-- behind `free` stands the number of a virtual page
+free : cause (codes "1 free 0") ≡ None
+free = refl
+
+free_missing : cause (codes "1 free") ≡ Some MissingArgument
+free_missing = refl
+
+-- a page is freed whole: no offset follows
+free_extra : cause (codes "1 free 0 0") ≡ Some ExtraArgument
+free_extra = refl
+
+-- whether a task has the page is not the script's to say
+free_1024 : cause (codes "1 free 1024") ≡ None
+free_1024 = refl
+
+free_sign : cause (codes "1 free -1") ≡ Some BadNumber
+free_sign = refl
+
+free_too_large : cause (codes "1 free 4294967296") ≡ Some BadNumber
+free_too_large = refl
+
+free_alone : cause (codes "free 0") ≡ Some UnknownWord
+free_alone = refl
+
+-- behind `attach` stand a task's number and a path, as behind `task`
+attach : cause (codes "attach 007 /a") ≡ None
+attach = refl
+
+attach_missing : cause (codes "attach 7") ≡ Some MissingArgument
+attach_missing = refl
+
+attach_extra : cause (codes "attach 7 /a /b") ≡ Some ExtraArgument
+attach_extra = refl
+
+attach_70000 : cause (codes "attach 70000 /a") ≡ None
+attach_70000 = refl
+
+attach_letter : cause (codes "attach x /a") ≡ Some BadNumber
+attach_letter = refl
+
+attach_too_large : cause (codes "attach 4294967296 /a") ≡ Some BadNumber
+attach_too_large = refl
+
+attach_relative : cause (codes "attach 7 a") ≡ Some BadName
+attach_relative = refl
+
+-- the word is the shell's, and no task's
+attach_by_task : cause (codes "7 attach 7 /a") ≡ Some UnknownWord
+attach_by_task = refl
+
 -- ---- lines that are begun
 
 -- no line of the header is begun
@@ -128,6 +209,16 @@ begin_part = refl
 -- nor is a comment
 begin_comment : cause (codes "begin #") ≡ Some UnknownWord
 begin_comment = refl
+
+-- what a task or the shell says may be
+begin_fork : cause (codes "begin 1 fork 2") ≡ None
+begin_fork = refl
+
+begin_free : cause (codes "begin 1 free 0") ≡ None
+begin_free = refl
+
+begin_attach : cause (codes "begin attach 7 /a") ≡ None
+begin_attach = refl
 
 -- an actor is a task's number or a name
 step_daemon : cause (codes "step daemon") ≡ None
@@ -189,6 +280,27 @@ says_step = refl
 says_write : steps_of_item (meaning (words_of (codes "7 write 1 2 3")))
     ≡ step.Begin (actor.Task 7) (command.Access (Virtual 1 2) (op.Write 3)) ∷ step.Finish (actor.Task 7) ∷ []
 says_write = refl
+
+-- the parent forks, and the other number is the child's
+says_fork : steps_of_item (meaning (words_of (codes "7 fork 008"))) ≡ step.Begin (actor.Task 7) (command.Fork 8) ∷ step.Finish (actor.Task 7) ∷ []
+says_fork = refl
+
+says_begin_fork : steps_of_item (meaning (words_of (codes "begin 7 fork 8"))) ≡ step.Begin (actor.Task 7) (command.Fork 8) ∷ []
+says_begin_fork = refl
+
+-- a virtual page
+says_free : steps_of_item (meaning (words_of (codes "7 free 8"))) ≡ step.Begin (actor.Task 7) (command.Free 8) ∷ step.Finish (actor.Task 7) ∷ []
+says_free = refl
+
+says_begin_free : steps_of_item (meaning (words_of (codes "begin 7 free 8"))) ≡ step.Begin (actor.Task 7) (command.Free 8) ∷ []
+says_begin_free = refl
+
+-- the shell attaches the task, which does nothing for it
+says_attach : steps_of_item (meaning (words_of (codes "attach 7 /a"))) ≡ step.Begin actor.Shell (command.Attach 7 (codes "/a")) ∷ step.Finish actor.Shell ∷ []
+says_attach = refl
+
+says_begin_attach : steps_of_item (meaning (words_of (codes "begin attach 7 /a"))) ≡ step.Begin actor.Control (command.Attach 7 (codes "/a")) ∷ []
+says_begin_attach = refl
 
 -- ---- lines
 

@@ -60,11 +60,14 @@ form_of word.Trace = header (codes "trace") (kind.Number 1 1048576 ∷ [])
 form_of word.Fault = header_many (codes "fault") (kind.Call ∷ kind.Number 1 4294967295 ∷ [])
 form_of word.Group = shell (codes "group") (kind.Path ∷ [])
 form_of word.Task = shell (codes "task") (number ∷ kind.Path ∷ [])
+form_of word.Attach = shell (codes "attach") (number ∷ kind.Path ∷ [])
 form_of word.Set = shell (codes "set") (kind.Path ∷ kind.Any ∷ kind.Any ∷ [])
 form_of word.Cat = shell (codes "cat") (kind.Path ∷ kind.Any ∷ [])
 form_of word.Protection = shell (codes "prot") (kind.Path ∷ kind.Path ∷ [])
 form_of word.Write = task (codes "write") (number ∷ number ∷ byte ∷ [])
 form_of word.Read = task (codes "read") (number ∷ number ∷ [])
+form_of word.Fork = task (codes "fork") (number ∷ [])
+form_of word.Free = task (codes "free") (number ∷ [])
 form_of word.Exit = task (codes "exit") []
 form_of word.Daemon = shell (codes "daemon") []
 form_of word.Begin = part (codes "begin") (kind.Line ∷ [])
@@ -73,8 +76,8 @@ form_of word.Finish = part (codes "finish") (kind.Actor ∷ [])
 
 abbrev pub words : List Word
 words =
-    word.Frames ∷ word.Swap ∷ word.Watermarks ∷ word.Trace ∷ word.Fault ∷ word.Group ∷ word.Task ∷ word.Set ∷ word.Cat ∷ word.Protection ∷ word.Write ∷ word.Read ∷ word.Exit
-    ∷ word.Daemon ∷ word.Begin ∷ word.Step ∷ word.Finish ∷ []
+    word.Frames ∷ word.Swap ∷ word.Watermarks ∷ word.Trace ∷ word.Fault ∷ word.Group ∷ word.Task ∷ word.Attach ∷ word.Set ∷ word.Cat ∷ word.Protection ∷ word.Write ∷ word.Read
+    ∷ word.Fork ∷ word.Free ∷ word.Exit ∷ word.Daemon ∷ word.Begin ∷ word.Step ∷ word.Finish ∷ []
 
 abbrev pub same_speaker : Speaker → Speaker → Bool
 same_speaker speaker.Shell speaker.Shell = true
@@ -126,16 +129,19 @@ place word.Trace = 3
 place word.Fault = 4
 place word.Group = 5
 place word.Task = 6
-place word.Set = 7
-place word.Cat = 8
-place word.Protection = 9
-place word.Write = 10
-place word.Read = 11
-place word.Exit = 12
-place word.Daemon = 13
-place word.Begin = 14
-place word.Step = 15
-place word.Finish = 16
+place word.Attach = 7
+place word.Set = 8
+place word.Cat = 9
+place word.Protection = 10
+place word.Write = 11
+place word.Read = 12
+place word.Fork = 13
+place word.Free = 14
+place word.Exit = 15
+place word.Daemon = 16
+place word.Begin = 17
+place word.Step = 18
+place word.Finish = 19
 
 abbrev pub same_word : Word → Word → Bool
 same_word v w = place v == place w

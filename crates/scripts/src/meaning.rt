@@ -134,6 +134,10 @@ pub fn item_of_word(
             task: number_value(&arguments[0]),
             path: text_of(alloc, &arguments[1])?,
         },
+        Word::Attach => Command::Attach {
+            task: number_value(&arguments[0]),
+            path: text_of(alloc, &arguments[1])?,
+        },
         Word::Set => Command::Set {
             path: text_of(alloc, &arguments[0])?,
             file: text_of(alloc, &arguments[1])?,
@@ -149,6 +153,12 @@ pub fn item_of_word(
             access_to(&arguments[0], &arguments[1], Op::Write(byte))
         }
         Word::Read => access_to(&arguments[0], &arguments[1], Op::Read),
+        Word::Fork => Command::Fork {
+            child: number_value(&arguments[0]),
+        },
+        Word::Free => Command::Free {
+            page: number_value(&arguments[0]),
+        },
         Word::Exit => Command::Exit,
         Word::Daemon => return Ok(Item::Does(Actor::Daemon, Command::Daemon)),
         // The line behind it tells what is begun.

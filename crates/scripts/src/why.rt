@@ -133,7 +133,7 @@ pub enum Why<'a> {
     },
 }
 
-const TASK_WORDS: &str = "write, read or exit";
+const TASK_WORDS: &str = "write, read, fork, free or exit";
 
 impl fmt::Display for Why<'_> {
     fn fmt<W: Write>(&self, f: &mut Formatter<W>) -> fmt::Result {
