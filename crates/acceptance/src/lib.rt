@@ -35,6 +35,8 @@ mod script_faults;
 #[cfg(test)]
 mod script_forms;
 #[cfg(test)]
+mod sharing;
+#[cfg(test)]
 mod sizes;
 #[cfg(test)]
 mod streams;

@@ -15,6 +15,8 @@ mod killed;
 #[cfg(test)]
 mod memory;
 #[cfg(test)]
+mod shared;
+#[cfg(test)]
 mod tasks;
 #[cfg(test)]
 mod words;

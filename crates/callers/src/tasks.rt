@@ -1,7 +1,7 @@
 //! A caller of `spaces`.
 
 use machine::id::{GroupId, PageId, TaskId};
-use machine::record::Life;
+use machine::record::{Life, Task};
 use spaces::Spaces;
 use std::test::Fail;
 
@@ -17,5 +17,54 @@ fn a_page_is_mapped_and_unmapped(rt: HostRuntime) -> Result<(), Fail> {
     assert_eq!(rt; spaces.unmap(task, 3), Some(page));
     assert_eq!(rt; (spaces.size(task), spaces.mappers(page)), (0, 0));
     spaces.exit(task, Life::Exited);
+    Ok(())
+}
+
+#[test]
+fn a_child_shows_its_parents_pages_and_a_task_changes_its_group(
+    rt: HostRuntime,
+) -> Result<(), Fail> {
+    let (parent, child) = (TaskId(7), TaskId(3));
+    let (first, last) = (PageId(1), PageId(0));
+    let mut spaces = Spaces::new(rt.alloc(), 2)?;
+    spaces.spawn(parent, GroupId(4))?;
+    spaces.map(parent, 0, first);
+    spaces.map(parent, 1023, last);
+    assert!(rt; spaces.number_refusal(child).is_none());
+    spaces.fork(parent, child)?;
+    assert_eq!(rt;
+        (spaces.page(child, 0), spaces.page(child, 1023)),
+        (Some(first), Some(last))
+    );
+    assert_eq!(rt;
+        (
+            spaces.page(child, 1),
+            spaces.size(child),
+            spaces.size(parent)
+        ),
+        (None, 2, 2)
+    );
+    assert_eq!(rt; (spaces.mappers(first), spaces.mappers(last)), (2, 2));
+    let forked = Task {
+        group: GroupId(4),
+        life: Life::Live,
+    };
+    assert_eq!(rt;
+        (spaces.task(child), spaces.task(parent)),
+        (Some(forked), Some(forked))
+    );
+    spaces.attach(child, GroupId(5));
+    let moved = Task {
+        group: GroupId(5),
+        life: Life::Live,
+    };
+    assert_eq!(rt;
+        (spaces.task(child), spaces.task(parent)),
+        (Some(moved), Some(forked))
+    );
+    assert_eq!(rt;
+        (spaces.page(child, 0), spaces.size(child)),
+        (Some(first), 2)
+    );
     Ok(())
 }
