@@ -1,6 +1,6 @@
 -- What a step did to the state, as one of few cases. Whoever asks what steps leave as it was goes by these.
 use Rattle.std.proofs.Common.{◌≡◌, inl, inr, ℕ, ◌<◌, Bool, true, false, List, [], ◌∷◌, ◌++◌, Option, Some, None, refl, sym, ap, ◌∙◌, subst}
-use Rattle.std.specs.Prelude.{MatchBool, nat_lt}
+use Rattle.std.specs.Prelude.{MatchBool, nat_lt, ◌||◌}
 use Rattle.machine.specs.declared.id.TaskId.{TaskId}
 use Rattle.machine.specs.declared.id.GroupId.{GroupId}
 use Rattle.machine.specs.declared.record.Life.{Life}
@@ -22,7 +22,7 @@ use Rattle.machine.specs.Tasks.{PageTables, mapped_at, mappers, Shows, Copies, S
 use Rattle.machine.specs.State.{State, page_numbers, over_in, is_frame_free}
 use Rattle.machine.specs.Access.{Meeting, Unmapped, Hits, Transferring, NeedsPage, NeedsCopy, NeedsSwapIn, Dangling, meets}
 use Rattle.machine.specs.Reclaim.{has_takeable, has_transfer, stands, target_of}
-use Rattle.machine.specs.Step.{ChargeStep, IsFreeBlock, MakesPage, StartsFetch, HitStep, UnmappedStep, MeetStep, LifeStep, TaskStep, Takes, StartsLeave, LeavesBy, LeavesFrom, ReclaimStep, KillStep, RelieveStep, Frees, EndsTask, EndsTransfer, in_frame, on_block, new_node, new_page, Step}
+use Rattle.machine.specs.Step.{ChargeStep, IsFreeBlock, MakesPage, StartsFetch, HitStep, UnmappedStep, MeetStep, LifeStep, TaskStep, Takes, StartsLeave, LeavesBy, LeavesFrom, ReclaimStep, KillStep, RelieveStep, Frees, Removes, EndsTask, EndsTransfer, in_frame, on_block, new_node, new_page, Step}
 use Rattle.machine.proofs.Values.{some_inj, never_some, unlike}
 use Rattle.machine.proofs.MoveLemmas.{MayGo, MayStay, Met, met, Settled, hits_held, swaps_away, in_frame-cases, on_block-cases}
 
@@ -35,6 +35,14 @@ is_access what = false
 abbrev pub is_mkdir : Event → Bool
 is_mkdir (event.Mkdir path) = true
 is_mkdir what = false
+
+abbrev pub is_rmdir : Event → Bool
+is_rmdir (event.Rmdir g) = true
+is_rmdir what = false
+
+-- the event may change which groups there are
+abbrev pub changes_groups : Event → Bool
+changes_groups what = is_mkdir what || is_rmdir what
 
 abbrev pub is_out : Reply → Bool
 is_out (reply.Out ticket) = true
@@ -85,6 +93,8 @@ pub data Did (old : State) (what : Event) (answer : Reply) (new : State) : Type 
   Freed : (t : TaskId) (v : ℕ) → what ≡ event.Free t v → is_out answer ≡ false → lives old.tasks t.0 ≡ true → Frees old t.0 v answer new → Did old what answer new
   -- a task is in another group
   Attached : (t : TaskId) (g : GroupId) → what ≡ event.Attach t g → is_out answer ≡ false → SetsTask old.tasks t.0 g.0 Live new.tasks → new ≡ record old { tasks = new.tasks } → Did old what answer new
+  -- a group is removed, and its pages are its parent's
+  Removed : (g : GroupId) → what ≡ event.Rmdir g → is_out answer ≡ false → Removes old g.0 new → Did old what answer new
   -- a group more
   Grown : (path : List ℕ) → what ≡ event.Mkdir path → is_out answer ≡ false → new ≡ record old { tree = old.tree ++ new_node old.tree path ∷ []; limits = old.limits ++ no_limits ∷ [] } → Did old what answer new
 
@@ -230,6 +240,7 @@ step_did old new (event.Free t v) answer h = of_task old new (event.Free t v) t.
 step_did old new (event.Attach t g) reply.Ok h = Attached t g refl refl h.0 h.1
 step_did old new (event.Exit t) answer h = of_task old new (event.Exit t) t.0 _ answer (λ task known alive k. Ended t.0 Exited old.counted (ap is_out k.0) refl k.1) h
 step_did old new (event.Mkdir path) reply.Ok h = Grown path refl refl h
+step_did old new (event.Rmdir g) reply.Ok h = Removed g refl refl h
 step_did old new (event.Set g what) reply.Ok h = Kept _ old.counted h
 step_did old new (event.Show what) (reply.Shown numbers) h = same old new _ _ h.1
 step_did old new what answer h = absurd h

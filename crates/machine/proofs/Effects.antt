@@ -1,7 +1,7 @@
 -- What one step of the machine does to each page, to each place of a task, and to the numbers of tickets.
 use Rattle.std.proofs.Common.{◌≡◌, ◌≢◌, inl, inr, ℕ, ◌==◌, ◌&&◌, not, Bool, true, false, cond, List, Option, Some, None, eq-eqb, ne_eqb, ◌≤◌, arith, refl, sym, ap, ◌∙◌, subst}
 use Rattle.std.proofs.lemmas.Bool.Decides.{nat_tests}
-use Rattle.std.specs.Prelude.{◌⊎◌, MatchBool, IfSome, is_some, nat_lt}
+use Rattle.std.specs.Prelude.{◌⊎◌, MatchBool, IfSome, is_some, option_map, nat_lt}
 use Rattle.machine.specs.declared.id.TaskId.{TaskId}
 use Rattle.machine.specs.declared.id.GroupId.{GroupId}
 use Rattle.machine.specs.declared.id.TicketId.{TicketId}
@@ -29,11 +29,12 @@ use Rattle.machine.specs.State.{State, over_in, is_frame_free}
 use Rattle.machine.specs.Access.{Meeting, Unmapped, Hits, Transferring, NeedsPage, NeedsCopy, NeedsSwapIn, Dangling, meets, is_shared_write}
 use Rattle.machine.specs.Reclaim.{has_takeable, has_transfer, stands, target_of}
 use Rattle.machine.specs.Refusals.{refusal}
-use Rattle.machine.specs.Step.{ChargeStep, TriesCharge, MakesPage, StartsFetch, HitStep, UnmappedStep, MeetStep, LifeStep, TaskStep, Takes, StartsLeave, Drops, LeavesBy, LeavesFrom, ReclaimStep, ReclaimOneStep, KillStep, RelieveStep, still, EndsTask, Exits, Forks, Frees, Attaches, EndsTransfer, in_frame, on_block, Step}
+use Rattle.machine.specs.Step.{ChargeStep, TriesCharge, MakesPage, StartsFetch, HitStep, UnmappedStep, MeetStep, LifeStep, TaskStep, Takes, StartsLeave, Drops, LeavesBy, LeavesFrom, ReclaimStep, ReclaimOneStep, KillStep, RelieveStep, still, EndsTask, Exits, Forks, Frees, Attaches, Removes, regrouped, EndsTransfer, in_frame, on_block, Step}
 use Rattle.machine.specs.History.{Spot, InTask, is_spot, Byte, As, Nothing, says_if, says, follow, ticket_given}
 use Rattle.machine.proofs.Values.{some_inj, never_some, unlike}
 use Rattle.machine.proofs.TreeLemmas.{eq_cases}
 use Rattle.machine.proofs.MappingLemmas.{by_place, copies-cases, mapped_at-one, shows_nothing-was}
+use Rattle.machine.proofs.RemovedLemmas.{regrouped-was}
 use Rattle.machine.proofs.ShownLemmas.{ShowsPages}
 use Rattle.machine.proofs.MoveLemmas.{Met, met, Settled, in_frame-cases, on_block-cases}
 
@@ -662,6 +663,22 @@ module _ (old new : State) (alive : AllLive old.page_tables old.tasks) (shows : 
         (OnBlock direction (record { frame = h.frame; block = h.block; ticket = ticket; before = h.page; is = is; there = h.there; flew = h.moves; away = refl }))) silent
         (gives_none answer (ap ticket_given h.answers))
 
+  -- ---- groups that go
+
+  -- every page stands where it did, and nothing is said
+  removes : (g : GroupId) → Removes old g.0 new → Effect old (event.Rmdir g) reply.Ok new
+  removes g h =
+      record {
+        pages = record {
+          stays = λ p n page there ticket other. (regrouped g.0 h.parent page, h.pages p ∙ ap (option_map (regrouped g.0 h.parent)) there, refl);
+          stood = λ p page there.
+              let was = regrouped-was g.0 h.parent (page_at old.pages p) page (sym (h.pages p) ∙ there) in
+              ItStays (record { before = was.0; there = was.1; same = ap (λ (x : Page). x.residence) was.2 });
+        };
+        places = places_same (event.Rmdir g) reply.Ok (ap (λ (s : State). s.page_tables) h.state) (ap (λ (s : State). s.tasks) h.state) (λ t v o. refl);
+        fresh = gives_none reply.Ok refl;
+      }
+
   -- ---- new tasks
 
   -- a task begins, and shows nothing
@@ -689,6 +706,7 @@ module _ (old new : State) (alive : AllLive old.page_tables old.tasks) (shows : 
   step_effect (event.Free t v) answer none h = frees t v answer h
   step_effect (event.Attach t g) reply.Ok none h = attaches t g h
   step_effect (event.Mkdir path) reply.Ok none h = quiet (event.Mkdir path) reply.Ok h (λ t v o. refl) refl
+  step_effect (event.Rmdir g) reply.Ok none h = removes g h
   step_effect (event.Set g setting) reply.Ok none h = quiet (event.Set g setting) reply.Ok h (λ t v o. refl) refl
   step_effect (event.Show what) (reply.Shown numbers) none h = quiet (event.Show what) (reply.Shown numbers) h.1 (λ t v o. refl) refl
   step_effect what answer none h = absurd h

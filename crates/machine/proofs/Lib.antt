@@ -5,6 +5,7 @@ pub mod MappingLemmas
 pub mod CursorLemmas
 pub mod MoveLemmas
 pub mod Effects
+pub mod RemovedLemmas
 pub mod SoundLemmas
 pub mod OpeningLemmas
 pub mod Did
@@ -16,6 +17,8 @@ pub mod ListedLemmas
 pub mod AgingLemmas
 pub mod HeldChanges
 pub mod HeldLemmas
+pub mod HandedLemmas
+pub mod RemovedCounts
 pub mod PicksLemmas
 pub mod OrdersLemmas
 pub mod StepLemmas
@@ -32,6 +35,8 @@ mod LegalExamples
 mod HistoryExamples
 mod SharingExamples
 mod SharedHistoryExamples
+mod RemovalExamples
+mod RemovalHistoryExamples
 mod ControlExamples
 mod GenerationExamples
 mod HeldExamples

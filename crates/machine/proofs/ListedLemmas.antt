@@ -126,7 +126,7 @@ pub has-renumbered : (number : Listed → ℕ) (q : ℕ) (xs : List Listed) → 
 has-renumbered number q [] = refl
 has-renumbered number q (x ∷ xs) = ap (λ (b : Bool). eqb x.page q || b) (has-renumbered number q xs)
 
-opposite-numbers : (a b : ℕ) → nat_lt b a ≡ not (nat_le a b)
+pub opposite-numbers : (a b : ℕ) → nat_lt b a ≡ not (nat_le a b)
 opposite-numbers a b =
     let go : (v : Bool) → nat_le a b ≡ v → nat_lt b a ≡ not v =
     λ v t. (elim v as (λ w. nat_le a b ≡ w → nat_lt b a ≡ not w) [ true ↦ λ t'. (let le : a ≤ b = leb-true a b t' in rw le-ltb refl) | false ↦ λ t'. (let lt : b < a = leb-false a b t' in rw lt-ltb refl) ]) t in

@@ -24,7 +24,8 @@ use Rattle.machine.specs.Legal.{Legal}
 use Rattle.machine.proofs.Values.{some_inj, unlike}
 use Rattle.machine.proofs.TreeLemmas.{eq_cases}
 use Rattle.machine.proofs.MappingLemmas.{mapped_at-mappers, mappers-shows, shown_once}
-use Rattle.machine.proofs.Did.{Did, Kept, Made, Moved, Dropped, Ended, Spawned, Forked, Freed, Attached, Grown, step_did}
+use Rattle.machine.proofs.RemovedLemmas.{regrouped-was}
+use Rattle.machine.proofs.Did.{Did, Kept, Made, Moved, Dropped, Ended, Spawned, Forked, Freed, Attached, Removed, Grown, step_did}
 use Rattle.machine.proofs.Effects.{AllLive}
 use Rattle.machine.proofs.SharedLemmas.{legal-live}
 
@@ -178,6 +179,13 @@ module _ (old new : State) (alive : AllLive old.page_tables old.tasks) (mapped :
       tables_grow child.0 (fork_unused old (task_at old.tasks t.0) child.0 lives_t (sym (ap (refusal old) is) ∙ none)) copies.others (ap (λ (s : State). s.pages) e)
   did_mapped what answer none (Freed t v is out lives_t frees) = stilled frees.pages
   did_mapped what answer none (Attached t g is out sets e) = same_mapped (ap (λ (s : State). s.pages) e) (ap (λ (s : State). s.page_tables) e)
+  did_mapped what answer none (Removed g is out removes) = removed
+    where
+      removed : AreMapped new.page_tables new.pages
+      removed p page there memory settled =
+          let was = regrouped-was g.0 removes.parent (page_at old.pages p) page (sym (removes.pages p) ∙ there) in
+          subst (λ (tables : PageTables). 1 ≤ mappers tables p) (sym (ap (λ (s : State). s.page_tables) removes.state))
+          (mapped p was.0 was.1 (sym (ap (λ (x : Page). is_anon x.content) was.2) ∙ memory) (sym (ap (λ (x : Page). in_transfer_at x.residence) was.2) ∙ settled))
   did_mapped what answer none (Grown path is out e) = same_mapped (ap (λ (s : State). s.pages) e) (ap (λ (s : State). s.page_tables) e)
 
 -- in whatever state a legal history ends, each page of memory that is in no transfer is shown by some place

@@ -1,4 +1,4 @@
--- No call of the book changes what its opening fixed, and none but a mkdir changes which groups there are.
+-- No call of the book changes what its opening fixed, and none but a mkdir or an rmdir changes which groups there are.
 use Rattle.std.proofs.Common.{◌≡◌, Bool, true, false, List, [], ◌∷◌, ◌++◌, Option, Some, None, refl, ap}
 use Rattle.std.specs.Prelude.{MatchBool}
 use Rattle.machine.specs.declared.event.Event.{Event}
@@ -7,17 +7,18 @@ use Rattle.machine.specs.declared.reply.Reply.{Reply}
 use Rattle.machine.specs.declared.reply.Reply.TheVariants as reply
 use Rattle.machine.specs.declared.refusal.Refusal.{Refusal}
 use Rattle.machine.specs.declared.refusal.Refusal.TheVariants.{Stranger, TraceFull}
-use Rattle.machine.specs.Tree.{Node}
+use Rattle.machine.specs.Tree.{Node, without_group}
 use Rattle.machine.specs.State.{State}
 use Rattle.machine.specs.Refusals.{refusal}
 use Rattle.machine.specs.Step.{new_node, Step}
 use Rattle.machine.proofs.Values.{unlike}
-use Rattle.machine.proofs.Did.{is_mkdir, Did, Kept, Made, Moved, Dropped, Ended, Spawned, Forked, Freed, Attached, Grown, step_did}
+use Rattle.machine.proofs.Did.{changes_groups, Did, Kept, Made, Moved, Dropped, Ended, Spawned, Forked, Freed, Attached, Removed, Grown, step_did}
 use Rattle.machine.specs.Call.{Past, Caller, Refuses, Answered, JudgedBy, Called, knows_pass, is_trace_full}
 
 -- the groups after an event that nothing refuses
 abbrev pub tree_after : State → Event → List Node
 tree_after old (event.Mkdir path) = old.tree ++ new_node old.tree path ∷ []
+tree_after old (event.Rmdir g) = without_group old.tree g.0
 tree_after old what = old.tree
 
 -- a step leaves what its opening fixed
@@ -34,9 +35,10 @@ step_opening old what answer new step = by_case (step_did old new what answer st
     by_case (Forked t child is out alive sets copies e) = ap (λ (s : State). s.opening) e
     by_case (Freed t v is out alive frees) = ap (λ (s : State). s.opening) frees.state
     by_case (Attached t g is out sets e) = ap (λ (s : State). s.opening) e
+    by_case (Removed g is out removes) = ap (λ (s : State). s.opening) removes.state
     by_case (Grown path is out e) = ap (λ (s : State). s.opening) e
 
-same_tree : (old new : State) (what : Event) (answer : Reply) → is_mkdir what ≡ false → Did old what answer new → new.tree ≡ old.tree
+same_tree : (old new : State) (what : Event) (answer : Reply) → changes_groups what ≡ false → Did old what answer new → new.tree ≡ old.tree
 same_tree old new what answer other (Kept limits counted e) = ap (λ (s : State). s.tree) e
 same_tree old new what answer other (Made t v p frame access out alive shared within free unused placed shown e) = ap (λ (s : State). s.tree) e
 same_tree old new what answer other (Moved p page dirty now counted there placed moves mapped e) = ap (λ (s : State). s.tree) e
@@ -46,11 +48,14 @@ same_tree old new what answer other (Spawned t g is sets shown e) = ap (λ (s : 
 same_tree old new what answer other (Forked t child is out alive sets copies e) = ap (λ (s : State). s.tree) e
 same_tree old new what answer other (Freed t v is out alive frees) = ap (λ (s : State). s.tree) frees.state
 same_tree old new what answer other (Attached t g is out sets e) = ap (λ (s : State). s.tree) e
-same_tree old new what answer other (Grown path is out e) = unlike (is_mkdir what) (ap is_mkdir is) other
+same_tree old new what answer other (Removed g is out removes) = unlike (changes_groups what) (ap changes_groups is) other
+same_tree old new what answer other (Grown path is out e) = unlike (changes_groups what) (ap changes_groups is) other
 
 pub step_tree : (old : State) (what : Event) (answer : Reply) (new : State) → Step old what answer new → new.tree ≡ tree_after old what
 step_tree old (event.Mkdir path) reply.Ok new h = ap (λ (s : State). s.tree) h
 step_tree old (event.Mkdir path) answer new h = absurd h
+step_tree old (event.Rmdir g) reply.Ok new h = ap (λ (s : State). s.tree) h.state
+step_tree old (event.Rmdir g) answer new h = absurd h
 step_tree old what answer new h = same_tree old new what answer refl (step_did old new what answer h)
 
 module _ (old new : Past) (caller : Caller) (what : Event) (answer : Reply) where

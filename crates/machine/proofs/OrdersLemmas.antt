@@ -12,7 +12,8 @@ use Rattle.machine.specs.Reclaim.{target_of}
 use Rattle.machine.specs.Generations.{Gens}
 use Rattle.machine.specs.Aging.{Seen, is_marked}
 use Rattle.machine.specs.Eviction.{Picks}
-use Rattle.machine.specs.Lists.{HeldLists, Order, served, seen_of, with_seen, kept_gens, Generation, Youngest, with_fresh, GoesOn, TakesNext, Keeps, Orders}
+use Rattle.machine.specs.Tree.{node_at}
+use Rattle.machine.specs.Lists.{HeldLists, Order, served, seen_of, with_seen, kept_gens, Generation, Youngest, with_fresh, GoesOn, TakesNext, RemovesLists, Keeps, Orders}
 use Rattle.machine.proofs.Values.{some_inj}
 use Rattle.machine.proofs.PicksLemmas.{picks_alike}
 
@@ -84,6 +85,11 @@ module _ (old new : State) (order order' order'' : Order) where
       let cursors : order'.cursors ≡ order''.cursors = h.1 ∙ sym h'.1 in
       order_same order' order'' held cursors
 
+  -- lists that go over to a parent's
+  removes_alike : (parent : Option ℕ) (g : ℕ) → RemovesLists parent g order order' → RemovesLists parent g order order'' → order' ≡ order''
+  removes_alike None g h h' = absurd h
+  removes_alike (Some parent) g h h' = h ∙ sym h'
+
   -- by the event and its reply
   pub orders_alike : (what : Event) (answer : Reply) → Orders old order what answer new order' → Orders old order what answer new order'' → order' ≡ order''
   orders_alike (event.Relieve cause) (reply.Out ticket) h h' = takes_next_alike (target_of cause) h h'
@@ -91,4 +97,5 @@ module _ (old new : State) (order order' order'' : Order) where
   orders_alike (event.ReclaimOne g) (reply.Out ticket) h h' = takes_next_alike g.0 h h'
   orders_alike (event.ReclaimOne g) reply.Dropped h h' = takes_next_alike g.0 h h'
   orders_alike (event.Mkdir path) answer h h' = h ∙ sym h'
+  orders_alike (event.Rmdir g) answer h h' = removes_alike (node_at old.tree g.0).parent g.0 h h'
   orders_alike what answer h h' = keeps_alike what answer h h'

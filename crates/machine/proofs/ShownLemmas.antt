@@ -13,7 +13,8 @@ use Rattle.machine.specs.Legal.{Legal}
 use Rattle.machine.proofs.Values.{some_inj, never_some}
 use Rattle.machine.proofs.TreeLemmas.{eq_cases}
 use Rattle.machine.proofs.MappingLemmas.{mapped_at-mappers, shows-cases, copies-cases, shows_nothing-was}
-use Rattle.machine.proofs.Did.{Did, Kept, Made, Moved, Dropped, Ended, Spawned, Forked, Freed, Attached, Grown, step_did}
+use Rattle.machine.proofs.RemovedLemmas.{regrouped-test}
+use Rattle.machine.proofs.Did.{Did, Kept, Made, Moved, Dropped, Ended, Spawned, Forked, Freed, Attached, Removed, Grown, step_did}
 
 -- a page that a place shows is there, and is memory
 pub record ShowsPages (s : State) : Type 0 where
@@ -91,6 +92,9 @@ module _ (old new : State) (shows : ShowsMemory old) where
       ∙ still_memory new.page_tables q (page_at old.pages q) (mapped_at-mappers new.page_tables u w q at)
       (elim (shows-cases old.page_tables new.page_tables t.0 v None frees.shown u w) [ inl none ↦ never_some (mapped_at new.page_tables u w) none at | inr was ↦ shows u w q (sym was ∙ at) ])
   did_shows what answer (Attached t g is out sets e) u w q at = subst ShowsMemory (sym e) shows u w q at
+  did_shows what answer (Removed g is out removes) u w q at =
+      ap is_memory (removes.pages q) ∙ regrouped-test (λ page. is_anon page.content) g.0 removes.parent (λ page. refl) (page_at old.pages q)
+      ∙ shows u w q (sym (ap (λ (s : State). mapped_at s.page_tables u w) removes.state) ∙ at)
   did_shows what answer (Grown path is out e) u w q at = subst ShowsMemory (sym e) shows u w q at
 
 -- a step leaves it so

@@ -1,10 +1,12 @@
 -- In every legal history no two pages share a frame, a swap block or a ticket, each page is memory on blocks that there are, and the groups of pages and
 -- of live tasks are there.
-use Rattle.std.proofs.Common.{◌+◌, ◌<◌, ◌≡◌, ◌≢◌, inl, inr, ℕ, zero, suc, ◌≤◌, ◌==◌, ◌&&◌, not, Bool, true, false, cond, List, [], ◌∷◌, ◌++◌, length, Option, Some, None, eqb-true, refl, sym, ap, ◌∙◌, subst, arith, get_or-set_other}
-use Rattle.std.specs.Prelude.{◌⊎◌, IfSome, slice_set}
+use Rattle.std.proofs.Common.{◌+◌, ◌<◌, ◌≡◌, ◌≢◌, inl, inr, ℕ, zero, suc, ◌≤◌, ◌==◌, ◌&&◌, not, Bool, true, false, cond, List, [], ◌∷◌, ◌++◌, length, Option, Some, None, eqb-true, eq-eqb, refl, sym, ap, ◌∙◌, subst, arith, get_or-set_other, length-append}
+use Rattle.std.specs.Prelude.{◌⊎◌, ◌||◌, IfSome, slice_set}
 use Rattle.std.proofs.lemmas.Bool.{cases_lt, and_parts, or_parts}
 use Rattle.std.proofs.lemmas.Bool.Decides.{nat_tests}
 use Rattle.std.proofs.lemmas.List.{get_or_append_left}
+use Rattle.std.proofs.Math.Seq.{get_or-append_seam}
+use Rattle.std.specs.Str.{bytes_eq}
 use Rattle.std.proofs.lemmas.List.Quantifiers.{position-Some}
 use Rattle.std.proofs.lemmas.List.Sums.{sum_by-cons}
 use Rattle.std.proofs.Math.ListN.{get_or-eq_default}
@@ -13,23 +15,24 @@ use Rattle.machine.specs.declared.record.Life.{Life}
 use Rattle.machine.specs.declared.record.Life.TheVariants.{Live}
 use Rattle.machine.specs.declared.record.Task.{Task}
 use Rattle.machine.specs.declared.event.Event.{Event}
-use Rattle.machine.specs.declared.refusal.Refusal.TheVariants.{NoEntry}
+use Rattle.machine.specs.declared.refusal.Refusal.TheVariants.{Busy, NoEntry}
 use Rattle.machine.specs.declared.reply.Reply.{Reply}
 use Rattle.machine.specs.Names.{parent_path}
 use Rattle.machine.specs.Slots.{at, Changes, there_and, count_there, any_there}
-use Rattle.machine.specs.Tree.{Node, no_node, root, node_at, is_live, is_at_path, find_group, IsBelow, IsTree}
+use Rattle.machine.specs.Tree.{Node, no_node, root, node_at, is_live, is_parent, is_child, has_children, is_at_path, find_group, IsBelow, IsTree, without_group}
 use Rattle.machine.specs.Pages.{is_anon, in_transfer_at, Residence, Page, Pages, page_at, frame_at, block_at, ticket_at, is_number, has_this_frame, is_frame_taken, is_swap_taken, is_ticket_taken}
 use Rattle.machine.specs.Counts.{Counted}
-use Rattle.machine.specs.Tasks.{Tasks, task_at, is_live_life, is_live_task, lives, group_of, group_of_task, SetsTask, PageTables, mappers}
+use Rattle.machine.specs.Tasks.{is_live_in, has_tasks, Tasks, task_at, is_live_life, is_live_task, lives, group_of, group_of_task, SetsTask, PageTables, mappers}
 use Rattle.machine.specs.State.{Opening, State, first_state}
 use Rattle.machine.specs.declared.refusal.Refusal.{Refusal}
-use Rattle.machine.specs.Refusals.{group_refusal, refusal, first_cause}
-use Rattle.machine.specs.Step.{still, EndsTask, new_page}
+use Rattle.machine.specs.Refusals.{group_refusal, rmdir_refusal, refusal, first_cause}
+use Rattle.machine.specs.Step.{still, EndsTask, new_page, regrouped, Removes}
 use Rattle.machine.specs.Legal.{Legal}
-use Rattle.machine.proofs.Values.{some_inj, unlike}
-use Rattle.machine.proofs.TreeLemmas.{eq_cases, IsTree-push}
+use Rattle.machine.proofs.Values.{some_inj, never_some, unlike}
+use Rattle.machine.proofs.TreeLemmas.{eq_cases, lt_cases, IsTree-push}
+use Rattle.machine.proofs.RemovedLemmas.{regrouped-test, regrouped-some, without-parent, without-dead, without-other, without-falls}
 use Rattle.machine.proofs.SlotLemmas.{one_if, count_there-none, count_there-some, count_there-changes}
-use Rattle.machine.proofs.Did.{Moves, Rests, Comes, Goes, Lands, Lies, Did, Kept, Made, Moved, Dropped, Ended, Spawned, Forked, Freed, Attached, Grown, step_did}
+use Rattle.machine.proofs.Did.{Moves, Rests, Comes, Goes, Lands, Lies, Did, Kept, Made, Moved, Dropped, Ended, Spawned, Forked, Freed, Attached, Removed, Grown, step_did}
 
 -- ---- what is sound
 
@@ -56,6 +59,7 @@ pub record IsSound (swap : ℕ) (pages : Pages) (tasks : Tasks) (tree : List Nod
   pub tickets : Once has_this_ticket pages
   pub fits : (p : ℕ) → IfSome (page_at pages p) (IsFit swap tree)
   pub homes : (t : ℕ) → lives tasks t ≡ true → is_live tree (group_of_task tasks t) ≡ true
+  pub above : (g p : ℕ) → is_live tree g ≡ true → (node_at tree g).parent ≡ Some p → is_live tree p ≡ true
   pub falls : IsTree tree
 
 -- a state of that opening
@@ -72,16 +76,20 @@ not_true : (b : Bool) → (b ≡ true → false ≡ true) → b ≡ false
 not_true true f = let e = f refl in cc
 not_true false f = refl
 
+-- what passes one test passes another
+pub tests-less : {T : Type 0} (test other : T → Bool) (xs ys : List (Option T)) → ((n : ℕ) → there_and other (at ys n) ≡ true → there_and test (at xs n) ≡ true) → count_there other ys ≤ count_there test xs
+tests-less test other xs [] less = omega arith
+tests-less test other [] (y ∷ ys) less = let none = count_there-none other (y ∷ ys) (λ n. not_true (there_and other (at (y ∷ ys) n)) (less n)) in omega (arith, none)
+tests-less {T} test other (x ∷ xs) (y ∷ ys) less =
+    let more = sum_by-cons (λ (slot : Option T). one_if (there_and test slot)) x xs in
+    let more' = sum_by-cons (λ (slot : Option T). one_if (there_and other slot)) y ys in
+    let here = bool_le (there_and other y) (there_and test x) (less 0) in
+    let rest = tests-less test other xs ys (λ n. less (suc n)) in
+    omega (arith, more, more', here, rest)
+
 -- what passes there passed before
 pub count-less : {T : Type 0} (test : T → Bool) (xs ys : List (Option T)) → ((n : ℕ) → there_and test (at ys n) ≡ true → there_and test (at xs n) ≡ true) → count_there test ys ≤ count_there test xs
-count-less test xs [] less = omega arith
-count-less test [] (y ∷ ys) less = let none = count_there-none test (y ∷ ys) (λ n. not_true (there_and test (at (y ∷ ys) n)) (less n)) in omega (arith, none)
-count-less {T} test (x ∷ xs) (y ∷ ys) less =
-    let more = sum_by-cons (λ (slot : Option T). one_if (there_and test slot)) x xs in
-    let more' = sum_by-cons (λ (slot : Option T). one_if (there_and test slot)) y ys in
-    let here = bool_le (there_and test y) (there_and test x) (less 0) in
-    let rest = count-less test xs ys (λ n. less (suc n)) in
-    omega (arith, more, more', here, rest)
+count-less test = tests-less test test
 
 -- two places that pass are two
 pub count-two : {T : Type 0} (test : T → Bool) (xs : List (Option T)) (p q : ℕ) → p ≢ q → there_and test (at xs p) ≡ true → there_and test (at xs q) ≡ true → 2 ≤ count_there test xs
@@ -166,6 +174,7 @@ module _ (swap : ℕ) (pages pages' : Pages) (tasks : Tasks) (tree : List Node) 
               | inr other ↦ slot_is (IsFit swap tree) (page_at pages' q) (page_at pages q) (changes.others q other) (sound.fits q)
             ];
         homes = sound.homes;
+        above = sound.above;
         falls = sound.falls;
       }
 
@@ -224,6 +233,7 @@ sound-stilled swap tables before after tasks tree pages sound =
       tickets = once-fewer has_this_ticket before after sound.tickets (λ k. passed (has_this_ticket k));
       fits = λ p. slot_is _ (page_at after p) _ (pages p) (still_some _ tables p (page_at before p) (sound.fits p));
       homes = sound.homes;
+      above = sound.above;
       falls = sound.falls;
     }
   where
@@ -246,6 +256,7 @@ sound-task swap pages tasks tasks' tree t task sets home sound =
                 ap (λ (slot : Option Task). is_live tree (group_of slot)) here ∙ home (sym (ap (there_and is_live_task) here) ∙ alive)
             | inr other ↦ ap (λ (slot : Option Task). is_live tree (group_of slot)) (sets.others u other) ∙ sound.homes u (sym (ap (there_and is_live_task) (sets.others u other)) ∙ alive)
           ];
+      above = sound.above;
       falls = sound.falls;
     }
 
@@ -280,16 +291,109 @@ some_push : (swap : ℕ) (tree : List Node) (x : Node) (slot : Option Page) → 
 some_push swap tree x None h = h
 some_push swap tree x (Some page) h = record { memory = h.memory; live = live_push tree x page.group h.live; within = h.within }
 
-sound-grown : (swap : ℕ) (pages : Pages) (tasks : Tasks) (tree : List Node) (x : Node) → IsBelow x.parent (length tree) → IsSound swap pages tasks tree → IsSound swap pages tasks (tree ++ x ∷ [])
-sound-grown swap pages tasks tree x below sound =
+-- and is live
+found_live : (tree : List Node) (path : List ℕ) (g : ℕ) → find_group tree path ≡ Some g → is_live tree g ≡ true
+found_live tree path g e = (and_parts (is_live tree g) (bytes_eq (node_at tree g).path path) (position-Some (is_at_path path) tree g no_node e).1).0
+
+-- a group that is there stands in the list
+live-below : (tree : List Node) (g : ℕ) → is_live tree g ≡ true → g < length tree
+live-below tree g live =
+    elim (cases_lt g (length tree)) [
+      | inl below ↦ below
+      | inr beyond ↦ absurd (let none = ap (λ (n : Node). n.live) (get_or-eq_default tree no_node beyond) in cc)
+    ]
+
+sound-grown : (swap : ℕ) (pages : Pages) (tasks : Tasks) (tree : List Node) (x : Node) → IsBelow x.parent (length tree) → ((p : ℕ) → x.parent ≡ Some p → is_live tree p ≡ true) → IsSound swap pages tasks tree
+    → IsSound swap pages tasks (tree ++ x ∷ [])
+sound-grown swap pages tasks tree x below parent sound =
     record {
       frames = sound.frames;
       blocks = sound.blocks;
       tickets = sound.tickets;
       fits = λ p. some_push swap tree x (page_at pages p) (sound.fits p);
       homes = λ t alive. live_push tree x (group_of_task tasks t) (sound.homes t alive);
+      above = λ g p live hangs. live_push tree x p (by_place g p live hangs (lt_cases g (length tree)));
       falls = IsTree-push tree x sound.falls below;
     }
+  where
+    by_place : (g p : ℕ) → is_live (tree ++ x ∷ []) g ≡ true → (node_at (tree ++ x ∷ []) g).parent ≡ Some p → (g < length tree) ⊎ ((g ≡ length tree) ⊎ (length tree < g)) → is_live tree p ≡ true
+    by_place g p live hangs (inl lt) =
+        let same : node_at (tree ++ x ∷ []) g ≡ node_at tree g = get_or_append_left tree (x ∷ []) no_node g lt in
+        sound.above g p (sym (ap (λ (n : Node). n.live) same) ∙ live) (sym (ap (λ (n : Node). n.parent) same) ∙ hangs)
+    by_place g p live hangs (inr (inl same)) =
+        let is : node_at (tree ++ x ∷ []) g ≡ x = ap (node_at (tree ++ x ∷ [])) same ∙ get_or-append_seam tree x [] _ in
+        parent p (sym (ap (λ (n : Node). n.parent) is) ∙ hangs)
+    by_place g p live hangs (inr (inr beyond)) =
+        absurd
+        (let below' = live-below (tree ++ x ∷ []) g live in
+        let len = length-append tree (x ∷ []) in
+        omega (arith, below', len, beyond))
+
+or_false : (a b : Bool) → (a || b) ≡ false → (a ≡ false) × (b ≡ false)
+or_false true b e = cc
+or_false false b e = (refl, e)
+
+-- no live group hangs below one without children
+pub no_child : (tree : List Node) (g h : ℕ) → has_children tree g ≡ false → is_child g (node_at tree h) ≡ false
+no_child [] g h none = refl
+no_child (x ∷ tree) g zero none = (or_false (is_child g x) (has_children tree g) none).0
+no_child (x ∷ tree) g (suc h) none = no_child tree g h (or_false (is_child g x) (has_children tree g) none).1
+
+-- a group goes that has neither children nor tasks
+sound-removed : (swap : ℕ) (old new : State) (g : ℕ) → is_live old.tree g ≡ true → has_children old.tree g ≡ false → has_tasks old.tasks g ≡ false → Removes old g new → IsSound swap old.pages old.tasks old.tree
+    → IsSound swap new.pages old.tasks (without_group old.tree g)
+sound-removed swap old new g live childless taskless removes sound =
+    record {
+      frames = once-fewer has_this_frame old.pages new.pages sound.frames (λ k n. passed (has_this_frame k) (λ page. refl) n);
+      blocks = once-fewer has_this_block old.pages new.pages sound.blocks (λ k n. passed (has_this_block k) (λ page. refl) n);
+      tickets = once-fewer has_this_ticket old.pages new.pages sound.tickets (λ k n. passed (has_this_ticket k) (λ page. refl) n);
+      fits = λ p. slot_is _ (page_at new.pages p) _ (removes.pages p) (regrouped-some (IsFit swap old.tree) (IsFit swap (without_group old.tree g)) g removes.parent fit (page_at old.pages p) (sound.fits p));
+      homes = λ t alive. stays (group_of_task old.tasks t) (elsewhere t alive) (sound.homes t alive);
+      above = above;
+      falls = without-falls old.tree g sound.falls;
+    }
+  where
+    passed : (test : Page → Bool) → ((page : Page) → test (regrouped g removes.parent page) ≡ test page) → (n : ℕ) → there_and test (at new.pages n) ≡ true → there_and test (at old.pages n) ≡ true
+    passed test same n e = sym (regrouped-test test g removes.parent same (page_at old.pages n)) ∙ sym (ap (there_and test) (removes.pages n)) ∙ e
+
+    stays : (h : ℕ) → h ≢ g → is_live old.tree h ≡ true → is_live (without_group old.tree g) h ≡ true
+    stays h other alive = ap (λ (n : Node). n.live) (without-other old.tree g h other) ∙ alive
+
+    -- no live task is of the group
+    elsewhere : (t : ℕ) → lives old.tasks t ≡ true → group_of_task old.tasks t ≢ g
+    elsewhere t alive same = by_task (task_at old.tasks t) alive same (none_has (is_live_in g) old.tasks taskless t)
+      where
+        by_task : (slot : Option Task) → there_and is_live_task slot ≡ true → group_of slot ≡ g → there_and (is_live_in g) slot ≡ false → ⊥
+        by_task None h e none = absurd (let wrong : false ≡ true = h in cc)
+        by_task (Some task) h e none = unlike (is_live_task task && (task.group.0 == g)) (ap (λ (b : Bool). b && (task.group.0 == g)) h ∙ eq-eqb task.group.0 g e) none
+
+    parent_stays : is_live (without_group old.tree g) removes.parent ≡ true
+    parent_stays = stays removes.parent (λ same. let less = sound.falls.falls g removes.parent removes.below in omega (arith, less, same)) (sound.above g removes.parent live removes.below)
+
+    fit : (page : Page) → IsFit swap old.tree page → IsFit swap (without_group old.tree g) (regrouped g removes.parent page)
+    fit page is = record { memory = is.memory; live = by_group (page.group == g) refl; within = is.within }
+      where
+        by_group : (b : Bool) → (page.group == g) ≡ b → is_live (without_group old.tree g) (cond b removes.parent page.group) ≡ true
+        by_group true same = parent_stays
+        by_group false other = stays page.group (λ e. unlike (page.group == g) (eq-eqb page.group g e) other) is.live
+
+    above : (h p : ℕ) → is_live (without_group old.tree g) h ≡ true → (node_at (without_group old.tree g) h).parent ≡ Some p → is_live (without_group old.tree g) p ≡ true
+    above h p alive hangs = stays p not_removed (sound.above h p alive' hangs')
+      where
+        another : h ≢ g
+        another same = unlike (is_live (without_group old.tree g) h) alive (ap (is_live (without_group old.tree g)) same ∙ without-dead old.tree g)
+
+        alive' : is_live old.tree h ≡ true
+        alive' = sym (ap (λ (n : Node). n.live) (without-other old.tree g h another)) ∙ alive
+
+        hangs' : (node_at old.tree h).parent ≡ Some p
+        hangs' = sym (without-parent old.tree g h) ∙ hangs
+
+        not_removed : p ≢ g
+        not_removed same =
+            unlike (is_child g (node_at old.tree h))
+            (ap (λ (b : Bool). b && is_parent (node_at old.tree h).parent g) alive' ∙ ap (λ (o : Option ℕ). is_parent o g) hangs' ∙ eq-eqb p g same)
+            (no_child old.tree g h childless)
 
 -- ---- steps
 
@@ -343,6 +447,20 @@ module _ (opening : Opening) (old new : State) (sound : sound_in opening old) wh
       by_live true is e = is
       by_live false is e = cc
 
+  -- a group that nothing keeps is there, and has neither children nor tasks
+  may_be_removed : (g : ℕ) → rmdir_refusal old g ≡ None → (is_live old.tree g ≡ true) × (has_children old.tree g ≡ false) × (has_tasks old.tasks g ≡ false)
+  may_be_removed g none = (live_group g _ none, kept.0, kept.1)
+    where
+      by_tests : (live root children tasks : Bool) → first_cause (not live) NoEntry (first_cause (root || (children || tasks)) Busy None) ≡ None → (children ≡ false) × (tasks ≡ false)
+      by_tests false root children tasks e = cc
+      by_tests true true children tasks e = cc
+      by_tests true false true tasks e = cc
+      by_tests true false false true e = cc
+      by_tests true false false false e = (refl, refl)
+
+      kept : (has_children old.tree g ≡ false) × (has_tasks old.tasks g ≡ false)
+      kept = by_tests (is_live old.tree g) (g == 0) (has_children old.tree g) (has_tasks old.tasks g) none
+
   did_sound : (what : Event) (answer : Reply) → refusal old what ≡ None → Did old what answer new → sound_in opening new
   did_sound what answer none (Kept limits counted e) = subst (sound_in opening) (sym e) (sound.0, sound.1)
   did_sound what answer none (Made t v p frame access out alive shared within free unused placed shown e) =
@@ -358,8 +476,11 @@ module _ (opening : Opening) (old new : State) (sound : sound_in opening old) wh
       subst (sound_in opening) (sym frees.state) (sound.0, sound-stilled opening.swap new.page_tables old.pages new.pages old.tasks old.tree frees.pages sound.1)
   did_sound what answer none (Attached t g is out sets e) =
       subst (sound_in opening) (sym e) (sound.0, sound-spawned opening.swap old.pages old.tasks new.tasks old.tree t.0 g.0 (live_group g.0 _ (sym (ap (refusal old) is) ∙ none)) sets sound.1)
+  did_sound what answer none (Removed g is out removes) =
+      let may = may_be_removed g.0 (sym (ap (refusal old) is) ∙ none) in
+      subst (sound_in opening) (sym removes.state) (sound.0, sound-removed opening.swap old new g.0 may.0 may.1 may.2 removes sound.1)
   did_sound what answer none (Grown path is out e) =
-      subst (sound_in opening) (sym e) (sound.0, sound-grown opening.swap old.pages old.tasks old.tree _ (found_below old.tree (parent_path path)) sound.1)
+      subst (sound_in opening) (sym e) (sound.0, sound-grown opening.swap old.pages old.tasks old.tree _ (found_below old.tree (parent_path path)) (found_live old.tree (parent_path path)) sound.1)
 
 -- ---- legal histories
 
@@ -367,10 +488,14 @@ root_falls : (g p : ℕ) → (node_at (root ∷ []) g).parent ≡ Some p → p <
 root_falls zero p e = cc
 root_falls (suc g) p e = cc
 
+root_hangs : (g p : ℕ) → (node_at (root ∷ []) g).parent ≡ Some p → ⊥
+root_hangs zero p e = absurd (let none : None ≡ Some p = e in never_some {P = ⊥} {T = ℕ} None refl none)
+root_hangs (suc g) p e = absurd (let none : None ≡ Some p = e in never_some {P = ⊥} {T = ℕ} None refl none)
+
 first_sound : (opening : Opening) → sound_in opening (first_state opening)
 first_sound opening = (
   refl,
-  record { frames = λ f. omega arith; blocks = λ b. omega arith; tickets = λ n. omega arith; fits = λ p. tt; homes = λ t alive. cc; falls = record { falls = root_falls } },
+  record { frames = λ f. omega arith; blocks = λ b. omega arith; tickets = λ n. omega arith; fits = λ p. tt; homes = λ t alive. cc; above = λ g p live hangs. absurd (root_hangs g p hangs); falls = record { falls = root_falls } },
 )
 
 pub legal-sound : (opening : Opening) (history : List Entry) (s : State) → Legal opening history s → sound_in opening s

@@ -30,7 +30,8 @@ use Rattle.machine.specs.Lists.{HeldLists, is_held_of, hit_of}
 use Rattle.machine.proofs.Values.{some_inj, unlike}
 use Rattle.machine.proofs.TreeLemmas.{eq_cases}
 use Rattle.machine.proofs.MoveLemmas.{Met, met}
-use Rattle.machine.proofs.Did.{Did, Kept, Made, Moved, Dropped, Ended, Spawned, Forked, Freed, Attached, Grown, step_did}
+use Rattle.machine.proofs.Did.{is_rmdir, Did, Kept, Made, Moved, Dropped, Ended, Spawned, Forked, Freed, Attached, Removed, Grown, step_did}
+use Rattle.machine.proofs.RemovedLemmas.{regrouped-some}
 use Rattle.machine.proofs.SoundLemmas.{IsFit, legal-sound}
 use Rattle.machine.proofs.HeldLemmas.{SamePlaces, HasLists}
 
@@ -82,23 +83,24 @@ module _ (old new : State) where
         | inr other ↦ alike-same (page_at old.pages p) (page_at new.pages p) (changes.others p other)
       ])
 
-  did-places : (what : Event) (answer : Reply) → Did old what answer new → SamePlaces old.pages new.pages
-  did-places what answer (Kept limits counted e) = places-same (ap (λ (s : State). s.pages) e)
-  did-places what answer (Made t v p frame access out alive shared within free unused placed shown e) = let made : Option Page = Some (new_page (group_of_task old.tasks t) frame) in places-one p None made free placed (alike-new made)
-  did-places what answer (Moved p page dirty now counted there placed moves mapped e) = let moved : Option Page = Some (record { content = page.content; group = page.group; dirty = dirty; residence = now }) in places-one p (Some page) moved there placed (alike-moved page dirty now)
-  did-places what answer (Dropped p page counted out there may_go gone e) = places-one p (Some page) None there gone (alike-gone (Some page))
-  did-places what answer (Ended t ending counted out dead ends) =
+  did-places : (what : Event) (answer : Reply) → is_rmdir what ≡ false → Did old what answer new → SamePlaces old.pages new.pages
+  did-places what answer stays (Kept limits counted e) = places-same (ap (λ (s : State). s.pages) e)
+  did-places what answer stays (Made t v p frame access out alive shared within free unused placed shown e) = let made : Option Page = Some (new_page (group_of_task old.tasks t) frame) in places-one p None made free placed (alike-new made)
+  did-places what answer stays (Moved p page dirty now counted there placed moves mapped e) = let moved : Option Page = Some (record { content = page.content; group = page.group; dirty = dirty; residence = now }) in places-one p (Some page) moved there placed (alike-moved page dirty now)
+  did-places what answer stays (Dropped p page counted out there may_go gone e) = places-one p (Some page) None there gone (alike-gone (Some page))
+  did-places what answer stays (Ended t ending counted out dead ends) =
       places (λ p. subst (λ (o : Option Page). AreAlike (page_at old.pages p) o) (sym (ends.pages p)) (alike-still new.page_tables p (page_at old.pages p)))
-  did-places what answer (Spawned t g is sets shown e) = places-same (ap (λ (s : State). s.pages) e)
-  did-places what answer (Forked t child is out alive sets copies e) = places-same (ap (λ (s : State). s.pages) e)
-  did-places what answer (Freed t v is out alive frees) =
+  did-places what answer stays (Spawned t g is sets shown e) = places-same (ap (λ (s : State). s.pages) e)
+  did-places what answer stays (Forked t child is out alive sets copies e) = places-same (ap (λ (s : State). s.pages) e)
+  did-places what answer stays (Freed t v is out alive frees) =
       places (λ p. subst (λ (o : Option Page). AreAlike (page_at old.pages p) o) (sym (frees.pages p)) (alike-still new.page_tables p (page_at old.pages p)))
-  did-places what answer (Attached t g is out sets e) = places-same (ap (λ (s : State). s.pages) e)
-  did-places what answer (Grown path is out e) = places-same (ap (λ (s : State). s.pages) e)
+  did-places what answer stays (Attached t g is out sets e) = places-same (ap (λ (s : State). s.pages) e)
+  did-places what answer stays (Removed g is out removes) = unlike (is_rmdir what) (ap is_rmdir is) stays
+  did-places what answer stays (Grown path is out e) = places-same (ap (λ (s : State). s.pages) e)
 
--- a page that is held before a step and after it keeps its group and its type
-pub step-places : (old : State) (what : Event) (answer : Reply) (new : State) → Step old what answer new → SamePlaces old.pages new.pages
-step-places old what answer new step = did-places old new what answer (step_did old new what answer step)
+-- a page that is held before a step and after it keeps its type, and its group too, but where a group is removed
+pub step-places : (old : State) (what : Event) (answer : Reply) (new : State) → is_rmdir what ≡ false → Step old what answer new → SamePlaces old.pages new.pages
+step-places old what answer new stays step = did-places old new what answer stays (step_did old new what answer step)
 
 -- a group more, and no page changes
 pub mkdir-pages : (old new : State) (path : List ℕ) (answer : Reply) → Step old (event.Mkdir path) answer new → new.pages ≡ old.pages
@@ -161,6 +163,12 @@ module _ (old new : State) (many : ℕ) (numbers : page_numbers old.opening ≡ 
   did-numbered what answer (Freed t v is out alive frees) =
       record { below = λ p. subst (λ (o : Option Page). IfSome o (λ page. p < many)) (sym (frees.pages p)) (numbered-still many new.page_tables p (page_at old.pages p) (was.below p)) }
   did-numbered what answer (Attached t g is out sets e) = numbered-same (ap (λ (s : State). s.pages) e)
+  did-numbered what answer (Removed g is out removes) =
+      record {
+        below = λ p.
+            subst (λ (o : Option Page). IfSome o (λ page. p < many)) (sym (removes.pages p))
+            (regrouped-some (λ page. p < many) (λ page. p < many) g.0 removes.parent (λ page lt. lt) (page_at old.pages p) (was.below p));
+      }
   did-numbered what answer (Grown path is out e) = numbered-same (ap (λ (s : State). s.pages) e)
 
 -- in whatever state a legal history ends, each page has one of the numbers that the opening gives

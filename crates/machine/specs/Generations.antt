@@ -1,5 +1,5 @@
 -- The generation lists of the groups (mm/multigen_lru: "Generations").
-use Rattle.std.specs.Prelude.{◌≡◌, ℕ, ◌+◌, ◌≤◌, ◌==◌, ◌||◌, not, nat_lt, nat_le, max, Bool, true, false, if◌then◌else◌, List, [], ◌∷◌, ◌++◌, map, filter, slice_index_or, slice_set, Option, Some, None}
+use Rattle.std.specs.Prelude.{◌≡◌, ℕ, ◌+◌, ◌-◌, ◌≤◌, ◌==◌, ◌||◌, not, nat_lt, nat_le, max, Bool, true, false, if◌then◌else◌, List, [], ◌∷◌, ◌++◌, map, filter, slice_index_or, slice_set, Option, Some, None}
 use Rattle.std.specs.List.{list_any, AllByRecursion}
 use Rattle.machine.specs.declared.record.Kind.{Kind}
 use Rattle.machine.specs.declared.record.Kind.TheVariants.{Anon, File}
@@ -113,6 +113,24 @@ raised row = record { min_seq = row.min_seq + 1; pages = row.pages }
 abbrev pub advanced : Gens → Gens
 advanced gens = record { max_seq = gens.max_seq + 1; anon = gens.anon; file = gens.file }
 
+-- pages enter a generation in their order, behind those that are there
+abbrev pub taken_in : ℕ → List Listed → List Listed → List Listed
+taken_in seq more pages = filter (λ l. nat_le l.seq seq) pages ++ (map (at_seq seq) more ++ filter (λ l. nat_lt seq l.seq) pages)
+
+-- the pages of one group's lists enter the second youngest generation of another's, the oldest first. (Excludes pages that come in front of those that are there, and pages that count as
+-- used since they came.)
+abbrev pub taken_over : Gens → Gens → Gens
+taken_over from to =
+    record {
+      max_seq = to.max_seq;
+      anon = record { min_seq = to.anon.min_seq; pages = taken_in (to.max_seq - 1) from.anon.pages to.anon.pages };
+      file = record { min_seq = to.file.min_seq; pages = taken_in (to.max_seq - 1) from.file.pages to.file.pages };
+    }
+
+-- lists without a page
+abbrev pub emptied : Gens → Gens
+emptied gens = record { max_seq = gens.max_seq; anon = record { min_seq = gens.anon.min_seq; pages = [] }; file = record { min_seq = gens.file.min_seq; pages = [] } }
+
 -- ---- all groups
 
 -- the lists of a group, by number. What is no group's number has no page
@@ -122,6 +140,10 @@ gens_at groups g = slice_index_or groups g new_gens
 -- a group has other lists, and the other groups keep theirs
 abbrev pub with_gens : List Gens → ℕ → Gens → List Gens
 with_gens groups g gens = slice_set groups g gens
+
+-- all pages of one group's lists go over to another's
+abbrev pub handed_over : ℕ → ℕ → List Gens → List Gens
+handed_over from to groups = with_gens (with_gens groups to (taken_over (gens_at groups from) (gens_at groups to))) from (emptied (gens_at groups from))
 
 -- the page is on a list of some group
 abbrev pub is_listed_in : List Gens → ℕ → Bool

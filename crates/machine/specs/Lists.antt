@@ -15,8 +15,9 @@ use Rattle.machine.specs.Pages.{Content, Memory, OfFile, Page, Pages, page_at, i
 use Rattle.machine.specs.Tasks.{PageTables, mapped_at}
 use Rattle.machine.specs.Order.{served_by, cursor_at}
 use Rattle.machine.specs.State.{Opening, State, page_numbers, is_swap_free}
+use Rattle.machine.specs.Tree.{node_at}
 use Rattle.machine.specs.Reclaim.{is_takeable, target_of}
-use Rattle.machine.specs.Generations.{Row, Gens, of_kind, row_of, has_page, new_gens, added, gens_at, with_gens, IsGens}
+use Rattle.machine.specs.Generations.{Row, Gens, of_kind, row_of, has_page, new_gens, added, gens_at, with_gens, handed_over, IsGens}
 use Rattle.machine.specs.Aging.{Seen, is_marked}
 use Rattle.machine.specs.Eviction.{Picks}
 
@@ -169,6 +170,12 @@ pub record TakesNext (old : State) (order : Order) (target : ℕ) (new : State) 
 abbrev pub AddsLists : Order → Order → Type 0
 AddsLists order order' = order' ≡ record { held = with_group order.held; cursors = order.cursors ++ None ∷ [] }
 
+-- the pages of a group that goes are on its parent's lists, marked as they were; which group was served last for it as a target is forgotten, and no other cursor moves: one that names
+-- the group is as if none was served. (Excludes pages that lose their marks on the way.)
+abbrev pub RemovesLists : Option ℕ → ℕ → Order → Order → Type 0
+RemovesLists None g order order' = ⊥
+RemovesLists (Some parent) g order order' = order' ≡ record { held = record { groups = handed_over g parent order.held.groups; marks = order.held.marks }; cursors = slice_set order.cursors g None }
+
 -- no list is aged, a hit marks its page, and no cursor moves. (Excludes lists that age though no page is taken.)
 abbrev pub Keeps : State → Order → Event → Reply → State → Order → Type 0
 Keeps old order what answer new order' = GoesOn (generation_for what) old.pages (with_mark (hit_of old what answer) order.held) new.pages order'.held × (order'.cursors ≡ order.cursors)
@@ -179,5 +186,6 @@ Orders old order (event.Relieve cause) (reply.Out ticket) new order' = TakesNext
 Orders old order (event.Relieve cause) reply.Dropped new order' = TakesNext old order (target_of cause) new order'
 Orders old order (event.ReclaimOne g) (reply.Out ticket) new order' = TakesNext old order g.0 new order'
 Orders old order (event.ReclaimOne g) reply.Dropped new order' = TakesNext old order g.0 new order'
+Orders old order (event.Rmdir g) answer new order' = RemovesLists (node_at old.tree g.0).parent g.0 order order'
 Orders old order (event.Mkdir path) answer new order' = AddsLists order order'
 Orders old order what answer new order' = Keeps old order what answer new order'

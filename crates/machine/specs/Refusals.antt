@@ -83,6 +83,10 @@ spawn_refusal s t g = group_refusal s.tree g (first_cause (bars_tasks s.tree g) 
 abbrev pub attach_refusal : State → ℕ → ℕ → Option Refusal
 attach_refusal s t g = group_refusal s.tree g (first_cause (not (lives s.tasks t)) NoTask (first_cause (bars_tasks s.tree g) Busy None))
 
+-- the group is there, is not the root, and has neither children nor tasks
+abbrev pub rmdir_refusal : State → ℕ → Option Refusal
+rmdir_refusal s g = group_refusal s.tree g (first_cause ((g == 0) || (has_children s.tree g || has_tasks s.tasks g)) Busy None)
+
 abbrev pub refusal : State → Event → Option Refusal
 refusal s (event.Access t place op) = task_refusal (task_at s.tasks t.0) (first_cause (not (is_place s.opening place)) BadPlace None)
 refusal s (event.Arrived ticket bytes) = None
@@ -97,5 +101,6 @@ refusal s (event.Exit t) = task_refusal (task_at s.tasks t.0) None
 refusal s (event.Free t v) = task_refusal (task_at s.tasks t.0) (first_cause (not (nat_lt v task_pages)) BadPlace None)
 refusal s (event.Attach t g) = attach_refusal s t.0 g.0
 refusal s (event.Mkdir path) = mkdir_refusal s.tree (bars_children s.tasks) path
+refusal s (event.Rmdir g) = rmdir_refusal s g.0
 refusal s (event.Set g setting) = file_refusal s.tree g.0
 refusal s (event.Show what) = show_refusal s what

@@ -1,7 +1,7 @@
 -- What an event that is not refused may answer, and the state after it. By cases on the event, then on the state, then on the reply.
 -- Free are only: which takeable page is taken, and which free frame, swap block, page number and ticket number is used; and the byte that a read gives,
 -- which the history says (IsRight). With those given, nothing else that a look-up in a table can see is free.
-use Rattle.std.specs.Prelude.{◌≡◌, ℕ, ◌<◌, ◌==◌, ◌&&◌, ◌||◌, not, Bool, true, false, MatchBool, if◌then◌else◌, List, [], ◌∷◌, ◌++◌, slice_set, Option, Some, None}
+use Rattle.std.specs.Prelude.{◌≡◌, ℕ, ◌<◌, ◌==◌, ◌&&◌, ◌||◌, not, Bool, true, false, MatchBool, if◌then◌else◌, List, [], ◌∷◌, ◌++◌, slice_set, Option, Some, None, option_map}
 use Rattle.machine.specs.declared.record.Key.{Key}
 use Rattle.machine.specs.declared.record.Key.TheVariants as key
 use Rattle.machine.specs.declared.record.Life.{Life}
@@ -22,7 +22,7 @@ use Rattle.machine.specs.declared.reply.Reply.{Reply}
 use Rattle.machine.specs.declared.reply.Reply.TheVariants as reply
 use Rattle.machine.specs.Slots.{Changes}
 use Rattle.machine.specs.Names.{parent_path}
-use Rattle.machine.specs.Tree.{Node, find_group}
+use Rattle.machine.specs.Tree.{Node, node_at, find_group, without_group}
 use Rattle.machine.specs.Pages.{Content, Memory, OfFile, Residence, Held, Coming, Going, Away, Page, is_anon, in_transfer_at, page_at, home_block, is_frame_taken, is_swap_taken, is_ticket_taken}
 use Rattle.machine.specs.declared.record.Limits.{Limits}
 use Rattle.machine.specs.Counts.{no_limits, limits_at, Counted, local, total, counts_by}
@@ -261,6 +261,18 @@ pub record EndsTransfer (old : State) (from : ℕ → ℕ → Residence) (to : P
 abbrev pub new_node : List Node → List ℕ → Node
 new_node tree path = record { parent = find_group tree (parent_path path); path = path; live = true }
 
+-- a page of the one group is of the other
+abbrev pub regrouped : ℕ → ℕ → Page → Page
+regrouped from to page = record { content = page.content; group = if page.group == from then to else page.group; dirty = page.dirty; residence = page.residence }
+
+-- a group goes, and all its pages, in transfer and on their blocks too, are its parent's. (Excludes a removal that gives pages back to the pool, or leaves those behind that have no
+-- frame.)
+pub record Removes (old : State) (g : ℕ) (new : State) : Type 0 where
+  pub parent : ℕ
+  pub below : (node_at old.tree g).parent ≡ Some parent
+  pub pages : (p : ℕ) → page_at new.pages p ≡ option_map (regrouped g parent) (page_at old.pages p)
+  pub state : new ≡ record old { tree = without_group old.tree g; pages = new.pages }
+
 abbrev pub with_setting : Limits → Setting → Limits
 with_setting limits (setting.Max amount) = record limits { max = amount }
 with_setting limits (setting.Min amount) = record limits { min = amount }
@@ -293,6 +305,7 @@ Step old (event.Exit t) answer new = TaskStep old (task_at old.tasks t.0) (λ ta
 Step old (event.Free t v) answer new = TaskStep old (task_at old.tasks t.0) (λ task. Frees old t.0 v answer new) answer new
 Step old (event.Attach t g) reply.Ok new = Attaches old t.0 g.0 new
 Step old (event.Mkdir path) reply.Ok new = new ≡ record old { tree = old.tree ++ new_node old.tree path ∷ []; limits = old.limits ++ no_limits ∷ [] }
+Step old (event.Rmdir g) reply.Ok new = Removes old g.0 new
 Step old (event.Set g what) reply.Ok new = new ≡ record old { limits = slice_set old.limits g.0 (with_setting (limits_at old.limits g.0) what) }
 Step old (event.Show what) (reply.Shown numbers) new = (numbers ≡ shown_of old what) × (new ≡ old)
 -- no other reply is given

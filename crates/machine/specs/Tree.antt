@@ -1,5 +1,5 @@
 -- The tree of groups (admin-guide/cgroup-v2, "Organizing Processes"). A group's number is its place in the list, in order of making; its parent's is smaller.
-use Rattle.std.specs.Prelude.{◌≡◌, ℕ, zero, suc, ◌+◌, ◌<◌, ◌≤◌, ◌==◌, ◌&&◌, not, Bool, true, false, if◌then◌else◌, List, [], ◌∷◌, length, map, filter, count_by, flat_map, position, Option, Some, None, slice_index_or, take_while}
+use Rattle.std.specs.Prelude.{◌≡◌, ℕ, zero, suc, ◌+◌, ◌<◌, ◌≤◌, ◌==◌, ◌&&◌, not, Bool, true, false, if◌then◌else◌, List, [], ◌∷◌, length, map, filter, count_by, flat_map, position, Option, Some, None, slice_index_or, slice_set, take_while}
 use Rattle.std.specs.List.{list_any, enumerate_from}
 use Rattle.std.specs.Str.{bytes_eq}
 
@@ -26,6 +26,10 @@ is_live tree g = (node_at tree g).live
 -- each group that hangs below another hangs below an earlier one, so that every walk up ends. (That there is one root is no part of this: it follows from how groups are made)
 pub record IsTree (tree : List Node) : Type 0 where
   pub falls : (g p : ℕ) → (node_at tree g).parent ≡ Some p → p < g
+
+-- the group is removed: it is live no more, and stays in the list. (Excludes a removal that gives its number to a later group, or hangs what was counted below it elsewhere.)
+abbrev pub without_group : List Node → ℕ → List Node
+without_group tree g = slice_set tree g (record (node_at tree g) { live = false })
 
 -- from a group up, in at most so many steps
 unfoldable pub chain_up : ℕ → List Node → Option ℕ → List ℕ

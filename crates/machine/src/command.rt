@@ -34,6 +34,8 @@ pub enum Command {
     Exit,
     /// Makes the group of a path.
     Group(Text),
+    /// Removes the group of a path.
+    Rmdir(Text),
     /// Starts a task in the group of a path.
     Task { task: u32, path: Text },
     /// Moves a task to the group of a path.
@@ -62,6 +64,7 @@ impl Command {
             Command::Free { page } => Ok(Command::Free { page: *page }),
             Command::Exit => Ok(Command::Exit),
             Command::Group(path) => Ok(Command::Group(path.copy(alloc)?)),
+            Command::Rmdir(path) => Ok(Command::Rmdir(path.copy(alloc)?)),
             Command::Task { task, path } => Ok(Command::Task {
                 task: *task,
                 path: path.copy(alloc)?,

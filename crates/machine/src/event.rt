@@ -89,6 +89,9 @@ pub enum Event {
     Attach { task: TaskId, group: GroupId },
     /// A new group, by its path.
     Mkdir(Text),
+    /// A group is removed, and its pages go to its parent, which is charged for them from then on (kernel:
+    /// `cgroup_rmdir`, `mem_cgroup_css_offline`).
+    Rmdir(GroupId),
     /// A control file is written.
     Set { group: GroupId, setting: Setting },
     /// A control file's numbers are asked for.

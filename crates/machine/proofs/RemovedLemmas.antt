@@ -1,0 +1,108 @@
+-- A group that is removed: the tree's chains stay, its pages keep their places, and so does what is charged above it.
+use Rattle.std.proofs.Common.{◌≡◌, ◌≢◌, ℕ, zero, suc, ◌==◌, ◌&&◌, ◌||◌, Bool, true, false, cond, List, [], ◌∷◌, Option, Some, None, eqb-true, ne_eqb, refl, sym, ap, ◌∙◌, arith}
+use Rattle.std.specs.Prelude.{slice_set, option_map, IfSome}
+use Rattle.std.proofs.lemmas.List.{get_or-set_other}
+use Rattle.std.proofs.lemmas.List.Sums.{sum_by-cons}
+use Rattle.machine.specs.Slots.{at, there_and, count_there}
+use Rattle.machine.specs.Tree.{Node, no_node, node_at, is_live, chain, under_at, under, IsTree, without_group}
+use Rattle.machine.specs.Pages.{Page, page_at, has_frame, is_charged, charged}
+use Rattle.machine.specs.State.{State, usage}
+use Rattle.machine.specs.Step.{regrouped, Removes}
+use Rattle.machine.proofs.Values.{some_inj, never_some}
+use Rattle.machine.proofs.TreeLemmas.{same_chain, same_under, under_at-step}
+use Rattle.machine.proofs.SlotLemmas.{one_if}
+
+-- ---- the tree
+
+-- a node with the parent of another takes its place, and every group hangs below what it did
+parents-set : (tree : List Node) (g h : ℕ) (x : Node) → x.parent ≡ (node_at tree g).parent → (node_at (slice_set tree g x) h).parent ≡ (node_at tree h).parent
+parents-set [] g h x e = refl
+parents-set (y ∷ tree) zero zero x e = e
+parents-set (y ∷ tree) zero (suc h) x e = refl
+parents-set (y ∷ tree) (suc g) zero x e = refl
+parents-set (y ∷ tree) (suc g) (suc h) x e = parents-set tree g h x e
+
+pub without-parent : (tree : List Node) (g h : ℕ) → (node_at (without_group tree g) h).parent ≡ (node_at tree h).parent
+without-parent tree g h = parents-set tree g h (record (node_at tree g) { live = false }) refl
+
+-- the other groups are there as they were, and this one is not
+dead-set : (tree : List Node) (g : ℕ) (x : Node) → x.live ≡ false → (node_at (slice_set tree g x) g).live ≡ false
+dead-set [] g x e = refl
+dead-set (y ∷ tree) zero x e = e
+dead-set (y ∷ tree) (suc g) x e = dead-set tree g x e
+
+pub without-dead : (tree : List Node) (g : ℕ) → is_live (without_group tree g) g ≡ false
+without-dead tree g = dead-set tree g (record (node_at tree g) { live = false }) refl
+
+pub without-other : (tree : List Node) (g h : ℕ) → h ≢ g → node_at (without_group tree g) h ≡ node_at tree h
+without-other tree g h other = get_or-set_other tree g h (record (node_at tree g) { live = false }) no_node other
+
+pub without-falls : (tree : List Node) (g : ℕ) → IsTree tree → IsTree (without_group tree g)
+without-falls tree g falls = record { falls = λ h p e. falls.falls h p (sym (without-parent tree g h) ∙ e) }
+
+-- the way up from a group stays
+pub without-chain : (tree : List Node) (g : ℕ) (from : Option ℕ) → chain (without_group tree g) from ≡ chain tree from
+without-chain tree g from = same_chain (without_group tree g) tree (without-parent tree g) from
+
+-- whoever is at or below a group still is
+pub without-under : (tree : List Node) (g a : ℕ) (from : Option ℕ) → under_at (without_group tree g) a from ≡ under_at tree a from
+without-under tree g a from = same_under (without_group tree g) tree (without-parent tree g) a from
+
+-- what is under another group is so by its parent
+pub under-parent : (tree : List Node) → IsTree tree → (a g p : ℕ) → (node_at tree g).parent ≡ Some p → a ≢ g → under tree a g ≡ under tree a p
+under-parent tree falls a g p below other =
+    under_at-step tree falls a g ∙ ap (λ (b : Bool). b || under_at tree a (node_at tree g).parent) (ne_eqb a g other) ∙ ap (under_at tree a) below
+
+-- ---- its pages
+
+-- what does not look at a page's group sees no change
+pub regrouped-test : (test : Page → Bool) (from to : ℕ) → ((page : Page) → test (regrouped from to page) ≡ test page) → (slot : Option Page) → there_and test (option_map (regrouped from to) slot) ≡ there_and test slot
+regrouped-test test from to same None = refl
+regrouped-test test from to same (Some page) = same page
+
+pub regrouped-some : (P Q : Page → Type 0) (from to : ℕ) → ((page : Page) → P page → Q (regrouped from to page)) → (slot : Option Page) → IfSome slot P → IfSome (option_map (regrouped from to) slot) Q
+regrouped-some P Q from to on None h = h
+regrouped-some P Q from to on (Some page) h = on page h
+
+-- a page that is there was there, with another group at most
+pub regrouped-was : (from to : ℕ) (slot : Option Page) (now : Page) → option_map (regrouped from to) slot ≡ Some now → (page : Page) × (slot ≡ Some page) × (now ≡ regrouped from to page)
+regrouped-was from to None now e = absurd (never_some {P = ⊥} {T = Page} None refl e)
+regrouped-was from to (Some page) now e = (page, refl, sym (some_inj e))
+
+-- ---- what is charged
+
+-- tables that pass two tests alike count the same by them
+pub count-alike : {T : Type 0} (test test' : T → Bool) (xs ys : List (Option T)) → ((n : ℕ) → there_and test' (at ys n) ≡ there_and test (at xs n)) → count_there test' ys ≡ count_there test xs
+count-alike test test' [] [] same = refl
+count-alike {T} test test' [] (y ∷ ys) same =
+    let more = sum_by-cons (λ (slot : Option T). one_if (there_and test' slot)) y ys in
+    let here : one_if (there_and test' y) ≡ 0 = ap one_if (same 0) in
+    let rest : count_there test' ys ≡ 0 = count-alike test test' [] ys (λ n. same (suc n)) in
+    omega (arith, more, here, rest)
+count-alike {T} test test' (x ∷ xs) [] same =
+    let more = sum_by-cons (λ (slot : Option T). one_if (there_and test slot)) x xs in
+    let here : 0 ≡ one_if (there_and test x) = ap one_if (same 0) in
+    let rest : 0 ≡ count_there test xs = count-alike test test' xs [] (λ n. same (suc n)) in
+    omega (arith, more, here, rest)
+count-alike {T} test test' (x ∷ xs) (y ∷ ys) same =
+    let more = sum_by-cons (λ (slot : Option T). one_if (there_and test slot)) x xs in
+    let more' = sum_by-cons (λ (slot : Option T). one_if (there_and test' slot)) y ys in
+    let here : one_if (there_and test' y) ≡ one_if (there_and test x) = ap one_if (same 0) in
+    let rest = count-alike test test' xs ys (λ n. same (suc n)) in
+    omega (arith, more, more', here, rest)
+
+module _ (old new : State) (g : ℕ) (falls : IsTree old.tree) (removes : Removes old g new) where
+  charged-at : (a : ℕ) → a ≢ g → (slot : Option Page) → there_and (is_charged (without_group old.tree g) a) (option_map (regrouped g removes.parent) slot) ≡ there_and (is_charged old.tree a) slot
+  charged-at a other None = refl
+  charged-at a other (Some page) = ap (λ (b : Bool). has_frame page && b) (without-under old.tree g a (Some (cond (page.group == g) removes.parent page.group)) ∙ by_group (page.group == g) refl)
+    where
+      by_group : (b : Bool) → (page.group == g) ≡ b → under old.tree a (cond b removes.parent page.group) ≡ under old.tree a page.group
+      by_group true is = sym (under-parent old.tree falls a g removes.parent removes.below other) ∙ ap (under old.tree a) (sym (eqb-true page.group g is))
+      by_group false is = refl
+
+  -- every other group is charged for as much as before
+  pub usage-removed : (a : ℕ) → a ≢ g → usage new a ≡ usage old a
+  usage-removed a other =
+      ap (λ (s : State). charged s.tree new.pages a) removes.state
+      ∙ count-alike (is_charged old.tree a) (is_charged (without_group old.tree g) a) old.pages new.pages
+      (λ n. ap (there_and (is_charged (without_group old.tree g) a)) (removes.pages n) ∙ charged-at a other (page_at old.pages n))
