@@ -6,3 +6,5 @@ pub mod RoomLemmas
 pub mod PushLemmas
 pub mod PreorderLemmas
 pub mod LineageLemmas
+pub mod RemoveLemmas
+pub mod RemovedTables

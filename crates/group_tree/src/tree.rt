@@ -1,8 +1,8 @@
 //! The groups, by number and by path.
 
-ghost use Rattle.std.specs.Prelude.{◌≡◌, ℕ, Bool, ◌++◌, ◌∷◌, [], false, length, map, IsTrue, IfSome, IfOk, IfErr, OnOk, OnErr};
+ghost use Rattle.std.specs.Prelude.{◌≡◌, ℕ, Bool, ◌<◌, ◌++◌, ◌∷◌, [], true, false, length, map, IsTrue, IfSome, IfOk, IfErr, OnOk, OnErr};
 ghost use Rattle.std.specs.Option.{option_map};
-ghost use Rattle.machine.specs.Tree.{root, node_at, is_live, is_child, chain, under, has_children, find_group};
+ghost use Rattle.machine.specs.Tree.{root, node_at, is_live, is_child, chain, under, has_children, find_group, without_group};
 ghost use Rattle.machine.specs.Names.{parent_path};
 ghost use Rattle.machine.specs.Refusals.{first_cause, space_refusal, mkdir_refusal};
 ghost use Rattle.machine.specs.Step.{new_node};
@@ -31,7 +31,8 @@ const MAX_NUMBERS: usize = u32::MAX as usize;
 #[derive(Drop)]
 struct Group {
     parent: Option<GroupId>,
-    /// For the contracts, which see it. The code finds a group by the index.
+    /// For the contracts, which see it, and for a removal, which takes it out of the index. The code
+    /// finds a group by the index.
     path: String,
     live: bool,
 }
@@ -123,6 +124,21 @@ impl Tree {
         });
         self.live += 1;
         Ok(id)
+    }
+
+    /// The group is removed (kernel: cgroup_destroy_locked). It is not the root, and none hangs below
+    /// it. Its number is given to no other, what it hung below stays known, and its path can be made
+    /// again.
+    pub fn rmdir(&mut self, group: GroupId)
+        requires below { 0 < group.0 }
+        requires live { is_live self.old group.0 ≡ true }
+        requires childless { has_children self.old group.0 ≡ false }
+        ensures { self.new ≡ without_group self.old group.0 }
+    {
+        let removed = &mut self.groups[group.0 as usize];
+        removed.live = false;
+        self.by_path.swap_remove(removed.path.as_str());
+        self.live -= 1;
     }
 
     /// Nothing is done: what holds of every tree of groups.
