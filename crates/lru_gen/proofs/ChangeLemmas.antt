@@ -1,7 +1,7 @@
 -- What each call makes of a group's lists.
 use Rattle.std.proofs.Common.{◌≡◌, ◌≢◌, ℕ, ◌+◌, ◌<◌, ◌≤◌, List, [], ◌∷◌, ◌++◌, length, map, set, true, false, refl, sym, ap, subst, ◌∙◌, arith, inl, inr, length-set}
 use Rattle.std.proofs.lemmas.List.{get_or-set_same, get_or-set_other, length-map}
-use Rattle.std.proofs.lemmas.Bool.{cases_eq, cases_order, false_from_ne_true}
+use Rattle.std.proofs.lemmas.Bool.{cases_eq, false_from_ne_true}
 use Rattle.machine.specs.declared.record.Kind.{Kind}
 use Rattle.machine.specs.declared.record.Kind.TheVariants.{Anon, File}
 use Rattle.machine.specs.Generations.{Listed, Row, Gens, on_row, entered, added, isolated, merged, raised, advanced}
@@ -9,10 +9,33 @@ use Rattle.rings.specs.Rings.{list_at, without, has, AreApart}
 use Rattle.rings.proofs.ListLemmas.{without_none, list_at-map_without}
 use Rattle.lru_gen.specs.declared.numbers.Numbers.{Numbers}
 use Rattle.lru_gen.specs.Lists.{slot}
-use Rattle.lru_gen.specs.Rows.{numbers_at, oldest, with_oldest, rows_from, gens_from, IsWindow, IsTable}
-use Rattle.lru_gen.proofs.SlotLemmas.{anon_is_no_file, file_is_no_anon, cases_kind, slot_within, slots_apart, slot_again, groups_apart, kinds_apart}
-use Rattle.lru_gen.proofs.RowLemmas.{rows_same, rows_more, rows_less, rows_without, rows_entered, rows_merged}
+use Rattle.lru_gen.specs.Rows.{numbers_at, oldest, with_oldest, in_seq, rows_from, gens_from, IsWindow, IsTable}
+use Rattle.lru_gen.proofs.SlotLemmas.{anon_is_no_file, file_is_no_anon, cases_kind, slot_within, slots_apart, slots_near, slot_again, groups_apart, kinds_apart}
+use Rattle.lru_gen.proofs.RowLemmas.{rows_same, rows_more, rows_less, rows_without, rows_taken, rows_merged}
 use Rattle.lru_gen.proofs.GroupLemmas.{same_rows, Changes}
+
+-- ---- one list is emptied into another
+
+module _ (lists new : List (List ℕ)) (source target : ℕ) (both : List ℕ) (apart : source ≢ target) (becomes : new ≡ set (set lists target both) source []) where
+  pub joined_size : length new ≡ length lists
+  joined_size = ap (λ (all : List (List ℕ)). length all) becomes ∙ length-set (set lists target both) source [] ∙ length-set lists target both
+
+  pub joined_source : source < length lists → list_at new source ≡ []
+  joined_source inside =
+      ap (λ (all : List (List ℕ)). list_at all source) becomes
+      ∙ get_or-set_same (set lists target both) source [] [] (omega (arith, length-set lists target both))
+
+  pub joined_target : target < length lists → list_at new target ≡ both
+  joined_target inside =
+      ap (λ (all : List (List ℕ)). list_at all target) becomes
+      ∙ get_or-set_other (set lists target both) source target [] [] (λ same. apart (sym same))
+      ∙ get_or-set_same lists target both [] inside
+
+  pub joined_others : (i : ℕ) → i ≢ source → i ≢ target → list_at new i ≡ list_at lists i
+  joined_others i not_source not_target =
+      ap (λ (all : List (List ℕ)). list_at all i) becomes
+      ∙ get_or-set_other (set lists target both) source i [] [] not_source
+      ∙ get_or-set_other lists target i both [] not_target
 
 -- ---- a type's oldest number
 
@@ -87,8 +110,8 @@ module _ (lists : List (List ℕ)) (numbers : List Numbers) (is : IsTable lists 
         let here : list_at new (slot g k seq) ≡ list_at lists (slot g k seq) ++ p ∷ [] =
         one_here inside ∙ longer ∙ ap (λ (i : ℕ). list_at lists i ++ p ∷ []) at in
         let own : rows_from new g k q 4 ≡ entered p seq (rows_from lists g k q 4) =
-        rows_entered g k lists new p seq q 4 low (omega (arith, window.four)) here
-        (λ s from to differs. one_other (slot g k s) (near g k q s seq from to low (omega (arith, window.four)) differs)) in
+        rows_taken g k lists new (in_seq seq p ∷ []) seq q 4 low (omega (arith, window.four)) here
+        (λ s from to differs. one_other (slot g k s) (slots_near g k q s seq from to low (omega (arith, window.four)) differs)) in
         let rest : (j : Kind) → j ≢ k → rows_from new g j (oldest j n) 4 ≡ rows_from lists g j (oldest j n) 4 =
         λ j apart. rows_same g j lists new (oldest j n) 4 (λ s from to. one_other (slot g j s) (kinds_apart g g j k s seq apart)) in
         record {
@@ -111,17 +134,6 @@ module _ (lists : List (List ℕ)) (numbers : List Numbers) (is : IsTable lists 
           gens = with_page k p seq n _ _ own rest;
         }
       where
-        near : (g : ℕ) (k : Kind) (q s t : ℕ) → q ≤ s → s < q + 4 → q ≤ t → t < q + 4 → s ≢ t → slot g k s ≢ slot g k t
-        near g k q s t low high low_too high_too differs same =
-            elim (cases_order s t) [
-              | inl e ↦ differs e
-              | inr rest ↦
-                  elim rest [
-                    | inl less ↦ slots_apart g k s t less (omega arith) same
-                    | inr more ↦ slots_apart g k t s more (omega arith) (sym same)
-                  ]
-            ]
-
         with_page : (k : Kind) (p seq : ℕ) (n : Numbers) (old new : List (List ℕ)) → rows_from new g k (oldest k n) 4 ≡ entered p seq (rows_from old g k (oldest k n) 4) → ((j : Kind) → j ≢ k → rows_from new g j (oldest j n) 4 ≡ rows_from old g j (oldest j n) 4) → gens_from new g n ≡ added p k seq (gens_from old g n)
         with_page Anon p seq n old new own rest = same_rows n _ _ _ _ own (rest File file_is_no_anon)
         with_page File p seq n old new own rest = same_rows n _ _ _ _ (rest Anon anon_is_no_file) own
@@ -154,26 +166,14 @@ module _ (lists : List (List ℕ)) (numbers : List Numbers) (is : IsTable lists 
         slots_apart g k (oldest k (numbers_at numbers g)) (oldest k (numbers_at numbers g) + 1) (omega arith) (omega arith) (sym from_is ∙ same ∙ to_is)
 
     source_empty : list_at new source ≡ []
-    source_empty =
-        let both = list_at lists source ++ list_at lists target in
-        let inside : source < length lists = subst (λ (i : ℕ). i < length lists) (sym from_is) (among (oldest k (numbers_at numbers g))) in
-        ap (λ (all : List (List ℕ)). list_at all source) becomes
-        ∙ get_or-set_same (set lists target both) source [] [] (omega (arith, length-set lists target both))
+    source_empty = joined_source lists new source target (list_at lists source ++ list_at lists target) apart_at becomes (subst (λ (i : ℕ). i < length lists) (sym from_is) (among (oldest k (numbers_at numbers g))))
 
     target_both : list_at new target ≡ list_at lists source ++ list_at lists target
-    target_both =
-        let both = list_at lists source ++ list_at lists target in
-        let inside : target < length lists = subst (λ (i : ℕ). i < length lists) (sym to_is) (among (oldest k (numbers_at numbers g) + 1)) in
-        ap (λ (all : List (List ℕ)). list_at all target) becomes
-        ∙ get_or-set_other (set lists target both) source target [] [] (λ same. apart_at (sym same))
-        ∙ get_or-set_same lists target both [] inside
+    target_both = joined_target lists new source target (list_at lists source ++ list_at lists target) apart_at becomes (subst (λ (i : ℕ). i < length lists) (sym to_is) (among (oldest k (numbers_at numbers g) + 1)))
 
     two_others : (i : ℕ) → i ≢ slot g k (oldest k (numbers_at numbers g)) → i ≢ slot g k (oldest k (numbers_at numbers g) + 1) → list_at new i ≡ list_at lists i
     two_others i not_source not_target =
-        let both = list_at lists source ++ list_at lists target in
-        ap (λ (all : List (List ℕ)). list_at all i) becomes
-        ∙ get_or-set_other (set lists target both) source i [] [] (λ same. not_source (same ∙ from_is))
-        ∙ get_or-set_other lists target i both [] (λ same. not_target (same ∙ to_is))
+        joined_others lists new source target (list_at lists source ++ list_at lists target) apart_at becomes i (λ same. not_source (same ∙ from_is)) (λ same. not_target (same ∙ to_is))
 
     pub merged_changes : Changes lists new numbers g (with_oldest k (oldest k (numbers_at numbers g) + 1) (numbers_at numbers g)) (on_row k merged)
     merged_changes =
@@ -196,7 +196,7 @@ module _ (lists : List (List ℕ)) (numbers : List Numbers) (is : IsTable lists 
         let elsewhere : (j : Kind) → j ≢ k → (s : ℕ) → list_at new (slot g j s) ≡ list_at lists (slot g j s) =
         λ j apart s. two_others (slot g j s) (kinds_apart g g j k s q apart) (kinds_apart g g j k s (q + 1) apart) in
         record {
-          size = ap (λ (all : List (List ℕ)). length all) becomes ∙ length-set (set lists target (list_at lists source ++ list_at lists target)) source [] ∙ length-set lists target (list_at lists source ++ list_at lists target);
+          size = joined_size lists new source target (list_at lists source ++ list_at lists target) apart_at becomes;
           others = λ h other j s. two_others (slot h j s) (groups_apart g h j k s q other) (groups_apart g h j k s (q + 1) other);
           windows = windows_changed new g k (q + 1) n (record {
             two = subst (λ (m : ℕ). m + 1 ≤ n.max_seq) (sym first) (omega arith);

@@ -41,7 +41,7 @@ group_same old new g n same =
     let file = rows_same g File old new n.file_min_seq 4 (λ s low high. same File s) in
     same_rows n _ _ _ _ anon file
 
-rows_none : (lists : List (List ℕ)) (g : ℕ) (k : Kind) (q n : ℕ) → ((s : ℕ) → list_at lists (slot g k s) ≡ []) → rows_from lists g k q n ≡ []
+pub rows_none : (lists : List (List ℕ)) (g : ℕ) (k : Kind) (q n : ℕ) → ((s : ℕ) → list_at lists (slot g k s) ≡ []) → rows_from lists g k q n ≡ []
 unfolding rows_from
 rows_none lists g k q zero none = refl
 rows_none lists g k q (suc n) none = rw (none q) (rows_none lists g k (q + 1) n none)
@@ -61,6 +61,9 @@ pub seen_at : (seen : GensOf) (lists : List (List ℕ)) (numbers : List Numbers)
 seen_at seen lists numbers pages room g is within =
     sym (group_at lists numbers g (within_numbers seen lists numbers pages room g is within))
     ∙ ap (λ (v : GensOf). gens_of v g) is
+
+pub same_seen : (a b : List Gens) (c d e f : ℕ) → a ≡ b → c ≡ d → e ≡ f → (let v : GensOf = record { groups = a; pages = c; room = e } in v) ≡ record { groups = b; pages = d; room = f }
+same_seen a b c d e f groups pages room = cc
 
 -- ---- one group has other numbers and other lists, and the others keep theirs
 
@@ -125,9 +128,6 @@ module _ (old new : List (List ℕ)) (numbers : List Numbers) (g : ℕ) (within 
   seen_becomes seen pages room pages_after room_after is same_pages same_room =
       subst (λ (v : GensOf). record { groups = groups_from new 0 after; pages = pages_after; room = room_after } ≡ sets v g (to (gens_of v g))) is
       (same_seen _ _ _ _ _ _ (ap (groups_from new 0) renumbered ∙ groups_become) same_pages same_room)
-    where
-      same_seen : (a b : List Gens) (c d e f : ℕ) → a ≡ b → c ≡ d → e ≡ f → (let v : GensOf = record { groups = a; pages = c; room = e } in v) ≡ record { groups = b; pages = d; room = f }
-      same_seen a b c d e f groups pages room = cc
 
 -- ---- what the code reads and writes
 

@@ -5,7 +5,7 @@ use Rattle.std.proofs.lemmas.List.Elements.{filter-append}
 use Rattle.std.proofs.lemmas.Bool.{cases_eq, le-leb, lt-leb, lt-ltb, le-ltb, ne_eqb, eq-eqb}
 use Rattle.rings.specs.Rings.{list_at, without}
 use Rattle.machine.specs.declared.record.Kind.{Kind}
-use Rattle.machine.specs.Generations.{Listed, at_seq, entered, first_at}
+use Rattle.machine.specs.Generations.{Listed, at_seq, taken_in, first_at}
 use Rattle.lru_gen.specs.Lists.{slot}
 use Rattle.lru_gen.specs.Rows.{in_seq, rows_from}
 
@@ -94,44 +94,50 @@ module _ (g : ℕ) (kind : Kind) where
   all_above lists top seq (suc n) above =
       rw (filter-append (λ (l : Listed). nat_lt top l.seq) (map (in_seq seq) (list_at lists (slot g kind seq))) (rows_from lists g kind (seq + 1) n), filter_all (λ (l : Listed). nat_lt top l.seq) seq (λ p. lt-ltb top seq above) (list_at lists (slot g kind seq)), all_above lists top (seq + 1) n (omega arith))
 
-  -- the page comes to the end of the list of its number
-  pub rows_entered : (old new : List (List ℕ)) (p top seq n : ℕ) → seq ≤ top → top < seq + n → list_at new (slot g kind top) ≡ list_at old (slot g kind top) ++ p ∷ [] → ((s : ℕ) → seq ≤ s → s < seq + n → s ≢ top → list_at new (slot g kind s) ≡ list_at old (slot g kind s)) → rows_from new g kind seq n ≡ entered p top (rows_from old g kind seq n)
+  map_pages : (seq : ℕ) (ls : List Listed) → map (in_seq seq) (map (λ (l : Listed). l.page) ls) ≡ map (at_seq seq) ls
+  map_pages seq [] = refl
+  map_pages seq (l ∷ ls) = ap (λ (rs : List Listed). in_seq seq l.page ∷ rs) (map_pages seq ls)
+
+  -- pages come to the end of the list of one number
+  pub rows_taken : (old new : List (List ℕ)) (more : List Listed) (top seq n : ℕ) → seq ≤ top → top < seq + n → list_at new (slot g kind top) ≡ list_at old (slot g kind top) ++ map (λ l. l.page) more → ((s : ℕ) → seq ≤ s → s < seq + n → s ≢ top → list_at new (slot g kind s) ≡ list_at old (slot g kind s)) → rows_from new g kind seq n ≡ taken_in top more (rows_from old g kind seq n)
   unfolding rows_from
-  rows_entered old new p top seq zero low high at others = absurd (omega arith)
-  rows_entered old new p top seq (suc n) low high at others =
+  rows_taken old new more top seq zero low high at others = absurd (omega arith)
+  rows_taken old new more top seq (suc n) low high at others =
       let below : Listed → Bool = λ l. nat_le l.seq top in
       let above : Listed → Bool = λ l. nat_lt top l.seq in
       let here = list_at old (slot g kind seq) in
       let first = map (in_seq seq) here in
       let rest = rows_from old g kind (seq + 1) n in
+      let ps = map (λ (l : Listed). l.page) more in
       let all : filter below first ≡ first = filter_all below seq (λ q. le-leb seq top low) here in
       let none : filter above first ≡ [] = filter_none above seq (λ q. le-ltb top seq low) here in
-      let split : entered p top (first ++ rest) ≡ (first ++ filter below rest) ++ in_seq top p ∷ filter above rest =
+      let split : taken_in top more (first ++ rest) ≡ (first ++ filter below rest) ++ (map (at_seq top) more ++ filter above rest) =
       rw (filter-append below first rest, filter-append above first rest, all, none) in
       elim (cases_eq seq top) [
         | inl same ↦
-            let becomes : list_at new (slot g kind seq) ≡ here ++ p ∷ [] =
-            ap (λ (s : ℕ). list_at new (slot g kind s)) same ∙ at ∙ ap (λ (s : ℕ). list_at old (slot g kind s) ++ p ∷ []) (sym same) in
+            let becomes : list_at new (slot g kind seq) ≡ here ++ ps =
+            ap (λ (s : ℕ). list_at new (slot g kind s)) same ∙ at ∙ ap (λ (s : ℕ). list_at old (slot g kind s) ++ ps) (sym same) in
             let behind : rows_from new g kind (seq + 1) n ≡ rest =
             rows_same old new (seq + 1) n (λ s from to. others s (omega arith) (omega arith) (λ e. omega arith)) in
             let up : filter below rest ≡ [] = none_up_to old top (seq + 1) n (omega arith) in
             let over : filter above rest ≡ rest = all_above old top (seq + 1) n (omega arith) in
-            ap (λ (ps : List ℕ). map (in_seq seq) ps ++ rows_from new g kind (seq + 1) n) becomes
-            ∙ ap (λ (rs : List Listed). map (in_seq seq) (here ++ p ∷ []) ++ rs) behind
-            ∙ ap (λ (rs : List Listed). rs ++ rest) (map-append (in_seq seq) here (p ∷ []))
-            ∙ append_assoc first (in_seq seq p ∷ []) rest
-            ∙ ap (λ (s : ℕ). first ++ in_seq s p ∷ rest) same
-            ∙ ap (λ (rs : List Listed). rs ++ in_seq top p ∷ rest) (sym (append-nil first))
-            ∙ ap (λ (rs : List Listed). (first ++ rs) ++ in_seq top p ∷ rest) (sym up)
-            ∙ ap (λ (rs : List Listed). (first ++ filter below rest) ++ in_seq top p ∷ rs) (sym over)
+            ap (λ (qs : List ℕ). map (in_seq seq) qs ++ rows_from new g kind (seq + 1) n) becomes
+            ∙ ap (λ (rs : List Listed). map (in_seq seq) (here ++ ps) ++ rs) behind
+            ∙ ap (λ (rs : List Listed). rs ++ rest) (map-append (in_seq seq) here ps)
+            ∙ append_assoc first (map (in_seq seq) ps) rest
+            ∙ ap (λ (rs : List Listed). first ++ (rs ++ rest)) (map_pages seq more)
+            ∙ ap (λ (s : ℕ). first ++ (map (at_seq s) more ++ rest)) same
+            ∙ ap (λ (rs : List Listed). rs ++ (map (at_seq top) more ++ rest)) (sym (append-nil first))
+            ∙ ap (λ (rs : List Listed). (first ++ rs) ++ (map (at_seq top) more ++ rest)) (sym up)
+            ∙ ap (λ (rs : List Listed). (first ++ filter below rest) ++ (map (at_seq top) more ++ rs)) (sym over)
             ∙ sym split
         | inr apart ↦
             let stays : list_at new (slot g kind seq) ≡ here = others seq (omega arith) (omega arith) apart in
-            let behind : rows_from new g kind (seq + 1) n ≡ entered p top rest =
-            rows_entered old new p top (seq + 1) n (omega arith) (omega arith) at (λ s from to e. others s (omega arith) (omega arith) e) in
-            ap (λ (ps : List ℕ). map (in_seq seq) ps ++ rows_from new g kind (seq + 1) n) stays
+            let behind : rows_from new g kind (seq + 1) n ≡ taken_in top more rest =
+            rows_taken old new more top (seq + 1) n (omega arith) (omega arith) at (λ s from to e. others s (omega arith) (omega arith) e) in
+            ap (λ (qs : List ℕ). map (in_seq seq) qs ++ rows_from new g kind (seq + 1) n) stays
             ∙ ap (λ (rs : List Listed). first ++ rs) behind
-            ∙ sym (append_assoc first (filter below rest) (in_seq top p ∷ filter above rest))
+            ∙ sym (append_assoc first (filter below rest) (map (at_seq top) more ++ filter above rest))
             ∙ sym split
       ]
 

@@ -1,6 +1,6 @@
 -- Where the generations stand among the lists.
-use Rattle.std.proofs.Common.{◌≡◌, ◌≢◌, ◌⊎◌, ℕ, ◌+◌, ◌-◌, ◌*◌, ◌/◌, ◌%◌, ◌<◌, ◌≤◌, arith, refl, inl, inr}
-use Rattle.std.proofs.lemmas.Bool.{cases_lt}
+use Rattle.std.proofs.Common.{◌≡◌, ◌≢◌, ◌⊎◌, ℕ, ◌+◌, ◌-◌, ◌*◌, ◌/◌, ◌%◌, ◌<◌, ◌≤◌, arith, refl, sym, inl, inr}
+use Rattle.std.proofs.lemmas.Bool.{cases_lt, cases_order}
 use Rattle.machine.specs.declared.record.Kind.{Kind}
 use Rattle.machine.specs.declared.record.Kind.TheVariants.{Anon, File}
 use Rattle.machine.specs.Generations.{of_kind}
@@ -26,9 +26,24 @@ kind_small File = omega arith
 pub slot_within : (g n seq : ℕ) (k : Kind) → g < n → slot g k seq < n * 8
 slot_within g n seq k within = let small = kind_small k in omega arith
 
+pub slot_in_lists : (g lists l : ℕ) (k : Kind) (seq : ℕ) → g * 8 + 8 ≤ lists → l ≡ slot g k seq → l < lists
+slot_in_lists g lists l k seq room is = let small = kind_small k in omega arith
+
 -- numbers of one type that differ by less than four have slots of their own
 pub slots_apart : (g : ℕ) (k : Kind) (a b : ℕ) → a < b → b < a + 4 → slot g k a ≢ slot g k b
 slots_apart g k a b less near same = omega arith
+
+-- so have any two of four numbers in turn
+pub slots_near : (g : ℕ) (k : Kind) (q s t : ℕ) → q ≤ s → s < q + 4 → q ≤ t → t < q + 4 → s ≢ t → slot g k s ≢ slot g k t
+slots_near g k q s t low high low_too high_too differs same =
+    elim (cases_order s t) [
+      | inl e ↦ differs e
+      | inr rest ↦
+          elim rest [
+            | inl less ↦ slots_apart g k s t less (omega arith) same
+            | inr more ↦ slots_apart g k t s more (omega arith) (sym same)
+          ]
+    ]
 
 -- each fourth number has the same slot
 pub slot_again : (g : ℕ) (k : Kind) (a b : ℕ) → b ≡ a + 4 → slot g k b ≡ slot g k a

@@ -1,5 +1,5 @@
 -- Which rows the lists of all groups stand for. No public clause cites this.
-use Rattle.std.specs.Prelude.{◌≡◌, ℕ, zero, suc, ◌+◌, ◌-◌, ◌*◌, ◌/◌, ◌^◌, ◌<◌, ◌≤◌, min, List, [], ◌∷◌, ◌++◌, map, length, slice_index_or}
+use Rattle.std.specs.Prelude.{◌≡◌, ◌≢◌, ℕ, zero, suc, ◌+◌, ◌-◌, ◌*◌, ◌/◌, ◌^◌, ◌<◌, ◌≤◌, min, List, [], ◌∷◌, ◌++◌, map, length, slice_index_or}
 use Rattle.machine.specs.declared.record.Kind.{Kind}
 use Rattle.machine.specs.Generations.{Listed, Gens, of_kind}
 use Rattle.rings.specs.Rings.{list_at}
@@ -73,3 +73,10 @@ abbrev pub IsBehind : List (List ℕ) → ℕ → RingNode → Type 0
 IsBehind lists p (Page next) =
     (l : ℕ) × (before : List ℕ) × (after : List ℕ) × (list_at lists l ≡ before ++ p ∷ next.0 ∷ after)
 IsBehind lists p (Head l) = (before : List ℕ) × (list_at lists l.0 ≡ before ++ p ∷ [])
+
+-- so many generations of one group, from this number on, have no page any more: their pages stand behind those of another group's generation
+pub record HaveMoved (old new : List (List ℕ)) (from to : ℕ) (kind : Kind) (low n seq : ℕ) : Type 0 where
+  pub size : length new ≡ length old
+  pub taken : list_at new (slot to kind seq) ≡ list_at old (slot to kind seq) ++ map (λ l. l.page) (rows_from old from kind low n)
+  pub emptied : (turn : ℕ) → turn < n → list_at new (slot from kind (low + turn)) ≡ []
+  pub others : (l : ℕ) → l ≢ slot to kind seq → ((turn : ℕ) → turn < n → l ≢ slot from kind (low + turn)) → list_at new l ≡ list_at old l

@@ -1,7 +1,7 @@
 //! The generations of all groups.
 
-ghost use Rattle.std.specs.Prelude.{◌≡◌, ◌+◌, ◌<◌, ◌≤◌, ◌^◌, ◌∷◌, ◌++◌, [], ℕ, true, false, None, length, slice_get, is_some, option_map, option_copied, IfSome, IfOk, OnOk, IsOk};
-ghost use Rattle.machine.specs.Generations.{new_gens, row_of, on_row, has_page, is_listed, is_listed_in, after_in, added, isolated, front_of, merged, raised, advanced};
+ghost use Rattle.std.specs.Prelude.{◌≡◌, ◌≢◌, ◌+◌, ◌<◌, ◌≤◌, ◌^◌, ◌∷◌, ◌++◌, [], ℕ, true, false, None, length, slice_get, is_some, option_map, option_copied, IfSome, IfOk, OnOk, IsOk};
+ghost use Rattle.machine.specs.Generations.{new_gens, row_of, on_row, has_page, is_listed, is_listed_in, after_in, added, isolated, front_of, merged, raised, advanced, handed_over};
 ghost use Rattle.machine.specs.Eviction.{has_usable};
 ghost use Rattle.rings.specs.declared.ring_node.Link.{Link};
 ghost use Rattle.rings.specs.RingNodes.{head_node};
@@ -9,6 +9,7 @@ ghost use Rattle.rings.specs.Rings.{list_at, is_there, last_node, IsLinkOf, Keep
 ghost use Rattle.lru_gen.specs.Gens.{gens_of, sets, IsSound};
 ghost use Rattle.lru_gen.specs.Lists.{slot, lists_of, KeepsLinksOfMerge};
 
+use crate::moving::move_pages;
 use crate::numbers::{Numbers, list_of};
 use crate::search::{behind, first_from, next_turn};
 use machine::id::{GroupId, PageId};
@@ -222,6 +223,25 @@ impl Gens {
     {
         self.rings.lists_are_apart();
         self.rings.remove(page);
+    }
+
+    /// All pages of one group come to another's lists: those of each type to its second youngest generation, behind the
+    /// pages that are there, the oldest first (kernel: the pages of a memory cgroup that goes offline are its parent's).
+    /// Takes no memory, and as long for many pages as for few.
+    pub fn take_over(&mut self, from: GroupId, to: GroupId)
+        requires from { from.0 < length self.old.groups }
+        requires to { to.0 < length self.old.groups }
+        requires apart { from.0 ≢ to.0 }
+        ensures { self.new ≡ record self.old { groups = handed_over from.0 to.0 self.old.groups } }
+    {
+        let Numbers {
+            anon_min_seq,
+            file_min_seq,
+            ..
+        } = self.numbers[from.0 as usize];
+        let seq = self.numbers[to.0 as usize].max_seq - 1;
+        move_pages(&mut self.rings, from, anon_min_seq, to, seq, Kind::Anon);
+        move_pages(&mut self.rings, from, file_min_seq, to, seq, Kind::File);
     }
 
     /// The oldest generation of a type that has four becomes the front of the next (kernel: inc_min_seq).

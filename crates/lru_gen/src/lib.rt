@@ -10,6 +10,7 @@ pub use numbers::list_of;
 pub use rings::{Link, ListId, RingNode};
 
 mod gens;
+mod moving;
 mod numbers;
 mod search;
 #[cfg(test)]

@@ -91,6 +91,15 @@ fn mixed_calls_match_plain_vectors(rt: HostRuntime) -> Result<(), Fail> {
             }
             1 => raise_min(&mut gens, group, kind),
             2 => advance(&mut gens, group),
+            3 => {
+                let from = GroupId(group.0.wrapping_add(1) % GROUPS);
+                if let Some(seq) = take_over(&mut gens, from, group) {
+                    for kind in [Kind::Anon, Kind::File] {
+                        let oldest = min_seq(&gens, from, kind);
+                        plain.take_over(rt.alloc(), from, oldest, group, seq, kind)?;
+                    }
+                }
+            }
             _ => {
                 let seq = oldest.wrapping_add((seed >> 50) % 4);
                 if gens.is_listed(page) {
@@ -172,6 +181,31 @@ impl Plain {
         Ok(())
     }
 
+    // The pages of four generations come behind those of another group's generation.
+    fn take_over(
+        &mut self,
+        alloc: Global,
+        from: GroupId,
+        oldest: u64,
+        to: GroupId,
+        seq: u64,
+        kind: Kind,
+    ) -> Result<(), AllocError> {
+        let moved = self.row(alloc, from, kind, oldest, 4)?;
+        for turn in 0..4 {
+            if let Some(pages) = self
+                .lists
+                .get_mut(place(from, kind, oldest.wrapping_add(turn)))
+            {
+                pages.clear();
+            }
+        }
+        if let Some(pages) = self.lists.get_mut(place(to, kind, seq)) {
+            pages.extend_from_slice(moved.as_slice())?;
+        }
+        Ok(())
+    }
+
     fn row(
         &self,
         alloc: Global,
@@ -227,6 +261,15 @@ fn merge_oldest(gens: &mut Gens, group: GroupId, kind: Kind) -> bool {
     }
     gens.merge_oldest(group, kind);
     true
+}
+
+// The number of the generation that the pages came to.
+fn take_over(gens: &mut Gens, from: GroupId, to: GroupId) -> Option<u64> {
+    if !has_group(gens, from) || !has_group(gens, to) || from == to {
+        return None;
+    }
+    gens.take_over(from, to);
+    Some(gens.max_seq(to).wrapping_sub(1))
 }
 
 fn raise_min(gens: &mut Gens, group: GroupId, kind: Kind) {

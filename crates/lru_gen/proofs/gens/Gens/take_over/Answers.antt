@@ -1,0 +1,90 @@
+use Rattle.std.proofs.Common.{◌-◌, ℕ, vec_len, vec_capacity, ap, ◌∙◌, arith}
+use Rattle.machine.specs.declared.record.Kind.TheVariants.{Anon, File}
+use Rattle.rings.specs.Rings.{RingsOf}
+use Rattle.lru_gen.specs.declared.numbers.Numbers.{Numbers}
+use Rattle.lru_gen.specs.Rows.{room_of}
+use Rattle.lru_gen.proofs.GroupLemmas.{within_numbers, read_at, few_groups, lists_among}
+use Rattle.lru_gen.proofs.MoveLemmas.{moved_by, table_moved, seen_moved}
+use Rattle.lru_gen.proofs.gens.Gens.take_over.Goals as goal
+
+pub index-requires : goal.index-requires
+index-requires c =
+    let within = within_numbers c.args.self.now c.self.inside.rings.lists c.self.inside.numbers.items _ _ c.args.from.0 c.self.view_is c.requires.from in
+    let size = c.self.inside.numbers.ok.0 in
+    omega arith
+
+pub index-requires-2 : goal.index-requires-2
+index-requires-2 c =
+    let within = within_numbers c.args.self.now c.self.inside.rings.lists c.self.inside.numbers.items _ _ c.args.to.0 c.self.view_is c.requires.to in
+    let size = c.self.inside.numbers.ok.0 in
+    omega arith
+
+pub overflow_sub-seq : goal.overflow_sub-seq
+overflow_sub-seq c =
+    let numbers = c.self.inside.numbers.items in
+    let within = within_numbers c.args.self.now c.self.inside.rings.lists numbers _ _ c.args.to.0 c.self.view_is c.requires.to in
+    let same = ap (λ (n : Numbers). n.max_seq) (read_at numbers c.args.to.0 c.index-2.result.now within c.index-2.ensures) in
+    let two = (c.self.invariant.windows c.args.to.0 within Anon).two in
+    omega (arith, two, same)
+
+pub move_pages-requires : goal.move_pages-requires
+move_pages-requires c =
+    let lists = c.self.inside.rings.lists in
+    let numbers = c.self.inside.numbers.items in
+    let here = within_numbers c.args.self.now lists numbers _ _ c.args.from.0 c.self.view_is c.requires.from in
+    let there = within_numbers c.args.self.now lists numbers _ _ c.args.to.0 c.self.view_is c.requires.to in
+    record {
+      from = few_groups lists numbers c.args.from.0 c.self.invariant here;
+      from_lists = lists_among lists numbers c.args.from.0 c.self.invariant here;
+      to = few_groups lists numbers c.args.to.0 c.self.invariant there;
+      to_lists = lists_among lists numbers c.args.to.0 c.self.invariant there;
+      apart = c.requires.apart;
+    }
+
+pub move_pages-requires-2 : goal.move_pages-requires-2
+move_pages-requires-2 c =
+    let lists = c.self.inside.rings.lists in
+    let numbers = c.self.inside.numbers.items in
+    let here = within_numbers c.args.self.now lists numbers _ _ c.args.from.0 c.self.view_is c.requires.from in
+    let there = within_numbers c.args.self.now lists numbers _ _ c.args.to.0 c.self.view_is c.requires.to in
+    let size = c.move_pages.ensures.lists.size in
+    let first = lists_among lists numbers c.args.from.0 c.self.invariant here in
+    let second = lists_among lists numbers c.args.to.0 c.self.invariant there in
+    record {
+      from = few_groups lists numbers c.args.from.0 c.self.invariant here;
+      from_lists = omega (arith, size, first);
+      to = few_groups lists numbers c.args.to.0 c.self.invariant there;
+      to_lists = omega (arith, size, second);
+      apart = c.requires.apart;
+    }
+
+pub invariant_of-self : goal.invariant_of-self
+invariant_of-self c =
+    let lists = c.self.inside.rings.lists in
+    let numbers = c.self.inside.numbers.items in
+    let g = c.args.from.0 in
+    let h = c.args.to.0 in
+    let here = within_numbers c.args.self.now lists numbers _ _ g c.self.view_is c.requires.from in
+    let there = within_numbers c.args.self.now lists numbers _ _ h c.self.view_is c.requires.to in
+    let read = read_at numbers g c.index.result.now here c.index.ensures in
+    let seq = ap (λ (n : Numbers). n.max_seq - 1) (read_at numbers h c.index-2.result.now there c.index-2.ensures) in
+    let anon = moved_by lists c.move_pages.new.rings.lists g h Anon _ _ _ _ (ap (λ (n : Numbers). n.anon_min_seq) read) seq c.move_pages.ensures.lists in
+    let file = moved_by c.move_pages.new.rings.lists c.move_pages-2.new.rings.lists g h File _ _ _ _ (ap (λ (n : Numbers). n.file_min_seq) read) seq c.move_pages-2.ensures.lists in
+    table_moved lists c.move_pages.new.rings.lists c.move_pages-2.new.rings.lists numbers c.self.invariant g h here there c.requires.apart anon file
+
+pub returns : goal.returns
+returns c =
+    let lists = c.self.inside.rings.lists in
+    let numbers = c.self.inside.numbers.items in
+    let g = c.args.from.0 in
+    let h = c.args.to.0 in
+    let here = within_numbers c.args.self.now lists numbers _ _ g c.self.view_is c.requires.from in
+    let there = within_numbers c.args.self.now lists numbers _ _ h c.self.view_is c.requires.to in
+    let read = read_at numbers g c.index.result.now here c.index.ensures in
+    let seq = ap (λ (n : Numbers). n.max_seq - 1) (read_at numbers h c.index-2.result.now there c.index-2.ensures) in
+    let anon = moved_by lists c.move_pages.new.rings.lists g h Anon _ _ _ _ (ap (λ (n : Numbers). n.anon_min_seq) read) seq c.move_pages.ensures.lists in
+    let file = moved_by c.move_pages.new.rings.lists c.move_pages-2.new.rings.lists g h File _ _ _ _ (ap (λ (n : Numbers). n.file_min_seq) read) seq c.move_pages-2.ensures.lists in
+    let pages = ap (λ (v : RingsOf). v.numbers) c.move_pages-2.ensures.others ∙ ap (λ (v : RingsOf). v.numbers) c.move_pages.ensures.others in
+    let room = ap (λ (v : RingsOf). v.room) c.move_pages-2.ensures.others ∙ ap (λ (v : RingsOf). v.room) c.move_pages.ensures.others in
+    seen_moved lists c.move_pages.new.rings.lists c.move_pages-2.new.rings.lists numbers c.self.invariant g h here there c.requires.apart anon file c.args.self.now _ _ _ _ c.self.view_is pages
+    (ap (λ (r : ℕ). room_of r (vec_capacity c.self.inside.numbers - vec_len c.self.inside.numbers) (vec_len c.self.inside.numbers)) room)
