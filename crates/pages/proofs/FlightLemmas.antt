@@ -5,6 +5,7 @@ use Rattle.std.proofs.lemmas.Bool.{false_from_ne_true}
 use Rattle.std.proofs.lemmas.Bool.Decides.{eqb_tells}
 use Rattle.machine.specs.Slots.{at, there_and, Changes}
 use Rattle.machine.specs.Pages.{Page, Pages, Residence, Held, Coming, Going, Away, page_at, is_number, ticket_at, in_transfer_at, is_in_transfer, is_flying_at, is_in_flight}
+use Rattle.machine.proofs.Values.{some_inj}
 use Rattle.machine.specs.declared.record.Direction.{Direction}
 use Rattle.machine.specs.declared.record.Direction.TheVariants.{In, Out}
 use Rattle.pages.specs.declared.flight.Flight.{Flight}
@@ -151,6 +152,33 @@ module _ (old new : Pages) (p : ℕ) (to : Option Page) (placed : Changes old ne
           ]
           )
     ];
+  }
+
+-- a page is of another group, where it was
+module _ (old new : Pages) (p g h : ℕ) (residence : Residence) (was : page_at old p ≡ Some (anon_page g residence)) (placed : Changes old new p (Some (anon_page h residence))) where
+  under-same : (q m : ℕ) → under (page_at new q) m ≡ under (page_at old q) m
+  under-same q m =
+      elim (eqb_tells q p) [
+        | inl same ↦ ap (λ r. under (page_at new r) m) same.1 ∙ ap (λ s. under s m) placed.changed ∙ sym (ap (λ s. under s m) (ap (page_at old) same.1 ∙ was))
+        | inr apart ↦ ap (λ s. under s m) (placed.others q apart.1)
+      ]
+
+  known-same : (m : ℕ) (slot : Option Flight) → IfSome slot (IsInTransfer old m) → IfSome slot (IsInTransfer new m)
+  known-same m None is = tt
+  known-same m (Some f) is =
+      elim (eqb_tells f.page.0 p) [
+        | inl same ↦ (
+            let moves = ap (λ page. page.residence) (some_inj (sym was ∙ ap (page_at old) (sym same.1) ∙ is.stands)) in
+            record { group = h; frame = is.frame; block = is.block; stands = ap (page_at new) same.1 ∙ placed.changed ∙ ap (λ r. Some (anon_page h r)) moves }
+            )
+        | inr apart ↦ record { group = is.group; frame = is.frame; block = is.block; stands = placed.others f.page.0 apart.1 ∙ is.stands }
+      ]
+
+  pub AreInFlight-regrouped : (flights : List (Option Flight)) → AreInFlight old flights → AreMemory new → AreInFlight new flights
+  AreInFlight-regrouped flights is memory = record {
+    memory = memory;
+    known = λ n. known-same n (at flights n) (is.known n);
+    listed = λ q n moves. is.listed q n (sym (under-same q n) ∙ moves);
   }
 
 -- ---- which way a ticket's page goes

@@ -1,3 +1,4 @@
 pub mod TableLemmas
 pub mod FlightLemmas
+pub mod MemberLemmas
 pub mod TransferLemmas

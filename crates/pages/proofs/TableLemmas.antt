@@ -101,6 +101,10 @@ none_of number (Some b) same free = absurd (let is = sym (ap is_some free) ∙ s
 pub free-vacant : {T A : Type 0} (numbers : Slab T) (old : List (Option A)) (p : ℕ) → ((n : ℕ) → is_some (get numbers n) ≡ is_some (at old n)) → get numbers p ≡ None → at old p ≡ None
 free-vacant numbers old p taken free = none_of (get numbers p) (at old p) (taken p) free
 
+-- and so no page is there
+pub free-page : {T A B : Type 0} (f : A → B) (numbers : Slab T) (old : List (Option A)) (p : ℕ) → ((n : ℕ) → is_some (get numbers n) ≡ is_some (at old n)) → get numbers p ≡ None → at (map (option_map f) old) p ≡ None
+free-page f numbers old p taken free = at-map f old p ∙ ap (option_map f) (free-vacant numbers old p taken free)
+
 pub byte_in-changes : (old new : List (Option (List ℕ))) (p : ℕ) (to : Option (List ℕ)) → Changes old new p to → (q o : ℕ) → byte_in new q o ≡ (if q == p then byte_of to o else byte_in old q o)
 byte_in-changes old new p to changes q o =
     elim (eqb_tells q p) [

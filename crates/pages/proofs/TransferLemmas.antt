@@ -15,9 +15,11 @@ use Rattle.pages.specs.declared.flight.Flight.{Flight}
 use Rattle.pages.specs.declared.owned_page.OwnedPage.{OwnedPage}
 use Rattle.pages.specs.PagesOf.{anon_page, moving, flight, byte_of, byte_in, HasResidence, is_under_ticket, IsInTransfer, AreInFlight}
 use Rattle.pages.specs.Transfers.{Starts, Ends, residence_after, IsFreed, given_ticket}
-use Rattle.pages.specs.Records.{page_of, bytes_of, view_of, ArePages}
+use Rattle.rings.specs.Rings.{RingsOf}
+use Rattle.pages.specs.Records.{page_of, bytes_of, is_of, AreMembers, view_of, ArePages}
 use Rattle.pages.proofs.TableLemmas.{at-map, is_some-map, map-set, place_within, Changes-map, Changes-set, Changes-twice, byte_in-changes}
 use Rattle.pages.proofs.FlightLemmas.{under, under-moving, IsSettled, IsSettled-is, AreMemory-owned, AreInFlight-begun, AreInFlight-ended}
+use Rattle.pages.proofs.MemberLemmas.{AreMembers-kept}
 
 abbrev pub pages_of : List (Option OwnedPage) → Pages
 pages_of owned = map (option_map page_of) owned
@@ -98,6 +100,12 @@ module _ (old between new : List (Option OwnedPage)) (p : ℕ) (from to : OwnedP
         | inr apart ↦ taken k ∙ sym (ap is_some (exchanged.others k apart.1))
       ]
 
+  -- a page that stays in its group stays on its list
+  pub exchanged-listed : (lists : List (List ℕ)) → (page_of from).group ≡ (page_of to).group → AreMembers lists (pages_of old) → AreMembers lists (pages_of new)
+  exchanged-listed lists same are =
+      AreMembers-kept lists (pages_of old) (pages_of new) p (Some (page_of to)) (Changes-map page_of old new p (Some to) exchanged) are
+      (λ g. ap (λ h. h == g) (sym same) ∙ sym (ap (is_of g) (at-map page_of old p ∙ ap (option_map page_of) exchanges.was)))
+
   pub exchanged-byte : (q o : ℕ) → byte_in (map (option_map bytes_of) new) q o ≡ cond (q == p) (slice_index (bytes_of to) o) (byte_in (map (option_map bytes_of) old) q o)
   exchanged-byte q o = byte_in-changes _ _ p (Some (bytes_of to)) (Changes-map bytes_of old new p (Some to) exchanged) q o
 
@@ -150,8 +158,8 @@ moving-block In f b n = refl
 moving-block Out f b n = refl
 
 -- the steps of an ending: the transfer is unlisted, and what its page owns is exchanged
-pub record Landing {T : Type 0} (numbers : Slab T) (old between new : List (Option OwnedPage)) (places room : ℕ) (flights later : Slab Flight) (n : ℕ) (number : PageId) (from to : OwnedPage) (charge frame block : ℕ) (end : End) : Type 0 where
-  pub are : ArePages numbers old places flights
+pub record Landing {T : Type 0} (numbers : Slab T) (old between new : List (Option OwnedPage)) (places room : ℕ) (flights later : Slab Flight) (members : RingsOf) (n : ℕ) (number : PageId) (from to : OwnedPage) (charge frame block : ℕ) (end : End) : Type 0 where
+  pub are : ArePages numbers old places flights members
   pub page : option_map (λ (f : Flight). f.page) (at flights.slots n) ≡ Some number
   pub unlisted : Changes flights.slots later.slots n None
   pub len : slab_len later + 1 ≡ slab_len flights
@@ -165,8 +173,8 @@ pub record Landing {T : Type 0} (numbers : Slab T) (old between new : List (Opti
   pub after : page_of to ≡ anon_page charge (residence_after end frame block)
   pub kept : end ≡ InFrame → bytes_of to ≡ bytes_of from
 
-module _ {T : Type 0} {numbers : Slab T} {old between new : List (Option OwnedPage)} {places room : ℕ} {flights later : Slab Flight} {n : ℕ} {number : PageId} {from to : OwnedPage} {charge frame block : ℕ} {end : End} (landing : Landing numbers old between new places room flights later n number from to charge frame block end) where
-  pub Landing-are : ArePages numbers new room later
+module _ {T : Type 0} {numbers : Slab T} {old between new : List (Option OwnedPage)} {places room : ℕ} {flights later : Slab Flight} {members : RingsOf} {n : ℕ} {number : PageId} {from to : OwnedPage} {charge frame block : ℕ} {end : End} (landing : Landing numbers old between new places room flights later members n number from to charge frame block end) where
+  pub Landing-are : ArePages numbers new room later members
   Landing-are =
       let is = landing.are in
       record {
@@ -175,6 +183,8 @@ module _ {T : Type 0} {numbers : Slab T} {old between new : List (Option OwnedPa
         in_flight = AreInFlight-ended (pages_of old) (pages_of new) number.0 (Some (page_of to)) (Changes-map page_of old new number.0 (Some to) (exchanged old between new number.0 from to landing.exchanges)) flights.slots later.slots n is.in_flight (flight-under old flights.slots n number is.in_flight landing.page) landing.unlisted (settled-after end (page_of to) charge frame block landing.after) (AreMemory-owned new);
         few = is.few;
         countable = (let few = is.countable in let same = landing.capacity in omega (arith, few, same));
+        linked = is.linked;
+        listed = exchanged-listed old between new number.0 from to landing.exchanges members.lists (landing.own_charge ∙ sym (ap (λ page. page.group) landing.after)) is.listed;
       }
 
   module _ (d : Direction) (p g f b : ℕ) (stands : HasResidence (pages_of old) p g (moving d f b n)) where
@@ -194,7 +204,7 @@ module _ {T : Type 0} {numbers : Slab T} {old between new : List (Option OwnedPa
     pub Landing-block : block ≡ b
     Landing-block = part-slot from g _ from_is block b landing.own_block (moving-block d f b n)
 
-    pub Landing-ends : Ends (view_of numbers old flights) (view_of numbers new later) p g f b n end
+    pub Landing-ends : Ends (view_of numbers old flights members) (view_of numbers new later members) p g f b n end
     Landing-ends =
         let is = landing.after ∙ anon_page-same charge g _ _ Landing-charge (ap (λ x. residence_after end x block) Landing-frame ∙ ap (λ x. residence_after end f x) Landing-block) in
         record {
@@ -202,6 +212,8 @@ module _ {T : Type 0} {numbers : Slab T} {old between new : List (Option OwnedPa
           unlisted = landing.unlisted;
           more = (let len = landing.len in let fits = landing.fits in let capacity = landing.capacity in omega (arith, len, fits, capacity));
           numbers = refl;
+          groups = refl;
+          room = refl;
           bytes = λ in_frame. exchanged-byte-kept old between new number.0 from to landing.exchanges (landing.kept in_frame);
           others = λ k o apart. exchanged-byte-apart old between new number.0 from to landing.exchanges k o (λ same. apart (same ∙ Landing-page));
         }
@@ -210,8 +222,8 @@ module _ {T : Type 0} {numbers : Slab T} {old between new : List (Option OwnedPa
     Landing-freed freed is = subst (λ x. IsFreed x f b end freed) Landing-charge (subst (λ x. IsFreed charge x b end freed) Landing-frame (subst (λ x. IsFreed charge frame x end freed) Landing-block is))
 
 -- the steps of a beginning: the transfer is listed under a free ticket, and what its page owns is exchanged
-pub record Takeoff {T : Type 0} (numbers : Slab T) (old between new : List (Option OwnedPage)) (places room : ℕ) (flights later : Slab Flight) (n p worker : ℕ) (direction : Direction) (g frame block : ℕ) (from to : OwnedPage) : Type 0 where
-  pub are : ArePages numbers old places flights
+pub record Takeoff {T : Type 0} (numbers : Slab T) (old between new : List (Option OwnedPage)) (places room : ℕ) (flights later : Slab Flight) (members : RingsOf) (n p worker : ℕ) (direction : Direction) (g frame block : ℕ) (from to : OwnedPage) : Type 0 where
+  pub are : ArePages numbers old places flights members
   pub free : at flights.slots n ≡ None
   pub listed : Changes flights.slots later.slots n (Some (flight p worker direction))
   pub len : slab_len later ≡ slab_len flights + 1
@@ -220,10 +232,11 @@ pub record Takeoff {T : Type 0} (numbers : Slab T) (old between new : List (Opti
   pub exchanges : Exchanges old between new p from to
   pub same_places : room ≡ places
   pub settled : IsSettled (Some (page_of from))
+  pub own_charge : (page_of from).group ≡ g
   pub moves : page_of to ≡ anon_page g (moving direction frame block n)
 
-module _ {T : Type 0} {numbers : Slab T} {old between new : List (Option OwnedPage)} {places room : ℕ} {flights later : Slab Flight} {n p worker : ℕ} {direction : Direction} {g frame block : ℕ} {from to : OwnedPage} (takeoff : Takeoff numbers old between new places room flights later n p worker direction g frame block from to) where
-  pub Takeoff-are : ArePages numbers new room later
+module _ {T : Type 0} {numbers : Slab T} {old between new : List (Option OwnedPage)} {places room : ℕ} {flights later : Slab Flight} {members : RingsOf} {n p worker : ℕ} {direction : Direction} {g frame block : ℕ} {from to : OwnedPage} (takeoff : Takeoff numbers old between new places room flights later members n p worker direction g frame block from to) where
+  pub Takeoff-are : ArePages numbers new room later members
   Takeoff-are =
       let is = takeoff.are in
       let settled = IsSettled-is (page_at (pages_of old) p) (Some (page_of from)) (at-map page_of old p ∙ ap (option_map page_of) takeoff.exchanges.was) takeoff.settled in
@@ -233,9 +246,11 @@ module _ {T : Type 0} {numbers : Slab T} {old between new : List (Option OwnedPa
         in_flight = AreInFlight-begun (pages_of old) (pages_of new) p (Some (page_of to)) (Changes-map page_of old new p (Some to) (exchanged old between new p from to takeoff.exchanges)) flights.slots later.slots n worker direction g frame block (ap Some takeoff.moves) is.in_flight settled takeoff.free takeoff.listed (AreMemory-owned new);
         few = is.few;
         countable = (let few = is.countable in let same = takeoff.capacity in omega (arith, few, same));
+        linked = is.linked;
+        listed = exchanged-listed old between new p from to takeoff.exchanges members.lists (takeoff.own_charge ∙ sym (ap (λ page. page.group) takeoff.moves)) is.listed;
       }
 
-  pub Takeoff-starts : (h f b entry : ℕ) (bytes : List ℕ) → page_of to ≡ anon_page h (moving direction f b n) → Starts (view_of numbers old flights) (view_of numbers new later) p h direction f b worker entry (given_ticket n worker entry b bytes)
+  pub Takeoff-starts : (h f b entry : ℕ) (bytes : List ℕ) → page_of to ≡ anon_page h (moving direction f b n) → Starts (view_of numbers old flights members) (view_of numbers new later members) p h direction f b worker entry (given_ticket n worker entry b bytes)
   Takeoff-starts h f b entry bytes is = record {
     free = takeoff.free;
     listed = takeoff.listed;
@@ -243,6 +258,8 @@ module _ {T : Type 0} {numbers : Slab T} {old between new : List (Option OwnedPa
     given = refl;
     fewer = (let len = takeoff.len in let fits = takeoff.fits in let capacity = takeoff.capacity in omega (arith, len, fits, capacity));
     numbers = refl;
+    groups = refl;
+    room = refl;
   }
 
   pub Takeoff-apart : (q o : ℕ) → q ≢ p → byte_in (map (option_map bytes_of) new) q o ≡ byte_in (map (option_map bytes_of) old) q o
@@ -260,21 +277,23 @@ pub record Rewrites (owned : List (Option OwnedPage)) (p : ℕ) (before after : 
   pub was : before ≡ at owned p
   pub page : option_map page_of after ≡ option_map page_of before
 
-module _ {T : Type 0} (numbers : Slab T) (flights : Slab Flight) (owned : List (Option OwnedPage)) (p : ℕ) (before after : Option OwnedPage) (rewrites : Rewrites owned p before after) where
+module _ {T : Type 0} (numbers : Slab T) (flights : Slab Flight) (members : RingsOf) (owned : List (Option OwnedPage)) (p : ℕ) (before after : Option OwnedPage) (rewrites : Rewrites owned p before after) where
   same_pages : pages_of (set owned p after) ≡ pages_of owned
   same_pages = map-set page_of owned p after (rewrites.page ∙ ap (option_map page_of) rewrites.was)
 
-  pub Rewrites-are : (places : ℕ) → ArePages numbers owned places flights → ArePages numbers (set owned p after) places flights
+  pub Rewrites-are : (places : ℕ) → ArePages numbers owned places flights members → ArePages numbers (set owned p after) places flights members
   Rewrites-are places is = record {
     taken = λ n. is.taken n ∙ sym (sym (is_some-map page_of (at (set owned p after) n)) ∙ ap is_some (sym (at-map page_of (set owned p after) n) ∙ ap (λ pages. page_at pages n) same_pages ∙ at-map page_of owned n) ∙ is_some-map page_of (at owned n));
     within = is.within;
     in_flight = subst (λ pages. AreInFlight pages flights.slots) (sym same_pages) is.in_flight;
     few = is.few;
     countable = is.countable;
+    linked = is.linked;
+    listed = subst (AreMembers members.lists) (sym same_pages) is.listed;
   }
 
-  pub Rewrites-others : view_of numbers (set owned p after) flights ≡ record (view_of numbers owned flights) { bytes = map (option_map bytes_of) (set owned p after) }
-  Rewrites-others = ap (λ pages. record (view_of numbers (set owned p after) flights) { pages = pages }) same_pages
+  pub Rewrites-others : view_of numbers (set owned p after) flights members ≡ record (view_of numbers owned flights members) { bytes = map (option_map bytes_of) (set owned p after) }
+  Rewrites-others = ap (λ pages. record (view_of numbers (set owned p after) flights members) { pages = pages }) same_pages
 
   pub Rewrites-bytes : Changes (map (option_map bytes_of) owned) (map (option_map bytes_of) (set owned p after)) p (option_map bytes_of after)
   Rewrites-bytes = Changes-map bytes_of _ _ p after (Changes-set owned p after rewrites.within)

@@ -9,13 +9,15 @@ use Rattle.machine.specs.declared.record.Direction.TheVariants.{In, Out}
 use Rattle.pages.specs.declared.flight.Flight.{Flight}
 
 -- the pages and their bytes, both by the page's number; how many page numbers there are; by ticket number the transfers in flight;
--- and for how many transfers more there is memory
+-- for how many transfers more there is memory; how many groups there are; and for how many groups more there is memory
 pub record PagesOf : Type 0 where
   pub pages : Pages
   pub bytes : List (Option (List ℕ))
   pub numbers : ℕ
   pub flights : List (Option Flight)
   pub tickets : ℕ
+  pub groups : ℕ
+  pub room : ℕ
 
 -- how many pages there are
 abbrev pub pages_there : Pages → ℕ

@@ -24,6 +24,8 @@ pub record Starts (old new : PagesOf) (p g : ℕ) (direction : Direction) (frame
   pub given : ticket ≡ given_ticket ticket.number worker entry block ticket.bytes
   pub fewer : old.tickets ≡ new.tickets + 1
   pub numbers : new.numbers ≡ old.numbers
+  pub groups : new.groups ≡ old.groups
+  pub room : new.room ≡ old.room
 
 -- a page on its block is read into a frame
 pub record StartsIn (old new : PagesOf) (p g frame block worker entry : ℕ) (ticket : TicketOf) : Type 0 where
@@ -52,5 +54,7 @@ pub record Ends (old new : PagesOf) (p g frame block n : ℕ) (end : End) : Type
   pub unlisted : Changes old.flights new.flights n None
   pub more : new.tickets ≡ old.tickets + 1
   pub numbers : new.numbers ≡ old.numbers
+  pub groups : new.groups ≡ old.groups
+  pub room : new.room ≡ old.room
   pub bytes : end ≡ InFrame → (q o : ℕ) → byte_in new.bytes q o ≡ byte_in old.bytes q o
   pub others : (q o : ℕ) → q ≢ p → byte_in new.bytes q o ≡ byte_in old.bytes q o

@@ -1,13 +1,18 @@
 //! The pages of memory that there are, by their numbers, with what each owns: a frame and a charge, a
 //! swap slot, or all three while it is in transfer. And the tickets of the transfers in flight.
 //!
+//! Each page is on a list of its group's pages, so that the pages of a group are found without a look
+//! at any other.
+//!
 //! A page here is anonymous. Its number is free again once the page is dropped, and the number of a
 //! ticket once its transfer has ended.
 #![tactic(auto)]
 
-ghost use Rattle.std.specs.Prelude.{◌≡◌, ℕ, ◌+◌, ◌<◌, ◌≤◌, ◌==◌, ◌&&◌, [], Some, None, OnOk, IsOk, IfOk, IfSome, slice_index, true, false, map, option_map, if◌then◌else◌};
+ghost use Rattle.std.specs.Prelude.{◌≡◌, ◌≢◌, ℕ, ◌+◌, ◌<◌, ◌≤◌, ◌==◌, ◌&&◌, [], Some, None, OnOk, IsOk, IfOk, IfSome, slice_index, true, false, map, option_map, if◌then◌else◌};
 ghost use Rattle.machine.specs.Slots.{at, Changes};
-ghost use Rattle.machine.specs.Pages.{Residence as PageResidence, Held, Coming, Away, page_at, is_held_in, is_in_flight};
+ghost use Rattle.machine.specs.Pages.{Residence as PageResidence, Held, Coming, Away, page_at, is_held_in, is_in_flight, is_some_number, frame_at};
+ghost use Rattle.machine.specs.Tree.{node_at};
+ghost use Rattle.page_counter.specs.Counts.{IsOut, MovesUp, SameGroups};
 ghost use Rattle.machine.specs.Access.{page_size};
 ghost use Rattle.machine.specs.Step.{new_page};
 ghost use Rattle.pages.specs.PagesOf.{pages_there, byte_in, anon_page, HasResidence, residence_of, moving, is_moving_in, is_flight_to, IsInTransfer, AreInFlight};
@@ -32,18 +37,19 @@ use block_store::Slot;
 use frames::{FRAME_BYTES, Frame, Spare};
 use machine::id::{GroupId, PageId, TicketId, WorkerId};
 use machine::record::Direction;
-use page_counter::Charge;
+use page_counter::{Charge, Counters};
+use rings::{ListId, Rings};
 use slab::Slab;
 use std::alloc::{AllocError, Global};
 use std::marker::Model;
 use table::{
-    bytes_at, divide, fill_at, group_of, into_away, into_held, into_moving, list, open_numbers,
-    owned_at, page_under, place, read_at, residence_of, set_bytes_but, set_zeros_but, take_at,
-    unlist, write_at,
+    bytes_at, divide, fill_at, group_of, into_away, into_held, into_moving, list, open_members,
+    open_numbers, owned_at, page_under, place, read_at, regrouped, residence_of, set_bytes_but,
+    set_zeros_but, take_at, unlist, write_at,
 };
 
-/// The pages by their numbers, and the transfers in flight by theirs. It must be spent, by
-/// [`Pages::into_owned`].
+/// The pages by their numbers, the transfers in flight by theirs, and the pages of each group. It must be
+/// spent, by [`Pages::into_owned`].
 #[must_use]
 pub struct Pages {
     // The numbers that pages have, and those that are free.
@@ -52,6 +58,8 @@ pub struct Pages {
     owned: Vec<Option<OwnedPage>>,
     // The transfers, by their tickets' numbers.
     flights: Slab<Flight>,
+    // The pages of each group, by page number. A list's number is its group's.
+    members: Rings,
 }
 
 impl Model for Pages {
@@ -62,21 +70,23 @@ impl Model for Pages {
     ghost use Rattle.std.specs.Prelude.{vec_capacity};
     ghost use Rattle.pages.specs.Records.{view_of, ArePages};
 
-    ghost view = { λ s. view_of s.numbers s.owned.items s.flights };
+    ghost view = { λ s. view_of s.numbers s.owned.items s.flights s.members };
 
-    ghost invariant = { λ s. ArePages s.numbers s.owned.items (vec_capacity s.owned) s.flights };
+    ghost invariant = { λ s. ArePages s.numbers s.owned.items (vec_capacity s.owned) s.flights s.members };
 }
 
 impl Pages {
-    /// No page, so many page numbers, and memory for so many transfers in flight at once. `AllocError`
-    /// where there is none.
+    /// No page, so many page numbers, the root as the only group, and memory for so many transfers in
+    /// flight at once. `AllocError` where there is none.
     pub fn new(alloc: Global, numbers: u32, transfers: u32) -> Result<Self, AllocError>
         ensures pages { IfOk result (λ t. t.pages ≡ []) }
         ensures bytes { IfOk result (λ t. t.bytes ≡ []) }
         ensures flights { IfOk result (λ t. t.flights ≡ []) }
         ensures numbers { IfOk result (λ t. t.numbers ≡ numbers) }
         ensures tickets { IfOk result (λ t. transfers ≤ t.tickets) }
+        ensures groups { IfOk result (λ t. t.groups ≡ 1) }
     {
+        let members = open_members(alloc, numbers)?;
         let numbers = open_numbers(alloc, numbers)?;
         let flights = open_numbers(alloc, transfers)?;
         let owned = Vec::with_capacity(alloc, numbers.capacity())?;
@@ -84,6 +94,7 @@ impl Pages {
             numbers,
             owned,
             flights,
+            members,
         })
     }
 
@@ -94,9 +105,30 @@ impl Pages {
         self.numbers.capacity() as u32
     }
 
+    /// Asks for the memory of one group more. `AllocError` where there is none, or where there are 2^32 - 1
+    /// groups; the pages are the same either way.
+    pub fn reserve_group(&mut self) -> Result<(), AllocError>
+        ensures room { OnOk result (0 < self.new.room) }
+        ensures same { self.new ≡ record self.old { room = self.new.room } }
+    {
+        if self.members.len() == u32::MAX {
+            return Err(AllocError);
+        }
+        self.members.reserve(1)
+    }
+
+    /// A group more, with no page. Its memory was asked for by [`Pages::reserve_group`].
+    pub fn add_group(&mut self)
+        requires { 0 < self.old.room }
+        ensures { self.new ≡ record self.old { groups = self.old.groups + 1; room = self.new.room } }
+    {
+        self.members.add(1);
+    }
+
     /// A new page in the frame: zeros, but for one byte. A number is free for it. Takes no memory.
     pub fn hold(&mut self, mut frame: Frame, charge: Charge, offset: usize, byte: u8) -> PageId
         requires room { pages_there self.old.pages < self.old.numbers }
+        requires group { charge < self.old.groups }
         requires within { offset < page_size }
         ensures within { result.0 < self.old.numbers }
         ensures free { page_at self.old.pages result.0 ≡ None }
@@ -120,6 +152,7 @@ impl Pages {
         from: PageId,
     ) -> PageId
         requires room { pages_there self.old.pages < self.old.numbers }
+        requires group { charge < self.old.groups }
         requires within { offset < page_size }
         requires held { is_held_in self.old.pages from.0 ≡ true }
         ensures within { result.0 < self.old.numbers }
@@ -136,6 +169,7 @@ impl Pages {
     /// A new page in the frame, of the bytes that are in it. A number is free for it. Takes no memory.
     fn insert(&mut self, frame: Frame, charge: Charge) -> PageId
         requires room { pages_there self.old.pages < self.old.numbers }
+        requires group { charge < self.old.groups }
         ensures within { result.0 < self.old.numbers }
         ensures free { page_at self.old.pages result.0 ≡ None }
         ensures placed { Changes self.old.pages self.new.pages result.0 (Some (new_page charge frame.number)) }
@@ -143,7 +177,9 @@ impl Pages {
         ensures others { self.new ≡ record self.old { pages = self.new.pages; bytes = self.new.bytes } }
     {
         let page = PageId(self.numbers.insert_reserved(()) as u32);
+        let group = charge.group();
         place(&mut self.owned, page, OwnedPage::Held { frame, charge });
+        self.members.push_back(ListId(group.0), page);
         page
     }
 
@@ -167,6 +203,15 @@ impl Pages {
             Some(owned) => Some(residence_of(owned)),
             None => None,
         }
+    }
+
+    /// A page of the group: the first that came to it and is there still. `None` where it has none.
+    pub fn first_of(&self, group: GroupId) -> Option<PageId>
+        requires { group.0 < self.now.groups }
+        ensures some { IfSome result (λ page. (r : PageResidence) × HasResidence self.now.pages page.0 group.0 r) }
+        ensures none { result ≡ None → (p g : ℕ) → (r : PageResidence) → HasResidence self.now.pages p g r → g ≢ group.0 }
+    {
+        self.members.front(ListId(group.0))
     }
 
     /// A byte of a page in a frame.
@@ -297,6 +342,25 @@ impl Pages {
         (freed, ticket.into_carried())
     }
 
+    /// The page is of the group that its group hangs below, and so is its charge, if it has one (kernel:
+    /// the charges of a memory cgroup that goes are its parent's). Takes no memory.
+    pub fn move_up(&mut self, counters: &mut Counters, page: PageId, parent: GroupId)
+        requires there { (g : ℕ) × (r : PageResidence) × (HasResidence self.old.pages page.0 g r) × ((node_at counters.old.tree g).parent ≡ Some parent.0) × (is_some_number (frame_at r) ≡ true → IsOut counters.old g) }
+        requires parent { parent.0 < self.old.groups }
+        ensures moved { (g : ℕ) (r : PageResidence) → HasResidence self.old.pages page.0 g r → Changes self.old.pages self.new.pages page.0 (Some (anon_page parent.0 r)) }
+        ensures charged { (g : ℕ) (r : PageResidence) → HasResidence self.old.pages page.0 g r → is_some_number (frame_at r) ≡ true → MovesUp counters.old counters.new g }
+        ensures uncharged { (g : ℕ) (r : PageResidence) → HasResidence self.old.pages page.0 g r → is_some_number (frame_at r) ≡ false → counters.new ≡ counters.old }
+        ensures groups { SameGroups counters.old counters.new }
+        ensures bytes { (q o : ℕ) → byte_in self.new.bytes q o ≡ byte_in self.old.bytes q o }
+        ensures others { self.new ≡ record self.old { pages = self.new.pages; bytes = self.new.bytes } }
+    {
+        let owned = take_at(&mut self.owned, page);
+        let moved = regrouped(owned, parent, counters);
+        place(&mut self.owned, page, moved);
+        self.members.remove(page);
+        self.members.push_back(ListId(parent.0), page);
+    }
+
     /// The page is gone: what it owned is the caller's to give back. It is in no transfer. Takes no
     /// memory.
     pub fn drop_page(&mut self, page: PageId) -> OwnedPage
@@ -307,6 +371,7 @@ impl Pages {
         ensures others { self.new ≡ record self.old { pages = self.new.pages; bytes = self.new.bytes } }
     {
         self.numbers.remove(page.0 as usize);
+        self.members.remove(page);
         take_at(&mut self.owned, page)
     }
 
@@ -332,6 +397,7 @@ impl Pages {
             numbers: _,
             owned,
             flights: _,
+            members: _,
         } = self;
         owned
     }

@@ -1,9 +1,11 @@
-//! The places of pages by their numbers, and the numbers of pages and of transfers.
+//! The places of pages by their numbers, the numbers of pages and of transfers, and the groups' lists.
 
-ghost use Rattle.std.specs.Prelude.{◌≡◌, ℕ, ◌+◌, ◌<◌, ◌≤◌, ◌==◌, [], Some, None, true, IsSome, IfOk, option_map, option_copied, slice_index, vec_len, vec_capacity, if◌then◌else◌};
+ghost use Rattle.std.specs.Prelude.{◌≡◌, ℕ, ◌+◌, ◌<◌, ◌≤◌, ◌==◌, ◌∷◌, [], Some, None, true, false, IsSome, IfOk, option_map, option_copied, slice_index, vec_len, vec_capacity, if◌then◌else◌};
 ghost use Rattle.slab.specs.Slab.{slab_len, HasRoomFor, ContainsKey};
 ghost use Rattle.machine.specs.Slots.{at, there_and, Changes};
-ghost use Rattle.machine.specs.Pages.{Coming, in_transfer_at, is_held, is_held_at, frame_at, block_at};
+ghost use Rattle.machine.specs.Pages.{Coming, in_transfer_at, is_held, is_held_at, has_frame, frame_at, block_at};
+ghost use Rattle.machine.specs.Tree.{node_at};
+ghost use Rattle.page_counter.specs.Counts.{IsOut, MovesUp, SameGroups};
 ghost use Rattle.machine.specs.Access.{page_size};
 ghost use Rattle.pages.specs.PagesOf as pages;
 ghost use Rattle.pages.specs.PagesOf.{anon_page};
@@ -18,7 +20,8 @@ use crate::residence::Residence;
 use block_store::Slot;
 use frames::{FRAME_BYTES, Frame};
 use machine::id::{GroupId, PageId, TicketId};
-use page_counter::Charge;
+use page_counter::{Charge, Counters};
+use rings::Rings;
 use slab::Slab;
 use std::alloc::{AllocError, Global};
 use std::mem;
@@ -228,6 +231,51 @@ pub(crate) fn into_away(owned: OwnedPage) -> Slot
     }
 }
 
+/// What the page owns once it is of the group that its group hangs below: its charge, if it has one, is
+/// that group's.
+pub(crate) fn regrouped(owned: OwnedPage, parent: GroupId, counters: &mut Counters) -> OwnedPage
+    requires below { (node_at counters.old.tree (page_of owned).group).parent ≡ Some parent.0 }
+    requires out { has_frame (page_of owned) ≡ true → IsOut counters.old (page_of owned).group }
+    ensures page { page_of result ≡ anon_page parent.0 (page_of owned).residence }
+    ensures bytes { bytes_of result ≡ bytes_of owned }
+    ensures charged { has_frame (page_of owned) ≡ true → MovesUp counters.old counters.new (page_of owned).group }
+    ensures uncharged { has_frame (page_of owned) ≡ false → counters.new ≡ counters.old }
+    ensures groups { SameGroups counters.old counters.new }
+{
+    match owned {
+        OwnedPage::Held { frame, charge } => OwnedPage::Held {
+            frame,
+            charge: counters.move_up(charge),
+        },
+        OwnedPage::Coming {
+            frame,
+            charge,
+            slot,
+            ticket,
+        } => OwnedPage::Coming {
+            frame,
+            charge: counters.move_up(charge),
+            slot,
+            ticket,
+        },
+        OwnedPage::Going {
+            frame,
+            charge,
+            slot,
+            ticket,
+        } => OwnedPage::Going {
+            frame,
+            charge: counters.move_up(charge),
+            slot,
+            ticket,
+        },
+        OwnedPage::Away { group: _, slot } => OwnedPage::Away {
+            group: parent,
+            slot,
+        },
+    }
+}
+
 /// Memory for so many numbers. `AllocError` where there is none.
 pub(crate) fn open_numbers<T: Drop>(alloc: Global, many: u32) -> Result<Slab<T>, AllocError>
     ensures empty { IfOk result (λ s. s.slots ≡ []) }
@@ -238,6 +286,18 @@ pub(crate) fn open_numbers<T: Drop>(alloc: Global, many: u32) -> Result<Slab<T>,
         return Err(AllocError);
     }
     Ok(slab)
+}
+
+/// The list of the root's pages, with none, and links for so many page numbers. `AllocError` where there
+/// is no memory.
+pub(crate) fn open_members(alloc: Global, numbers: u32) -> Result<Rings, AllocError>
+    ensures lists { IfOk result (λ r. r.lists ≡ [] ∷ []) }
+    ensures numbers { IfOk result (λ r. r.numbers ≡ numbers) }
+{
+    let mut members = Rings::open(alloc, numbers)?;
+    members.reserve(1)?;
+    members.add(1);
+    Ok(members)
 }
 
 /// A transfer more is in flight. Its ticket's number was free.

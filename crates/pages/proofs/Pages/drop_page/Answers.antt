@@ -2,7 +2,13 @@ use Rattle.std.proofs.Common.{None, refl}
 use Rattle.pages.specs.Records.{page_of, bytes_of}
 use Rattle.pages.proofs.TableLemmas.{Changes-map, byte_in-changes, taken-changes}
 use Rattle.pages.proofs.FlightLemmas.{AreInFlight-apart, AreMemory-owned, IsSettled-still}
+use Rattle.pages.proofs.MemberLemmas.{AreMembers-gone, listed}
 use Rattle.pages.proofs.Pages.drop_page.Goals as goal
+
+pub remove-requires-2 : goal.remove-requires-2
+remove-requires-2 c =
+    let requires = rw (← c.self.view_is) at c.requires in
+    listed c.self.inside.members.lists _ c.self.invariant.listed c.args.page.0 _ requires.2
 
 pub invariant_of-self : goal.invariant_of-self
 invariant_of-self c =
@@ -15,6 +21,8 @@ invariant_of-self c =
       in_flight = AreInFlight-apart _ _ c.args.page.0 None (Changes-map page_of _ _ _ None gone) c.self.inside.flights.slots is.in_flight (IsSettled-still _ requires.3) (λ n. refl) (AreMemory-owned c.take_at.new.slots.items);
       few = rw c.remove.ensures.capacity is.few;
       countable = is.countable;
+      linked = rw (c.remove-2.ensures.others, c.remove.ensures.capacity) is.linked;
+      listed = rw c.remove-2.ensures.lists (AreMembers-gone _ _ _ c.args.page.0 None (Changes-map page_of _ _ _ None gone) is.listed refl);
     }
 
 pub returns-clause-gone : goal.returns-clause-gone

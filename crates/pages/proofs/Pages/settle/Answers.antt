@@ -17,7 +17,7 @@ into_moving-frame-requires g c =
     flight-moves c.self.inside.owned.items c.self.inside.flights.slots c.number.result.0 c.unlist-page.result c.self.invariant.in_flight c.unlist-page.ensures.page requires.0 requires.1 requires.2 requires.3 requires.4 requires.5 c.take_at.result c.take_at.ensures.owned
 
 landing : (g : given.Over) (c : goal.After-into_carried g)
-    → Landing c.self.inside.numbers c.self.inside.owned.items c.take_at.new.slots.items c.place.new.slots.items (vec_capacity c.self.inside.owned) (vec_capacity c.place.new.slots) c.self.inside.flights c.unlist-page.new.flights c.number.result.0 c.unlist-page.result c.take_at.result c.divide-owned.result.0 c.into_moving-frame.result.1 c.into_moving-frame.result.0.number c.into_moving-frame.result.2 c.args.end
+    → Landing c.self.inside.numbers c.self.inside.owned.items c.take_at.new.slots.items c.place.new.slots.items (vec_capacity c.self.inside.owned) (vec_capacity c.place.new.slots) c.self.inside.flights c.unlist-page.new.flights c.self.inside.members c.number.result.0 c.unlist-page.result c.take_at.result c.divide-owned.result.0 c.into_moving-frame.result.1 c.into_moving-frame.result.0.number c.into_moving-frame.result.2 c.args.end
 landing g c = record {
   are = c.self.invariant;
   page = c.unlist-page.ensures.page;

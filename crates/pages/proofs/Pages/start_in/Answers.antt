@@ -12,7 +12,7 @@ use Rattle.pages.proofs.Pages.start_in.Goals as goal
 was_away : (c : goal.After-new) (block : ℕ) → HasResidence c.args.self.now.pages c.args.page.0 c.args.charge (Away block) → page_of c.take_at.result ≡ anon_page c.args.charge (Away block)
 was_away c block stands = owned-stands c.self.inside.owned.items c.args.page.0 c.args.charge (Away block) c.take_at.result c.take_at.ensures.owned (rw (← c.self.view_is) at stands)
 
-takeoff : (c : goal.After-new) → Takeoff c.self.inside.numbers c.self.inside.owned.items c.take_at.new.slots.items c.place.new.slots.items (vec_capacity c.self.inside.owned) (vec_capacity c.place.new.slots) c.self.inside.flights c.list-ticket.new.flights c.list-ticket.result.0 c.args.page.0 c.args.worker.0 In c.args.charge c.args.frame.number c.into_away-slot.result c.take_at.result (owned_page.Coming c.args.frame c.args.charge c.into_away-slot.result c.list-ticket.result)
+takeoff : (c : goal.After-new) → Takeoff c.self.inside.numbers c.self.inside.owned.items c.take_at.new.slots.items c.place.new.slots.items (vec_capacity c.self.inside.owned) (vec_capacity c.place.new.slots) c.self.inside.flights c.list-ticket.new.flights c.self.inside.members c.list-ticket.result.0 c.args.page.0 c.args.worker.0 In c.args.charge c.args.frame.number c.into_away-slot.result c.take_at.result (owned_page.Coming c.args.frame c.args.charge c.into_away-slot.result c.list-ticket.result)
 takeoff c =
     let requires = rw (← c.self.view_is) at c.requires in
     record {
@@ -25,6 +25,7 @@ takeoff c =
       exchanges = record { was = c.take_at.ensures.owned; gone = c.take_at.ensures.gone; placed = c.place.ensures.placed };
       same_places = c.place.ensures.capacity ∙ c.take_at.ensures.capacity;
       settled = IsSettled-is _ _ (ap Some (was_away c c.requires.away.0 c.requires.away.1)) (λ n. refl);
+      own_charge = ap (λ page. page.group) (was_away c c.requires.away.0 c.requires.away.1);
       moves = refl;
     }
 

@@ -12,7 +12,7 @@ use Rattle.pages.proofs.Pages.start_out.Goals as goal
 was_held : (c : goal.After-new) (g f : ℕ) → HasResidence c.args.self.now.pages c.args.page.0 g (Held f) → page_of c.take_at.result ≡ anon_page g (Held f)
 was_held c g f stands = owned-stands c.self.inside.owned.items c.args.page.0 g (Held f) c.take_at.result c.take_at.ensures.owned (rw (← c.self.view_is) at stands)
 
-takeoff : (c : goal.After-new) → Takeoff c.self.inside.numbers c.self.inside.owned.items c.take_at.new.slots.items c.place.new.slots.items (vec_capacity c.self.inside.owned) (vec_capacity c.place.new.slots) c.self.inside.flights c.list-ticket.new.flights c.list-ticket.result.0 c.args.page.0 c.args.worker.0 Out c.into_held-frame.result.1 c.into_held-frame.result.0.number c.args.slot c.take_at.result (owned_page.Going c.into_held-frame.result.0 c.into_held-frame.result.1 c.args.slot c.list-ticket.result)
+takeoff : (c : goal.After-new) → Takeoff c.self.inside.numbers c.self.inside.owned.items c.take_at.new.slots.items c.place.new.slots.items (vec_capacity c.self.inside.owned) (vec_capacity c.place.new.slots) c.self.inside.flights c.list-ticket.new.flights c.self.inside.members c.list-ticket.result.0 c.args.page.0 c.args.worker.0 Out c.into_held-frame.result.1 c.into_held-frame.result.0.number c.args.slot c.take_at.result (owned_page.Going c.into_held-frame.result.0 c.into_held-frame.result.1 c.args.slot c.list-ticket.result)
 takeoff c =
     let requires = rw (← c.self.view_is) at c.requires in
     record {
@@ -25,6 +25,7 @@ takeoff c =
       exchanges = record { was = c.take_at.ensures.owned; gone = c.take_at.ensures.gone; placed = c.place.ensures.placed };
       same_places = c.place.ensures.capacity ∙ c.take_at.ensures.capacity;
       settled = IsSettled-is _ _ (ap Some (was_held c c.requires.held.0 c.requires.held.1 c.requires.held.2)) (λ n. refl);
+      own_charge = c.into_held-frame.ensures.charge;
       moves = refl;
     }
 

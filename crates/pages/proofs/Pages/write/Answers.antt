@@ -16,13 +16,13 @@ rewrites c =
     }
 
 pub invariant_of-self : goal.invariant_of-self
-invariant_of-self c = Rewrites-are c.self.inside.numbers c.self.inside.flights _ _ _ _ (rewrites c) _ c.self.invariant
+invariant_of-self c = Rewrites-are c.self.inside.numbers c.self.inside.flights c.self.inside.members _ _ _ _ (rewrites c) _ c.self.invariant
 
 pub returns-clause-others : goal.returns-clause-others
-returns-clause-others c = rw (← c.self.view_is) (Rewrites-others c.self.inside.numbers c.self.inside.flights _ _ _ _ (rewrites c))
+returns-clause-others c = rw (← c.self.view_is) (Rewrites-others c.self.inside.numbers c.self.inside.flights c.self.inside.members _ _ _ _ (rewrites c))
 
 pub returns-clause-bytes : goal.returns-clause-bytes
 returns-clause-bytes c =
     let slot = c.write_at.new.slot in
     let writes = subst (λ before. WritesByte before (option_map bytes_of slot) c.args.offset c.args.byte) (ap (option_map bytes_of) (rewrites c).was ∙ sym (at-map bytes_of c.self.inside.owned.items c.args.page.0)) c.write_at.ensures.bytes in
-    rw (← c.self.view_is) (byte_in-written _ _ c.args.page.0 (option_map bytes_of slot) c.args.offset c.args.byte (Rewrites-bytes c.self.inside.numbers c.self.inside.flights _ _ _ _ (rewrites c)) writes)
+    rw (← c.self.view_is) (byte_in-written _ _ c.args.page.0 (option_map bytes_of slot) c.args.offset c.args.byte (Rewrites-bytes c.self.inside.numbers c.self.inside.flights c.self.inside.members _ _ _ _ (rewrites c)) writes)
