@@ -3,12 +3,8 @@ use Rattle.std.proofs.Common.{◌≡◌, ◌≢◌, inl, inr, ℕ, zero, suc, �
 use Rattle.std.specs.Prelude.{IfSome, option_map, option_to_list, replicate}
 use Rattle.std.proofs.lemmas.Bool.{cases_Bool, or_right, ne_eqb}
 use Rattle.std.proofs.lemmas.Bool.Decides.{eqb_tells}
-use Rattle.std.specs.List.{All}
 use Rattle.std.proofs.lemmas.List.{map-append}
-use Rattle.std.proofs.lemmas.List.Elements.{All-nil}
 use Rattle.std.proofs.lemmas.List.Sums.{sum_by-cons}
-use Rattle.machine.specs.declared.id.GroupId.{GroupId}
-use Rattle.machine.specs.declared.id.PageId.{PageId}
 use Rattle.machine.specs.Slots.{at, Changes, there_and, count_there, any_there}
 use Rattle.machine.specs.Pages.{Residence, Held, Coming, Going, Away, Page, Pages, page_at, is_some_number, frame_at, block_at, ticket_at, is_number, is_held_at, in_transfer_at, has_frame, has_this_frame, has_swap, is_held, is_held_in, is_in_transfer, in_transfer, used_frames, used_swap, is_ticket_taken}
 use Rattle.machine.specs.declared.record.Kind.TheVariants.{Anon, File}
@@ -34,9 +30,9 @@ use Rattle.pages.specs.declared.owned_page.OwnedPage.{OwnedPage}
 use Rattle.pages.specs.Records.{page_of}
 use Rattle.pages.specs.PagesOf.{pages_there, anon_page, HasResidence, is_under_ticket, AreInFlight}
 use Rattle.page_state.specs.declared.holdings.Holdings.TheInside.{Inside}
-use Rattle.page_state.specs.Queue.{QueueOf, numbers_of, page_count}
+use Rattle.page_state.specs.Queue.{page_count}
 use Rattle.page_state.specs.Holdings.{with_lists}
-use Rattle.page_state.specs.Owned.{holdings_of, has_this_block, is_leaving_at, is_going, is_page_of, AreKept, AreGrouped, AreListed, IsCounted, IsHolding, pages_of}
+use Rattle.page_state.specs.Owned.{holdings_of, has_this_block, is_leaving_at, is_going, AreKept, AreListed, IsCounted, IsHolding, pages_of}
 use Rattle.page_state.proofs.BalanceLemmas.{Trades, changed-count, balanced-step, given-out}
 use Rattle.page_state.proofs.CountLemmas.{Recharges, counted-step}
 
@@ -79,13 +75,6 @@ listed-step test xs xs' pages pages' p from to stood changes relists listed =
 
 pub listed-open : (test : Page → Bool) (xs : List ℕ) (pages : Pages) → xs ≡ [] → pages ≡ [] → AreListed test xs pages
 listed-open test xs pages none empty = rw (none, empty) (record { once = λ p. refl; len = refl })
-
-pub grouped-open : (queue : QueueOf) (pages : Pages) → queue.entries ≡ [] → queue.numbers ≡ [] → AreGrouped queue pages
-grouped-open queue pages none numbers =
-    record {
-      numbers = numbers ∙ ap numbers_of (sym none);
-      groups = subst (λ (entries : List (GroupId × PageId)). All (λ (entry : GroupId × PageId). is_page_of pages entry.0.0 entry.1.0 ≡ true) entries) (sym none) (All-nil (λ (entry : GroupId × PageId). is_page_of pages entry.0.0 entry.1.0 ≡ true));
-    }
 
 -- no page, and none marked
 pub lists-open : (held : HeldLists) (pages : Pages) → held.groups ≡ new_gens ∷ [] → (n : ℕ) → held.marks ≡ replicate n false → pages ≡ [] → ListsHeld pages held
@@ -217,6 +206,8 @@ pub record Stays (h h' : Inside) : Type 0 where
   pub frames : h'.pool.frames ≡ h.pool.frames
   pub blocks : h'.slots.blocks ≡ h.slots.blocks
   pub numbers : h'.pages.numbers ≡ h.pages.numbers
+  pub page_groups : h'.pages.groups ≡ h.pages.groups
+  pub page_room : h'.pages.room ≡ h.pages.room
   pub held_numbers : h'.held.numbers ≡ h.held.numbers
   pub held_room : h'.held.room ≡ h.held.room
   pub moving_room : h'.moving.room ≡ h.moving.room
@@ -232,7 +223,6 @@ pub record Moves (h h' : Inside) (p : ℕ) (from to : Option Page) : Type 0 wher
   pub goes : GoesOn generation h.pages.pages h.held.lists h'.pages.pages h'.held.lists
   pub apart : there_and is_held from ≡ true → there_and is_held to ≡ true → ⊥
   pub moving : Relists is_in_transfer h.moving.numbers h'.moving.numbers p from to
-  pub moving_groups : AreGrouped h'.moving h'.pages.pages
   pub spares : h'.pool.spares + one_if (there_and is_going to) ≡ h.pool.spares + one_if (there_and is_going from)
   pub tickets : h'.pages.tickets + one_if (there_and is_in_transfer to) ≡ h.pages.tickets + one_if (there_and is_in_transfer from)
 
@@ -264,9 +254,9 @@ holding-step h h' p from to moves is =
       few = (let few = is.few in omega (arith, few, frames));
       held = lists-step h h' p from to moves is;
       moving = listed-step is_in_transfer h.moving.numbers h'.moving.numbers h.pages.pages h'.pages.pages p from to moves.stood moves.changes moves.moving is.moving;
-      moving_groups = moves.moving_groups;
       held_groups = goes_length moves.generation h.pages.pages h'.pages.pages h.held.lists h'.held.lists moves.goes ∙ is.held_groups ∙ sym (ap length moves.stays.groups.tree);
       held_numbers = moves.stays.held_numbers ∙ is.held_numbers ∙ sym moves.stays.numbers;
+      page_groups = moves.stays.page_groups ∙ is.page_groups ∙ sym (ap length moves.stays.groups.tree);
       moving_room = (let room = moves.stays.moving_room in let fit = is.moving_room in omega (arith, room, fit, frames));
       numbers = (let fit = is.numbers in omega (arith, fit, frames, blocks, numbers));
       spares = (let k = moves.spares in let before = is.spares in omega (arith, k, before, going, frames));
@@ -393,7 +383,7 @@ ticket-free pages flights n is free = any_there-none (λ page. is_number (ticket
 -- ---- views
 
 pub same-view : (h h' : Inside) → Stays h h' → holdings_of h' ≡ with_lists (holdings_of h) (holdings_of h').stored (holdings_of h').held
-same-view h h' stays = rw (stays.groups.tree, stays.groups.limits, stays.groups.room, stays.frames, stays.blocks, stays.numbers, stays.held_room) refl
+same-view h h' stays = rw (stays.groups.tree, stays.groups.limits, stays.groups.room, stays.frames, stays.blocks, stays.numbers, stays.held_room, stays.page_room) refl
 
 -- ---- what pages own, one after the other
 
@@ -419,17 +409,17 @@ last-goes pages x = record { changed = last_gone pages; others = last_others pag
 
 -- ---- the counters change, or how many groups there may be
 
-pub holding-counted : (h : Inside) (d : Counts) (held : HeldOf) → IsCounted d h.pages.pages → ListsHeld h.pages.pages held.lists → length held.lists.groups ≡ length d.tree → held.numbers ≡ h.held.numbers → IsHolding h
-    → IsHolding (record h { counters = d; held = held })
-holding-counted h d held counted lists sized numbers is =
+pub holding-counted : (h : Inside) (d : Counts) (held : HeldOf) (groups room : ℕ) → IsCounted d h.pages.pages → ListsHeld h.pages.pages held.lists → length held.lists.groups ≡ length d.tree → groups ≡ length d.tree → held.numbers ≡ h.held.numbers
+    → IsHolding h → IsHolding (record h { counters = d; held = held; pages = record (h.pages) { groups = groups; room = room } })
+holding-counted h d held groups room counted lists sized many numbers is =
     record {
       kept = record { frames = is.kept.frames; blocks = is.kept.blocks; counted = counted };
       few = is.few;
       held = lists;
       moving = is.moving;
-      moving_groups = is.moving_groups;
       moving_room = is.moving_room;
       held_groups = sized;
+      page_groups = many;
       held_numbers = numbers ∙ is.held_numbers;
       numbers = is.numbers;
       spares = is.spares;

@@ -1,9 +1,9 @@
 pub mod QueueLemmas
 pub mod ListedLemmas
-pub mod EntryLemmas
 pub mod RoomLemmas
 pub mod BalanceLemmas
 pub mod CountLemmas
+pub mod RemovalLemmas
 pub mod HoldingLemmas
 pub mod GrantLemmas
 pub mod SettleLemmas
@@ -19,3 +19,4 @@ pub mod MakeLemmas
 pub mod EndingLemmas
 pub mod UnmapLemmas
 pub mod TakeLemmas
+pub mod GoneLemmas

@@ -33,12 +33,12 @@ use Rattle.pages.specs.PagesOf.{anon_page, HasResidence}
 use Rattle.reclaim.specs.Pass.{is_unprotected_by_counts, gives_by_lists, GivesNone}
 use Rattle.reclaim.proofs.PassLemmas.{found-passes, asked-order}
 use Rattle.page_state.specs.declared.holdings.Holdings.TheInside.{Inside}
-use Rattle.page_state.specs.Queue.{QueueOf, page_count}
+use Rattle.page_state.specs.Queue.{numbers_of, page_count}
 use Rattle.page_state.specs.Held.{KeepsRows}
 use Rattle.page_state.specs.Holdings.{HoldingsOf, is_swap_left, may_take, gives_of}
-use Rattle.page_state.specs.Owned.{is_page_of, holdings_of, AreGrouped, AreListed, IsHolding}
+use Rattle.page_state.specs.Owned.{holdings_of, AreListed, IsHolding}
 use Rattle.page_state.proofs.KinLemmas.{kin-charged}
-use Rattle.page_state.proofs.QueueLemmas.{count-at, at-counted}
+use Rattle.page_state.proofs.QueueLemmas.{number-at, at-counted}
 use Rattle.pages.proofs.TableLemmas.{any-some}
 use Rattle.page_state.proofs.HoldingLemmas.{any-listed, listed-any, held-stands-in}
 
@@ -90,31 +90,25 @@ any_both f h b (slot ∷ pages) same = both (there_and f slot) (any_there f page
     both : (x y : Bool) → there_and h slot ≡ (b && x) → any_there h pages ≡ (b && y) → (there_and h slot || any_there h pages) ≡ (b && (x || y))
     both x y p q = ap (λ c. c || any_there h pages) p ∙ ap (λ c. (b && x) || c) q ∙ shared b x y
 
--- a page of the group passes as its group does
-of_group : (more : ℕ → Bool) (slot : Option Page) (g : ℕ) → there_and (λ (page : Page). page.group == g) slot ≡ true → there_and (λ (page : Page). more page.group) slot ≡ more g
-of_group more None g own = absurd cc
-of_group more (Some page) g own = let same : page.group ≡ g = grind (arith, nat_tests, own) in ap more same
+-- a test of pages by their numbers is that of the numbers
+pub any-numbers : (f : ℕ → Bool) (xs : List PageId) → list_any (λ (x : PageId). f x.0) xs ≡ list_any f (numbers_of xs)
+any-numbers f [] = refl
+any-numbers f (x ∷ xs) = ap (λ b. f x.0 || b) (any-numbers f xs)
 
--- a test of the groups of a queue is that test of its pages
-module _ (test : Page → Bool) (more : ℕ → Bool) (queue : QueueOf) (pages : Pages) (listed : AreListed test queue.numbers pages) (grouped : AreGrouped queue pages) where
-  abbrev Stays : GroupId × PageId → Type 0
-  Stays entry = (is_page_of pages entry.0.0 entry.1.0 ≡ true) × (1 ≤ page_count queue.numbers entry.1.0)
+-- a test of the pages of a queue by their groups is that test of all pages that belong into it
+module _ (test : Page → Bool) (more : ℕ → Bool) (numbers : List ℕ) (pages : Pages) (listed : AreListed test numbers pages) where
+  passes : ℕ → Bool
+  passes q = there_and (λ page. more page.group) (page_at pages q)
 
-  all_stay : All Stays queue.entries
-  all_stay = λ k d lt. (grouped.groups k d lt, subst (λ (ns : List ℕ). 1 ≤ page_count ns (get_or queue.entries k d).1.0) (sym grouped.numbers) (count-at queue.entries k d lt))
-
-  pub any-entries : list_any (λ (entry : GroupId × PageId). more entry.0.0) queue.entries ≡ any_there (λ page. test page && more page.group) pages
-  any-entries =
-      elim (list_any (λ (entry : GroupId × PageId). more entry.0.0) queue.entries) as (λ b. list_any (λ (entry : GroupId × PageId). more entry.0.0) queue.entries ≡ b → b ≡ any_there (λ page. test page && more page.group) pages) [
+  pub any-queued : list_any (λ q. there_and (λ page. more page.group) (page_at pages q)) numbers ≡ any_there (λ page. test page && more page.group) pages
+  unfolding passes
+  any-queued =
+      elim (list_any passes numbers) as (λ b. list_any passes numbers ≡ b → b ≡ any_there (λ page. test page && more page.group) pages) [
         | true ↦ λ is. sym
-            (one_passes Stays (λ (entry : GroupId × PageId). more entry.0.0) queue.entries all_stay is
-            (λ entry own passes. listed-any test (λ page. more page.group) queue.numbers pages entry.1.0 listed own.1 (of_group more (page_at pages entry.1.0) entry.0.0 own.0 ∙ passes)))
+            (one_passes (λ q. 1 ≤ page_count numbers q) passes numbers (λ k d lt. number-at numbers k d lt) is
+            (λ q counted is_more. listed-any test (λ page. more page.group) numbers pages q listed counted is_more))
         | false ↦ λ is. sym
-            (any-listed test (λ page. more page.group) queue.numbers pages listed
-            (λ p counted.
-            at-counted (λ q. there_and (λ page. more page.group) (page_at pages q) ≡ false) queue.entries
-            (λ k d lt. of_group more (page_at pages (get_or queue.entries k d).1.0) (get_or queue.entries k d).0.0 (grouped.groups k d lt) ∙ none_passes (λ (entry : GroupId × PageId). more entry.0.0) queue.entries is k d lt)
-            p (subst (λ (ns : List ℕ). 1 ≤ page_count ns p) grouped.numbers counted)))
+            (any-listed test (λ page. more page.group) numbers pages listed (λ p counted. at-counted (λ q. passes q ≡ false) numbers (none_passes passes numbers is) p counted))
       ] refl
 
 -- ---- what a group has on its lists

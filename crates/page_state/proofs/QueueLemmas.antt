@@ -1,13 +1,11 @@
 -- Queues after a page was taken out.
-use Rattle.std.proofs.Common.{◌≡◌, inl, inr, ℕ, zero, suc, ◌+◌, ◌<◌, ◌≤◌, ◌==◌, ◌||◌, not, cond, Bool, true, false, List, [], ◌∷◌, ◌++◌, length, get_or, refl, sym, ap, subst, arith}
+use Rattle.std.proofs.Common.{◌≡◌, inl, inr, ℕ, zero, suc, ◌+◌, ◌<◌, ◌≤◌, ◌==◌, ◌||◌, not, cond, Bool, true, false, List, [], ◌∷◌, length, get_or, refl, sym, ap, subst, arith}
 use Rattle.std.specs.Prelude.{count_by}
 use Rattle.std.specs.List.{All, filter, list_any}
-use Rattle.std.proofs.lemmas.List.{map-append}
 use Rattle.std.proofs.lemmas.Bool.Decides.{eqb_tells}
 use Rattle.std.proofs.lemmas.List.Elements.{All-head, All-tail}
 use Rattle.std.proofs.lemmas.List.Sums.{sum_by-cons, length-filter}
 use Rattle.std.proofs.lemmas.List.Filters.{length-filter_both}
-use Rattle.machine.specs.declared.id.GroupId.{GroupId}
 use Rattle.machine.specs.declared.id.PageId.{PageId}
 use Rattle.machine.proofs.SlotLemmas.{one_if}
 use Rattle.page_state.specs.Queue.{numbers_of, page_count}
@@ -36,16 +34,13 @@ module _ {T : Type 0} (test : T → Bool) where
 others : ℕ → List ℕ → List ℕ
 others p xs = filter (λ n. not (n == p)) xs
 
-pub numbers_of-others : (xs : List (GroupId × PageId)) (p : ℕ) → numbers_of (filter (λ (x : GroupId × PageId). not (x.1.0 == p)) xs) ≡ filter (λ n. not (n == p)) (numbers_of xs)
+pub numbers_of-others : (xs : List PageId) (p : ℕ) → numbers_of (filter (λ (x : PageId). not (x.0 == p)) xs) ≡ filter (λ n. not (n == p)) (numbers_of xs)
 numbers_of-others [] p = refl
 numbers_of-others (x ∷ xs) p =
-    elim (eqb_tells x.1.0 p) [
+    elim (eqb_tells x.0 p) [
       | inl same ↦ rw same.0 (numbers_of-others xs p)
-      | inr other ↦ rw other.0 (ap (λ ns. x.1.0 ∷ ns) (numbers_of-others xs p))
+      | inr other ↦ rw other.0 (ap (λ ns. x.0 ∷ ns) (numbers_of-others xs p))
     ]
-
-pub numbers_of-push : (xs : List (GroupId × PageId)) (x : GroupId × PageId) → numbers_of (xs ++ x ∷ []) ≡ numbers_of xs ++ x.1.0 ∷ []
-numbers_of-push xs x = map-append (λ (entry : GroupId × PageId). entry.1.0) xs (x ∷ [])
 
 page_count-cons : (x : ℕ) (xs : List ℕ) (n : ℕ) → page_count (x ∷ xs) n ≡ cond (x == n) 1 0 + page_count xs n
 page_count-cons x xs n = sum_by-cons (λ y. cond (y == n) 1 0) x xs
@@ -96,24 +91,13 @@ number-at (x ∷ xs) (suc k) d lt =
     let rest = number-at xs k d (omega (arith, lt)) in
     omega (arith, is, rest)
 
-pub count-at : (xs : List (GroupId × PageId)) (k : ℕ) (d : GroupId × PageId) → k < length xs → 1 ≤ page_count (numbers_of xs) (get_or xs k d).1.0
-count-at [] k d lt = absurd (omega (arith, lt))
-count-at (x ∷ xs) zero d lt =
-    let is = page_count-cons x.1.0 (numbers_of xs) x.1.0 in
-    let hit : (x.1.0 == x.1.0) ≡ true = grind arith in
-    grind (arith, is, hit)
-count-at (x ∷ xs) (suc k) d lt =
-    let is = page_count-cons x.1.0 (numbers_of xs) (get_or xs k d).1.0 in
-    let rest = count-at xs k d (omega (arith, lt)) in
-    omega (arith, is, rest)
-
 -- and what is counted stands at some index
-pub at-counted : (P : ℕ → Type 0) (xs : List (GroupId × PageId)) → All (λ (x : GroupId × PageId). P x.1.0) xs → (p : ℕ) → 1 ≤ page_count (numbers_of xs) p → P p
+pub at-counted : (P : ℕ → Type 0) (xs : List ℕ) → All P xs → (p : ℕ) → 1 ≤ page_count xs p → P p
 at-counted P [] all p some = absurd (omega (arith, some))
 at-counted P (x ∷ xs) all p some =
-    elim (eqb_tells x.1.0 p) [
-      | inl same ↦ subst P same.1 (All-head (λ (y : GroupId × PageId). P y.1.0) x xs all)
+    elim (eqb_tells x p) [
+      | inl same ↦ subst P same.1 (All-head P x xs all)
       | inr other ↦
-          at-counted P xs (All-tail (λ (y : GroupId × PageId). P y.1.0) x xs all) p
-          (let is = page_count-cons x.1.0 (numbers_of xs) p in let miss : (x.1.0 == p) ≡ false = other.0 in grind (arith, is, miss, some))
+          at-counted P xs (All-tail P x xs all) p
+          (let is = page_count-cons x xs p in let miss : (x == p) ≡ false = other.0 in grind (arith, is, miss, some))
     ]

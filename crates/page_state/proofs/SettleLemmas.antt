@@ -25,7 +25,6 @@ use Rattle.machine.specs.Lists.{HeldLists, entry_after, GoesOn}
 use Rattle.page_state.specs.Holdings.{Settles}
 use Rattle.page_state.specs.Owned.{holdings_of, is_leaving_at, AreKept, IsHolding}
 use Rattle.page_state.proofs.CountLemmas.{uncharge-usage, page-out}
-use Rattle.page_state.proofs.EntryLemmas.{grouped-out}
 use Rattle.page_state.proofs.HoldingLemmas.{Stays, kept-step, frame-out, block-out, holding-step, relists-out, not-going, same-view, absent-unlisted, goes-at, goes-in}
 use Rattle.page_state.proofs.GrantLemmas.{stands-live, group-listed}
 
@@ -149,7 +148,7 @@ module _ (h h' : Inside) (is : IsHolding h) (p g f b n : ℕ) (d : Direction) (e
   )
 
   stays-landed : (end : End) → Lands h h' p g f b n d end entry → Stays h h'
-  stays-landed end lands = record { groups = lands.groups; frames = lands.frames; blocks = lands.blocks; numbers = lands.ended.numbers; held_numbers = (held-lands end lands).1; held_room = (held-lands end lands).2; moving_room = lands.moving.room }
+  stays-landed end lands = record { groups = lands.groups; frames = lands.frames; blocks = lands.blocks; numbers = lands.ended.numbers; page_groups = lands.ended.groups; page_room = lands.ended.room; held_numbers = (held-lands end lands).1; held_room = (held-lands end lands).2; moving_room = lands.moving.room }
 
   pub holding-lands : (end : End) → Lands h h' p g f b n d end entry → IsHolding h'
   holding-lands end lands =
@@ -169,7 +168,6 @@ module _ (h h' : Inside) (is : IsHolding h) (p g f b n : ℕ) (d : Direction) (e
         goes = held.0;
         apart = λ was now. true≢false (sym was ∙ (moving-is d f b n).3);
         moving = relists-out is_in_transfer h.moving.numbers h'.moving.numbers h.pages.pages entry.1.0 p from (to end) lands.same lands.stood (still end f b) is.moving lands.moving.counts lands.moving.fewer;
-        moving_groups = grouped-out h.moving h.pages.pages h'.pages.pages p from (to end) lands.stood lands.ended.placed is.moving_groups h'.moving entry.1.0 lands.moving.entries lands.moving.numbers lands.same;
         spares = omega (arith, spares, going);
         tickets = omega (arith, tickets, none, moved);
       })

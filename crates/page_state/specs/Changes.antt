@@ -1,11 +1,11 @@
 -- How the joined parts change: one record for each change, which is one of the machine's tables in all parts at once.
-use Rattle.std.specs.Prelude.{◌≡◌, ◌≢◌, ℕ, ◌+◌, ◌<◌, ◌≤◌, ◌==◌, ◌&&◌, if◌then◌else◌, false, true, List, [], ◌∷◌, ◌++◌, slice_index, slice_set, is_some, Some, None}
+use Rattle.std.specs.Prelude.{◌≡◌, ◌≢◌, ℕ, ◌+◌, ◌<◌, ◌≤◌, ◌==◌, ◌&&◌, if◌then◌else◌, false, true, List, [], ◌∷◌, ◌++◌, slice_index, slice_set, is_some, Some, None, option_map}
 use Rattle.machine.specs.declared.record.Key.{Key}
 use Rattle.machine.specs.declared.record.Life.{Life}
 use Rattle.machine.specs.declared.record.Life.TheVariants.{Live}
 use Rattle.machine.specs.declared.record.Limits.{Limits}
 use Rattle.machine.specs.Slots.{Changes}
-use Rattle.machine.specs.Tree.{is_live}
+use Rattle.machine.specs.Tree.{is_live, node_at, without_group}
 use Rattle.machine.specs.Pages.{Residence, Held, Coming, Going, page_at, is_held_in, is_ticket_taken}
 use Rattle.machine.specs.Counts.{Counted, no_limits}
 use Rattle.machine.specs.Tasks.{SetsTask, group_of_task, mapped_at, mappers, Shows, Copies, ShowsNothing}
@@ -13,8 +13,8 @@ use Rattle.machine.specs.State.{State, page_numbers, over_in, is_frame_free}
 use Rattle.machine.specs.Access.{page_size}
 use Rattle.machine.specs.Reclaim.{is_takeable}
 use Rattle.machine.specs.Generations.{gens_at}
-use Rattle.machine.specs.Lists.{Generation, Youngest, entry_after, with_mark, GoesOn, TakesNext, AddsLists}
-use Rattle.machine.specs.Step.{IsFreeFrame, IsFreeBlock, still, or_gone, count_of, new_node, new_page}
+use Rattle.machine.specs.Lists.{Generation, Youngest, entry_after, with_mark, GoesOn, TakesNext, AddsLists, RemovesLists}
+use Rattle.machine.specs.Step.{IsFreeFrame, IsFreeBlock, still, or_gone, count_of, new_node, new_page, regrouped}
 use Rattle.pages.specs.PagesOf.{byte_in, anon_page, flight, HasResidence}
 use Rattle.machine.specs.declared.record.Direction.{Direction}
 use Rattle.machine.specs.declared.record.Direction.TheVariants.{In, Out}
@@ -195,6 +195,17 @@ pub record AddsGroup (old new : StateOf) (path : List ℕ) : Type 0 where
   pub tables : new.tables ≡ record old.tables { tree = old.tables.tree ++ new_node old.tables.tree path ∷ []; limits = old.tables.limits ++ no_limits ∷ [] }
   pub order : AddsLists old.order new.order
   pub bytes : new.bytes ≡ old.bytes
+  pub flights : new.flights ≡ old.flights
+  pub tallied : (counted : List Counted) → Tells old.tallies counted → Tells new.tallies counted
+
+-- a group goes, and its pages, in transfer and on their blocks too, are its parent's
+pub record RemovesGroup (old new : StateOf) (g : ℕ) : Type 0 where
+  pub parent : ℕ
+  pub below : (node_at old.tables.tree g).parent ≡ Some parent
+  pub pages : (p : ℕ) → page_at new.tables.pages p ≡ option_map (regrouped g parent) (page_at old.tables.pages p)
+  pub tables : new.tables ≡ record old.tables { tree = without_group old.tables.tree g; pages = new.tables.pages }
+  pub order : RemovesLists (Some parent) g old.order new.order
+  pub bytes : (p k : ℕ) → byte_in new.bytes p k ≡ byte_in old.bytes p k
   pub flights : new.flights ≡ old.flights
   pub tallied : (counted : List Counted) → Tells old.tallies counted → Tells new.tallies counted
 

@@ -1,16 +1,16 @@
 -- What contracts see of the holdings, and how they change.
-use Rattle.std.specs.Prelude.{◌≡◌, ◌≢◌, ℕ, ◌+◌, ◌<◌, ◌≤◌, ◌==◌, ◌&&◌, ◌||◌, not, nat_lt, Bool, false, if◌then◌else◌, List, Option, Some, None, slice_index}
+use Rattle.std.specs.Prelude.{◌≡◌, ◌≢◌, ℕ, ◌+◌, ◌<◌, ◌≤◌, ◌==◌, ◌&&◌, ◌||◌, not, nat_lt, Bool, false, if◌then◌else◌, List, Option, Some, None, option_map, slice_index}
 use Rattle.machine.specs.declared.record.Limits.{Limits}
 use Rattle.machine.specs.Slots.{Changes, any_there}
-use Rattle.machine.specs.Tree.{Node, under}
+use Rattle.machine.specs.Tree.{Node, under, without_group}
 use Rattle.machine.specs.Pages.{Page, Pages, Residence, Held, Coming, Going, page_at, is_anon, is_held, is_frame_taken, is_swap_taken, is_ticket_taken, charged, used_frames, used_swap}
 use Rattle.machine.specs.Protection.{is_unprotected_in}
 use Rattle.machine.specs.Order.{served_by, cursor_at}
-use Rattle.machine.specs.Generations.{gens_at}
+use Rattle.machine.specs.Generations.{gens_at, handed_over}
 use Rattle.machine.specs.Lists.{HeldLists, Generation, Youngest, entry_after, PicksOf, GoesOn}
 use Rattle.machine.specs.Counts.{over}
 use Rattle.machine.specs.Access.{page_size}
-use Rattle.machine.specs.Step.{new_page}
+use Rattle.machine.specs.Step.{new_page, regrouped}
 use Rattle.pages.specs.Tickets.{TicketOf}
 use Rattle.pages.specs.Transfers.{given_ticket}
 use Rattle.pages.specs.PagesOf.{byte_in, anon_page, flight, HasResidence}
@@ -121,6 +121,14 @@ pub record DropsPage (old new : HoldingsOf) (p : ℕ) : Type 0 where
   pub flights : new.stored.flights ≡ old.stored.flights
   pub order : ListsGoOn Youngest old new
   pub others : new ≡ with_lists old new.stored new.held
+
+-- a group goes, and its pages are its parent's
+pub record HandsUp (old new : HoldingsOf) (g parent : ℕ) : Type 0 where
+  pub pages : (p : ℕ) → page_at new.stored.pages p ≡ option_map (regrouped g parent) (page_at old.stored.pages p)
+  pub bytes : (q o : ℕ) → byte_in new.stored.bytes q o ≡ byte_in old.stored.bytes q o
+  pub flights : new.stored.flights ≡ old.stored.flights
+  pub held : new.held ≡ record { groups = handed_over g parent old.held.groups; marks = old.held.marks }
+  pub others : new ≡ record (with_lists old new.stored new.held) { kin = without_group old.kin g }
 
 -- ---- what a reclaim takes
 

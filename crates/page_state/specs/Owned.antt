@@ -1,6 +1,5 @@
 -- What the fields of the holdings mean, and how they agree. No public clause cites it.
-use Rattle.std.specs.Prelude.{◌≡◌, ℕ, ◌+◌, ◌<◌, ◌≤◌, ◌==◌, ◌&&◌, Bool, true, false, if◌then◌else◌, List, length, map, min, Option, option_map, Some, None, IfSome}
-use Rattle.std.specs.List.{All}
+use Rattle.std.specs.Prelude.{◌≡◌, ℕ, ◌+◌, ◌<◌, ◌≤◌, ◌&&◌, Bool, true, false, if◌then◌else◌, List, length, map, min, Option, option_map, Some, None, IfSome}
 use Rattle.machine.specs.Slots.{Changes, there_and, count_there}
 use Rattle.machine.specs.Tree.{is_live}
 use Rattle.machine.specs.Pages.{Residence, Going, Page, Pages, page_at, is_anon, is_number, block_at, charged, has_frame, has_this_frame, has_swap, is_in_transfer, in_transfer}
@@ -10,7 +9,7 @@ use Rattle.block_store.specs.Slots.{SlotsOf}
 use Rattle.page_counter.specs.Counts.{Counts, usage_of}
 use Rattle.pages.specs.declared.owned_page.OwnedPage.{OwnedPage}
 use Rattle.pages.specs.Records.{page_of}
-use Rattle.page_state.specs.Queue.{QueueOf, numbers_of, page_count}
+use Rattle.page_state.specs.Queue.{page_count}
 use Rattle.page_state.specs.Holdings.{HoldingsOf}
 use Rattle.page_state.specs.declared.holdings.Holdings.TheInside.{Inside}
 
@@ -24,7 +23,7 @@ holdings_of h =
       frames = h.pool.frames;
       swap = h.slots.blocks;
       numbers = h.pages.numbers;
-      room = min h.counters.room h.held.room;
+      room = min h.counters.room (min h.held.room h.pages.room);
     }
 
 -- a page has this swap block
@@ -58,14 +57,6 @@ pub record AreKept (counters : Counts) (pool : PoolOf) (slots : SlotsOf) (pages 
   pub blocks : IsBalanced has_this_block has_swap slots.blocks slots.free pages
   pub counted : IsCounted counters pages
 
-abbrev pub is_page_of : Pages → ℕ → ℕ → Bool
-is_page_of pages g p = there_and (λ page. page.group == g) (page_at pages p)
-
--- each page stands in the table, and after its own group
-pub record AreGrouped (queue : QueueOf) (pages : Pages) : Type 0 where
-  pub numbers : queue.numbers ≡ numbers_of queue.entries
-  pub groups : All (λ entry. is_page_of pages entry.0.0 entry.1.0 ≡ true) queue.entries
-
 -- these are the numbers of the pages that pass the test, each once
 pub record AreListed (test : Page → Bool) (numbers : List ℕ) (pages : Pages) : Type 0 where
   pub once : (p : ℕ) → page_count numbers p ≡ as_number (there_and test (page_at pages p))
@@ -76,11 +67,11 @@ pub record IsHolding (h : Inside) : Type 0 where
   pub few : h.pool.frames < 4294967296
   pub held : ListsHeld h.pages.pages h.held.lists
   pub moving : AreListed is_in_transfer h.moving.numbers h.pages.pages
-  pub moving_groups : AreGrouped h.moving h.pages.pages
   -- there is room in the queue for as many pages as there are frames
   pub moving_room : h.pool.frames ≤ h.moving.room
-  -- each group has its lists, and each page number its links and its mark
+  -- each group has its lists and its pages, and each page number its links and its mark
   pub held_groups : length h.held.lists.groups ≡ length h.counters.tree
+  pub page_groups : h.pages.groups ≡ length h.counters.tree
   pub held_numbers : h.held.numbers ≡ h.pages.numbers
   -- a page that is being written out has a spare
   pub spares : h.pool.spares + count_there is_going h.pages.pages ≡ h.pool.frames

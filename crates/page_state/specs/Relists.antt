@@ -1,8 +1,6 @@
 -- How a transfer's end changes the lists of pages.
 use Rattle.std.specs.Prelude.{◌≡◌, ℕ, ◌+◌, ◌==◌, not, length, if◌then◌else◌}
 use Rattle.std.specs.List.{filter}
-use Rattle.machine.specs.declared.id.GroupId.{GroupId}
-use Rattle.machine.specs.declared.id.PageId.{PageId}
 use Rattle.machine.specs.declared.record.Direction.{Direction}
 use Rattle.machine.specs.Lists.{entry_after}
 use Rattle.pages.specs.declared.end.End.{End}
@@ -12,7 +10,6 @@ use Rattle.page_state.specs.Held.{HeldOf, entered}
 
 -- a page is in the queue no more, and all others stay in their order
 pub record LeavesQueue (old new : QueueOf) (p : ℕ) : Type 0 where
-  pub entries : new.entries ≡ filter (λ (entry : GroupId × PageId). not (entry.1.0 == p)) old.entries
   pub numbers : new.numbers ≡ filter (λ n. not (n == p)) old.numbers
   pub counts : (n : ℕ) → page_count new.numbers n + (if p == n then page_count old.numbers p else 0) ≡ page_count old.numbers n
   pub fewer : length new.numbers + page_count old.numbers p ≡ length old.numbers

@@ -6,9 +6,9 @@ ghost use Rattle.machine.specs.Names.{parent_path};
 ghost use Rattle.machine.specs.Tree.{is_live, under, find_group};
 ghost use Rattle.machine.specs.Counts.{Counted, is_key, limits_at, counts_by, total, local};
 ghost use Rattle.machine.specs.State.{usage, effective_min};
-ghost use Rattle.machine.specs.Refusals.{mkdir_refusal, bars_children};
+ghost use Rattle.machine.specs.Refusals.{mkdir_refusal, rmdir_refusal, bars_children};
 ghost use Rattle.memory_events.specs.Tallies.{Tells, total_of};
-ghost use Rattle.page_state.specs.Changes.{CountsEvent, AddsGroup, sets_limits};
+ghost use Rattle.page_state.specs.Changes.{CountsEvent, AddsGroup, RemovesGroup, sets_limits};
 
 use crate::joined::State;
 use machine::amount::Amount;
@@ -111,5 +111,23 @@ impl State {
         self.events.add_reserved(group, parent);
         self.cursors.add_reserved();
         Ok(())
+    }
+
+    /// A group goes, which has neither children nor tasks and is not the root. Its pages, those in transfer
+    /// and on their blocks too, are its parent's, and so are their charges (kernel: `cgroup_rmdir`,
+    /// `mem_cgroup_css_offline`). Takes no memory.
+    pub fn rmdir(&mut self, group: GroupId)
+        requires { rmdir_refusal self.old.tables group.0 ≡ None }
+        ensures { RemovesGroup self.old self.new group.0 }
+    {
+        self.is_joined();
+        self.holdings.are_counted();
+        let Some(parent) = self.tree.parent(group) else {
+            unreachable!()
+        };
+        self.holdings.remove_group(group, parent);
+        self.events.remove(group);
+        self.cursors.remove(group);
+        self.tree.rmdir(group);
     }
 }

@@ -1,7 +1,7 @@
 //! The pages that are held: their generation lists, and which of them are marked as accessed.
 
-ghost use Rattle.std.specs.Prelude.{◌≡◌, ℕ, ◌+◌, ◌-◌, ◌<◌, ◌≤◌, ◌^◌, ◌∷◌, [], true, false, Some, None, IfOk, OnOk, length, replicate};
-ghost use Rattle.machine.specs.Generations.{new_gens, gens_at, is_listed, is_listed_in};
+ghost use Rattle.std.specs.Prelude.{◌≡◌, ◌≢◌, ℕ, ◌+◌, ◌-◌, ◌<◌, ◌≤◌, ◌^◌, ◌∷◌, [], true, false, Some, None, IfOk, OnOk, length, replicate};
+ghost use Rattle.machine.specs.Generations.{new_gens, gens_at, handed_over, is_listed, is_listed_in};
 ghost use Rattle.machine.specs.Eviction.{has_usable};
 ghost use Rattle.machine.specs.Lists.{entry_after, with_mark, with_group, AreGenerations, PicksOf, Youngest};
 ghost use Rattle.page_state.specs.Held.{HeldOf, entered, left, KeepsRows};
@@ -129,6 +129,17 @@ impl HeldPages {
         if self.gens.is_listed(page) {
             self.leave(page);
         }
+    }
+
+    /// All pages of one group come to another's lists: to the second youngest generation, behind the pages that
+    /// are there, the oldest first, and marked as they were.
+    pub fn take_over(&mut self, from: GroupId, to: GroupId)
+        requires from { from.0 < length self.old.lists.groups }
+        requires to { to.0 < length self.old.lists.groups }
+        requires apart { from.0 ≢ to.0 }
+        ensures { self.new ≡ record self.old { lists = record { groups = handed_over from.0 to.0 self.old.lists.groups; marks = self.old.lists.marks } } }
+    {
+        self.gens.take_over(from, to);
     }
 
     /// The page is marked as accessed.

@@ -2,7 +2,7 @@
 
 ghost use Rattle.std.specs.Prelude.{◌≡◌, ◌≢◌, ℕ, ◌+◌, ◌<◌, ◌≤◌, ◌==◌, ◌^◌, ◌&&◌, ◌++◌, ◌∷◌, [], true, false, None, Some, IsSome, IfSome, IfOk, IfErr, OnOk, OnErr, nat_lt, length, not, replicate, is_none, option_map, slice_set, slice_index, List, if◌then◌else◌};
 ghost use Rattle.machine.specs.Slots.{Changes, any_there};
-ghost use Rattle.machine.specs.Tree.{Node, is_live, under};
+ghost use Rattle.machine.specs.Tree.{Node, node_at, is_live, has_children, under};
 ghost use Rattle.machine.specs.Pages as residence;
 ghost use Rattle.machine.specs.Pages.{Page, page_at, is_in_transfer, is_held_in, in_transfer, charged, used_frames, used_swap};
 ghost use Rattle.machine.specs.Counts.{no_limits, limits_at};
@@ -17,12 +17,13 @@ ghost use Rattle.machine.specs.declared.record.Direction.TheVariants.{In, Out};
 ghost use Rattle.machine.specs.Generations.{new_gens, gens_at};
 ghost use Rattle.machine.specs.Lists.{ListsHeld, AreGenerations, with_mark, with_group};
 ghost use Rattle.page_state.specs.States.{byte_shown};
-ghost use Rattle.page_state.specs.Holdings.{with_stored, IsGranted, Lacks, AddsPage, BeginsIn, BeginsOut, Settles, DropsPage, may_take, gives_of, IsTurn, PicksPage};
+ghost use Rattle.page_state.specs.Holdings.{with_stored, IsGranted, Lacks, AddsPage, BeginsIn, BeginsOut, Settles, DropsPage, may_take, gives_of, IsTurn, PicksPage, HandsUp};
 
 use crate::held::HeldPages;
 use crate::lookup::{group_of, is_any_under};
 use crate::queue::Queue;
 use crate::release::{release, release_last};
+use crate::removal::hand_up;
 use crate::room::{NoRoom, take_room, take_slot, take_spare};
 use crate::settle::{end_transfer, fill, relist};
 use block_store::Slots;
@@ -233,7 +234,8 @@ impl Holdings {
         ensures same { self.new ≡ record self.old { room = self.new.room } }
     {
         self.counters.reserve()?;
-        self.held.reserve_group()
+        self.held.reserve_group()?;
+        self.pages.reserve_group()
     }
 
     /// A group below another. Its memory was asked for by [`Holdings::reserve_group`].
@@ -251,6 +253,21 @@ impl Holdings {
     {
         self.counters.add_reserved(group, parent);
         self.held.add_group();
+        self.pages.add_group();
+    }
+
+    /// The group is no more, which hangs below its parent and has no group below it. Its pages are its parent's, in
+    /// transfer and on their blocks too, and so are their charges. Takes no memory.
+    pub fn remove_group(&mut self, group: GroupId, parent: GroupId)
+        requires below { (node_at self.old.kin group.0).parent ≡ Some parent.0 }
+        requires live { is_live self.old.kin group.0 ≡ true }
+        requires childless { has_children self.old.kin group.0 ≡ false }
+        ensures { HandsUp self.old self.new group.0 parent.0 }
+    {
+        self.counters.are_counted();
+        hand_up(&mut self.pages, &mut self.counters, group, parent);
+        self.held.take_over(group, parent);
+        self.counters.remove(group);
     }
 
     /// Nothing is done: what holds of the groups and of the pages of all holdings.
@@ -326,7 +343,7 @@ impl Holdings {
         let ticket = self
             .pages
             .start_in(page, frame, charge, worker, entry, buffer);
-        self.moving.push(group, page);
+        self.moving.push(page);
         Ok(ticket)
     }
 
@@ -339,12 +356,11 @@ impl Holdings {
         self.pages.are_in_flight();
         self.pages.are_numbered();
         self.held.are_generations();
-        let group = group_of(&self.pages, page);
         let slot = take_slot(&mut self.slots);
         let spare = take_spare(&mut self.pool);
         let ticket = self.pages.start_out(page, slot, spare, worker, entry);
         self.held.leave(page);
-        self.moving.push(group, page);
+        self.moving.push(page);
         ticket
     }
 
@@ -413,7 +429,7 @@ impl Holdings {
     pub fn has_transfer(&self, tree: &Tree, target: GroupId) -> bool
         ensures { result ≡ any_there (λ page. is_in_transfer page && under tree.now target.0 page.group) self.now.stored.pages }
     {
-        is_any_under(self.moving.as_slice(), tree, target)
+        is_any_under(self.moving.as_slice(), &self.pages, tree, target)
     }
 
     /// Changes a byte of a page in a frame.
@@ -474,6 +490,7 @@ fn make_page(
 ) -> PageId
     requires held { IfSome from (λ page. is_held_in pages.old.pages page.0 ≡ true) }
     requires room { pages_there pages.old.pages < pages.old.numbers }
+    requires group { charge < pages.old.groups }
     requires within { offset < page_size }
     ensures within { result.0 < pages.old.numbers }
     ensures free { page_at pages.old.pages result.0 ≡ None }

@@ -19,6 +19,7 @@ mod lookup;
 mod queue;
 mod reclaims;
 mod release;
+mod removal;
 mod room;
 mod settle;
 mod tasks;

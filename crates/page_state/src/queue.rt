@@ -2,16 +2,16 @@
 
 ghost use Rattle.std.specs.Prelude.{◌≡◌, ℕ, ◌+◌, ◌<◌, ◌==◌, ◌++◌, ◌∷◌, [], not, length, IfOk, if◌then◌else◌};
 ghost use Rattle.std.specs.List.{filter};
-ghost use Rattle.page_state.specs.Queue.{page_count};
+ghost use Rattle.page_state.specs.Queue.{numbers_of, page_count};
 
-use machine::id::{GroupId, PageId};
+use machine::id::PageId;
 use std::alloc::{AllocError, Global};
 use std::marker::Model;
 
-/// Pages, each after its group, in the order in which they came. Its memory is that of its opening.
+/// Pages in the order in which they came. Its memory is that of its opening.
 #[derive(Drop)]
 pub struct Queue {
-    order: Vec<(GroupId, PageId)>,
+    order: Vec<PageId>,
 }
 
 impl Model for Queue {
@@ -20,13 +20,12 @@ impl Model for Queue {
 
     ghost Value = { QueueOf };
 
-    ghost view = { λ q. record { entries = q.order.items; numbers = numbers_of q.order.items; room = vec_capacity q.order } };
+    ghost view = { λ q. record { numbers = numbers_of q.order.items; room = vec_capacity q.order } };
 }
 
 impl Queue {
     /// No page, and memory for so many.
     pub fn open(alloc: Global, pages: u32) -> Result<Queue, AllocError>
-        ensures entries { IfOk result (λ q. q.entries ≡ []) }
         ensures numbers { IfOk result (λ q. q.numbers ≡ []) }
         ensures room { IfOk result (λ q. q.room ≡ pages) }
     {
@@ -41,33 +40,31 @@ impl Queue {
         self.order.len()
     }
 
-    /// The pages, each after its group, the first of the queue first.
-    pub fn as_slice(&self) -> &[(GroupId, PageId)]
-        ensures { result.now ≡ self.now.entries }
+    /// The pages, the first of the queue first.
+    pub fn as_slice(&self) -> &[PageId]
+        ensures { numbers_of result.now ≡ self.now.numbers }
     {
         self.order.as_slice()
     }
 
-    /// The page of the group becomes the last of the queue. Takes no memory.
-    pub fn push(&mut self, group: GroupId, page: PageId)
+    /// The page becomes the last of the queue. Takes no memory.
+    pub fn push(&mut self, page: PageId)
         requires room { length self.old.numbers < self.old.room }
-        ensures entries { self.new.entries ≡ self.old.entries ++ (group, page) ∷ [] }
         ensures last { self.new.numbers ≡ self.old.numbers ++ page.0 ∷ [] }
         ensures counts { (n : ℕ) → page_count self.new.numbers n ≡ page_count self.old.numbers n + (if page.0 == n then 1 else 0) }
         ensures more { length self.new.numbers ≡ length self.old.numbers + 1 }
         ensures room { self.new.room ≡ self.old.room }
     {
-        self.order.push_reserved((group, page));
+        self.order.push_reserved(page);
     }
 
     /// The page is no longer in the queue, and all others stay in their order.
     pub fn remove(&mut self, page: PageId)
-        ensures entries { self.new.entries ≡ filter (λ entry. not (entry.1.0 == page.0)) self.old.entries }
         ensures others { self.new.numbers ≡ filter (λ n. not (n == page.0)) self.old.numbers }
         ensures counts { (n : ℕ) → page_count self.new.numbers n + (if page.0 == n then page_count self.old.numbers page.0 else 0) ≡ page_count self.old.numbers n }
         ensures fewer { length self.new.numbers + page_count self.old.numbers page.0 ≡ length self.old.numbers }
         ensures room { self.new.room ≡ self.old.room }
     {
-        self.order.retain(|entry| entry.1 != page);
+        self.order.retain(|other| *other != page);
     }
 }

@@ -1,7 +1,8 @@
-use Rattle.std.proofs.Common.{Some, ◌∷◌, [], length, refl, sym, ap, subst, arith}
+use Rattle.std.proofs.Common.{Some, ◌+◌, ◌∷◌, [], length, refl, sym, ap, subst, arith}
 use Rattle.std.proofs.lemmas.List.{length-append}
 use Rattle.machine.specs.Generations.{new_gens}
 use Rattle.machine.specs.Lists.{with_group}
+use Rattle.pages.specs.PagesOf.{PagesOf}
 use Rattle.machine.proofs.HeldLemmas.{held-group}
 use Rattle.group_tree.specs.Lineages.{bare}
 use Rattle.page_state.specs.Held.{HeldOf}
@@ -13,13 +14,13 @@ use Rattle.page_state.proofs.holdings.Holdings.add_group.Goals as goal
 pub invariant_of-self : goal.invariant_of-self
 invariant_of-self c =
     let h = c.self.inside in
-    subst (λ (held : HeldOf). IsHolding (record h { counters = c.add_reserved.new.self; held = held })) (sym c.add_group.ensures)
-    (holding-counted h c.add_reserved.new.self (record (h.held) { lists = with_group h.held.lists; room = c.add_group.new.self.room })
-    (counted-longer h.counters c.add_reserved.new.self _ h.pages.pages c.add_reserved.ensures.tree c.add_reserved.ensures.counted c.self.invariant.kept.counted)
-    (held-group h.pages.pages h.held.lists c.self.invariant.held)
-    (let sized = c.self.invariant.held_groups in
     let tree = ap length c.add_reserved.ensures.tree in
     let more = length-append h.counters.tree (bare (Some c.args.parent.0) ∷ []) in
-    let lists = length-append h.held.lists.groups (new_gens ∷ []) in
-    omega (arith, sized, tree, more, lists))
-    refl c.self.invariant)
+    subst (λ (pages : PagesOf). IsHolding (record h { counters = c.add_reserved.new.self; held = c.add_group.new.self; pages = pages })) (sym c.add_group-2.ensures)
+    (subst (λ (held : HeldOf). IsHolding (record h { counters = c.add_reserved.new.self; held = held; pages = record (h.pages) { groups = h.pages.groups + 1; room = c.add_group-2.new.self.room } })) (sym c.add_group.ensures)
+    (holding-counted h c.add_reserved.new.self (record (h.held) { lists = with_group h.held.lists; room = c.add_group.new.self.room }) (h.pages.groups + 1) c.add_group-2.new.self.room
+    (counted-longer h.counters c.add_reserved.new.self _ h.pages.pages c.add_reserved.ensures.tree c.add_reserved.ensures.counted c.self.invariant.kept.counted)
+    (held-group h.pages.pages h.held.lists c.self.invariant.held)
+    (let sized = c.self.invariant.held_groups in let lists = length-append h.held.lists.groups (new_gens ∷ []) in omega (arith, sized, tree, more, lists))
+    (let many = c.self.invariant.page_groups in omega (arith, many, tree, more))
+    refl c.self.invariant))

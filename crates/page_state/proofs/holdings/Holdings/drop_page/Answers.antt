@@ -7,8 +7,6 @@ use Rattle.machine.proofs.SlotLemmas.{one_if}
 use Rattle.pages.specs.PagesOf.{PagesOf}
 use Rattle.pages.specs.Records.{page_of}
 use Rattle.page_state.proofs.HoldingLemmas.{Stays, holding-step, relists-same, not-going, same-view, goes-dropped}
-use Rattle.page_state.specs.Owned.{as_number}
-use Rattle.page_state.proofs.EntryLemmas.{grouped-same, absent}
 use Rattle.page_state.proofs.holdings.Holdings.drop_page.Goals as goal
 
 goes : (c : goal.After-unlist) → GoesOn Youngest c.self.inside.pages.pages c.self.inside.held.lists c.drop_page-owned.new.self.pages c.unlist.new.self.lists × (c.unlist.new.self.numbers ≡ c.self.inside.held.numbers) × (c.unlist.new.self.room ≡ c.self.inside.held.room)
@@ -22,6 +20,8 @@ stays c = record {
   frames = c.release.ensures.frames;
   blocks = c.release.ensures.blocks;
   numbers = ap (λ (t : PagesOf). t.numbers) c.drop_page-owned.ensures.others;
+  page_groups = ap (λ (t : PagesOf). t.groups) c.drop_page-owned.ensures.others;
+  page_room = ap (λ (t : PagesOf). t.room) c.drop_page-owned.ensures.others;
   held_numbers = (goes c).1;
   held_room = (goes c).2;
   moving_room = refl;
@@ -49,7 +49,6 @@ invariant_of-self c =
       goes = (goes c).0;
       apart = λ was now. absurd cc;
       moving = relists-same is_in_transfer h.moving.numbers p from None settled;
-      moving_groups = grouped-same h.moving h.pages.pages pages p from None dropped.owned dropped.gone c.self.invariant.moving_groups (absent h.moving p from None (c.self.invariant.moving.once p ∙ ap as_number unmoved));
       spares = omega (arith, spares, going);
       tickets = (let none = ap one_if settled in omega (arith, tickets, none));
     })

@@ -1,11 +1,16 @@
-use Rattle.std.proofs.Common.{◌∙◌}
+use Rattle.std.proofs.Common.{◌∙◌, ap}
+use Rattle.std.specs.List.{list_any}
+use Rattle.machine.specs.Slots.{there_and}
 use Rattle.machine.specs.Tree.{under}
-use Rattle.machine.specs.Pages.{is_in_transfer}
-use Rattle.page_state.proofs.NextLemmas.{any-entries}
+use Rattle.machine.specs.Pages.{page_at, is_in_transfer}
+use Rattle.page_state.proofs.NextLemmas.{any-numbers, any-queued}
 use Rattle.page_state.proofs.holdings.Holdings.has_transfer.Goals as goal
 
 pub returns : goal.returns
 returns c =
     let h = c.self.inside in
     rw (← c.self.view_is)
-    (rw c.as_slice.ensures at c.is_any_under.ensures ∙ any-entries is_in_transfer (λ g. under c.args.tree.now c.args.target.0 g) h.moving h.pages.pages c.self.invariant.moving c.self.invariant.moving_groups)
+    (c.is_any_under.ensures
+    ∙ any-numbers (λ q. there_and (λ page. under c.args.tree.now c.args.target.0 page.group) (page_at h.pages.pages q)) c.as_slice.result.now
+    ∙ ap (list_any (λ q. there_and (λ page. under c.args.tree.now c.args.target.0 page.group) (page_at h.pages.pages q))) c.as_slice.ensures
+    ∙ any-queued is_in_transfer (λ g. under c.args.tree.now c.args.target.0 g) h.moving.numbers h.pages.pages c.self.invariant.moving)

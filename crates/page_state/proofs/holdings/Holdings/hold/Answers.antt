@@ -8,7 +8,6 @@ use Rattle.page_state.specs.Holdings.{HoldingsOf, IsGranted}
 use Rattle.page_state.specs.Held.{HeldOf, entered}
 use Rattle.page_state.proofs.CountLemmas.{charge-usage}
 use Rattle.page_state.proofs.HoldingLemmas.{Stays, kept-step, holding-step, relists-same, same-view, absent-unlisted, goes-in}
-use Rattle.page_state.proofs.EntryLemmas.{grouped-same}
 use Rattle.page_state.proofs.GrantLemmas.{group-listed, number-free, few-charged, granted-over, granted-some, granted-frame}
 use Rattle.page_state.proofs.holdings.Holdings.hold.Goals as goal
 
@@ -46,6 +45,8 @@ stays c = record {
   frames = c.take_room-frame.ensures.frame.frames;
   blocks = refl;
   numbers = ap (λ (t : PagesOf). t.numbers) c.make_page-page.ensures.others;
+  page_groups = ap (λ (t : PagesOf). t.groups) c.make_page-page.ensures.others;
+  page_room = ap (λ (t : PagesOf). t.room) c.make_page-page.ensures.others;
   held_numbers = ap (λ (held : HeldOf). held.numbers) c.enter.ensures;
   held_room = ap (λ (held : HeldOf). held.room) c.enter.ensures;
   moving_room = refl;
@@ -86,7 +87,6 @@ invariant_of-self c =
       goes = goes c g f free refl placed;
       apart = λ was now. absurd cc;
       moving = relists-same is_in_transfer h.moving.numbers p None (Some (new_page g f)) refl;
-      moving_groups = grouped-same h.moving h.pages.pages pages p None (Some (new_page g f)) free placed c.self.invariant.moving_groups (λ x listed none. absurd cc);
       spares = omega (arith, spares);
       tickets = omega (arith, tickets);
     })

@@ -4,7 +4,7 @@ use Rattle.machine.specs.Pages.{has_frame, has_this_frame, has_swap, is_in_trans
 use Rattle.page_state.specs.Owned.{has_this_block, is_going}
 use Rattle.page_state.proofs.BalanceLemmas.{balanced-open}
 use Rattle.page_state.proofs.CountLemmas.{counted-open}
-use Rattle.page_state.proofs.HoldingLemmas.{listed-open, grouped-open, lists-open}
+use Rattle.page_state.proofs.HoldingLemmas.{listed-open, lists-open}
 use Rattle.page_state.proofs.holdings.Holdings.open.Goals as goal
 
 pub invariant_of-result : goal.invariant_of-result
@@ -32,10 +32,10 @@ invariant_of-result c =
       few = omega (arith, frames, fits);
       held = lists-open c.in_ok-held.held.lists pages.pages c.in_ok-held.ensures.groups _ c.in_ok-held.ensures.marks none;
       moving = listed-open is_in_transfer _ _ c.in_ok-moving.ensures.numbers none;
-      moving_groups = grouped-open _ pages.pages c.in_ok-moving.ensures.entries c.in_ok-moving.ensures.numbers;
       moving_room = omega (arith, frames, moving_room);
       held_groups = ap length c.in_ok-held.ensures.groups ∙ sym (ap length c.in_ok-counters.ensures.tree);
       held_numbers = c.in_ok-held.ensures.numbers ∙ sym numbers;
+      page_groups = c.in-Ok-new.ensures.groups ∙ sym (ap length c.in_ok-counters.ensures.tree);
       numbers = omega (arith, frames, blocks, numbers);
       spares = omega (arith, frames, spares, going);
       tickets = omega (arith, frames, tickets);

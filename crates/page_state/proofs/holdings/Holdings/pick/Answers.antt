@@ -27,8 +27,8 @@ pub invariant_of-self : goal.invariant_of-self
 invariant_of-self c =
     let h = c.self.inside in
     let picked = c.pick.ensures in
-    holding-counted h h.counters c.pick.new.self c.self.invariant.kept.counted (held-searched h.pages.pages h.held.lists c.self.invariant.held c.are_in_flight.ensures.memory c.pick.new.self.lists picked.rows)
-    (picked.rows.groups ∙ c.self.invariant.held_groups) (ap (λ (held : HeldOf). held.numbers) picked.others) c.self.invariant
+    holding-counted h h.counters c.pick.new.self h.pages.groups h.pages.room c.self.invariant.kept.counted (held-searched h.pages.pages h.held.lists c.self.invariant.held c.are_in_flight.ensures.memory c.pick.new.self.lists picked.rows)
+    (picked.rows.groups ∙ c.self.invariant.held_groups) c.self.invariant.page_groups (ap (λ (held : HeldOf). held.numbers) picked.others) c.self.invariant
 
 pub returns : goal.returns
 returns c =

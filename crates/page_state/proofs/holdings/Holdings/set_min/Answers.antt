@@ -6,5 +6,5 @@ use Rattle.page_state.proofs.holdings.Holdings.set_min.Goals as goal
 pub invariant_of-self : goal.invariant_of-self
 invariant_of-self c =
     let h = c.self.inside in
-    holding-counted h c.set_min.new.self h.held (counted-same h.counters c.set_min.new.self h.pages.pages c.set_min.ensures.tree c.set_min.ensures.usage c.self.invariant.kept.counted) c.self.invariant.held
-    (c.self.invariant.held_groups ∙ sym (ap length c.set_min.ensures.tree)) refl c.self.invariant
+    holding-counted h c.set_min.new.self h.held h.pages.groups h.pages.room (counted-same h.counters c.set_min.new.self h.pages.pages c.set_min.ensures.tree c.set_min.ensures.usage c.self.invariant.kept.counted) c.self.invariant.held
+    (c.self.invariant.held_groups ∙ sym (ap length c.set_min.ensures.tree)) (c.self.invariant.page_groups ∙ sym (ap length c.set_min.ensures.tree)) refl c.self.invariant

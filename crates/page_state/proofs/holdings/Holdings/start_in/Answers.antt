@@ -1,4 +1,4 @@
-use Rattle.std.proofs.Common.{◌≡◌, ◌∙◌, Some, eq-eqb, refl, sym, ap, subst, arith}
+use Rattle.std.proofs.Common.{◌≡◌, ◌∙◌, Some, refl, sym, ap, subst, arith}
 use Rattle.machine.specs.Pages.{Coming, Away, is_in_transfer}
 use Rattle.machine.specs.Lists.{Youngest}
 use Rattle.page_counter.specs.Counts.{Charges, over_in}
@@ -6,7 +6,6 @@ use Rattle.pages.specs.PagesOf.{HasResidence, anon_page}
 use Rattle.pages.specs.Transfers.{StartsIn}
 use Rattle.page_state.proofs.CountLemmas.{charge-usage}
 use Rattle.page_state.proofs.HoldingLemmas.{Stays, kept-step, holding-step, relists-in, same-view, ticket-free, goes-at}
-use Rattle.page_state.proofs.EntryLemmas.{grouped-in}
 use Rattle.page_state.proofs.GrantLemmas.{stands-live, room-free, few-charged, granted-over, granted-some, granted-frame}
 use Rattle.page_state.proofs.holdings.Holdings.start_in.Goals as goal
 
@@ -35,12 +34,14 @@ push-requires c =
     let away = rw (← c.self.view_is) at c.requires.away in
     record { room = (room-free c.self.inside c.self.invariant (granted-some c.self.inside c.self.invariant away.0 away.3)).0 }
 
-stays : (c : goal.After-push) → c.start_in-ticket.new.self.numbers ≡ c.self.inside.pages.numbers → Stays c.self.inside (record (c.self.inside) { pages = c.start_in-ticket.new.self; counters = c.take_room-frame.new.counters; pool = c.take_room-frame.new.pool; moving = c.push.new.self })
-stays c numbers = record {
+stays : (c : goal.After-push) → c.start_in-ticket.new.self.numbers ≡ c.self.inside.pages.numbers → c.start_in-ticket.new.self.groups ≡ c.self.inside.pages.groups → c.start_in-ticket.new.self.room ≡ c.self.inside.pages.room → Stays c.self.inside (record (c.self.inside) { pages = c.start_in-ticket.new.self; counters = c.take_room-frame.new.counters; pool = c.take_room-frame.new.pool; moving = c.push.new.self })
+stays c numbers groups room = record {
   groups = c.take_room-frame.ensures.charged.groups;
   frames = c.take_room-frame.ensures.frame.frames;
   blocks = refl;
   numbers = numbers;
+  page_groups = groups;
+  page_room = room;
   held_numbers = refl;
   held_room = refl;
   moving_room = c.push.ensures.room;
@@ -77,12 +78,11 @@ invariant_of-self c =
             live = stands-live h.counters h.pages.pages p g (Away b) stood c.self.invariant.kept.counted;
           })
           c.self.invariant.kept;
-      stays = stays c starts.numbers;
+      stays = stays c starts.numbers starts.groups starts.room;
       generation = Youngest;
       goes = goes-at h.pages.pages h.held.lists c.self.invariant.held p Youngest pages from to stood starts.placed refl;
       apart = λ was now. absurd cc;
       moving = relists-in is_in_transfer h.moving.numbers c.push.new.self.numbers p p from to refl refl refl c.push.ensures.counts c.push.ensures.more;
-      moving_groups = grouped-in h.moving h.pages.pages pages p from to stood starts.placed c.self.invariant.moving_groups c.push.new.self (c.group_of-group.result, c.args.page) c.push.ensures.entries c.push.ensures.last refl (eq-eqb g c.group_of-group.result.0 room.group) (λ x listed own. own);
       spares = omega (arith, spares);
       tickets = omega (arith, tickets);
     })
@@ -110,5 +110,5 @@ returns-clause-begins c =
       bytes = begins.bytes;
       listed = begins.starts.listed;
       order = goes-at h.pages.pages h.held.lists c.self.invariant.held p Youngest c.start_in-ticket.new.self.pages _ _ stood begins.starts.placed refl;
-      others = same-view h _ (stays c begins.starts.numbers);
+      others = same-view h _ (stays c begins.starts.numbers begins.starts.groups begins.starts.room);
     })

@@ -1,4 +1,4 @@
-use Rattle.std.proofs.Common.{◌≡◌, ◌<◌, ℕ, false, Option, Some, eq-eqb, refl, sym, ap, subst, arith, length}
+use Rattle.std.proofs.Common.{◌≡◌, ◌<◌, ℕ, false, Option, Some, refl, sym, ap, subst, arith, length}
 use Rattle.std.specs.Prelude.{IfSome}
 use Rattle.machine.specs.Slots.{Changes}
 use Rattle.machine.specs.Pages.{Held, Going, Page, is_held, is_in_transfer, has_swap, is_swap_taken}
@@ -12,7 +12,6 @@ use Rattle.page_state.specs.Owned.{has_this_block}
 use Rattle.page_state.specs.Held.{HeldOf, left}
 use Rattle.page_state.proofs.BalanceLemmas.{taken-in}
 use Rattle.page_state.proofs.HoldingLemmas.{Stays, kept-step, holding-step, relists-in, same-view, ticket-free, held-stands, stands-listed, goes-out}
-use Rattle.page_state.proofs.EntryLemmas.{grouped-in}
 use Rattle.page_state.proofs.GrantLemmas.{stands-live, room-held}
 use Rattle.page_state.proofs.holdings.Holdings.start_out.Goals as goal
 
@@ -57,12 +56,14 @@ goes c g f to stood gone changes =
     (sym (ap (λ (held : HeldOf). held.lists) (c.leave.ensures g (stands-listed h.pages.pages h.held.lists c.self.invariant.held c.args.page.0 g f stood))))
     (goes-out h.pages.pages h.held.lists c.self.invariant.held c.args.page.0 Youngest c.start_out-ticket.new.self.pages (Some to) g f stood changes gone)
 
-stays : (c : goal.After-push) → c.start_out-ticket.new.self.numbers ≡ c.self.inside.pages.numbers → Stays c.self.inside (record (c.self.inside) { pages = c.start_out-ticket.new.self; pool = c.take_spare-spare.new.pool; slots = c.take_slot-slot.new.slots; held = c.leave.new.self; moving = c.push.new.self })
-stays c numbers = record {
+stays : (c : goal.After-push) → c.start_out-ticket.new.self.numbers ≡ c.self.inside.pages.numbers → c.start_out-ticket.new.self.groups ≡ c.self.inside.pages.groups → c.start_out-ticket.new.self.room ≡ c.self.inside.pages.room → Stays c.self.inside (record (c.self.inside) { pages = c.start_out-ticket.new.self; pool = c.take_spare-spare.new.pool; slots = c.take_slot-slot.new.slots; held = c.leave.new.self; moving = c.push.new.self })
+stays c numbers groups room = record {
   groups = record { tree = refl; limits = refl; room = refl };
   frames = sym (ap (λ (q : PoolOf). q.frames) c.take_spare-spare.ensures);
   blocks = c.take_slot-slot.ensures.blocks;
   numbers = numbers;
+  page_groups = groups;
+  page_room = room;
   held_numbers = ap (λ (held : HeldOf). held.numbers) (leaves c);
   held_room = ap (λ (held : HeldOf). held.room) (leaves c);
   moving_room = c.push.ensures.room;
@@ -98,12 +99,11 @@ invariant_of-self c =
           (record { counts = λ m. (let k = slots.counts m in omega (arith, k)); len = (let k = slots.fewer in omega (arith, k)) })
           (record { tree = refl; usage = λ a lt. refl; live = stands-live h.counters h.pages.pages p g (Held f) w.2 c.self.invariant.kept.counted })
           c.self.invariant.kept;
-      stays = stays c starts.numbers;
+      stays = stays c starts.numbers starts.groups starts.room;
       generation = Youngest;
       goes = goes c g f (anon_page g (Going f b c.start_out-ticket.result.number)) w.2 refl starts.placed;
       apart = λ was now. absurd cc;
       moving = relists-in is_in_transfer h.moving.numbers c.push.new.self.numbers p p from to refl refl refl c.push.ensures.counts c.push.ensures.more;
-      moving_groups = grouped-in h.moving h.pages.pages c.start_out-ticket.new.self.pages p from to w.2 starts.placed c.self.invariant.moving_groups c.push.new.self (c.group_of-group.result, c.args.page) c.push.ensures.entries c.push.ensures.last refl (eq-eqb g c.group_of-group.result.0 (sym (c.group_of-group.ensures g (Held f) w.2))) (λ x listed own. own);
       spares = omega (arith, spares);
       tickets = omega (arith, tickets);
     })
@@ -129,7 +129,7 @@ returns c =
       bytes = begins.bytes;
       listed = begins.starts.listed;
       order = goes c g f _ stood refl begins.starts.placed;
-      others = same-view h _ (stays c begins.starts.numbers);
+      others = same-view h _ (stays c begins.starts.numbers begins.starts.groups begins.starts.room);
     })
 
 pub leave-requires : goal.leave-requires

@@ -1,0 +1,127 @@
+-- A group goes, in all joined parts.
+use Rattle.std.proofs.Common.{◌≡◌, ◌≢◌, ℕ, suc, ◌==◌, ◌&&◌, ◌||◌, not, Bool, true, false, List, [], ◌∷◌, length, length-set, Option, Some, None, eq-eqb, refl, sym, ap, ◌∙◌, subst, arith}
+use Rattle.std.specs.Prelude.{slice_set, option_map}
+use Rattle.machine.specs.declared.refusal.Refusal.TheVariants.{NoEntry, Busy}
+use Rattle.machine.specs.Slots.{there_and}
+use Rattle.machine.specs.Tree.{Node, node_at, is_live, is_parent, is_child, has_children, under_at, without_group}
+use Rattle.machine.specs.Pages.{Page, page_at}
+use Rattle.machine.specs.declared.record.Task.{Task}
+use Rattle.machine.specs.Tasks.{Tasks, task_at, lives, is_live_task, is_live_in, has_tasks, group_of, group_of_task}
+use Rattle.machine.specs.Counts.{Counted}
+use Rattle.machine.specs.Refusals.{first_cause, rmdir_refusal}
+use Rattle.machine.specs.State.{State}
+use Rattle.machine.specs.Step.{regrouped}
+use Rattle.machine.specs.Generations.{handed_over}
+use Rattle.machine.specs.Lists.{HeldLists, Order}
+use Rattle.machine.proofs.Values.{unlike}
+use Rattle.machine.proofs.TreeLemmas.{under_at-None, under_at-step}
+use Rattle.machine.proofs.RemovedLemmas.{without-other}
+use Rattle.machine.proofs.SoundLemmas.{none_has, no_child}
+use Rattle.group_tree.specs.Kin.{AreKin}
+use Rattle.group_tree.specs.Lineages.{IsLineage}
+use Rattle.group_tree.proofs.LineageLemmas.{live-within}
+use Rattle.group_tree.proofs.RemovedTables.{kin-removed}
+use Rattle.reclaim.specs.Cursors.{CursorsOf}
+use Rattle.memory_events.specs.Tallies.{Tallies, Tells}
+use Rattle.page_state.specs.declared.joined.State.TheInside.{Inside}
+use Rattle.page_state.specs.Holdings.{HoldingsOf, HandsUp}
+use Rattle.page_state.specs.States.{StateOf}
+use Rattle.page_state.specs.Changes.{RemovesGroup}
+use Rattle.page_state.specs.Joined.{joined_of, IsJoined}
+use Rattle.page_state.specs.Mapped.{is_settled}
+use Rattle.page_state.proofs.TallyLemmas.{tells-on}
+
+-- ---- whether it may go
+
+-- a group that nothing keeps is another than the root, and is there, and has neither children nor tasks
+pub record MayGo (s : State) (g : ℕ) : Type 0 where
+  pub below : g ≢ 0
+  pub live : is_live s.tree g ≡ true
+  pub childless : has_children s.tree g ≡ false
+  pub taskless : has_tasks s.tasks g ≡ false
+
+pub may-go : (s : State) (g : ℕ) → rmdir_refusal s g ≡ None → MayGo s g
+may-go s g none = by_tests (is_live s.tree g) (g == 0) (has_children s.tree g) (has_tasks s.tasks g) refl refl refl refl none
+  where
+    by_tests : (live root children tasks : Bool) → is_live s.tree g ≡ live → (g == 0) ≡ root → has_children s.tree g ≡ children → has_tasks s.tasks g ≡ tasks
+        → first_cause (not live) NoEntry (first_cause (root || (children || tasks)) Busy None) ≡ None → MayGo s g
+    by_tests false root children tasks l r c t e = cc
+    by_tests true true children tasks l r c t e = cc
+    by_tests true false true tasks l r c t e = cc
+    by_tests true false false true l r c t e = cc
+    by_tests true false false false l r c t e = record { below = λ same. unlike (g == 0) (eq-eqb g 0 same) r; live = l; childless = c; taskless = t }
+
+-- every group but the root hangs below one
+pub has-parent : (tree : List Node) (g : ℕ) → IsLineage tree → is_live tree g ≡ true → g ≢ 0 → (node_at tree g).parent ≡ None → ⊥
+has-parent tree g is live below none = by_test (0 == g) refl (sym (under_at-step tree is.earlier_parents 0 g) ∙ is.rooted g (live-within tree g live))
+  where
+    by_test : (b : Bool) → (0 == g) ≡ b → ((0 == g) || under_at tree 0 (node_at tree g).parent) ≡ true → ⊥
+    by_test true same e = below (grind (arith, same))
+    by_test false other e =
+        unlike ((0 == g) || under_at tree 0 (node_at tree g).parent) e
+        (ap (λ (b : Bool). b || under_at tree 0 (node_at tree g).parent) other ∙ ap (under_at tree 0) none ∙ under_at-None tree is.earlier_parents 0)
+
+-- ---- without its path it is the same group
+
+no_children : (tree : List Node) (g : ℕ) → ((h : ℕ) → is_child g (node_at tree h) ≡ false) → has_children tree g ≡ false
+no_children [] g none = refl
+no_children (x ∷ tree) g none = ap (λ (b : Bool). b || has_children tree g) (none 0) ∙ no_children tree g (λ h. none (suc h))
+
+pub kin-childless : (kin tree : List Node) (g : ℕ) → AreKin kin tree → has_children tree g ≡ false → has_children kin g ≡ false
+kin-childless kin tree g are none =
+    no_children kin g (λ h. ap (λ (b : Bool). b && is_parent (node_at kin h).parent g) (are.living h) ∙ ap (λ (o : Option ℕ). is_live tree h && is_parent o g) (are.parents h) ∙ no_child tree g h none)
+
+-- ---- what is joined
+
+-- no live task is of a group without tasks
+elsewhere : (tasks : Tasks) (g t : ℕ) → has_tasks tasks g ≡ false → lives tasks t ≡ true → group_of_task tasks t ≢ g
+elsewhere tasks g t none alive same = by_task (task_at tasks t) alive same (none_has (is_live_in g) tasks none t)
+  where
+    by_task : (slot : Option Task) → there_and is_live_task slot ≡ true → group_of slot ≡ g → there_and (is_live_in g) slot ≡ false → ⊥
+    by_task None h e empty = absurd (let wrong : false ≡ true = h in cc)
+    by_task (Some task) h e empty = unlike (is_live_task task && (task.group.0 == g)) (ap (λ (b : Bool). b && (task.group.0 == g)) h ∙ eq-eqb task.group.0 g e) empty
+
+settled_same : (g parent : ℕ) (slot : Option Page) → is_settled (option_map (regrouped g parent) slot) ≡ is_settled slot
+settled_same g parent None = refl
+settled_same g parent (Some page) = refl
+
+none_was : (g parent : ℕ) (slot : Option Page) → option_map (regrouped g parent) slot ≡ None → slot ≡ None
+none_was g parent None e = refl
+none_was g parent (Some page) e = let wrong : Some (regrouped g parent page) ≡ None = e in cc
+
+module _ (s : Inside) (is : IsJoined s) (g parent : ℕ) (may : MayGo (joined_of s).tables g) (h : HoldingsOf) (hands : HandsUp s.holdings h g parent) (cursors : CursorsOf) (served : cursors.cursors ≡ slice_set s.cursors.cursors g None)
+    (events : Tallies) (counted : events.tree ≡ without_group s.events.tree g) (tree : List Node) (fewer : tree ≡ without_group s.tree g) where
+  pub joined-gone : IsJoined (record s { tree = tree; holdings = h; cursors = cursors; events = events })
+  joined-gone =
+      record {
+        sized = is.sized;
+        frames = ap (λ (x : HoldingsOf). x.frames) hands.others ∙ is.frames;
+        swap = ap (λ (x : HoldingsOf). x.swap) hands.others ∙ is.swap;
+        numbers = is.numbers ∙ sym (ap (λ (x : HoldingsOf). x.numbers) hands.others);
+        page_numbers = ap (λ (x : HoldingsOf). x.numbers) hands.others ∙ is.page_numbers;
+        held_kin = subst (λ (k : List Node). AreKin k tree) (sym (ap (λ (x : HoldingsOf). x.kin) hands.others)) (subst (AreKin (without_group s.holdings.kin g)) (sym fewer) (kin-removed s.holdings.kin s.tree g is.held_kin));
+        counted_kin = subst (λ (k : List Node). AreKin k tree) (sym counted) (subst (AreKin (without_group s.events.tree g)) (sym fewer) (kin-removed s.events.tree s.tree g is.counted_kin));
+        mapped = record {
+          there = λ p gone. is.mapped.there p (none_was g parent (page_at s.holdings.stored.pages p) (sym (hands.pages p) ∙ gone));
+          least = λ p. (let least = is.mapped.least p in let same = ap is_settled (hands.pages p) ∙ settled_same g parent (page_at s.holdings.stored.pages p) in omega (arith, least, same));
+        };
+        homes = λ t alive. ap (λ (ns : List Node). is_live ns (group_of_task s.spaces.tasks t)) fewer
+            ∙ ap (λ (n : Node). n.live) (without-other s.tree g (group_of_task s.spaces.tasks t) (elsewhere s.spaces.tasks g t may.taskless alive)) ∙ is.homes t alive;
+        cursors = ap length served ∙ length-set s.cursors.cursors g None ∙ is.cursors ∙ sym (ap length fewer ∙ length-set s.tree g _);
+      }
+
+  pub removes-group : (node_at s.tree g).parent ≡ Some parent → ((c : List Counted) → Tells s.events c → Tells events c) → RemovesGroup (joined_of s) (joined_of (record s { tree = tree; holdings = h; cursors = cursors; events = events })) g
+  removes-group below told =
+      let old : StateOf = joined_of s in
+      record {
+        parent = parent;
+        below = below;
+        pages = hands.pages;
+        tables = ap (λ (t : List Node). record (old.tables) { tree = t; limits = h.limits; pages = h.stored.pages }) fewer
+            ∙ ap (λ (x : HoldingsOf). record (old.tables) { tree = without_group s.tree g; limits = x.limits; pages = h.stored.pages }) hands.others;
+        order = ap (λ (held : HeldLists). let o : Order = record { held = held; cursors = cursors.cursors } in o) hands.held
+            ∙ ap (λ (cs : List (Option ℕ)). let o : Order = record { held = record { groups = handed_over g parent s.holdings.held.groups; marks = s.holdings.held.marks }; cursors = cs } in o) served;
+        bytes = hands.bytes;
+        flights = hands.flights;
+        tallied = tells-on s.events events (λ cs. cs) told;
+      }

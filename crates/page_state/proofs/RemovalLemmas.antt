@@ -1,0 +1,319 @@
+-- A group goes: its pages become its parent's one by one, and all that is kept by group goes on to agree.
+use Rattle.std.proofs.Common.{◌≡◌, ◌≢◌, ◌⊎◌, inl, inr, ℕ, zero, suc, ◌+◌, ◌<◌, ◌==◌, ◌&&◌, ◌||◌, Bool, true, false, cond, List, [], ◌∷◌, length, length-set, Option, Some, None, eq-eqb, eqb-true, refl, sym, ap, ◌∙◌, subst, arith}
+use Rattle.std.specs.Prelude.{slice_set, slice_index, option_map, min, IfSome}
+use Rattle.std.proofs.lemmas.List.{get_or-set_other}
+use Rattle.machine.specs.Slots.{at, Changes, there_and, count_there}
+use Rattle.machine.specs.Tree.{Node, node_at, is_live, is_parent, is_child, has_children, under_at, under, share, IsTree, without_group}
+use Rattle.machine.specs.Pages.{Residence, Page, Pages, page_at, frame_at, is_some_number, has_frame, has_this_frame, has_swap, is_in_transfer, is_charged, charged}
+use Rattle.machine.specs.declared.record.Limits.{Limits}
+use Rattle.machine.specs.Generations.{with_gens, handed_over}
+use Rattle.machine.specs.Step.{regrouped}
+use Rattle.machine.proofs.Values.{unlike}
+use Rattle.machine.proofs.TreeLemmas.{eq_cases, under_at-None, under_at-step, share-step, share-is}
+use Rattle.machine.proofs.SlotLemmas.{one_if, count_there-none}
+use Rattle.machine.proofs.RemovedLemmas.{without-other, without-under, regrouped-test, regrouped-was, count-alike}
+use Rattle.machine.proofs.SoundLemmas.{no_child}
+use Rattle.machine.proofs.HandedLemmas.{held-handed}
+use Rattle.group_tree.specs.Lineages.{IsLineage}
+use Rattle.group_tree.proofs.LineageLemmas.{live-within}
+use Rattle.page_counter.specs.Counts.{Counts, IsOut, SameGroups, MovesUp, usage_of}
+use Rattle.pages.specs.PagesOf.{PagesOf, byte_in, anon_page, HasResidence}
+use Rattle.page_state.specs.declared.holdings.Holdings.TheInside.{Inside}
+use Rattle.page_state.specs.Held.{HeldOf}
+use Rattle.page_state.specs.Holdings.{HoldingsOf, HandsUp}
+use Rattle.page_state.specs.Owned.{holdings_of, has_this_block, is_going, as_number, IsBalanced, IsCounted, IsHolding}
+use Rattle.page_state.proofs.BalanceLemmas.{changed-count}
+use Rattle.page_state.proofs.CountLemmas.{Recharges, counted-step, page-out}
+
+-- ---- one page
+
+-- a page and its charge become those of the group above
+recharges-up : (c d : Counts) (g parent : ℕ) (r : Residence) → IsTree c.tree → (node_at c.tree g).parent ≡ Some parent → is_live c.tree parent ≡ true → SameGroups c d → (is_some_number (frame_at r) ≡ true → MovesUp c d g)
+    → (is_some_number (frame_at r) ≡ false → d ≡ c) → Recharges c d (Some (anon_page g r)) (Some (anon_page parent r))
+recharges-up c d g parent r falls below live same charged uncharged = record { tree = same.tree; usage = λ a lt. by_frame a lt (is_some_number (frame_at r)) refl; live = live }
+  where
+    by_frame : (a : ℕ) → a < length c.tree → (b : Bool) → is_some_number (frame_at r) ≡ b
+        → usage_of d a + one_if (is_some_number (frame_at r) && under c.tree a g) ≡ usage_of c a + one_if (is_some_number (frame_at r) && under c.tree a parent)
+    by_frame a lt true framed =
+        let less = (charged framed).usage a lt in
+        let here : one_if (is_some_number (frame_at r) && under c.tree a g) ≡ one_if (under c.tree a g) = ap (λ b. one_if (b && under c.tree a g)) framed in
+        let there : one_if (is_some_number (frame_at r) && under c.tree a parent) ≡ one_if (under c.tree a parent) = ap (λ b. one_if (b && under c.tree a parent)) framed in
+        let step = share-step c.tree falls a g in
+        let own : share c.tree a (Some g) ≡ one_if (under c.tree a g) = share-is c.tree a (Some g) in
+        let up : share c.tree a (node_at c.tree g).parent ≡ one_if (under c.tree a parent) = ap (share c.tree a) below ∙ share-is c.tree a (Some parent) in
+        omega (arith, less, here, there, step, own, up)
+    by_frame a lt false unframed =
+        let kept : usage_of d a ≡ usage_of c a = ap (λ (x : Counts). usage_of x a) (uncharged unframed) in
+        let here : one_if (is_some_number (frame_at r) && under c.tree a g) ≡ 0 = ap (λ b. one_if (b && under c.tree a g)) unframed in
+        let there : one_if (is_some_number (frame_at r) && under c.tree a parent) ≡ 0 = ap (λ b. one_if (b && under c.tree a parent)) unframed in
+        omega (arith, kept, here, there)
+
+gone-there : (pages : Pages) (p : ℕ) → at (slice_set pages p None) p ≡ None
+gone-there [] p = refl
+gone-there (x ∷ pages) zero = refl
+gone-there (x ∷ pages) (suc p) = gone-there pages p
+
+-- the charge of a page that has a frame is out
+pub framed-out : (c : Counts) (pages : Pages) (p g : ℕ) (r : Residence) → IsTree c.tree → IsCounted c pages → HasResidence pages p g r → is_some_number (frame_at r) ≡ true → IsOut c g
+framed-out c pages p g r falls counted stood framed =
+    page-out c pages (slice_set pages p None) p (anon_page g r) None falls stood framed (record { changed = gone-there pages p; others = λ q other. get_or-set_other pages p q None None other }) refl tt counted
+
+-- ---- page by page
+
+-- the page is as it was, or its parent's by now
+abbrev pub IsHanded : ℕ → ℕ → Option Page → Option Page → Type 0
+IsHanded g parent before now = (now ≡ before) ⊎ (now ≡ option_map (regrouped g parent) before)
+
+-- of the group's pages some are its parent's by now, and all are counted where they are
+pub record HandsSome (g parent : ℕ) (c d : Counts) (old now : PagesOf) : Type 0 where
+  pub pages : (p : ℕ) → IsHanded g parent (page_at old.pages p) (page_at now.pages p)
+  pub bytes : (q o : ℕ) → byte_in now.bytes q o ≡ byte_in old.bytes q o
+  pub others : now ≡ record old { pages = now.pages; bytes = now.bytes }
+  pub counted : IsCounted d now.pages
+  pub same : SameGroups c d
+
+pub hands-none : (g parent : ℕ) (c : Counts) (old : PagesOf) → IsCounted c old.pages → HandsSome g parent c c old old
+hands-none g parent c old counted = record { pages = λ p. inl refl; bytes = λ q o. refl; others = refl; counted = counted; same = record { tree = refl; limits = refl; room = refl } }
+
+-- a page of the group is another's
+regrouped-own : (g parent : ℕ) (r : Residence) → regrouped g parent (anon_page g r) ≡ anon_page parent r
+regrouped-own g parent r = ap (λ b. anon_page (cond b parent g) r) (eq-eqb g g refl)
+
+-- a page of another group stays as it is
+regrouped-other : (g parent : ℕ) (page : Page) → page.group ≢ g → regrouped g parent page ≡ page
+regrouped-other g parent page other = by_test (page.group == g) refl
+  where
+    by_test : (b : Bool) → (page.group == g) ≡ b → regrouped g parent page ≡ page
+    by_test true same = absurd (other (eqb-true page.group g same))
+    by_test false differs = ap (λ b. record { content = page.content; group = cond b parent page.group; dirty = page.dirty; residence = page.residence }) differs
+
+-- what is the parent's is not the group's
+regrouped-left : (g parent : ℕ) (page : Page) → parent ≢ g → (regrouped g parent page).group ≢ g
+regrouped-left g parent page apart same = by_test (page.group == g) refl same
+  where
+    by_test : (b : Bool) → (page.group == g) ≡ b → cond b parent page.group ≡ g → ⊥
+    by_test true is same = apart same
+    by_test false differs same = unlike (page.group == g) (eq-eqb page.group g same) differs
+
+module _ (g parent : ℕ) (apart : parent ≢ g) (c d e : Counts) (old now next : PagesOf) (p : ℕ) (r : Residence) (stood : HasResidence now.pages p g r) (moved : Changes now.pages next.pages p (Some (anon_page parent r)))
+    (bytes : (q o : ℕ) → byte_in next.bytes q o ≡ byte_in now.bytes q o) (others : next ≡ record now { pages = next.pages; bytes = next.bytes }) (falls : IsTree c.tree) (below : (node_at c.tree g).parent ≡ Some parent)
+    (live : is_live c.tree parent ≡ true) (same : SameGroups d e) (charged : is_some_number (frame_at r) ≡ true → MovesUp d e g) (uncharged : is_some_number (frame_at r) ≡ false → e ≡ d) where
+  handed-here : IsHanded g parent (page_at old.pages p) (page_at now.pages p) → page_at next.pages p ≡ option_map (regrouped g parent) (page_at old.pages p)
+  handed-here (inl kept) = moved.changed ∙ ap Some (sym (regrouped-own g parent r)) ∙ ap (option_map (regrouped g parent)) (sym stood ∙ kept)
+  handed-here (inr handed) =
+      let was = regrouped-was g parent (page_at old.pages p) (anon_page g r) (sym handed ∙ stood) in
+      absurd (regrouped-left g parent was.0 apart (sym (ap (λ (x : Page). x.group) was.2)))
+
+  -- one page more
+  pub hands-more : HandsSome g parent c d old now → HandsSome g parent c e old next
+  hands-more hands =
+      record {
+        pages = λ q. elim (eq_cases q p) [
+          | inl is ↦ inr (ap (page_at next.pages) is ∙ handed-here (hands.pages p) ∙ ap (λ (x : ℕ). option_map (regrouped g parent) (page_at old.pages x)) (sym is))
+          | inr other ↦ subst (IsHanded g parent (page_at old.pages q)) (sym (moved.others q other)) (hands.pages q)
+        ];
+        bytes = λ q o. bytes q o ∙ hands.bytes q o;
+        others = others ∙ ap (λ (x : PagesOf). record x { pages = next.pages; bytes = next.bytes }) hands.others;
+        counted = counted-step d e now.pages next.pages p (Some (anon_page g r)) (Some (anon_page parent r)) stood moved
+            (recharges-up d e g parent r (subst IsTree (sym hands.same.tree) falls) (ap (λ (t : List Node). (node_at t g).parent) hands.same.tree ∙ below) (ap (λ (t : List Node). is_live t parent) hands.same.tree ∙ live) same charged uncharged) hands.counted;
+        same = record { tree = same.tree ∙ hands.same.tree; limits = same.limits ∙ hands.same.limits; room = same.room ∙ hands.same.room };
+      }
+
+  -- and one less is to go
+  pub hands-fewer : count_there (λ page. page.group == g) next.pages < count_there (λ page. page.group == g) now.pages
+  hands-fewer =
+      let change = changed-count (λ page. page.group == g) now.pages next.pages p (Some (anon_page g r)) (Some (anon_page parent r)) stood moved in
+      let own : one_if (g == g) ≡ 1 = ap one_if (eq-eqb g g refl) in
+      let left : one_if (parent == g) ≡ 0 = by_test (parent == g) refl in
+      omega (arith, change, own, left)
+    where
+      by_test : (b : Bool) → (parent == g) ≡ b → one_if (parent == g) ≡ 0
+      by_test true is = absurd (apart (eqb-true parent g is))
+      by_test false differs = ap one_if differs
+
+-- where none is the group's any more, all are its parent's
+pub hands-all : (g parent : ℕ) (c d : Counts) (old now : PagesOf) → HandsSome g parent c d old now → ((p : ℕ) → IfSome (page_at now.pages p) (λ page. page ≡ anon_page page.group page.residence))
+    → ((p h : ℕ) (r : Residence) → HasResidence now.pages p h r → h ≢ g) → (p : ℕ) → page_at now.pages p ≡ option_map (regrouped g parent) (page_at old.pages p)
+hands-all g parent c d old now hands memory none p = by_case (hands.pages p)
+  where
+    stays : (slot : Option Page) → page_at now.pages p ≡ slot → IfSome slot (λ page. page ≡ anon_page page.group page.residence) → slot ≡ option_map (regrouped g parent) slot
+    stays None is anon = refl
+    stays (Some page) is anon = ap Some (sym (regrouped-other g parent page (none p page.group page.residence (is ∙ ap Some anon))))
+
+    by_case : IsHanded g parent (page_at old.pages p) (page_at now.pages p) → page_at now.pages p ≡ option_map (regrouped g parent) (page_at old.pages p)
+    by_case (inl kept) = stays (page_at now.pages p) refl (memory p) ∙ ap (option_map (regrouped g parent)) kept
+    by_case (inr handed) = handed
+
+-- ---- the counters
+
+module _ (tree : List Node) (g : ℕ) (is : IsLineage tree) (childless : has_children tree g ≡ false) where
+  under-by : (h : ℕ) → ((q : ℕ) → q < h → is_live tree q ≡ true → under tree g q ≡ true → q ≡ g) → is_live tree h ≡ true → h ≢ g → under tree g h ≡ true → ⊥
+  under-by h lower live other above = by_parent (node_at tree h).parent refl (sym (under_at-step tree is.earlier_parents g h) ∙ above)
+    where
+      differs : (b : Bool) → (g == h) ≡ b → (x : Bool) → (b || x) ≡ true → x ≡ true
+      differs true same x e = absurd (other (sym (eqb-true g h same)))
+      differs false same x e = e
+
+      by_parent : (at : Option ℕ) → (node_at tree h).parent ≡ at → ((g == h) || under_at tree g (node_at tree h).parent) ≡ true → ⊥
+      by_parent None up e = unlike (under_at tree g None) (sym (ap (under_at tree g) up) ∙ differs (g == h) refl (under_at tree g (node_at tree h).parent) e) (under_at-None tree is.earlier_parents g)
+      by_parent (Some q) up e =
+          let higher = sym (ap (under_at tree g) up) ∙ differs (g == h) refl (under_at tree g (node_at tree h).parent) e in
+          let same : q ≡ g = lower q (is.earlier_parents.falls h q up) (is.parents_live h q live up) higher in
+          unlike (is_child g (node_at tree h)) (ap (λ (b : Bool). b && is_parent (node_at tree h).parent g) live ∙ ap (λ (o : Option ℕ). is_parent o g) up ∙ eq-eqb q g same) (no_child tree g h childless)
+
+  under-in : (n h : ℕ) → h < n → is_live tree h ≡ true → under tree g h ≡ true → h ≡ g
+  under-in zero h lt live above = absurd (omega (arith, lt))
+  under-in (suc n) h lt live above =
+      elim (eq_cases h g) [
+        | inl same ↦ same
+        | inr other ↦ absurd (under-by h (λ q less. under-in n q (omega (arith, less, lt))) live other above)
+      ]
+
+  -- nothing live is below a group without children
+  pub under-alone : (h : ℕ) → is_live tree h ≡ true → h ≢ g → under tree g h ≡ false
+  under-alone h live other = by_test (under tree g h) refl
+    where
+      by_test : (b : Bool) → under tree g h ≡ b → under tree g h ≡ false
+      by_test true above = absurd (other (under-in (suc h) h (omega arith) live above))
+      by_test false none = none
+
+module _ (c d : Counts) (pages : Pages) (g : ℕ) (is : IsLineage c.tree) (childless : has_children c.tree g ≡ false) (counted : IsCounted c pages) (none : (p : ℕ) → IfSome (page_at pages p) (λ page. page.group ≢ g)) where
+  charged_at : (slot : Option Page) → IfSome slot (λ page. is_live c.tree page.group ≡ true) → IfSome slot (λ page. page.group ≢ g) → there_and (is_charged c.tree g) slot ≡ false
+  charged_at None live other = refl
+  charged_at (Some page) live other = by_frame (has_frame page)
+    where
+      by_frame : (b : Bool) → (b && under c.tree g page.group) ≡ false
+      by_frame true = under-alone c.tree g is childless page.group live other
+      by_frame false = refl
+
+  -- a group without a page and without a group below it is charged for nothing
+  pub usage-none : g < length c.tree → usage_of c g ≡ 0
+  usage-none lt = counted.counts g lt ∙ count_there-none (is_charged c.tree g) pages (λ p. charged_at (page_at pages p) (counted.live p) (none p))
+
+  live_at : (slot : Option Page) → IfSome slot (λ page. is_live c.tree page.group ≡ true) → IfSome slot (λ page. page.group ≢ g) → IfSome slot (λ page. is_live (without_group c.tree g) page.group ≡ true)
+  live_at None live other = tt
+  live_at (Some page) live other = ap (λ (n : Node). n.live) (without-other c.tree g page.group other) ∙ live
+
+  same_charge : (a : ℕ) (slot : Option Page) → there_and (is_charged (without_group c.tree g) a) slot ≡ there_and (is_charged c.tree a) slot
+  same_charge a None = refl
+  same_charge a (Some page) = ap (λ b. has_frame page && b) (without-under c.tree g a (Some page.group))
+
+  -- it can go, and all pages are counted as before
+  pub counted-without : d.tree ≡ without_group c.tree g → d.usage ≡ c.usage → length (without_group c.tree g) ≡ length c.tree → IsCounted d pages
+  counted-without tree usage len =
+      subst (λ (t : List Node). IsCounted (record { tree = t; limits = d.limits; usage = d.usage; room = d.room }) pages) (sym tree)
+      (record {
+        counts = λ a lt. ap (λ (u : List ℕ). slice_index u a) usage ∙ counted.counts a (omega (arith, lt, len)) ∙ sym (count-alike (is_charged c.tree a) (is_charged (without_group c.tree g) a) pages pages (λ n. same_charge a (page_at pages n)));
+        live = λ p. live_at (page_at pages p) (counted.live p) (none p);
+      })
+
+-- ---- the holdings
+
+-- what does not look at a page's group counts as before
+balanced-regrouped : (this : ℕ → Page → Bool) (has : Page → Bool) (total : ℕ) (free : List ℕ) (pages pages' : Pages) (g parent : ℕ) → ((n : ℕ) (page : Page) → this n (regrouped g parent page) ≡ this n page) → ((page : Page) → has (regrouped g parent page) ≡ has page)
+    → ((p : ℕ) → page_at pages' p ≡ option_map (regrouped g parent) (page_at pages p)) → IsBalanced this has total free pages → IsBalanced this has total free pages'
+balanced-regrouped this has total free pages pages' g parent same_this same_has handed balanced =
+    record {
+      once = λ n lt. (let alike = counted_alike (this n) (same_this n) in let was = balanced.once n lt in omega (arith, alike, was));
+      none_beyond = λ n le. (let alike = counted_alike (this n) (same_this n) in let was = balanced.none_beyond n le in omega (arith, alike, was));
+      all = (let alike = counted_alike has same_has in let was = balanced.all in omega (arith, alike, was));
+    }
+  where
+    counted_alike : (test : Page → Bool) → ((page : Page) → test (regrouped g parent page) ≡ test page) → count_there test pages' ≡ count_there test pages
+    counted_alike test same = count-alike test test pages pages' (λ n. ap (there_and test) (handed n) ∙ regrouped-test test g parent same (page_at pages n))
+
+module _ (h : Inside) (is : IsHolding h) (g parent : ℕ) (d e : Counts) (pages : PagesOf) (held : HeldOf) (handed : (p : ℕ) → page_at pages.pages p ≡ option_map (regrouped g parent) (page_at h.pages.pages p))
+    (others : pages ≡ record (h.pages) { pages = pages.pages; bytes = pages.bytes }) (same : SameGroups h.counters d) (counted : IsCounted d pages.pages) (lineage : IsLineage h.counters.tree)
+    (below : (node_at h.counters.tree g).parent ≡ Some parent) (live : is_live h.counters.tree g ≡ true) (childless : has_children h.counters.tree g ≡ false)
+    (takes : held ≡ record (h.held) { lists = record { groups = handed_over g parent h.held.lists.groups; marks = h.held.lists.marks } }) where
+  -- the parent is another group, and is there
+  pub parent-apart : parent ≢ g
+  parent-apart equal = let less = lineage.earlier_parents.falls g parent below in omega (arith, less, equal)
+
+  parent_live : is_live h.counters.tree parent ≡ true
+  parent_live = lineage.parents_live g parent live below
+
+  within : (x : ℕ) → is_live h.counters.tree x ≡ true → x < length h.held.lists.groups
+  within x there = let lt = live-within h.counters.tree x there in let sized = is.held_groups in omega (arith, lt, sized)
+
+  none_left : (p : ℕ) → IfSome (page_at pages.pages p) (λ page. page.group ≢ g)
+  none_left p = left (page_at h.pages.pages p) (page_at pages.pages p) (handed p)
+    where
+      left : (was now : Option Page) → now ≡ option_map (regrouped g parent) was → IfSome now (λ page. page.group ≢ g)
+      left None now e = subst (λ (slot : Option Page). IfSome slot (λ page. page.group ≢ g)) (sym e) tt
+      left (Some page) now e = subst (λ (slot : Option Page). IfSome slot (λ page. page.group ≢ g)) (sym e) (regrouped-left g parent page parent-apart)
+
+  lineage' : IsLineage d.tree
+  lineage' = subst IsLineage (sym same.tree) lineage
+
+  childless' : has_children d.tree g ≡ false
+  childless' = ap (λ (t : List Node). has_children t g) same.tree ∙ childless
+
+  -- nothing is charged to the group
+  pub usage-left : usage_of d g ≡ 0
+  usage-left = usage-none d d pages.pages g lineage' childless' counted none_left (live-within d.tree g (ap (λ (t : List Node). is_live t g) same.tree ∙ live))
+
+  counts_alike : (test : Page → Bool) → ((page : Page) → test (regrouped g parent page) ≡ test page) → count_there test pages.pages ≡ count_there test h.pages.pages
+  counts_alike test alike = count-alike test test h.pages.pages pages.pages (λ n. ap (there_and test) (handed n) ∙ regrouped-test test g parent alike (page_at h.pages.pages n))
+
+  pub holding-removed : e.tree ≡ without_group d.tree g → e.usage ≡ d.usage → IsHolding (record h { pages = pages; counters = e; held = held })
+  holding-removed tree usage =
+      let len : length (without_group d.tree g) ≡ length d.tree = length-set d.tree g _ in
+      let size : length e.tree ≡ length h.counters.tree = ap length tree ∙ len ∙ ap length same.tree in
+      let numbers : pages.numbers ≡ h.pages.numbers = ap (λ (t : PagesOf). t.numbers) others in
+      let tickets : pages.tickets ≡ h.pages.tickets = ap (λ (t : PagesOf). t.tickets) others in
+      let groups : pages.groups ≡ h.pages.groups = ap (λ (t : PagesOf). t.groups) others in
+      let going = counts_alike is_going (λ page. refl) in
+      let moving = counts_alike is_in_transfer (λ page. refl) in
+      let lists : length (handed_over g parent h.held.lists.groups) ≡ length h.held.lists.groups = length-set (with_gens h.held.lists.groups parent _) g _ ∙ length-set h.held.lists.groups parent _ in
+      subst (λ (x : HeldOf). IsHolding (record h { pages = pages; counters = e; held = x })) (sym takes)
+      (record {
+        kept = record {
+          frames = balanced-regrouped has_this_frame has_frame h.pool.frames h.pool.free h.pages.pages pages.pages g parent (λ n page. refl) (λ page. refl) handed is.kept.frames;
+          blocks = balanced-regrouped has_this_block has_swap h.slots.blocks h.slots.free h.pages.pages pages.pages g parent (λ n page. refl) (λ page. refl) handed is.kept.blocks;
+          counted = counted-without d e pages.pages g lineage' childless' counted none_left tree usage len;
+        };
+        few = is.few;
+        held = held-handed h.pages.pages pages.pages h.held.lists g parent parent-apart (within g live) (within parent parent_live) is.held handed;
+        moving = record {
+          once = λ p. is.moving.once p ∙ ap as_number (sym (ap (there_and is_in_transfer) (handed p) ∙ regrouped-test is_in_transfer g parent (λ page. refl) (page_at h.pages.pages p)));
+          len = is.moving.len ∙ sym moving;
+        };
+        moving_room = is.moving_room;
+        held_groups = lists ∙ is.held_groups ∙ sym size;
+        page_groups = groups ∙ is.page_groups ∙ sym size;
+        held_numbers = is.held_numbers ∙ sym numbers;
+        spares = (let was = is.spares in omega (arith, was, going));
+        numbers = (let was = is.numbers in omega (arith, was, numbers));
+        tickets = (let was = is.tickets in omega (arith, was, moving, tickets));
+      })
+
+  -- and what a contract sees of it
+  abbrev seen : List Node → List Limits → ℕ → ℕ → ℕ → ℕ → HoldingsOf
+  seen tree limits counts numbers lists many =
+      record {
+        kin = tree;
+        limits = limits;
+        stored = record { pages = pages.pages; bytes = pages.bytes; flights = pages.flights };
+        held = held.lists;
+        frames = h.pool.frames;
+        swap = h.slots.blocks;
+        numbers = numbers;
+        room = min counts (min lists many);
+      }
+
+  seen-same : (tree : List Node) (limits : List Limits) (counts numbers lists many : ℕ) → tree ≡ without_group h.counters.tree g → limits ≡ h.counters.limits → counts ≡ h.counters.room → numbers ≡ h.pages.numbers → lists ≡ h.held.room → many ≡ h.pages.room
+      → seen tree limits counts numbers lists many ≡ seen (without_group h.counters.tree g) h.counters.limits h.counters.room h.pages.numbers h.held.room h.pages.room
+  seen-same tree limits counts numbers lists many of_tree of_limits of_counts of_numbers of_lists of_many = rw (of_tree, of_limits, of_counts, of_numbers, of_lists, of_many) refl
+
+  pub hands-up : e.tree ≡ without_group d.tree g → e.limits ≡ d.limits → e.room ≡ d.room → ((q o : ℕ) → byte_in pages.bytes q o ≡ byte_in h.pages.bytes q o)
+      → HandsUp (holdings_of h) (holdings_of (record h { pages = pages; counters = e; held = held })) g parent
+  hands-up tree limits room bytes =
+      record {
+        pages = handed;
+        bytes = bytes;
+        flights = ap (λ (t : PagesOf). t.flights) others;
+        held = ap (λ (x : HeldOf). x.lists) takes;
+        others = seen-same e.tree e.limits e.room pages.numbers held.room pages.room (tree ∙ ap (λ (t : List Node). without_group t g) same.tree) (limits ∙ same.limits) (room ∙ same.room) (ap (λ (t : PagesOf). t.numbers) others)
+            (ap (λ (x : HeldOf). x.room) takes) (ap (λ (t : PagesOf). t.room) others);
+      }

@@ -1,0 +1,54 @@
+use Rattle.std.proofs.Common.{rules, ◌≡◌, ◌≢◌, ◌∙◌, ℕ, Some, List, sym, ap, subst, arith}
+use Rattle.machine.specs.Tree.{Node, node_at, IsTree}
+use Rattle.pages.specs.PagesOf.{PagesOf}
+use Rattle.group_tree.specs.Lineages.{IsLineage}
+use Rattle.group_tree.proofs.LineageLemmas.{live-within}
+use Rattle.page_state.proofs.RemovalLemmas.{framed-out, hands-none, hands-more, hands-fewer, hands-all}
+use Rattle.page_state.proofs.removal.hand_up.Goals as goal
+
+apart : (tree : List Node) (g parent : ℕ) → IsLineage tree → (node_at tree g).parent ≡ Some parent → parent ≢ g
+apart tree g parent is below same = let less = is.earlier_parents.falls g parent below in omega (arith, less, same)
+
+pub loop-page-init : goal.loop-page-init
+loop-page-init c = hands-none c.args.group.0 c.args.parent.0 c.args.counters.now c.args.pages.now c.requires.counted
+
+pub move_up-requires-clause-there : goal.move_up-requires-clause-there
+move_up-requires-clause-there c =
+    let own = c.in-Some.ensures.some in
+    let tree = c.loop-page.invariant.same.tree in (
+      c.args.group.0,
+      own.0,
+      own.1,
+      ap (λ (t : List Node). (node_at t c.args.group.0).parent) tree ∙ c.requires.below,
+      λ framed. framed-out c.loop-page.counters c.loop-page.pages.pages c.in-Some.page.0 c.args.group.0 own.0 (subst IsTree (sym tree) c.are_counted.ensures.lineage.earlier_parents) c.loop-page.invariant.counted own.1 framed,
+    )
+
+pub move_up-requires-clause-parent : goal.move_up-requires-clause-parent
+move_up-requires-clause-parent c =
+    let groups = ap (λ (t : PagesOf). t.groups) c.loop-page.invariant.others in
+    let live = c.are_counted.ensures.lineage.parents_live c.args.group.0 c.args.parent.0 c.requires.live c.requires.below in
+    let lt = live-within c.args.counters.now.tree c.args.parent.0 live in
+    let many = c.requires.groups in
+    omega (arith, groups, lt, many)
+
+pub loop-page-smaller : goal.loop-page-smaller
+loop-page-smaller c =
+    let own = c.in-Some.ensures.some in
+    let moves = c.move_up.ensures in
+    let is = c.are_counted.ensures.lineage in
+    let tree = c.loop-page.invariant.same.tree in
+    let live = is.parents_live c.args.group.0 c.args.parent.0 c.requires.live c.requires.below in
+    hands-fewer c.args.group.0 c.args.parent.0 (apart c.args.counters.now.tree c.args.group.0 c.args.parent.0 is c.requires.below) c.args.counters.now c.loop-page.counters c.move_up.new.counters c.args.pages.now c.loop-page.pages c.move_up.new.self
+    c.in-Some.page.0 own.0 own.1 (moves.moved c.args.group.0 own.0 own.1) moves.bytes moves.others is.earlier_parents c.requires.below live moves.groups (moves.charged c.args.group.0 own.0 own.1) (moves.uncharged c.args.group.0 own.0 own.1)
+
+pub loop-page-preserved : goal.loop-page-preserved
+loop-page-preserved c =
+    let own = c.in-Some.ensures.some in
+    let moves = c.move_up.ensures in
+    let is = c.are_counted.ensures.lineage in
+    let live = is.parents_live c.args.group.0 c.args.parent.0 c.requires.live c.requires.below in
+    hands-more c.args.group.0 c.args.parent.0 (apart c.args.counters.now.tree c.args.group.0 c.args.parent.0 is c.requires.below) c.args.counters.now c.loop-page.counters c.move_up.new.counters c.args.pages.now c.loop-page.pages c.move_up.new.self
+    c.in-Some.page.0 own.0 own.1 (moves.moved c.args.group.0 own.0 own.1) moves.bytes moves.others is.earlier_parents c.requires.below live moves.groups (moves.charged c.args.group.0 own.0 own.1) (moves.uncharged c.args.group.0 own.0 own.1) c.loop-page.invariant
+
+pub returns-clause-pages : goal.returns-clause-pages
+returns-clause-pages c = hands-all c.args.group.0 c.args.parent.0 c.args.counters.now c.loop-page.counters c.args.pages.now c.loop-page.pages c.loop-page.invariant c.are_in_flight.ensures.memory (c.first_of.ensures.none (search rules))

@@ -1,0 +1,33 @@
+//! How the pages of a group that goes become its parent's.
+
+ghost use Rattle.std.specs.Prelude.{◌≡◌, ℕ, Some, true, length, option_map};
+ghost use Rattle.machine.specs.Tree.{node_at, is_live};
+ghost use Rattle.machine.specs.Pages.{page_at};
+ghost use Rattle.machine.specs.Step.{regrouped};
+ghost use Rattle.page_counter.specs.Counts.{SameGroups};
+ghost use Rattle.pages.specs.PagesOf.{byte_in};
+ghost use Rattle.page_state.specs.Owned.{IsCounted};
+
+use machine::id::GroupId;
+use page_counter::Counters;
+use pages::Pages;
+
+/// The pages of the group are those of its parent from now on, and so are their charges (kernel: the charges of
+/// a memory cgroup that goes offline are its parent's). Takes no memory, and as long as the group has pages.
+pub fn hand_up(pages: &mut Pages, counters: &mut Counters, group: GroupId, parent: GroupId)
+    requires below { (node_at counters.old.tree group.0).parent ≡ Some parent.0 }
+    requires live { is_live counters.old.tree group.0 ≡ true }
+    requires counted { IsCounted counters.old pages.old.pages }
+    requires groups { pages.old.groups ≡ length counters.old.tree }
+    ensures pages { (p : ℕ) → page_at pages.new.pages p ≡ option_map (regrouped group.0 parent.0) (page_at pages.old.pages p) }
+    ensures bytes { (q o : ℕ) → byte_in pages.new.bytes q o ≡ byte_in pages.old.bytes q o }
+    ensures others { pages.new ≡ record pages.old { pages = pages.new.pages; bytes = pages.new.bytes } }
+    ensures counted { IsCounted counters.new pages.new.pages }
+    ensures groups { SameGroups counters.old counters.new }
+{
+    counters.are_counted();
+    while let Some(page) = pages.first_of(group) {
+        pages.move_up(counters, page, parent);
+    }
+    pages.are_in_flight();
+}
