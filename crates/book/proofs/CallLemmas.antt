@@ -55,6 +55,7 @@ refusal-counting s c (event.Exit t) = refl
 refusal-counting s c (event.Free t v) = refl
 refusal-counting s c (event.Attach t g) = refl
 refusal-counting s c (event.Mkdir path) = refl
+refusal-counting s c (event.Rmdir g) = refl
 refusal-counting s c (event.Set g what) = refl
 refusal-counting s c (event.Show (query.Current g)) = refl
 refusal-counting s c (event.Show (query.Max g)) = refl
@@ -80,6 +81,7 @@ orders-counting old new c d order order' (event.ReclaimOne g) reply.Dropped h = 
 orders-counting old new c d order order' (event.Access t place op) (reply.Done byte (Some frame)) h = h
 orders-counting old new c d order order' (event.Access t place op) (reply.Done byte None) h = h
 orders-counting old new c d order order' (event.Mkdir path) answer h = h
+orders-counting old new c d order order' (event.Rmdir g) answer h = h
 orders-counting old new c d order order' what answer h = h
 
 -- ---- answers of a call

@@ -31,7 +31,7 @@ use Rattle.memory_events.specs.Tallies.{Tallies, Tells}
 use Rattle.page_state.specs.declared.room.NoRoom.TheVariants as lacks
 use Rattle.page_state.specs.States.{StateOf}
 use Rattle.page_state.specs.Mapped.{AreMapped}
-use Rattle.page_state.specs.Changes.{CountsEvent, MakesPage, MarksPage, WritesByte, BeginsReadIn, BeginsWriteOut, StartsTask, ForksTask, MovesTask, Unmaps, EndsTask, AddsGroup, sets_limits}
+use Rattle.page_state.specs.Changes.{CountsEvent, MakesPage, MarksPage, WritesByte, BeginsReadIn, BeginsWriteOut, StartsTask, ForksTask, MovesTask, Unmaps, EndsTask, AddsGroup, RemovesGroup, sets_limits}
 use Rattle.page_state.proofs.TallyLemmas.{tells-two}
 use Rattle.book.specs.declared.event.Reply.{Reply as Given}
 use Rattle.book.specs.declared.event.Reply.TheVariants as given
@@ -48,6 +48,7 @@ use Rattle.book.proofs.StepLemmas.{InOrder, makes_step-mkdir, makes_step-set, ma
 use Rattle.book.proofs.MoveLemmas.{makes_step-fetch, makes_step-taken, replies-out}
 use Rattle.book.proofs.TouchLemmas.{makes_step-hit_write, makes_step-made, meets-unmapped, meets-shared, makes_step-spawn, makes_step-fork, makes_step-attach, makes_step-free}
 use Rattle.book.proofs.EndLemmas.{makes_step-kill, makes_step-exit}
+use Rattle.book.proofs.RemoveLemmas.{makes_step-rmdir}
 
 -- to an event that is this one
 answers-to : (old new : StateOf) (worker entry : ℕ) (what other : Event) (said : Given) → what ≡ other → AnswersTo old worker entry other said new → AnswersTo old worker entry what said new
@@ -326,6 +327,10 @@ pub carries-mkdir : (old new : StateOf) (worker entry : ℕ) (parent : GroupId) 
 carries-mkdir old new worker entry parent path what adds same =
     answers-to old new worker entry what (event.Mkdir path) given.Ok same
     (record { makes_step = makes_step-mkdir old new worker path adds.tables adds.bytes adds.flights adds.order adds.tallied; gives = tt; replies = tt })
+
+pub carries-rmdir : (old new : StateOf) (worker entry : ℕ) (g : GroupId) → RemovesGroup old new g.0 → Carries old worker entry (decision.Rmdir g) given.Ok new
+carries-rmdir old new worker entry g removes what is =
+    answers-to old new worker entry what (event.Rmdir g) given.Ok is.fits (record { makes_step = makes_step-rmdir old new g.0 removes worker; gives = tt; replies = tt })
 
 pub carries-set : (old new : StateOf) (worker entry : ℕ) (g : GroupId) (setting : Setting) → InOrder old → new ≡ sets_limits old g.0 (with_setting (limits_at old.tables.limits g.0) setting) → Carries old worker entry (decision.Set g setting) given.Ok new
 carries-set old new worker entry g setting listed sets what is =

@@ -3,6 +3,7 @@ pub mod JudgeLemmas
 pub mod MoveLemmas
 pub mod TouchLemmas
 pub mod EndLemmas
+pub mod RemoveLemmas
 pub mod NeedLemmas
 pub mod CarryLemmas
 pub mod HistoryLemmas

@@ -279,6 +279,7 @@ module _ (old new : StateOf) (target worker entry : ℕ) (ticket : TicketOf) (ta
   makes_step-taken (event.Free t v) asks = absurd asks
   makes_step-taken (event.Attach t h) asks = absurd asks
   makes_step-taken (event.Mkdir path) asks = absurd asks
+  makes_step-taken (event.Rmdir h) asks = absurd asks
   makes_step-taken (event.Set h setting) asks = absurd asks
   makes_step-taken (event.Show query) asks = absurd asks
 
@@ -297,6 +298,7 @@ replies-out s (event.Exit t) target ticket asks = absurd asks
 replies-out s (event.Free t v) target ticket asks = absurd asks
 replies-out s (event.Attach t h) target ticket asks = absurd asks
 replies-out s (event.Mkdir path) target ticket asks = absurd asks
+replies-out s (event.Rmdir h) target ticket asks = absurd asks
 replies-out s (event.Set h setting) target ticket asks = absurd asks
 replies-out s (event.Show query) target ticket asks = absurd asks
 

@@ -13,7 +13,7 @@ use Rattle.machine.specs.Pages.{Held, Away}
 use Rattle.machine.specs.Tasks.{task_at, lives, mapped_at, mappers}
 use Rattle.machine.specs.State.{State}
 use Rattle.machine.specs.Access.{page_size, task_pages, is_shared_write}
-use Rattle.machine.specs.Refusals.{refusal, number_refusal}
+use Rattle.machine.specs.Refusals.{refusal, number_refusal, rmdir_refusal}
 use Rattle.machine.specs.Reclaim.{stands, target_of, has_takeable, has_transfer}
 use Rattle.machine.specs.Victim.{IsVictim}
 use Rattle.machine.specs.Lists.{Order, served}
@@ -83,6 +83,7 @@ IsSound s order (decision.Free t at) = (task : Task) × (task_at s.tasks t.0 ≡
 IsSound s order (decision.Attach t g) = (lives s.tasks t.0 ≡ true) × (is_live s.tree g.0 ≡ true)
 IsSound s order (decision.Exit t) = (task : Task) × (task_at s.tasks t.0 ≡ Some task) × (task.life ≡ Live)
 IsSound s order (decision.Mkdir parent path) = (find_group s.tree (parent_path path.now) ≡ Some parent.0) × (is_live s.tree parent.0 ≡ true)
+IsSound s order (decision.Rmdir g) = rmdir_refusal s g.0 ≡ None
 IsSound s order other = Unit {0}
 
 -- an event of a task that was killed
@@ -130,6 +131,7 @@ Fits s what (decision.Free t at) = what ≡ event.Free t at
 Fits s what (decision.Attach t g) = what ≡ event.Attach t g
 Fits s what (decision.Exit t) = what ≡ event.Exit t
 Fits s what (decision.Mkdir parent path) = what ≡ event.Mkdir path.now
+Fits s what (decision.Rmdir g) = what ≡ event.Rmdir g
 Fits s what (decision.Set g setting) = what ≡ event.Set g setting
 Fits s what (decision.Show query) = what ≡ event.Show query
 

@@ -30,6 +30,7 @@ event_of (event.Exit task) = plain.Exit task
 event_of (event.Free task page) = plain.Free task page
 event_of (event.Attach task group) = plain.Attach task group
 event_of (event.Mkdir path) = plain.Mkdir path
+event_of (event.Rmdir group) = plain.Rmdir group
 event_of (event.Set group setting) = plain.Set group setting
 event_of (event.Show query) = plain.Show query
 

@@ -61,6 +61,7 @@ RepliesTo (event.Exit task) said = IsTaskReply said
 RepliesTo (event.Free task page) said = IsTaskReply said
 RepliesTo (event.Attach task group) said = IsOkReply said
 RepliesTo (event.Mkdir path) said = IsOkReply said
+RepliesTo (event.Rmdir group) said = IsOkReply said
 RepliesTo (event.Set group setting) said = IsOkReply said
 RepliesTo (event.Show query) said = IsShownReply said
 RepliesTo what said = ⊥

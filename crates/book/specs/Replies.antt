@@ -81,6 +81,7 @@ Replies (event.Exit task) said = IsTaskReply said
 Replies (event.Free task page) said = IsTaskReply said
 Replies (event.Attach task group) said = IsOkReply said
 Replies (event.Mkdir path) said = IsOkReply said
+Replies (event.Rmdir group) said = IsOkReply said
 Replies (event.Set group setting) said = IsOkReply said
 Replies (event.Show query) said = IsShownReply said
 

@@ -80,6 +80,10 @@ pub fn apply(
             state.mkdir(parent, path)?;
             Ok(Reply::Ok)
         }
+        Decision::Rmdir(group) => {
+            state.rmdir(group);
+            Ok(Reply::Ok)
+        }
         Decision::Set { group, setting } => Ok(set(state, group, setting)),
         Decision::Show(query) => Ok(Reply::Shown(shown(state, query))),
     }

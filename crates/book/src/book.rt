@@ -152,6 +152,7 @@ impl Book {
                 self.ask(worker, PlainEvent::Attach { task, group })
             }
             Event::Mkdir(path) => self.ask(worker, PlainEvent::Mkdir(path)),
+            Event::Rmdir(group) => self.ask(worker, PlainEvent::Rmdir(group)),
             Event::Set { group, setting } => {
                 self.ask(worker, PlainEvent::Set { group, setting })
             }

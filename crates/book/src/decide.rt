@@ -8,7 +8,7 @@ ghost use Rattle.machine.specs.Pages as residence;
 ghost use Rattle.pages.specs.PagesOf.{HasResidence};
 ghost use Rattle.machine.specs.Tasks.{task_at, lives, mapped_at};
 ghost use Rattle.machine.specs.Reclaim.{stands, target_of};
-ghost use Rattle.machine.specs.Refusals.{refusal, below_target, bars_children, bars_tasks, file_refusal, show_refusal, spawn_refusal, attach_refusal};
+ghost use Rattle.machine.specs.Refusals.{refusal, below_target, bars_children, bars_tasks, file_refusal, show_refusal, spawn_refusal, attach_refusal, rmdir_refusal};
 ghost use Rattle.book.specs.MakesStep.{IsAsked};
 ghost use Rattle.book.specs.Decisions.{IsTouch, IsShared, MeetsSo, IsDecided};
 
@@ -39,6 +39,7 @@ pub fn decide<'e>(state: &State, event: &'e Event) -> Result<Decision<'e>, Refus
         Event::Free { task, page } => decide_free(state, *task, *page),
         Event::Attach { task, group } => decide_attach(state, *task, *group),
         Event::Mkdir(path) => decide_mkdir(state, path.as_str()),
+        Event::Rmdir(group) => decide_rmdir(state, *group),
         Event::Set { group, setting } => decide_set(state, *group, *setting),
         Event::Show(query) => decide_show(state, *query),
         Event::Arrived {
@@ -379,6 +380,29 @@ fn decide_mkdir<'e>(state: &State, path: &'e str) -> Result<Decision<'e>, Refusa
         Some(why) => Err(why),
         None => Ok(Decision::Mkdir { parent, path }),
     }
+}
+
+fn decide_rmdir<'e>(state: &State, group: GroupId) -> Result<Decision<'e>, Refusal>
+    ensures { MatchResult result (λ decided. IsDecided state.now (event.Rmdir group) decided) (λ why. refusal state.now.tables (event.Rmdir group) ≡ Some why) }
+{
+    match rmdir_refusal(state, group) {
+        Some(why) => Err(why),
+        None => Ok(Decision::Rmdir(group)),
+    }
+}
+
+fn rmdir_refusal(state: &State, group: GroupId) -> Option<Refusal>
+    ensures { result ≡ rmdir_refusal state.now.tables group.0 }
+{
+    if !state.tree().is_live(group) {
+        return Some(Refusal::NoEntry);
+    }
+    if group == GroupId::ROOT
+        || (state.tree().has_children(group) || state.spaces().has_tasks(group))
+    {
+        return Some(Refusal::Busy);
+    }
+    None
 }
 
 fn decide_set<'e>(state: &State, group: GroupId, setting: Setting) -> Result<Decision<'e>, Refusal>

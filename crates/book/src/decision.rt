@@ -70,6 +70,8 @@ pub enum Decision<'e> {
     Exit(TaskId),
     /// A group is made below this one.
     Mkdir { parent: GroupId, path: &'e str },
+    /// A group goes, and its pages are its parent's.
+    Rmdir(GroupId),
     /// A setting of a group changes.
     Set { group: GroupId, setting: Setting },
     /// Numbers are shown.

@@ -37,6 +37,8 @@ pub enum Event {
     Attach { task: TaskId, group: GroupId },
     /// A new group, by its path.
     Mkdir(Text),
+    /// A group is removed, and its pages go to its parent.
+    Rmdir(GroupId),
     /// A control file is written.
     Set { group: GroupId, setting: Setting },
     /// A control file's numbers are asked for.

@@ -1,4 +1,4 @@
-use Rattle.book.proofs.CarryLemmas.{carries-killed, carries-room, carries-out, carries-wait, carries-nothing, carries-no_victim, carries-spawn, carries-fork, carries-free, carries-attach, carries-exit, carries-mkdir, carries-show}
+use Rattle.book.proofs.CarryLemmas.{carries-killed, carries-room, carries-out, carries-wait, carries-nothing, carries-no_victim, carries-spawn, carries-fork, carries-free, carries-attach, carries-exit, carries-mkdir, carries-rmdir, carries-show}
 use Rattle.book.proofs.apply.apply.Goals as goal
 
 pub returns-in-Killed-clause-carries : goal.returns-in-Killed-clause-carries
@@ -39,6 +39,9 @@ returns-in-Exit-clause-carries c = rw c.in-Exit.is (carries-exit c.args.state.no
 
 pub returns-in_ok-mkdir-in-Mkdir-clause-carries : goal.returns-in_ok-mkdir-in-Mkdir-clause-carries
 returns-in_ok-mkdir-in-Mkdir-clause-carries c = rw c.in-Mkdir.is (λ what is. carries-mkdir c.args.state.now c.mkdir.new.self c.args.worker.0 c.args.entry c.in-Mkdir.parent c.in-Mkdir.path.now what c.in_ok-mkdir-in-Mkdir.ensures.adds is.fits)
+
+pub returns-in-Rmdir-clause-carries : goal.returns-in-Rmdir-clause-carries
+returns-in-Rmdir-clause-carries c = rw c.in-Rmdir.is (carries-rmdir c.args.state.now c.rmdir.new.self c.args.worker.0 c.args.entry c.in-Rmdir.group c.rmdir.ensures)
 
 pub returns-in-Set-clause-carries : goal.returns-in-Set-clause-carries
 returns-in-Set-clause-carries c = rw c.in-Set.is (c.set.ensures c.args.worker.0 c.args.entry)
