@@ -17,8 +17,8 @@ use Rattle.machine.specs.declared.refusal.Refusal.TheVariants.{Stranger, Exists,
 use Rattle.machine.specs.declared.command.Word.{Word}
 use Rattle.machine.specs.declared.command.Word.TheVariants as word
 use Rattle.machine.specs.Names.{is_path, parent_path}
-use Rattle.machine.specs.Tree.{Node, is_live, chain, live_groups, find_group}
-use Rattle.machine.specs.Tasks.{Tasks, task_at, lives, live_tasks}
+use Rattle.machine.specs.Tree.{Node, is_live, chain, has_children, live_groups, find_group}
+use Rattle.machine.specs.Tasks.{Tasks, task_at, lives, live_tasks, has_tasks}
 use Rattle.machine.specs.State.{State}
 use Rattle.machine.specs.Access.{is_place, task_pages}
 use Rattle.machine.specs.Refusals.{refusal, first_cause, bars_children, bars_tasks, number_refusal, life_refusal, task_refusal, below_refusal, mkdir_refusal, file_refusal, below_target, show_refusal}
@@ -100,6 +100,8 @@ refusal_causes s (event.Free t v) = task_causes (task_at s.tasks t.0) _ (causes 
 refusal_causes s (event.Attach t g) =
     causes (not (is_live s.tree g.0)) NoEntry _ (λ e. cc) (causes (not (lives s.tasks t.0)) NoTask _ (λ e. cc) (causes (bars_tasks s.tree g.0) Busy None (λ e. cc) no_cause))
 refusal_causes s (event.Mkdir path) = mkdir_causes s.tree (bars_children s.tasks) path
+refusal_causes s (event.Rmdir g) =
+    causes (not (is_live s.tree g.0)) NoEntry _ (λ e. cc) (causes ((g.0 == 0) || (has_children s.tree g.0 || has_tasks s.tasks g.0)) Busy None (λ e. cc) no_cause)
 refusal_causes s (event.Set g setting) = file_causes s.tree g.0
 refusal_causes s (event.Show what) = show_causes s what
 

@@ -301,6 +301,7 @@ shell-owed tree (command.Free page) = refl
 shell-owed tree command.Exit = refl
 shell-owed tree command.Daemon = refl
 shell-owed tree (command.Group path) = refl
+shell-owed tree (command.Rmdir path) = group-owed (find_group tree path) _ (λ g. refl)
 shell-owed tree (command.Task t path) = group-owed (find_group tree path) _ (λ g. refl)
 shell-owed tree (command.Attach t path) = group-owed (find_group tree path) _ (λ g. refl)
 shell-owed tree (command.Set path name text) = group-owed (find_group tree path) _ (λ g. file-owed g (file_named name) _ (writes-owed g text))

@@ -244,6 +244,7 @@ judged-plain tree who what = by_actor who
     by_shell command.Exit = λ e. cc
     by_shell command.Daemon = λ e. cc
     by_shell (command.Group path) = refl
+    by_shell (command.Rmdir path) = by_group (find_group tree path) _ (λ g. refl)
     by_shell (command.Task t path) = by_group (find_group tree path) _ (λ g. refl)
     by_shell (command.Attach t path) = by_group (find_group tree path) _ (λ g. refl)
     by_shell (command.Set path name text) = by_group (find_group tree path) _ (λ g. by_file g (file_named name) _ (writes g text))

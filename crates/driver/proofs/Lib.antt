@@ -8,3 +8,4 @@ pub mod SeatLists
 pub mod Runs
 pub mod TurnExamples
 pub mod TaskExamples
+pub mod RemovalExamples

@@ -35,7 +35,7 @@ use Rattle.driver.proofs.TurnExamples.{lists, order, caller, disk, after}
 abbrev task : ℕ → TaskId
 task n = record { 0 = n }
 
-abbrev r : GroupId
+abbrev pub r : GroupId
 r = record { 0 = 1 }
 
 -- a page of the root's memory, which is on its block
@@ -47,7 +47,7 @@ abbrev shows : PageTable
 shows = Some (record { 0 = 0 }) ∷ []
 
 -- the root, and /r below it, which is group 1
-abbrev tree : List Node
+abbrev pub tree : List Node
 tree = root ∷ record { parent = Some 0; path = codes "/r"; live = true } ∷ []
 
 abbrev with_tasks : Tasks → PageTables → State
@@ -93,7 +93,7 @@ abbrev once_freed : Past
 once_freed = after once_moved (event.Free (task 1) 0) reply.Ok freed
 
 -- the actor is at this, and nobody else has a command
-abbrev world : Actor → Past → Activity → World
+abbrev pub world : Actor → Past → Activity → World
 world who past what = record { past = past; caller = caller; disk = disk; seats = record { actor = who; activity = what } ∷ [] }
 
 -- the page is held neither before nor after, and no page is marked

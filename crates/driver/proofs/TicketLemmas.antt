@@ -87,6 +87,7 @@ module _ (swap : ℕ) (marks : Watermarks) (free : ℕ) where
   wants_own (stage.Free t v) own = tt
   wants_own (stage.Attach t g) own = tt
   wants_own (stage.Mkdir path) own = tt
+  wants_own (stage.Rmdir g) own = tt
   wants_own (stage.Show what) own = tt
   wants_own (stage.Read access ticket) own = own
   wants_own (stage.Arrive access ticket) own = own
@@ -251,6 +252,7 @@ module _ (swap : ℕ) where
   shell_own tree command.Exit = tt
   shell_own tree command.Daemon = tt
   shell_own tree (command.Group path) = tt
+  shell_own tree (command.Rmdir path) = with_group_own (find_group tree path) _ (λ g. tt)
   shell_own tree (command.Task t path) = with_group_own (find_group tree path) _ (λ g. tt)
   shell_own tree (command.Attach t path) = with_group_own (find_group tree path) _ (λ g. tt)
   shell_own tree (command.Set path name text) = with_group_own (find_group tree path) _ (λ g. with_file_own g (file_named name) _ (writes_own g text))

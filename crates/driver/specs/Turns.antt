@@ -79,6 +79,7 @@ wants marks free (stage.Exit t) = want.Call pending.OfTask (event.Exit t)
 wants marks free (stage.Free t v) = want.Call pending.OfTask (event.Free t v)
 wants marks free (stage.Attach t g) = want.Call pending.Make (event.Attach t g)
 wants marks free (stage.Mkdir path) = want.Call pending.Make (event.Mkdir path)
+wants marks free (stage.Rmdir g) = want.Call pending.Make (event.Rmdir g)
 wants marks free (stage.Show what) = want.Call pending.Show (event.Show what)
 wants marks free (stage.Read access ticket) = want.Read access ticket
 wants marks free (stage.Arrive access ticket) = want.Call (pending.Arrive access) (event.Arrived ticket)
@@ -153,7 +154,7 @@ Balanced reply.Nothing transition = transition ≡ Ends answer.Done
 Balanced (reply.Refused why) transition = transition ≡ ends_refused why
 Balanced said transition = ⊥
 
--- a task or a group is made, a task is moved, or a min is set
+-- a task or a group is made, a task is moved, a group is removed, or a min is set
 abbrev pub Made : Reply → Transition → Type 0
 Made reply.Ok transition = transition ≡ Ends answer.Done
 Made (reply.Refused why) transition = transition ≡ ends_refused why
@@ -302,6 +303,7 @@ shell_judged tree (command.Free page) = Err Invalid
 shell_judged tree command.Exit = Err Invalid
 shell_judged tree command.Daemon = Err Invalid
 shell_judged tree (command.Group path) = Ok (stage.Mkdir path)
+shell_judged tree (command.Rmdir path) = with_group (find_group tree path) (λ g. Ok (stage.Rmdir (record { 0 = g })))
 shell_judged tree (command.Task t path) = with_group (find_group tree path) (λ g. Ok (stage.Spawn (record { 0 = t }) (record { 0 = g })))
 shell_judged tree (command.Attach t path) = with_group (find_group tree path) (λ g. Ok (stage.Attach (record { 0 = t }) (record { 0 = g })))
 shell_judged tree (command.Set path name text) = with_group (find_group tree path) (λ g. with_file g (file_named name) (writes_file g text))

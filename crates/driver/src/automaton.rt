@@ -56,6 +56,7 @@ pub fn ask(stage: Stage, marks: Watermarks, free: u32) -> Want
         Stage::Free { task, page } => Want::Call(Pending::OfTask, Event::Free { task, page }),
         Stage::Attach { task, group } => Want::Call(Pending::Make, Event::Attach { task, group }),
         Stage::Mkdir(path) => Want::Call(Pending::Make, Event::Mkdir(path)),
+        Stage::Rmdir(group) => Want::Call(Pending::Make, Event::Rmdir(group)),
         Stage::Show(query) => Want::Call(Pending::Show, Event::Show(query)),
         Stage::Read(access, ticket) => Want::Read(access, ticket),
         Stage::Arrive(access, ticket) => Want::Call(

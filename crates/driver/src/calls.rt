@@ -97,7 +97,7 @@ fn give_up_stage(book: &mut Book, pass: &mut Pass, stage: Stage)
         Stage::Spawn { task: _, group: _ } | Stage::Fork { task: _, child: _ } => {}
         Stage::Exit(_) | Stage::Free { task: _, page: _ } => {}
         Stage::Attach { task: _, group: _ } => {}
-        Stage::Mkdir(_) | Stage::Show(_) => {}
+        Stage::Mkdir(_) | Stage::Rmdir(_) | Stage::Show(_) => {}
     }
 }
 

@@ -69,6 +69,7 @@ fn judge_shell(book: &Book, pass: &mut Pass, command: Command) -> Result<Stage, 
         }
         Command::Exit | Command::Daemon => Err(Refusal::Invalid),
         Command::Group(path) => Ok(Stage::Mkdir(path)),
+        Command::Rmdir(path) => judge_rmdir(book.find(pass, path.as_str())),
         Command::Task { task, path } => judge_spawn(book.find(pass, path.as_str()), task),
         Command::Attach { task, path } => judge_attach(book.find(pass, path.as_str()), task),
         Command::Set { path, file, text } => judge_set(
@@ -105,6 +106,15 @@ fn judge_attach(group: Option<GroupId>, task: u32) -> Result<Stage, Refusal>
             task: TaskId(task),
             group,
         }),
+    }
+}
+
+fn judge_rmdir(group: Option<GroupId>) -> Result<Stage, Refusal>
+    ensures { result ≡ with_group (option_map (λ g. g.0) group) (λ g. Ok (Stage.Rmdir (record { 0 = g }))) }
+{
+    match group {
+        None => Err(Refusal::NoEntry),
+        Some(group) => Ok(Stage::Rmdir(group)),
     }
 }
 

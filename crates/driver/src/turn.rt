@@ -54,6 +54,7 @@ pub enum Stage {
     Free { task: TaskId, page: u32 },
     Attach { task: TaskId, group: GroupId },
     Mkdir(Text),
+    Rmdir(GroupId),
     Show(Query),
     /// The ticket's block is read, for the access.
     Read(Access, InTicket),
@@ -80,7 +81,7 @@ pub enum Pending {
     Reclaim { group: GroupId, left: u64 },
     /// A page is taken for the daemon.
     Balance,
-    /// A task or a group is made, a task is moved, or a min is set.
+    /// A task or a group is made, a task is moved, a group is removed, or a min is set.
     Make,
     /// A task forks, frees a page or ends by itself.
     OfTask,
