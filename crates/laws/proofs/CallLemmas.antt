@@ -6,6 +6,7 @@ use Rattle.std.proofs.lemmas.Bool.{and_parts, eqb-false, true≢false}
 use Rattle.std.proofs.lemmas.List.{get_or-set_same, length-replicate}
 use Rattle.machine.specs.declared.id.FrameId.{FrameId}
 use Rattle.machine.specs.declared.id.TaskId.{TaskId}
+use Rattle.machine.specs.declared.id.GroupId.{GroupId}
 use Rattle.machine.specs.declared.entry.Entry.{Entry}
 use Rattle.machine.specs.declared.event.Op.{Op}
 use Rattle.machine.specs.declared.event.Place.{Place}
@@ -17,7 +18,7 @@ use Rattle.machine.specs.declared.refusal.Refusal.TheVariants.{Stranger, TraceFu
 use Rattle.machine.specs.declared.reply.Reply.{Reply}
 use Rattle.machine.specs.declared.reply.Reply.TheVariants as reply
 use Rattle.machine.specs.Slots.{there_and}
-use Rattle.machine.specs.Tree.{Node}
+use Rattle.machine.specs.Tree.{Node, node_at}
 use Rattle.machine.specs.Pages.{Page, Pages, page_at, is_anon, is_held, is_held_in}
 use Rattle.machine.specs.Tasks.{mapped_at}
 use Rattle.machine.specs.State.{Opening, State, page_numbers, first_state, is_swap_free}
@@ -25,17 +26,19 @@ use Rattle.machine.specs.Reclaim.{target_of}
 use Rattle.machine.specs.Generations.{Gens, new_gens, of_kind, row_of, gens_at, IsGens}
 use Rattle.machine.specs.Aging.{is_marked, has_mark}
 use Rattle.machine.specs.Eviction.{old_pages}
-use Rattle.machine.specs.Lists.{HeldLists, Order, Orders, first_order, PicksOf, is_held_of, ListsHeld, AreGenerations, Generation, Youngest, generation_for, GoesOn, shown_at, hit_of, with_mark, with_group, TakesNext, AddsLists, Keeps, Orders}
+use Rattle.machine.specs.Lists.{HeldLists, Order, Orders, first_order, PicksOf, is_held_of, ListsHeld, AreGenerations, Generation, Youngest, generation_for, GoesOn, shown_at, hit_of, with_mark, with_group, TakesNext, AddsLists, RemovesLists, Keeps}
 use Rattle.machine.specs.Refusals.{refusal}
 use Rattle.machine.specs.Call.{Past, Caller, Answers, Answered, JudgedBy, Called, knows_pass, is_trace_full}
-use Rattle.machine.specs.Step.{new_node, Step}
+use Rattle.machine.specs.Step.{new_node, Removes, Step}
 use Rattle.machine.specs.Legal.{Legal}
 use Rattle.machine.proofs.Values.{some_inj, unlike}
 use Rattle.machine.proofs.TreeLemmas.{eq_cases}
 use Rattle.machine.proofs.CursorLemmas.{cursors-push, cursors-set}
+use Rattle.machine.proofs.Did.{is_rmdir, changes_groups}
 use Rattle.machine.proofs.OpeningLemmas.{tree_after, step_opening, step_tree}
 use Rattle.machine.proofs.HeldLemmas.{held-go_on, held-marked, gens_at-more, held-group, generations-group, goes_length, goes-max, goes-min, generations-go_on, first-held, first-generations}
 use Rattle.machine.proofs.StepLemmas.{step-places, mkdir-pages, legal-lists, legal-numbered, access-hits, step-hit}
+use Rattle.machine.proofs.RemovedCounts.{removal, SameNumbers, numbers-handed, length-handed, handed, held-removed, generations-removed}
 use Rattle.machine.proofs.OrdersLemmas.{orders_alike}
 use Rattle.machine.proofs.SoundLemmas.{legal-sound}
 use Rattle.eviction.proofs.SoundLemmas.{picked-length, picked-generations, picked-size, picked-held, picked-of, picked-marked, picked-unmarked}
@@ -76,18 +79,39 @@ module _ (old new : Past) (caller : Caller) (what : Event) (answer : Reply) (ser
       by_cause (Some why) h = not_refused why h.0
       by_cause None h = by_test (is_trace_full old what) (λ k. not_refused TraceFull k.0) (served_answers answer refl) h
 
--- how the order goes on, by whether a page is taken, a group is made, or neither
+-- how the order goes on, by whether a page is taken, a group is made, one is removed, or none of these
 orders_or : {P : Type 0} (old new : State) (order order' : Order) (what : Event) (answer : Reply)
-    → ((target : ℕ) → took_for what answer ≡ Some target → tree_after old what ≡ old.tree → TakesNext old order target new order' → P)
+    → ((target : ℕ) → took_for what answer ≡ Some target → changes_groups what ≡ false → TakesNext old order target new order' → P)
     → ((path : List ℕ) → what ≡ event.Mkdir path → AddsLists order order' → P)
-    → (tree_after old what ≡ old.tree → Keeps old order what answer new order' → P)
+    → ((g : GroupId) → what ≡ event.Rmdir g → RemovesLists (node_at old.tree g.0).parent g.0 order order' → P)
+    → (changes_groups what ≡ false → Keeps old order what answer new order' → P)
     → Orders old order what answer new order' → P
-orders_or old new order order' (event.Relieve cause) (reply.Out ticket) takes adds keeps h = takes (target_of cause) refl refl h
-orders_or old new order order' (event.Relieve cause) reply.Dropped takes adds keeps h = takes (target_of cause) refl refl h
-orders_or old new order order' (event.ReclaimOne g) (reply.Out ticket) takes adds keeps h = takes g.0 refl refl h
-orders_or old new order order' (event.ReclaimOne g) reply.Dropped takes adds keeps h = takes g.0 refl refl h
-orders_or old new order order' (event.Mkdir path) answer takes adds keeps h = adds path refl h
-orders_or old new order order' what answer takes adds keeps h = keeps refl h
+orders_or old new order order' (event.Relieve cause) (reply.Out ticket) takes adds removes keeps h = takes (target_of cause) refl refl h
+orders_or old new order order' (event.Relieve cause) reply.Dropped takes adds removes keeps h = takes (target_of cause) refl refl h
+orders_or old new order order' (event.ReclaimOne g) (reply.Out ticket) takes adds removes keeps h = takes g.0 refl refl h
+orders_or old new order order' (event.ReclaimOne g) reply.Dropped takes adds removes keeps h = takes g.0 refl refl h
+orders_or old new order order' (event.Mkdir path) answer takes adds removes keeps h = adds path refl h
+orders_or old new order order' (event.Rmdir g) answer takes adds removes keeps h = removes g refl h
+orders_or old new order order' what answer takes adds removes keeps h = keeps refl h
+
+-- an event that leaves the groups leaves the tree, and removes none
+same-groups : (old : State) (what : Event) → changes_groups what ≡ false → (tree_after old what ≡ old.tree) × (is_rmdir what ≡ false)
+same-groups old (event.Mkdir path) e = cc
+same-groups old (event.Rmdir g) e = cc
+same-groups old what e = (refl, refl)
+
+-- lists that go over to a parent's, whose number is known
+lists-removed : (parent : Option ℕ) (above g : ℕ) (order order' : Order) → parent ≡ Some above → RemovesLists parent g order order' → RemovesLists (Some above) g order order'
+lists-removed parent above g order order' e h = subst (λ (o : Option ℕ). RemovesLists o g order order') e h
+
+-- no mark changes then
+removes-marks : (parent : Option ℕ) (g : ℕ) (order order' : Order) → RemovesLists parent g order order' → order'.held.marks ≡ order.held.marks
+removes-marks None g order order' h = absurd h
+removes-marks (Some parent) g order order' h = ap (λ (o : Order). o.held.marks) h
+
+removes-numbers : (parent : Option ℕ) (g : ℕ) (order order' : Order) → RemovesLists parent g order order' → KeepNumbers order.held order'.held
+removes-numbers None g order order' h = absurd h
+removes-numbers (Some parent) g order order' h = λ a. subst (λ (o : Order). SameNumbers (gens_at order.held.groups a) (gens_at o.held.groups a)) (sym h) (numbers-handed order.held.groups g parent a)
 
 -- ---- the order stays right
 
@@ -123,26 +147,27 @@ marked-size (Some p) held = length-set held.marks p true
 
 module _ (opening : Opening) (history : List Entry) (old new : State) (order order' : Order) (what : Event) (answer : Reply) (legal : Legal opening history new) (step : Step old what answer new) where
   -- from lists that are right, those that go on are
-  goes-ordered : (generation : Generation) (held : HeldLists) → tree_after old what ≡ old.tree → GoesOn generation old.pages held new.pages order'.held → ListsHeld old.pages held → AreGenerations held
+  goes-ordered : (generation : Generation) (held : HeldLists) → changes_groups what ≡ false → GoesOn generation old.pages held new.pages order'.held → ListsHeld old.pages held → AreGenerations held
       → length held.groups ≡ length old.tree → length held.marks ≡ page_numbers old.opening → length order'.cursors ≡ length old.tree → IsInOrder new order'
   goes-ordered generation held same goes were sound groups marks cursors =
-      let tree : length new.tree ≡ length old.tree = ap (λ (tree : List Node). length tree) (step_tree old what answer new step ∙ same) in
+      let groups_stay = same-groups old what same in
+      let tree : length new.tree ≡ length old.tree = ap (λ (tree : List Node). length tree) (step_tree old what answer new step ∙ groups_stay.0) in
       record {
-        listed = held-go_on generation old.pages new.pages held order'.held goes were (step-places old what answer new step) (legal-lists opening history new held legal (groups ∙ sym tree));
+        listed = held-go_on generation old.pages new.pages held order'.held goes were (step-places old what answer new groups_stay.1 step) (legal-lists opening history new held legal (groups ∙ sym tree));
         sound = generations-go_on generation old.pages new.pages held order'.held goes were sound;
         groups = goes_length generation old.pages new.pages held order'.held goes ∙ groups ∙ sym tree;
         marks = goes.size ∙ marks ∙ sym (ap (λ (o : Opening). page_numbers o) (step_opening old what answer new step));
         cursors = cursors ∙ sym tree;
       }
 
-  ordered-takes : (target : ℕ) → tree_after old what ≡ old.tree → TakesNext old order target new order' → IsInOrder old order → IsInOrder new order'
+  ordered-takes : (target : ℕ) → changes_groups what ≡ false → TakesNext old order target new order' → IsInOrder old order → IsInOrder new order'
   ordered-takes target same h was =
       let swap : Bool = is_swap_free old in
       goes-ordered Youngest h.looked same h.leaves (picked-held swap order.held h.g (Some h.p) h.looked h.picked old.pages was.sound was.listed)
       (picked-generations swap order.held h.g (Some h.p) h.looked h.picked was.sound) (picked-length swap order.held h.g (Some h.p) h.looked h.picked ∙ was.groups)
       (picked-size swap order.held h.g (Some h.p) h.looked h.picked was.sound ∙ was.marks) (cursors-set order.cursors order'.cursors target h.g h.moves ∙ was.cursors)
 
-  ordered-keeps : tree_after old what ≡ old.tree → Keeps old order what answer new order' → IsInOrder old order → IsInOrder new order'
+  ordered-keeps : changes_groups what ≡ false → Keeps old order what answer new order' → IsInOrder old order → IsInOrder new order'
   ordered-keeps same h was =
       let held : HeldLists = with_mark (hit_of old what answer) order.held in
       goes-ordered (generation_for what) held same h.0 (by_hit (hit_of old what answer) refl) (λ g. subst (λ (xs : List Gens). IsGens (gens_at xs g)) (sym (marked-groups (hit_of old what answer) order.held)) (was.sound g))
@@ -167,9 +192,24 @@ module _ (opening : Opening) (history : List Entry) (old new : State) (order ord
         cursors = cursors-push old.tree node order.cursors (order.cursors ++ None ∷ []) was.cursors refl ∙ sym longer;
       })
 
+  ordered-removes : (g : GroupId) → what ≡ event.Rmdir g → RemovesLists (node_at old.tree g.0).parent g.0 order order' → IsInOrder old order → IsInOrder new order'
+  ordered-removes g e h was =
+      let removes : Removes old g.0 new = removal old new g answer (subst (λ (w : Event). Step old w answer new) e step) in
+      let falls = (legal-sound opening history new legal).1.falls in
+      let after : HeldLists = handed old new g.0 removes falls order.held was.groups in
+      let is : order' ≡ (let o : Order = record { held = after; cursors = slice_set order.cursors g.0 None } in o) = lists-removed (node_at old.tree g.0).parent removes.parent g.0 order order' removes.below h in
+      let tree : length new.tree ≡ length old.tree = ap (λ (s : State). length s.tree) removes.state ∙ length-set old.tree g.0 (record (node_at old.tree g.0) { live = false }) in
+      subst (λ (o : Order). IsInOrder new o) (sym is) (record {
+        listed = held-removed old new g.0 removes falls order.held was.groups was.listed;
+        sound = generations-removed old new g.0 removes falls order.held was.groups was.listed was.sound;
+        groups = length-handed order.held.groups g.0 removes.parent ∙ was.groups ∙ sym tree;
+        marks = was.marks ∙ sym (ap (λ (o : Opening). page_numbers o) (step_opening old what answer new step));
+        cursors = length-set order.cursors g.0 None ∙ was.cursors ∙ sym tree;
+      })
+
   ordered-step : Orders old order what answer new order' → IsInOrder old order → IsInOrder new order'
   ordered-step orders was =
-      orders_or old new order order' what answer (λ target took same h. ordered-takes target same h was) (λ path e h. ordered-adds path e h was) (λ same h. ordered-keeps same h was) orders
+      orders_or old new order order' what answer (λ target took same h. ordered-takes target same h was) (λ path e h. ordered-adds path e h was) (λ g e h. ordered-removes g e h was) (λ same h. ordered-keeps same h was) orders
 
 pub ordered-called : (opening : Opening) (old new : Past) (caller : Caller) (what : Event) (answer : Reply) → Legal opening new.history new.state → Called old caller what answer new → IsOrdered old → IsOrdered new
 ordered-called opening old new caller what answer legal called was =
@@ -184,6 +224,7 @@ lists_go old new (event.Relieve cause) reply.Dropped none h = cc
 lists_go old new (event.ReclaimOne g) (reply.Out ticket) none h = cc
 lists_go old new (event.ReclaimOne g) reply.Dropped none h = cc
 lists_go old new (event.Mkdir path) answer none h = ap (λ (o : Order). o.held) h
+lists_go old new (event.Rmdir g) answer none h = h
 lists_go old new what answer none h = h.0
 
 pub held_pages_go_on : HeldPagesGoOn
@@ -200,6 +241,7 @@ keeps-numbers : (old new : Past) (what : Event) (answer : Reply) → ListsGoOn o
 keeps-numbers old new (event.Mkdir path) answer h = λ g.
     let same : gens_at new.order.held.groups g ≡ gens_at old.order.held.groups g = ap (λ (held : HeldLists). gens_at held.groups g) h ∙ gens_at-more old.order.held.groups g in
     (ap (λ (x : Gens). x.max_seq) same, λ kind. ap (λ (x : Gens). (row_of kind x).min_seq) same)
+keeps-numbers old new (event.Rmdir g) answer h = removes-numbers (node_at old.state.tree g.0).parent g.0 old.order new.order h
 keeps-numbers old new what answer h = goes-numbers (generation_for what) old.state.pages new.state.pages (hit_of old.state what answer) old.order.held new.order.held h
 
 pub only_takes_age : OnlyTakesAge
@@ -271,6 +313,7 @@ only_hits_mark old new caller what answer called p m =
     (λ h.
     orders_or old.state new.state old.order new.order what answer (λ target took same k. inl (takes-marked old.state new.state old.order new.order target k p m))
     (λ path e k. inl (ap (λ (x : Order). is_marked x.held.marks p) (sym k) ∙ m))
+    (λ g e k. inl (ap (λ (marks : List Bool). is_marked marks p) (sym (removes-marks (node_at old.state.tree g.0).parent g.0 old.order new.order k)) ∙ m))
     (λ same k. marked-before old.order.held (hit_of old.state what answer) p (goes-marked (generation_for what) old.state.pages new.state.pages (with_mark (hit_of old.state what answer) old.order.held) new.order.held k.0 p m))
     h.order) called
 

@@ -1,5 +1,5 @@
 -- How many transfers are in flight after a step, and that the trace has room for their ends.
-use Rattle.std.proofs.Common.{◌≡◌, inl, inr, ℕ, ◌+◌, ◌≤◌, ◌==◌, ◌&&◌, not, Bool, true, false, cond, List, [], ◌∷◌, length, Option, Some, None, refl, sym, ap, ◌∙◌, subst, arith}
+use Rattle.std.proofs.Common.{◌≡◌, inl, inr, ℕ, ◌+◌, ◌≤◌, ◌==◌, ◌&&◌, not, Bool, true, false, cond, [], ◌∷◌, length, Option, Some, None, refl, sym, ap, ◌∙◌, subst, arith}
 use Rattle.std.specs.Prelude.{MatchBool, if◌then◌else◌, is_none, nat_lt}
 use Rattle.std.proofs.lemmas.Bool.Decides.{nat_tests}
 use Rattle.std.proofs.lemmas.List.Sums.{sum_by-cons}
@@ -18,17 +18,17 @@ use Rattle.machine.specs.declared.reply.Reply.{Reply}
 use Rattle.machine.specs.declared.reply.Reply.TheVariants as reply
 use Rattle.machine.specs.Slots.{Changes, there_and}
 use Rattle.machine.specs.Pages.{Content, Memory, OfFile, Residence, Held, Coming, Going, Away, Page, page_at, is_anon, in_transfer_at, is_in_transfer, in_transfer}
-use Rattle.machine.specs.Counts.{Counted}
 use Rattle.machine.specs.Tasks.{PageTables, mappers, task_at}
 use Rattle.machine.specs.State.{Opening, State, over_in, is_frame_free}
 use Rattle.machine.specs.Access.{Meeting, Unmapped, Hits, Transferring, NeedsPage, NeedsCopy, NeedsSwapIn, Dangling, meets}
 use Rattle.machine.specs.Reclaim.{has_takeable, has_transfer, stands, target_of}
 use Rattle.machine.specs.Call.{meeting_fetches, life_fetches, task_fetches, fetches, need}
-use Rattle.machine.specs.Step.{ChargeStep, TriesCharge, MakesPage, StartsFetch, HitStep, UnmappedStep, MeetStep, LifeStep, TaskStep, StartsLeave, Drops, LeavesBy, LeavesFrom, Takes, ReclaimStep, KillStep, RelieveStep, still, EndsTask, Exits, EndsTransfer, touched, Step}
+use Rattle.machine.specs.Step.{ChargeStep, TriesCharge, MakesPage, StartsFetch, HitStep, UnmappedStep, MeetStep, LifeStep, TaskStep, StartsLeave, Drops, LeavesBy, LeavesFrom, Takes, ReclaimStep, KillStep, RelieveStep, still, EndsTransfer, touched, Step}
 use Rattle.machine.proofs.SlotLemmas.{one_if, count_there-changes}
 use Rattle.machine.proofs.SoundLemmas.{count-less, still_passes}
 use Rattle.machine.proofs.MoveLemmas.{Settled, hits_held, swaps_away, in_frame-cases, on_block-cases}
 use Rattle.machine.proofs.OpeningLemmas.{step_opening}
+use Rattle.machine.proofs.RemovedCounts.{in_transfer-removed}
 use Rattle.laws.specs.Laws.{begins_transfer, ends_transfer, transfers_begun, transfers_ended, TraceHasRoom, TransfersAreBegunLessEnded}
 use Rattle.laws.proofs.LawLemmas.{by_test}
 
@@ -284,6 +284,7 @@ step_flies old new (event.Free t v) answer h =
     of_task old new (event.Free t v) answer (task_at old.tasks t.0) _ refl (λ task k. pages_still old new (event.Free t v) answer refl (ap begins_transfer k.answers) k.pages) h
 step_flies old new (event.Attach t g) reply.Ok h = same_pages old new (event.Attach t g) reply.Ok refl refl (ap (λ (s : State). s.pages) h.1)
 step_flies old new (event.Mkdir path) reply.Ok h = same_pages old new _ reply.Ok refl refl (ap (λ (s : State). s.pages) h)
+step_flies old new (event.Rmdir g) reply.Ok h = quiet old new (event.Rmdir g) reply.Ok refl refl (in_transfer-removed old new g.0 h)
 step_flies old new (event.Set g what) reply.Ok h = same_pages old new _ reply.Ok refl refl (ap (λ (s : State). s.pages) h)
 step_flies old new (event.Show what) (reply.Shown numbers) h = same_pages old new _ (reply.Shown numbers) refl refl (ap (λ (s : State). s.pages) h.1)
 step_flies old new what answer h = absurd h

@@ -1,5 +1,5 @@
 -- In which order pages leave, in runs: the lists are right after every run, and so the page that is taken next is the one that they give.
-use Rattle.std.proofs.Common.{◌≡◌, true, List, refl, sym, subst}
+use Rattle.std.proofs.Common.{◌≡◌, true, List, sym, subst}
 use Rattle.machine.specs.declared.config.Config.{Config}
 use Rattle.machine.specs.declared.command.Actor.{Actor}
 use Rattle.machine.specs.declared.command.Step.{Step as Line}

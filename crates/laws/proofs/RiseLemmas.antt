@@ -1,17 +1,16 @@
 -- Nothing but an access leaves more pages charged under a group.
-use Rattle.std.proofs.Common.{◌≡◌, inl, inr, ℕ, suc, ◌+◌, ◌<◌, ◌≤◌, ◌&&◌, Bool, true, false, List, [], ◌∷◌, ◌++◌, length, Option, Some, None, refl, sym, ap, ◌∙◌, arith}
+use Rattle.std.proofs.Common.{◌≡◌, inl, inr, ℕ, ◌+◌, ◌<◌, ◌≤◌, ◌&&◌, true, false, List, [], ◌∷◌, ◌++◌, length, Option, Some, None, refl, sym, ap, ◌∙◌, arith}
 use Rattle.std.specs.Prelude.{IfSome}
 use Rattle.std.proofs.lemmas.Bool.{cases_lt, and_parts}
-use Rattle.std.proofs.lemmas.List.Sums.{sum_by-cons}
 use Rattle.std.proofs.Math.ListN.{get_or-eq_default}
 use Rattle.machine.specs.declared.record.Limits.{Limits}
 use Rattle.machine.specs.declared.event.Event.{Event}
 use Rattle.machine.specs.declared.event.Event.TheVariants as event
 use Rattle.machine.specs.declared.reply.Reply.{Reply}
 use Rattle.machine.specs.declared.reply.Reply.TheVariants as reply
-use Rattle.machine.specs.Slots.{at, there_and, count_there, Changes}
+use Rattle.machine.specs.Slots.{at, there_and, Changes}
 use Rattle.machine.specs.Tree.{Node, no_node, is_live, under, IsTree}
-use Rattle.machine.specs.Pages.{Residence, Page, Pages, page_at, frame_at, is_some_number, has_frame, is_charged, charged}
+use Rattle.machine.specs.Pages.{Residence, Page, page_at, frame_at, is_some_number, has_frame, is_charged, charged}
 use Rattle.machine.specs.State.{Opening, State, usage}
 use Rattle.machine.specs.Step.{still}
 use Rattle.machine.specs.Legal.{Legal}
@@ -19,19 +18,10 @@ use Rattle.machine.specs.declared.entry.Entry.{Entry}
 use Rattle.machine.proofs.TreeLemmas.{under_at-append}
 use Rattle.machine.proofs.SlotLemmas.{one_if, count_there-changes}
 use Rattle.laws.specs.Laws.{OnlyAccessesCharge, WriteOutsStayCharged}
-use Rattle.machine.proofs.SoundLemmas.{bool_le, count-less, still_passes, legal-sound, legal-fit}
-use Rattle.machine.proofs.Did.{is_access, is_out, Moves, Rests, Comes, Goes, Lands, Lies, Did, Kept, Made, Moved, Dropped, Ended, Spawned, Forked, Freed, Attached, Grown, step_did}
+use Rattle.machine.proofs.SoundLemmas.{bool_le, tests-less, count-less, still_passes, legal-sound, legal-fit}
+use Rattle.machine.proofs.Did.{is_access, is_out, Moves, Rests, Comes, Goes, Lands, Lies, Did, Kept, Made, Moved, Dropped, Ended, Spawned, Forked, Freed, Attached, Removed, Grown, step_did}
+use Rattle.machine.proofs.RemovedCounts.{usage-no_more}
 use Rattle.machine.proofs.Values.{unlike}
-
--- whoever passes one test passes another
-tests_less : (test other : Page → Bool) (pages : Pages) → ((n : ℕ) → there_and other (at pages n) ≡ true → there_and test (at pages n) ≡ true) → count_there other pages ≤ count_there test pages
-tests_less test other [] less = omega arith
-tests_less test other (slot ∷ pages) less =
-    let more = sum_by-cons (λ (s : Option Page). one_if (there_and test s)) slot pages in
-    let more' = sum_by-cons (λ (s : Option Page). one_if (there_and other s)) slot pages in
-    let here = bool_le (there_and other slot) (there_and test slot) (less 0) in
-    let rest = tests_less test other pages (λ n. less (suc n)) in
-    omega (arith, more, more', here, rest)
 
 -- a group more has no pages yet, and changes nobody else's count
 grown_slot : (tree : List Node) (x : Node) (a : ℕ) → IsTree tree → (slot : Option Page) → IfSome slot (λ page. is_live tree page.group ≡ true) → there_and (is_charged (tree ++ x ∷ []) a) slot ≡ true → there_and (is_charged tree a) slot ≡ true
@@ -81,7 +71,7 @@ module _ (before after : State) (a : ℕ) where
   unfolding Less
   made_less x ls falls groups e =
       let same : usage after a ≡ charged (before.tree ++ x ∷ []) before.pages a = ap (λ (s : State). usage s a) e in
-      let le = tests_less (is_charged before.tree a) (is_charged (before.tree ++ x ∷ []) a) before.pages (λ n. grown_slot before.tree x a falls (page_at before.pages n) (groups n)) in
+      let le = tests-less (is_charged before.tree a) (is_charged (before.tree ++ x ∷ []) a) before.pages before.pages (λ n. grown_slot before.tree x a falls (page_at before.pages n) (groups n)) in
       omega (arith, same, le)
 
   -- a page that has a frame now had one before, but for one that an access reads in
@@ -116,6 +106,7 @@ module _ (before after : State) (a : ℕ) where
   did_less what answer other falls groups (Forked t child is out alive sets copies e) = let same : usage after a ≡ usage before a = ap (λ (s : State). usage s a) e in omega (arith, same)
   did_less what answer other falls groups (Freed t v is out alive frees) = stilled_less (ap (λ (s : State). s.tree) frees.state) frees.pages
   did_less what answer other falls groups (Attached t g is out sets e) = let same : usage after a ≡ usage before a = ap (λ (s : State). usage s a) e in omega (arith, same)
+  did_less what answer other falls groups (Removed g is out removes) = usage-no_more before after g.0 removes falls a
   did_less what answer other falls groups (Grown path is out e) = made_less _ _ falls groups e
 
   -- a page has a frame when it begins to be written out, and had one before
@@ -141,6 +132,7 @@ module _ (before after : State) (a : ℕ) where
   did_keep what answer out (Forked t child is other alive sets copies e) = unlike (is_out answer) out other
   did_keep what answer out (Freed t v is other alive frees) = unlike (is_out answer) out other
   did_keep what answer out (Attached t g is other sets e) = unlike (is_out answer) out other
+  did_keep what answer out (Removed g is other removes) = unlike (is_out answer) out other
   did_keep what answer out (Grown path is other e) = unlike (is_out answer) out other
 
 pub write_outs_stay_charged : WriteOutsStayCharged

@@ -1,21 +1,25 @@
--- What a fork and a move change.
-use Rattle.std.proofs.Common.{◌≡◌, ◌∙◌, ℕ, ◌==◌, Bool, true, false, List, ◌∷◌, Option, Some, None, eq-eqb, refl, sym, ap, subst}
+-- What a fork, a move and a removal change.
+use Rattle.std.proofs.Common.{◌≡◌, ◌∙◌, Bool, Option, Some, None, eq-eqb, refl, sym, ap, subst}
 use Rattle.machine.specs.declared.id.TaskId.{TaskId}
-use Rattle.machine.specs.declared.id.GroupId.{GroupId}
 use Rattle.machine.specs.declared.record.Life.{Life}
 use Rattle.machine.specs.declared.record.Life.TheVariants.{Live, Exited, Killed}
 use Rattle.machine.specs.declared.record.Task.{Task}
-use Rattle.machine.specs.declared.entry.Entry.{Entry}
 use Rattle.machine.specs.declared.event.Event.{Event}
 use Rattle.machine.specs.declared.event.Event.TheVariants as event
 use Rattle.machine.specs.declared.reply.Reply.{Reply}
 use Rattle.machine.specs.declared.reply.Reply.TheVariants as reply
 use Rattle.machine.specs.Slots.{there_and}
+use Rattle.machine.specs.Tree.{is_live}
+use Rattle.machine.specs.Counts.{local}
 use Rattle.machine.specs.Tasks.{task_at, group_of, is_live_task}
 use Rattle.machine.specs.State.{State, usage}
-use Rattle.machine.specs.Step.{Forks, LifeStep, TaskStep, Step}
-use Rattle.machine.specs.History.{Spot, InTask, As, says, says_if, follow, last}
-use Rattle.laws.specs.Laws.{IsChild, ForksShare, MovesTakeNoCharge}
+use Rattle.machine.specs.Step.{Forks, LifeStep, TaskStep, Removes, Step}
+use Rattle.machine.specs.History.{InTask, As, says, says_if, follow, last}
+use Rattle.machine.proofs.Values.{unlike}
+use Rattle.machine.proofs.RemovedLemmas.{usage-removed}
+use Rattle.machine.proofs.SoundLemmas.{legal-fit, legal-sound}
+use Rattle.machine.proofs.RemovedCounts.{removal, total-removed, usage-nobody}
+use Rattle.laws.specs.Laws.{ForksShare, MovesTakeNoCharge, RemovalsKeepAncestorsCounts, RemovedGroupsHaveNoPages}
 
 -- a fork that is done is one of a live task
 forked : (before after : State) (t child : TaskId) (slot : Option Task) → TaskStep before slot (λ task. Forks before t.0 child.0 task reply.Ok after) reply.Ok after → (task : Task) × (slot ≡ Some task) × Forks before t.0 child.0 task reply.Ok after
@@ -48,3 +52,16 @@ forks_share before after earlier t child entry is done step =
 pub moves_take_no_charge : MovesTakeNoCharge
 moves_take_no_charge before after t g reply.Ok h = (ap group_of h.0.changed, ap (λ (s : State). s.pages) h.1, λ a. ap (λ (s : State). usage s a) h.1)
 moves_take_no_charge before after t g answer h = absurd h
+
+pub removals_keep_ancestors_counts : RemovalsKeepAncestorsCounts
+removals_keep_ancestors_counts opening history before after g answer legal step =
+    let removes : Removes before g.0 after = removal before after g answer step in (
+      λ a other. usage-removed before after g.0 (legal-sound opening history before legal).1.falls removes a other,
+      λ a key. (total-removed before after g.0 removes a key, ap (λ (s : State). local s.counted a key) removes.state),
+    )
+
+pub removed_groups_have_no_pages : RemovedGroupsHaveNoPages
+removed_groups_have_no_pages opening history s legal g gone = (
+  λ p page there same. unlike (is_live s.tree g) (ap (is_live s.tree) (sym same) ∙ (legal-fit opening history s legal p page there).live) gone,
+  usage-nobody opening.swap s g (legal-sound opening history s legal).1 gone,
+)

@@ -24,7 +24,7 @@ use Rattle.machine.specs.declared.command.Reply.{Reply as Told_by}
 use Rattle.machine.specs.Slots.{there_and}
 use Rattle.machine.specs.Amounts.{exceeds}
 use Rattle.machine.specs.Counts.{limits_at, local, total}
-use Rattle.machine.specs.Tree.{Node, is_live, under}
+use Rattle.machine.specs.Tree.{Node, node_at, is_live, under}
 use Rattle.machine.specs.Pages.{Page, page_at, is_anon, is_held, frame_at, block_at, ticket_at, is_in_transfer, is_charged, in_transfer}
 use Rattle.machine.specs.Tasks.{lives, group_of_task, mapped_at}
 use Rattle.machine.specs.State.{Opening, State, page_numbers, usage, effective_min, is_swap_free, opening_of, blocks_of}
@@ -32,7 +32,7 @@ use Rattle.machine.specs.Reclaim.{is_idle, target_of}
 use Rattle.machine.specs.Generations.{row_of, listed, gens_at, AreDistinct}
 use Rattle.machine.specs.Aging.{is_marked, has_mark}
 use Rattle.machine.specs.Eviction.{old_pages}
-use Rattle.machine.specs.Lists.{HeldLists, Youngest, served, PicksOf, ListsHeld, AreGenerations, generation_for, GoesOn, shown_at, hit_of, with_mark, with_group}
+use Rattle.machine.specs.Lists.{HeldLists, Youngest, served, PicksOf, ListsHeld, AreGenerations, generation_for, GoesOn, shown_at, hit_of, with_mark, with_group, RemovesLists}
 use Rattle.machine.specs.Victim.{is_candidate}
 use Rattle.machine.specs.Step.{Step}
 use Rattle.machine.specs.Call.{Past, Caller, Called, AreAlike}
@@ -177,15 +177,17 @@ GroupsHaveCursors =
     (config : Config) (before : Disk) (steps : List Line) (answers : List Told_by) (end : World) → Runs (first_world config before) steps answers end
     → length end.past.order.cursors ≡ length end.past.state.tree
 
--- how the lists go on where no page is taken. A group more begins with no page. Otherwise a hit marks its page; what is held no more leaves its list, all others stay as they
+-- how the lists go on where no page is taken. A group more begins with no page. The pages of a group that goes are on its parent's lists, in the second youngest generation behind those
+-- that are there, the oldest first, and marked as they were. Otherwise a hit marks its page; what is held no more leaves its list, all others stay as they
 -- stood, and what comes to be held, one page at most, enters a generation of its group: the second youngest where it was read in, and else the youngest
 abbrev pub ListsGoOn : Past → Event → Reply → Past → Type 0
 ListsGoOn before (event.Mkdir path) answer after = after.order.held ≡ with_group before.order.held
+ListsGoOn before (event.Rmdir g) answer after = RemovesLists (node_at before.state.tree g.0).parent g.0 before.order after.order
 ListsGoOn before what answer after =
     GoesOn (generation_for what) before.state.pages (with_mark (hit_of before.state what answer) before.order.held) after.state.pages after.order.held
 
 -- so it is in every call that changes anything and takes no page. (Excludes lists whose order is made up anew, a page that comes to be held before another of its generation,
--- and one that comes marked.)
+-- one that comes marked, and one that is on no list when its group has gone.)
 abbrev pub HeldPagesGoOn : Type 0
 HeldPagesGoOn =
     (before after : Past) (caller : Caller) (what : Event) (answer : Reply) → took_for what answer ≡ None → Called before caller what answer after → (after ≡ before) ⊎ ListsGoOn before what answer after
@@ -313,6 +315,14 @@ MovesTakeNoCharge =
     (before after : State) (t : TaskId) (g : GroupId) (answer : Reply) → Step before (event.Attach t g) answer after
     → (group_of_task after.tasks t.0 ≡ g.0) × (after.pages ≡ before.pages) × ((a : ℕ) → usage after a ≡ usage before a)
 
+-- a group that goes leaves the count of every other group as it was: those of the groups above it, and those of groups beside it; and of each key as much stays counted, for each group.
+-- (Excludes pages that are given back to the pool when their group goes, counts that are lowered above it, and events that are counted no more.)
+abbrev pub RemovalsKeepAncestorsCounts : Type 0
+RemovalsKeepAncestorsCounts =
+    (opening : Opening) (history : List Entry) (before after : State) (g : GroupId) (answer : Reply) → Legal opening history before → Step before (event.Rmdir g) answer after
+    → ((a : ℕ) → a ≢ g.0 → usage after a ≡ usage before a)
+    × ((a : ℕ) (key : Key) → (total after.tree after.counted a key ≡ total before.tree before.counted a key) × (local after.counted a key ≡ local before.counted a key))
+
 -- the entries, and those kept for the ends of the transfers in flight, are within the trace's limit. (Excludes an end of a transfer that finds no room.)
 abbrev pub TraceHasRoom : Type 0
 TraceHasRoom = (opening : Opening) (history : List Entry) (s : State) → Legal opening history s → length history + in_transfer s.pages ≤ s.opening.trace_limit
@@ -351,6 +361,13 @@ abbrev pub GroupsAreThere : Type 0
 GroupsAreThere =
     (opening : Opening) (history : List Entry) (s : State) → Legal opening history s
     → ((p : ℕ) (page : Page) → page_at s.pages p ≡ Some page → is_live s.tree page.group ≡ true) × ((t : ℕ) → lives s.tasks t ≡ true → is_live s.tree (group_of_task s.tasks t) ≡ true)
+
+-- a group that is not there has no page: none that is charged, in transfer too, and none that is on its block. (Excludes a page that is left behind when its group goes, which nobody
+-- could be charged for.)
+abbrev pub RemovedGroupsHaveNoPages : Type 0
+RemovedGroupsHaveNoPages =
+    (opening : Opening) (history : List Entry) (s : State) → Legal opening history s → (g : ℕ) → is_live s.tree g ≡ false
+    → ((p : ℕ) (page : Page) → page_at s.pages p ≡ Some page → page.group ≢ g) × (usage s g ≡ 0)
 
 -- what a call answers is settled by the past, the caller and the event: two answers, neither of them for want of memory, say the same, but for the numbers of new
 -- tickets and for the byte that a read gives, which the history says. (Excludes definitions that leave a reply to whoever carries them out.)

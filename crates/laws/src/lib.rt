@@ -2,7 +2,7 @@
 //! a function that does nothing.
 #![tactic(auto)]
 
-ghost use Rattle.laws.specs.Laws.{RunsAreLegal, RunsAreHonest, NoStrangers, ErrorsAreFailures, CurrentCountsPages, EventsAreThoseCounted, ChargesStayWithinMax, OnlyAccessesCharge, KillsComeLast, ReadsGiveLastWrites, PagesShareNoFrame, PagesShareNoBlock, BlocksAreThere, PagesShareNoTicket, PagesAreMemory, MappingsShowPages, MemoryWithoutAMappingIsGone, SharedBytesAgree, ForksShare, MovesTakeNoCharge, TraceHasRoom, TransfersAreBegunLessEnded, TransfersStayCharged, RepliesAreSettled, OrdersAreSettled, WriteOutsStayCharged, ReclaimsSpareTheProtected, ReclaimsGiveUpLast, ReclaimsKillNobody, HeldPagesAreListed, GenerationsHold, GroupsHaveCursors, HeldPagesGoOn, OnlyTakesAge, HitsMark, OnlyHitsMark, PagesLeaveInOrder, MarkedPagesStay, GroupsAreThere};
+ghost use Rattle.laws.specs.Laws.{RunsAreLegal, RunsAreHonest, NoStrangers, ErrorsAreFailures, CurrentCountsPages, EventsAreThoseCounted, ChargesStayWithinMax, OnlyAccessesCharge, KillsComeLast, ReadsGiveLastWrites, PagesShareNoFrame, PagesShareNoBlock, BlocksAreThere, PagesShareNoTicket, PagesAreMemory, MappingsShowPages, MemoryWithoutAMappingIsGone, SharedBytesAgree, ForksShare, MovesTakeNoCharge, RemovalsKeepAncestorsCounts, RemovedGroupsHaveNoPages, TraceHasRoom, TransfersAreBegunLessEnded, TransfersStayCharged, RepliesAreSettled, OrdersAreSettled, WriteOutsStayCharged, ReclaimsSpareTheProtected, ReclaimsGiveUpLast, ReclaimsKillNobody, HeldPagesAreListed, GenerationsHold, GroupsHaveCursors, HeldPagesGoOn, OnlyTakesAge, HitsMark, OnlyHitsMark, PagesLeaveInOrder, MarkedPagesStay, GroupsAreThere};
 
 /// The history of every run leads from the opening to the run's state, one step of the plain machine
 /// an entry.
@@ -104,7 +104,9 @@ pub fn groups_have_cursors()
 /// A call that changes anything and takes no page lets the lists of held pages go on. A hit marks its
 /// page; what is held no more leaves its list, and all others stay as they stood; and what comes to be
 /// held, one page at most, enters a generation of its group, unmarked: the second youngest where it was
-/// read in, and else the youngest. A group more begins with no page.
+/// read in, and else the youngest. A group more begins with no page. The pages of a group that goes are
+/// on its parent's lists, behind those of the second youngest generation, the oldest first, and marked as
+/// they were.
 pub fn held_pages_go_on()
     ensures { HeldPagesGoOn }
 {}
@@ -196,6 +198,18 @@ pub fn forks_share()
 /// A task that moves to another group takes no charge along: no page changes, and no group's count does.
 pub fn moves_take_no_charge()
     ensures { MovesTakeNoCharge }
+{}
+
+/// A group that is removed leaves the count of every other group as it was, so those of the groups above
+/// it. And each event stays counted, for each group.
+pub fn removals_keep_ancestors_counts()
+    ensures { RemovalsKeepAncestorsCounts }
+{}
+
+/// Whatever state a run's history leads to, a group that is not there has no page, and nothing is charged
+/// to it. So all pages of a group go elsewhere when it is removed.
+pub fn removed_groups_have_no_pages()
+    ensures { RemovedGroupsHaveNoPages }
 {}
 
 /// Whatever state a run's history leads to, its entries and the transfers in flight are together no

@@ -1,7 +1,6 @@
-use Rattle.std.proofs.Common.{◌≡◌, false, sym, ap, ◌∙◌}
 use Rattle.machine.proofs.SoundLemmas.{legal-fit}
 use Rattle.machine.proofs.SharedLemmas.{legal-live}
-use Rattle.machine.proofs.MappersLemmas.{Mapper, mappers_some, legal-mapped}
+use Rattle.machine.proofs.MappersLemmas.{mappers_some, legal-mapped}
 use Rattle.laws.proofs.memory_without_a_mapping_is_gone.Goals as goal
 
 pub returns : goal.returns
