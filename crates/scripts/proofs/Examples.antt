@@ -196,6 +196,30 @@ attach_relative = refl
 attach_by_task : cause (codes "7 attach 7 /a") ≡ Some UnknownWord
 attach_by_task = refl
 
+-- ---- lines that remove a group
+
+-- behind `rmdir` stands one path, as behind `group`
+rmdir : cause (codes "rmdir /a") ≡ None
+rmdir = refl
+
+rmdir_missing : cause (codes "rmdir") ≡ Some MissingArgument
+rmdir_missing = refl
+
+-- groups are removed one by one
+rmdir_extra : cause (codes "rmdir /a /b") ≡ Some ExtraArgument
+rmdir_extra = refl
+
+-- whether the root can be removed is not the script's to say
+rmdir_root : cause (codes "rmdir /") ≡ None
+rmdir_root = refl
+
+rmdir_relative : cause (codes "rmdir a") ≡ Some BadName
+rmdir_relative = refl
+
+-- the word is the shell's, and no task's
+rmdir_by_task : cause (codes "1 rmdir /a") ≡ Some UnknownWord
+rmdir_by_task = refl
+
 -- ---- lines that are begun
 
 -- no line of the header is begun
@@ -219,6 +243,9 @@ begin_free = refl
 
 begin_attach : cause (codes "begin attach 7 /a") ≡ None
 begin_attach = refl
+
+begin_rmdir : cause (codes "begin rmdir /a") ≡ None
+begin_rmdir = refl
 
 -- an actor is a task's number or a name
 step_daemon : cause (codes "step daemon") ≡ None
@@ -301,6 +328,13 @@ says_attach = refl
 
 says_begin_attach : steps_of_item (meaning (words_of (codes "begin attach 7 /a"))) ≡ step.Begin actor.Control (command.Attach 7 (codes "/a")) ∷ []
 says_begin_attach = refl
+
+-- the shell removes the group
+says_rmdir : steps_of_item (meaning (words_of (codes "rmdir /a"))) ≡ step.Begin actor.Shell (command.Rmdir (codes "/a")) ∷ step.Finish actor.Shell ∷ []
+says_rmdir = refl
+
+says_begin_rmdir : steps_of_item (meaning (words_of (codes "begin rmdir /a"))) ≡ step.Begin actor.Control (command.Rmdir (codes "/a")) ∷ []
+says_begin_rmdir = refl
 
 -- ---- lines
 

@@ -59,6 +59,7 @@ form_of word.Watermarks = header (codes "watermarks") (number ∷ number ∷ [])
 form_of word.Trace = header (codes "trace") (kind.Number 1 1048576 ∷ [])
 form_of word.Fault = header_many (codes "fault") (kind.Call ∷ kind.Number 1 4294967295 ∷ [])
 form_of word.Group = shell (codes "group") (kind.Path ∷ [])
+form_of word.Rmdir = shell (codes "rmdir") (kind.Path ∷ [])
 form_of word.Task = shell (codes "task") (number ∷ kind.Path ∷ [])
 form_of word.Attach = shell (codes "attach") (number ∷ kind.Path ∷ [])
 form_of word.Set = shell (codes "set") (kind.Path ∷ kind.Any ∷ kind.Any ∷ [])
@@ -76,7 +77,7 @@ form_of word.Finish = part (codes "finish") (kind.Actor ∷ [])
 
 abbrev pub words : List Word
 words =
-    word.Frames ∷ word.Swap ∷ word.Watermarks ∷ word.Trace ∷ word.Fault ∷ word.Group ∷ word.Task ∷ word.Attach ∷ word.Set ∷ word.Cat ∷ word.Protection ∷ word.Write ∷ word.Read
+    word.Frames ∷ word.Swap ∷ word.Watermarks ∷ word.Trace ∷ word.Fault ∷ word.Group ∷ word.Rmdir ∷ word.Task ∷ word.Attach ∷ word.Set ∷ word.Cat ∷ word.Protection ∷ word.Write ∷ word.Read
     ∷ word.Fork ∷ word.Free ∷ word.Exit ∷ word.Daemon ∷ word.Begin ∷ word.Step ∷ word.Finish ∷ []
 
 abbrev pub same_speaker : Speaker → Speaker → Bool
@@ -128,20 +129,21 @@ place word.Watermarks = 2
 place word.Trace = 3
 place word.Fault = 4
 place word.Group = 5
-place word.Task = 6
-place word.Attach = 7
-place word.Set = 8
-place word.Cat = 9
-place word.Protection = 10
-place word.Write = 11
-place word.Read = 12
-place word.Fork = 13
-place word.Free = 14
-place word.Exit = 15
-place word.Daemon = 16
-place word.Begin = 17
-place word.Step = 18
-place word.Finish = 19
+place word.Rmdir = 6
+place word.Task = 7
+place word.Attach = 8
+place word.Set = 9
+place word.Cat = 10
+place word.Protection = 11
+place word.Write = 12
+place word.Read = 13
+place word.Fork = 14
+place word.Free = 15
+place word.Exit = 16
+place word.Daemon = 17
+place word.Begin = 18
+place word.Step = 19
+place word.Finish = 20
 
 abbrev pub same_word : Word → Word → Bool
 same_word v w = place v == place w

@@ -59,6 +59,7 @@ pub enum Word {
     Trace,
     Fault,
     Group,
+    Rmdir,
     Task,
     Attach,
     Set,
@@ -122,13 +123,14 @@ const BYTE: Kind = Kind::Number {
     most: 255,
 };
 
-const WORDS: [Word; 20] = [
+const WORDS: [Word; 21] = [
     Word::Frames,
     Word::Swap,
     Word::Watermarks,
     Word::Trace,
     Word::Fault,
     Word::Group,
+    Word::Rmdir,
     Word::Task,
     Word::Attach,
     Word::Set,
@@ -232,6 +234,7 @@ impl Word {
             Word::Trace => header("trace", &[ENTRIES]),
             Word::Fault => header_many("fault", &[Kind::Call, COUNT]),
             Word::Group => shell("group", &[Kind::Path]),
+            Word::Rmdir => shell("rmdir", &[Kind::Path]),
             Word::Task => shell("task", &[NUMBER, Kind::Path]),
             Word::Attach => shell("attach", &[NUMBER, Kind::Path]),
             Word::Set => shell("set", &[Kind::Path, Kind::Any, Kind::Any]),

@@ -130,6 +130,7 @@ pub fn item_of_word(
             return Ok(Item::Fails(call, number_value(&arguments[1])));
         }
         Word::Group => Command::Group(text_of(alloc, &arguments[0])?),
+        Word::Rmdir => Command::Rmdir(text_of(alloc, &arguments[0])?),
         Word::Task => Command::Task {
             task: number_value(&arguments[0]),
             path: text_of(alloc, &arguments[1])?,
