@@ -31,6 +31,8 @@ mod reclaim_turns;
 #[cfg(test)]
 mod reclaim_words;
 #[cfg(test)]
+mod removal;
+#[cfg(test)]
 mod script_faults;
 #[cfg(test)]
 mod script_forms;
