@@ -205,7 +205,7 @@ impl Pages {
         }
     }
 
-    /// A page of the group: the first that came to it and is there still. `None` where it has none.
+    /// A page of the group. `None` where it has none.
     pub fn first_of(&self, group: GroupId) -> Option<PageId>
         requires { group.0 < self.now.groups }
         ensures some { IfSome result (λ page. (r : PageResidence) × HasResidence self.now.pages page.0 group.0 r) }
