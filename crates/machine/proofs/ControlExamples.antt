@@ -59,6 +59,19 @@ says-events : text_of (shown.Events (record { low = 0; high = 0; max = 12; oom =
 unfolding digits
 says-events = refl
 
+-- memory of tasks, then of files, each in bytes
+says-stat : text_of (shown.Stat (record { anon = 3; file = 2 })) ≡ codes "anon 12288" ++ 10 ∷ codes "file 8192" ++ 10 ∷ []
+unfolding digits
+says-stat = refl
+
+-- it is the file of this name
+named-stat : file_named (codes "memory.stat") ≡ Some file.Stat
+named-stat = refl
+
+-- of every group but the root
+file-stat : has_file 0 file.Stat ≡ false
+file-stat = refl
+
 -- the root has `memory.reclaim`
 file-reclaim : has_file 0 file.Reclaim ≡ true
 file-reclaim = refl

@@ -12,7 +12,7 @@ use Rattle.machine.specs.declared.record.Task.{Task}
 use Rattle.machine.specs.declared.record.Direction.{Direction}
 use Rattle.machine.specs.declared.record.Direction.TheVariants.{In, Out}
 use Rattle.machine.specs.declared.event.Place.{Place}
-use Rattle.machine.specs.declared.event.Place.TheVariants.{Virtual}
+use Rattle.machine.specs.declared.event.Place.TheVariants.{Virtual, File}
 use Rattle.machine.specs.declared.event.Op.{Op}
 use Rattle.machine.specs.declared.event.Op.TheVariants.{Read, Write}
 use Rattle.machine.specs.declared.event.Cause.{Cause}
@@ -22,21 +22,22 @@ use Rattle.machine.specs.declared.reply.Reply.{Reply}
 use Rattle.machine.specs.declared.reply.Reply.TheVariants as reply
 use Rattle.machine.specs.Slots.{Changes, there_and}
 use Rattle.machine.specs.Tree.{Node}
-use Rattle.machine.specs.Pages.{Content, Memory, OfFile, Residence, Held, Coming, Going, Away, Page, Pages, page_at, is_anon, is_held_at, is_held, is_held_in, in_transfer_at, ticket_at, is_ticket_taken}
+use Rattle.machine.specs.Pages.{Content, Memory, OfFile, Residence, Held, Coming, Going, Away, Page, Pages, page_at, file_page, home_block, is_anon, is_held_at, is_held, is_held_in, in_transfer_at, ticket_at, is_ticket_taken}
 use Rattle.machine.specs.Counts.{Counted}
 use Rattle.machine.specs.Tasks.{Tasks, PageTables, ShowsNothing, SetsTask, task_at, is_live_life, is_live_task, lives, mapped_at, mappers}
 use Rattle.machine.specs.State.{State, over_in, is_frame_free}
-use Rattle.machine.specs.Access.{Meeting, Unmapped, Hits, Transferring, NeedsPage, NeedsCopy, NeedsSwapIn, Dangling, meets, is_shared_write}
+use Rattle.machine.specs.Access.{Meeting, Unmapped, Hits, Transferring, NeedsPage, NeedsCopy, NeedsSwapIn, NeedsRead, Dangling, meets, is_shared_write}
 use Rattle.machine.specs.Reclaim.{has_takeable, has_transfer, stands, target_of}
 use Rattle.machine.specs.Refusals.{refusal}
-use Rattle.machine.specs.Step.{ChargeStep, TriesCharge, MakesPage, StartsFetch, HitStep, UnmappedStep, MeetStep, LifeStep, TaskStep, Takes, StartsLeave, Drops, LeavesBy, LeavesFrom, ReclaimStep, ReclaimOneStep, KillStep, RelieveStep, still, EndsTask, Exits, Forks, Frees, Attaches, Removes, regrouped, EndsTransfer, in_frame, on_block, Step}
+use Rattle.machine.specs.Step.{ChargeStep, TriesCharge, MakesPage, StartsFetch, ReadsFile, HitStep, UnmappedStep, MeetStep, LifeStep, TaskStep, Takes, StartsLeave, Drops, LeavesBy, LeavesFrom, ReclaimStep, ReclaimOneStep, KillStep, RelieveStep, still, EndsTask, Exits, Forks, Frees, Attaches, Removes, regrouped, EndsTransfer, in_frame, on_block, Step}
 use Rattle.machine.specs.History.{Spot, InTask, is_spot, Byte, As, Nothing, says_if, says, follow, ticket_given}
 use Rattle.machine.proofs.Values.{some_inj, never_some, unlike}
 use Rattle.machine.proofs.TreeLemmas.{eq_cases}
 use Rattle.machine.proofs.MappingLemmas.{by_place, copies-cases, mapped_at-one, shows_nothing-was}
 use Rattle.machine.proofs.RemovedLemmas.{regrouped-was}
+use Rattle.machine.proofs.FileSteps.{AreFiled, FilesGo, files_go}
 use Rattle.machine.proofs.ShownLemmas.{ShowsPages}
-use Rattle.machine.proofs.MoveLemmas.{Met, met, Settled, in_frame-cases, on_block-cases}
+use Rattle.machine.proofs.MoveLemmas.{Met, met, MetFile, met_file, Settled, in_frame-cases, on_block-cases}
 
 -- ---- words
 
@@ -62,11 +63,12 @@ end_on_block Out ticket = event.Left ticket
 abbrev pub AllLive : PageTables → Tasks → Type 0
 AllLive tables tasks = (t v p : ℕ) → mapped_at tables t v ≡ Some p → lives tasks t ≡ true
 
--- the page stood so before
-pub record Stays (old : State) (p : ℕ) (now : Residence) : Type 0 where
+-- the page stood so before, and held what it holds
+pub record Stays (old : State) (p : ℕ) (page : Page) : Type 0 where
   pub before : Page
   pub there : page_at old.pages p ≡ Some before
-  pub same : now ≡ before.residence
+  pub same : page.residence ≡ before.residence
+  pub content : page.content ≡ before.content
 
 -- an access of a place that shows the page began to read it in
 pub record Fetches (old : State) (what : Event) (answer : Reply) (p : ℕ) (now : Residence) : Type 0 where
@@ -84,6 +86,21 @@ pub record Fetches (old : State) (what : Event) (answer : Reply) (p : ℕ) (now 
   pub there : page_at old.pages p ≡ Some before
   pub away : before.residence ≡ Away block
   pub coming : now ≡ Coming frame block ticket.0
+
+-- an access of a page of a file that no page held began to read it in from its home block
+pub record ReadsIn (old : State) (what : Event) (answer : Reply) (page : Page) : Type 0 where
+  pub task : TaskId
+  pub file : ℕ
+  pub q : ℕ
+  pub offset : ℕ
+  pub op : Op
+  pub frame : ℕ
+  pub ticket : TicketId
+  pub is : what ≡ event.Access task (File file q offset) op
+  pub answers : answer ≡ reply.Fetch ticket
+  pub none : file_page old.pages file q ≡ None
+  pub coming : page.residence ≡ Coming frame (home_block old.opening.swap old.opening.files file q) ticket.0
+  pub holds : page.content ≡ OfFile file q
 
 -- the page began to be written out
 pub record Leaves (answer : Reply) (now : Residence) : Type 0 where
@@ -105,18 +122,19 @@ pub record EndsOnBlock (direction : Direction) (old : State) (what : Event) (p :
   pub away : now ≡ Away block
 
 -- how a page that stands there after a step came to do so
-pub data Stood (old : State) (what : Event) (answer : Reply) (p : ℕ) (now : Residence) : Type 0 where
-  InFrame : (frame : ℕ) → now ≡ Held frame → Stood old what answer p now
-  ItStays : Stays old p now → Stood old what answer p now
-  ItFetches : Fetches old what answer p now → Stood old what answer p now
-  ItLeaves : Leaves answer now → Stood old what answer p now
-  OnBlock : (direction : Direction) → EndsOnBlock direction old what p now → Stood old what answer p now
+pub data Stood (old : State) (what : Event) (answer : Reply) (p : ℕ) (page : Page) : Type 0 where
+  InFrame : (frame : ℕ) → page.residence ≡ Held frame → Stood old what answer p page
+  ItStays : Stays old p page → Stood old what answer p page
+  ItFetches : Fetches old what answer p page.residence → Stood old what answer p page
+  ItReads : ReadsIn old what answer page → Stood old what answer p page
+  ItLeaves : Leaves answer page.residence → Stood old what answer p page
+  OnBlock : (direction : Direction) → EndsOnBlock direction old what p page.residence → Stood old what answer p page
 
 -- a page in transfer stands as it does until its own ticket's end; and where each page comes from
 pub record PagesGo (old : State) (what : Event) (answer : Reply) (new : State) : Type 0 where
   pub stays : (p n : ℕ) (page : Page) → page_at old.pages p ≡ Some page → ticket_at page.residence ≡ Some n → (ends what ≡ Some n → ⊥)
       → (now : Page) × (page_at new.pages p ≡ Some now) × (now.residence ≡ page.residence)
-  pub stood : (p : ℕ) (page : Page) → page_at new.pages p ≡ Some page → Stood old what answer p page.residence
+  pub stood : (p : ℕ) (page : Page) → page_at new.pages p ≡ Some page → Stood old what answer p page
 
 -- the same virtual page of some task, the parent's or its own, showed the page before, and its bytes were what this place's are now
 pub record ComesFrom (old : State) (what : Event) (answer : Reply) (t v p : ℕ) : Type 0 where
@@ -137,9 +155,16 @@ pub record PlacesGo (old : State) (what : Event) (answer : Reply) (new : State) 
 pub record Effect (old : State) (what : Event) (answer : Reply) (new : State) : Type 0 where
   pub pages : PagesGo old what answer new
   pub places : PlacesGo old what answer new
+  pub files : FilesGo old what answer new
   pub fresh : (n : ℕ) → ticket_given answer ≡ Some n → is_ticket_taken old.pages n ≡ false
 
--- the event says nothing of any byte
+-- the same, but for what becomes of files
+record OnTasks (old : State) (what : Event) (answer : Reply) (new : State) : Type 0 where
+  pages : PagesGo old what answer new
+  places : PlacesGo old what answer new
+  fresh : (n : ℕ) → ticket_given answer ≡ Some n → is_ticket_taken old.pages n ≡ false
+
+-- the event says nothing of any byte of a task
 abbrev Silent : Event → Reply → Type 0
 Silent what answer = (t v o : ℕ) → says what answer (InTask t v o) ≡ Nothing
 
@@ -228,14 +253,14 @@ module _ (old new : State) (alive : AllLive old.page_tables old.tasks) (shows : 
 
   -- what stands there came to do so
   abbrev Stands : Event → Reply → ℕ → Option Page → Type 0
-  Stands what answer q to = IfSome to (λ page. Stood old what answer q page.residence)
+  Stands what answer q to = IfSome to (λ page. Stood old what answer q page)
 
   -- no page changes
   pages_same : (what : Event) (answer : Reply) → new.pages ≡ old.pages → PagesGo old what answer new
   pages_same what answer e =
       record {
         stays = λ p n page there ticket other. (page, ap (λ (ps : Pages). page_at ps p) e ∙ there, refl);
-        stood = λ p page there. ItStays (record { before = page; there = sym (ap (λ (ps : Pages). page_at ps p) e) ∙ there; same = refl });
+        stood = λ p page there. ItStays (record { before = page; there = sym (ap (λ (ps : Pages). page_at ps p) e) ∙ there; same = refl; content = refl });
       }
 
   -- one page changes: if it was in transfer the event ends that
@@ -249,8 +274,8 @@ module _ (old new : State) (alive : AllLive old.page_tables old.tasks) (shows : 
             ];
         stood = λ p page there.
             elim (eq_cases p q) [
-              | inl same ↦ subst (λ (x : ℕ). Stood old what answer x page.residence) (sym same) (subst (Stands what answer q) (sym changes.changed ∙ ap (page_at new.pages) (sym same) ∙ there) stands)
-              | inr differs ↦ ItStays (record { before = page; there = sym (changes.others p differs) ∙ there; same = refl })
+              | inl same ↦ subst (λ (x : ℕ). Stood old what answer x page) (sym same) (subst (Stands what answer q) (sym changes.changed ∙ ap (page_at new.pages) (sym same) ∙ there) stands)
+              | inr differs ↦ ItStays (record { before = page; there = sym (changes.others p differs) ∙ there; same = refl; content = refl })
             ];
       }
     where
@@ -263,7 +288,7 @@ module _ (old new : State) (alive : AllLive old.page_tables old.tasks) (shows : 
   pages_still what answer pages =
       record {
         stays = λ p n page there ticket other. (page, pages p ∙ ap (still new.page_tables p) there ∙ still_there new.page_tables p n page ticket, refl);
-        stood = λ p page there. ItStays (record { before = page; there = still_same new.page_tables p (page_at old.pages p) page (sym (pages p) ∙ there); same = refl });
+        stood = λ p page there. ItStays (record { before = page; there = still_same new.page_tables p (page_at old.pages p) page (sym (pages p) ∙ there); same = refl; content = refl });
       }
 
   -- ---- places
@@ -334,7 +359,7 @@ module _ (old new : State) (alive : AllLive old.page_tables old.tasks) (shows : 
 
   -- no page, no place and no task changes, and nothing is said
   quiet : {tree : List Node} {limits : List Limits} {counted : List Counted} (what : Event) (answer : Reply) → new ≡ record old { tree = tree; limits = limits; counted = counted } → Silent what answer
-      → ticket_given answer ≡ None → Effect old what answer new
+      → ticket_given answer ≡ None → OnTasks old what answer new
   quiet what answer e silent none =
       record {
         pages = pages_same what answer (ap (λ (s : State). s.pages) e);
@@ -344,7 +369,7 @@ module _ (old new : State) (alive : AllLive old.page_tables old.tasks) (shows : 
 
   -- one page changes, no place and no task, and nothing is said
   one_page : {counted : List Counted} (what : Event) (answer : Reply) (q : ℕ) (to : Option Page) → new ≡ record old { pages = new.pages; counted = counted } → Changes old.pages new.pages q to
-      → MayMove what (ticket_in (page_at old.pages q)) → Stands what answer q to → Silent what answer → Fresh answer → Effect old what answer new
+      → MayMove what (ticket_in (page_at old.pages q)) → Stands what answer q to → Silent what answer → Fresh answer → OnTasks old what answer new
   one_page what answer q to e changes may_move stands silent fresh =
       record {
         pages = pages_one what answer q to changes may_move stands;
@@ -354,17 +379,42 @@ module _ (old new : State) (alive : AllLive old.page_tables old.tasks) (shows : 
 
   -- ---- accesses
 
-  module _ (t : TaskId) (v o : ℕ) (op : Op) where
+  -- an access, wherever it goes
+  module _ (t : TaskId) (place : Place) (op : Op) where
     abbrev Accessed : Reply → Type 0
-    Accessed answer = Effect old (event.Access t (Virtual v o) op) answer new
+    Accessed answer = OnTasks old (event.Access t place op) answer new
 
     -- an access that is not done
     undone : {counted : List Counted} (answer expected : Reply) → answer ≡ expected → is_done expected ≡ false → ticket_given expected ≡ None → new ≡ record old { counted = counted } → Accessed answer
-    undone answer expected is not_done none e = quiet _ answer e (λ t' v' o'. says_undone t (Virtual v o) op answer t' v' o' (ap is_done is ∙ not_done)) (ap ticket_given is ∙ none)
+    undone answer expected is not_done none e = quiet _ answer e (λ t' v' o'. says_undone t place op answer t' v' o' (ap is_done is ∙ not_done)) (ap ticket_given is ∙ none)
 
+    -- where a charge is needed
+    charged : (g : ℕ) (Granted : Type 0) (answer : Reply) → (Granted → Accessed answer) → TriesCharge old g Granted answer new → Accessed answer
+    charged g Granted answer granted step = by_over (over_in old g) step
+      where
+        by_over : (low : Option ℕ) → ChargeStep old low (is_frame_free old) Granted answer new → Accessed answer
+        by_over (Some low) h = undone answer _ h.0 refl refl h.1
+        by_over None h = by_either (is_frame_free old) granted (λ k. undone answer reply.NoFrame k.0 refl refl k.1) h
+
+    -- by whose task it is
+    of_live : (answer : Reply) → ((g : ℕ) → lives old.tasks t.0 ≡ true → MeetStep old t.0 g op (meets old t.0 place op) answer new → Accessed answer)
+        → TaskStep old (task_at old.tasks t.0) (λ task. MeetStep old t.0 task.group.0 op (meets old t.0 place op) answer new) answer new → Accessed answer
+    of_live answer living step = by_slot (task_at old.tasks t.0) refl step
+      where
+        by_life : (task : Task) (life : Life) → task_at old.tasks t.0 ≡ Some task → task.life ≡ life → LifeStep old life (MeetStep old t.0 task.group.0 op (meets old t.0 place op) answer new) answer new → Accessed answer
+        by_life task Live known is h = living task.group.0 (ap (there_and is_live_task) known ∙ ap is_live_life is) h
+        by_life task Exited known is h = absurd h
+        by_life task Killed known is h = undone answer reply.Killed h.0 refl refl h.1
+
+        by_slot : (slot : Option Task) → task_at old.tasks t.0 ≡ slot → TaskStep old slot (λ task. MeetStep old t.0 task.group.0 op (meets old t.0 place op) answer new) answer new → Accessed answer
+        by_slot None known h = absurd h
+        by_slot (Some task) known h = by_life task task.life known refl h
+
+  -- of a task's memory
+  module _ (t : TaskId) (v o : ℕ) (op : Op) where
     -- a page in its frame is read or written
     hit : (p frame : ℕ) (page : Page) (op' : Op) (answer : Reply) → op ≡ op' → lives old.tasks t.0 ≡ true → mapped_at old.page_tables t.0 v ≡ Some p → page_at old.pages p ≡ Some page → page.residence ≡ Held frame
-        → is_shared_write old.page_tables p op' ≡ false → HitStep old p page frame op' answer new → Accessed answer
+        → is_shared_write old.page_tables p op' ≡ false → HitStep old p page frame op' answer new → Accessed t (Virtual v o) op answer
     hit p frame page Read (reply.Done byte at) is lives_t mapped there stands own h = quiet _ _ h.1 (λ t' v' o'. ap (λ (x : Op). says (event.Access t (Virtual v o) x) (reply.Done byte at) (InTask t' v' o')) is) refl
     hit p frame page (Write b) (reply.Done byte at) is lives_t mapped there stands own h =
         record {
@@ -387,7 +437,7 @@ module _ (old new : State) (alive : AllLive old.page_tables old.tasks) (shows : 
     hit p frame page op' answer is lives_t mapped there stands own h = absurd h
 
     -- nothing is mapped there
-    unmapped : (answer : Reply) → lives old.tasks t.0 ≡ true → mapped_at old.page_tables t.0 v ≡ None → UnmappedStep old answer new → Accessed answer
+    unmapped : (answer : Reply) → lives old.tasks t.0 ≡ true → mapped_at old.page_tables t.0 v ≡ None → UnmappedStep old answer new → Accessed t (Virtual v o) op answer
     unmapped (reply.Done byte at) lives_t none h =
         record {
           pages = pages_same _ _ (ap (λ (s : State). s.pages) h.1);
@@ -402,7 +452,7 @@ module _ (old new : State) (alive : AllLive old.page_tables old.tasks) (shows : 
     unmapped answer lives_t none h = absurd h
 
     -- a page is made for the place
-    makes : (g : ℕ) (answer : Reply) → lives old.tasks t.0 ≡ true → MakesPage old t.0 v g op answer new → Accessed answer
+    makes : (g : ℕ) (answer : Reply) → lives old.tasks t.0 ≡ true → MakesPage old t.0 v g op answer new → Accessed t (Virtual v o) op answer
     makes g answer lives_t h =
         record {
           pages = pages_one _ answer h.page _ h.placed (inl (ap ticket_in h.slot_free)) (InFrame h.frame refl);
@@ -417,7 +467,7 @@ module _ (old new : State) (alive : AllLive old.page_tables old.tasks) (shows : 
 
     -- a page begins to be read in
     fetches : (p block : ℕ) (page : Page) (answer : Reply) → mapped_at old.page_tables t.0 v ≡ Some p → page_at old.pages p ≡ Some page → page.residence ≡ Away block
-        → StartsFetch old p page.group page.content block answer new → Accessed answer
+        → StartsFetch old p page.group page.content block answer new → Accessed t (Virtual v o) op answer
     fetches p block page answer mapped there away h =
         one_page _ answer p _ h.state h.placed (inl (ap ticket_in there ∙ ap ticket_at away))
         (ItFetches
@@ -439,41 +489,76 @@ module _ (old new : State) (alive : AllLive old.page_tables old.tasks) (shows : 
         }))
         (λ t' v' o'. says_undone t (Virtual v o) op answer t' v' o' (ap is_done h.answers)) (gives answer h.ticket (ap ticket_given h.answers) h.ticket_free)
 
-    -- where a charge is needed
-    charged : (g : ℕ) (Granted : Type 0) (answer : Reply) → (Granted → Accessed answer) → TriesCharge old g Granted answer new → Accessed answer
-    charged g Granted answer granted step = by_over (over_in old g) step
-      where
-        by_over : (low : Option ℕ) → ChargeStep old low (is_frame_free old) Granted answer new → Accessed answer
-        by_over (Some low) h = undone answer _ h.0 refl refl h.1
-        by_over None h = by_either (is_frame_free old) granted (λ k. undone answer reply.NoFrame k.0 refl refl k.1) h
-
     -- by what it meets
-    meets_so : (g : ℕ) (answer : Reply) (meeting : Meeting) → lives old.tasks t.0 ≡ true → Met old t.0 v op meeting → MeetStep old t.0 g op meeting answer new → Accessed answer
+    meets_so : (g : ℕ) (answer : Reply) (meeting : Meeting) → lives old.tasks t.0 ≡ true → Met old t.0 v op meeting → MeetStep old t.0 g op meeting answer new → Accessed t (Virtual v o) op answer
     meets_so g answer Unmapped lives_t known h = unmapped answer lives_t known h
     meets_so g answer (Hits p page frame) lives_t known h = hit p frame page op answer refl lives_t known.0 known.1 known.2 known.3 h
-    meets_so g answer Transferring lives_t known h = undone answer reply.Busy h.0 refl refl h.1
-    meets_so g answer (NeedsPage w) lives_t known h = charged g _ answer (λ made. makes g answer lives_t (subst (λ (x : ℕ). MakesPage old t.0 x g op answer new) known.0 made)) h
-    meets_so g answer (NeedsCopy w) lives_t known h = charged g _ answer (λ made. makes g answer lives_t (subst (λ (x : ℕ). MakesPage old t.0 x g op answer new) known.0 made)) h
-    meets_so g answer (NeedsSwapIn p page block) lives_t known h = charged page.group _ answer (fetches p block page answer known.0 known.1 known.2) h
+    meets_so g answer Transferring lives_t known h = undone t (Virtual v o) op answer reply.Busy h.0 refl refl h.1
+    meets_so g answer (NeedsPage w) lives_t known h = charged t (Virtual v o) op g _ answer (λ made. makes g answer lives_t (subst (λ (x : ℕ). MakesPage old t.0 x g op answer new) known.0 made)) h
+    meets_so g answer (NeedsCopy w) lives_t known h = charged t (Virtual v o) op g _ answer (λ made. makes g answer lives_t (subst (λ (x : ℕ). MakesPage old t.0 x g op answer new) known.0 made)) h
+    meets_so g answer (NeedsSwapIn p page block) lives_t known h = charged t (Virtual v o) op page.group _ answer (fetches p block page answer known.0 known.1 known.2) h
+    meets_so g answer (NeedsRead f q) lives_t known h = absurd known
     meets_so g answer Dangling lives_t known h = absurd h
 
-    -- by whose task it is
-    accesses : (answer : Reply) → TaskStep old (task_at old.tasks t.0) (λ task. MeetStep old t.0 task.group.0 op (meets old t.0 (Virtual v o) op) answer new) answer new → Accessed answer
-    accesses answer step = by_slot (task_at old.tasks t.0) refl step
-      where
-        by_life : (task : Task) (life : Life) → task_at old.tasks t.0 ≡ Some task → task.life ≡ life → LifeStep old life (MeetStep old t.0 task.group.0 op (meets old t.0 (Virtual v o) op) answer new) answer new → Accessed answer
-        by_life task Live known is h = meets_so task.group.0 answer (meets old t.0 (Virtual v o) op) (ap (there_and is_live_task) known ∙ ap is_live_life is) (met old t.0 v o op) h
-        by_life task Exited known is h = absurd h
-        by_life task Killed known is h = undone answer reply.Killed h.0 refl refl h.1
+    accesses : (answer : Reply) → TaskStep old (task_at old.tasks t.0) (λ task. MeetStep old t.0 task.group.0 op (meets old t.0 (Virtual v o) op) answer new) answer new → Accessed t (Virtual v o) op answer
+    accesses answer step = of_live t (Virtual v o) op answer (λ g lives_t h. meets_so g answer (meets old t.0 (Virtual v o) op) lives_t (met old t.0 v o op) h) step
 
-        by_slot : (slot : Option Task) → task_at old.tasks t.0 ≡ slot → TaskStep old slot (λ task. MeetStep old t.0 task.group.0 op (meets old t.0 (Virtual v o) op) answer new) answer new → Accessed answer
-        by_slot None known h = absurd h
-        by_slot (Some task) known h = by_life task task.life known refl h
+  -- of a file
+  module _ (t : TaskId) (f q o : ℕ) (op : Op) where
+    -- it says nothing of a task
+    of_file_says : (op : Op) (answer : Reply) → Silent (event.Access t (File f q o) op) answer
+    of_file_says Read answer t' v' o' = refl
+    of_file_says (Write b) (reply.Done byte hit) t' v' o' = refl
+    of_file_says (Write b) answer t' v' o' = refl
+
+    -- a page in its frame is read or written
+    hit_file : (p frame : ℕ) (page : Page) (op' : Op) (answer : Reply) → page_at old.pages p ≡ Some page → page.residence ≡ Held frame → HitStep old p page frame op' answer new → Accessed t (File f q o) op answer
+    hit_file p frame page Read (reply.Done byte at) there stands h = quiet _ _ h.1 (of_file_says op _) refl
+    hit_file p frame page (Write b) (reply.Done byte at) there stands h =
+        one_page _ _ p _ h.3 h.2 (inl (ap ticket_in there ∙ ap ticket_at stands)) (InFrame frame stands) (of_file_says op _) (gives_none (reply.Done byte at) refl)
+    hit_file p frame page op' answer there stands h = absurd h
+
+    -- a page begins to be read in
+    reads : (g : ℕ) (answer : Reply) → file_page old.pages f q ≡ None → ReadsFile old f q g answer new → Accessed t (File f q o) op answer
+    reads g answer none h =
+        one_page _ answer h.page _ h.fetch.state h.fetch.placed (inl (ap ticket_in h.slot_free))
+        (ItReads
+        (record {
+          task = t;
+          file = f;
+          q = q;
+          offset = o;
+          op = op;
+          frame = h.fetch.frame;
+          ticket = record { 0 = h.fetch.ticket };
+          is = refl;
+          answers = h.fetch.answers;
+          none = none;
+          coming = refl;
+          holds = refl;
+        }))
+        (of_file_says op answer) (gives answer h.fetch.ticket (ap ticket_given h.fetch.answers) h.fetch.ticket_free)
+
+    -- by what it meets
+    meets_file : (g : ℕ) (answer : Reply) (meeting : Meeting) → MetFile old f q meeting → MeetStep old t.0 g op meeting answer new → Accessed t (File f q o) op answer
+    meets_file g answer Unmapped known h = absurd known
+    meets_file g answer (Hits p page frame) known h = hit_file p frame page op answer known.1 known.2 h
+    meets_file g answer Transferring known h = undone t (File f q o) op answer reply.Busy h.0 refl refl h.1
+    meets_file g answer (NeedsPage w) known h = absurd known
+    meets_file g answer (NeedsCopy w) known h = absurd known
+    meets_file g answer (NeedsSwapIn p page block) known h = absurd known
+    meets_file g answer (NeedsRead f' q') known h =
+        charged t (File f q o) op g _ answer
+        (λ begun. reads g answer known.2 (subst (λ (x : ℕ). ReadsFile old x q g answer new) known.0 (subst (λ (x : ℕ). ReadsFile old f' x g answer new) known.1 begun))) h
+    meets_file g answer Dangling known h = absurd h
+
+    accesses_file : (answer : Reply) → TaskStep old (task_at old.tasks t.0) (λ task. MeetStep old t.0 task.group.0 op (meets old t.0 (File f q o) op) answer new) answer new → Accessed t (File f q o) op answer
+    accesses_file answer step = of_live t (File f q o) op answer (λ g lives_t h. meets_file g answer (meets old t.0 (File f q o) op) (met_file old t.0 f q o op) h) step
 
   -- ---- ends of tasks
 
   -- a task is dead, and shows nothing
-  task_ends : (what : Event) (answer : Reply) (t : ℕ) (ended : Life) (counted : List Counted) → Silent what answer → ticket_given answer ≡ None → EndsTask old t ended counted new → Effect old what answer new
+  task_ends : (what : Event) (answer : Reply) (t : ℕ) (ended : Life) (counted : List Counted) → Silent what answer → ticket_given answer ≡ None → EndsTask old t ended counted new → OnTasks old what answer new
   task_ends what answer t ended counted silent none h =
       record {
         pages = pages_still what answer h.pages;
@@ -483,17 +568,17 @@ module _ (old new : State) (alive : AllLive old.page_tables old.tasks) (shows : 
 
   -- an event of a task, which says nothing where the task was killed
   of_task : (what : Event) (answer : Reply) (slot : Option Task) (Live_step : Task → Type 0) → Silent what reply.Killed
-      → ((task : Task) → slot ≡ Some task → is_live_task task ≡ true → Live_step task → Effect old what answer new) → TaskStep old slot Live_step answer new → Effect old what answer new
+      → ((task : Task) → slot ≡ Some task → is_live_task task ≡ true → Live_step task → OnTasks old what answer new) → TaskStep old slot Live_step answer new → OnTasks old what answer new
   of_task what answer None Live_step silent living h = absurd h
   of_task what answer (Some task) Live_step silent living h = by_life task.life refl h
     where
-      by_life : (life : Life) → task.life ≡ life → LifeStep old life (Live_step task) answer new → Effect old what answer new
+      by_life : (life : Life) → task.life ≡ life → LifeStep old life (Live_step task) answer new → OnTasks old what answer new
       by_life Live is h = living task refl (ap is_live_life is) h
       by_life Exited is h = absurd h
       by_life Killed is h = quiet what answer h.1 (λ t v o. ap (λ (a : Reply). says what a (InTask t v o)) h.0 ∙ silent t v o) (ap ticket_given h.0)
 
   -- it ends by itself
-  exits : (t : TaskId) (answer : Reply) → TaskStep old (task_at old.tasks t.0) (λ task. Exits old t.0 answer new) answer new → Effect old (event.Exit t) answer new
+  exits : (t : TaskId) (answer : Reply) → TaskStep old (task_at old.tasks t.0) (λ task. Exits old t.0 answer new) answer new → OnTasks old (event.Exit t) answer new
   exits t answer step =
       of_task (event.Exit t) answer (task_at old.tasks t.0) _ (λ t v o. refl)
       (λ task there lives_on h. task_ends (event.Exit t) answer t.0 Exited old.counted (λ t' v o. refl) (ap ticket_given h.0) h.1) step
@@ -501,7 +586,7 @@ module _ (old new : State) (alive : AllLive old.page_tables old.tasks) (shows : 
   -- ---- sharing and moving
 
   -- a child shows what its parent shows, and its bytes were its parent's
-  forks : (t child : TaskId) (answer : Reply) → TaskStep old (task_at old.tasks t.0) (λ task. Forks old t.0 child.0 task answer new) answer new → Effect old (event.Fork t child) answer new
+  forks : (t child : TaskId) (answer : Reply) → TaskStep old (task_at old.tasks t.0) (λ task. Forks old t.0 child.0 task answer new) answer new → OnTasks old (event.Fork t child) answer new
   forks t child answer step = of_task (event.Fork t child) answer (task_at old.tasks t.0) _ (λ t v o. refl) living step
     where
       -- what is said of the child's bytes, and of nobody else's
@@ -512,7 +597,7 @@ module _ (old new : State) (alive : AllLive old.page_tables old.tasks) (shows : 
       of_other answer u v o is other =
           ap (λ (a : Reply). says (event.Fork t child) a (InTask u v o)) is ∙ ap (λ (b : Bool). says_if b (As (InTask t.0 v o))) (ne_eqb child.0 u (λ e. other (sym e)))
 
-      living : (task : Task) → task_at old.tasks t.0 ≡ Some task → is_live_task task ≡ true → Forks old t.0 child.0 task answer new → Effect old (event.Fork t child) answer new
+      living : (task : Task) → task_at old.tasks t.0 ≡ Some task → is_live_task task ≡ true → Forks old t.0 child.0 task answer new → OnTasks old (event.Fork t child) answer new
       living task there lives_on h =
           record {
             pages = pages_same (event.Fork t child) answer (ap (λ (s : State). s.pages) h.3);
@@ -539,7 +624,7 @@ module _ (old new : State) (alive : AllLive old.page_tables old.tasks) (shows : 
               ]
 
   -- a place shows nothing any more
-  frees : (t : TaskId) (v : ℕ) (answer : Reply) → TaskStep old (task_at old.tasks t.0) (λ task. Frees old t.0 v answer new) answer new → Effect old (event.Free t v) answer new
+  frees : (t : TaskId) (v : ℕ) (answer : Reply) → TaskStep old (task_at old.tasks t.0) (λ task. Frees old t.0 v answer new) answer new → OnTasks old (event.Free t v) answer new
   frees t v answer step = of_task (event.Free t v) answer (task_at old.tasks t.0) _ (λ t v o. refl) living step
     where
       elsewhere : (answer : Reply) (u w o : ℕ) → answer ≡ reply.Ok → ((t.0 == u) && (v == w)) ≡ false → says (event.Free t v) answer (InTask u w o) ≡ Nothing
@@ -550,7 +635,7 @@ module _ (old new : State) (alive : AllLive old.page_tables old.tasks) (shows : 
           by_tests true false e = refl
           by_tests false b e = refl
 
-      living : (task : Task) → task_at old.tasks t.0 ≡ Some task → is_live_task task ≡ true → Frees old t.0 v answer new → Effect old (event.Free t v) answer new
+      living : (task : Task) → task_at old.tasks t.0 ≡ Some task → is_live_task task ≡ true → Frees old t.0 v answer new → OnTasks old (event.Free t v) answer new
       living task there lives_on h =
           record {
             pages = pages_still (event.Free t v) answer h.pages;
@@ -569,7 +654,7 @@ module _ (old new : State) (alive : AllLive old.page_tables old.tasks) (shows : 
               (was_so (event.Free t v) answer u w p was (λ o. elsewhere answer u w o h.answers differ), ap (λ (s : State). lives s.tasks u) h.state ∙ alive u w p was))
 
   -- a task is in another group
-  attaches : (t : TaskId) (g : GroupId) → Attaches old t.0 g.0 new → Effect old (event.Attach t g) reply.Ok new
+  attaches : (t : TaskId) (g : GroupId) → Attaches old t.0 g.0 new → OnTasks old (event.Attach t g) reply.Ok new
   attaches t g h =
       record {
         pages = pages_same (event.Attach t g) reply.Ok (ap (λ (s : State). s.pages) h.1);
@@ -586,51 +671,51 @@ module _ (old new : State) (alive : AllLive old.page_tables old.tasks) (shows : 
   -- the event takes a page, and says nothing
   module _ (what : Event) (silent : (answer : Reply) → Silent what answer) where
     -- a page begins to be written out
-    sent : (p frame block : ℕ) (page : Page) (counted : List Counted) (answer : Reply) → page_at old.pages p ≡ Some page → page.residence ≡ Held frame → StartsLeave old p page frame block counted answer new → Effect old what answer new
+    sent : (p frame block : ℕ) (page : Page) (counted : List Counted) (answer : Reply) → page_at old.pages p ≡ Some page → page.residence ≡ Held frame → StartsLeave old p page frame block counted answer new → OnTasks old what answer new
     sent p frame block page counted answer there held h =
         one_page what answer p _ h.state h.placed (inl (ap ticket_in there ∙ ap ticket_at held))
         (ItLeaves (record { frame = frame; block = block; ticket = record { 0 = h.ticket }; answers = h.answers; going = refl })) (silent answer)
         (gives answer h.ticket (ap ticket_given h.answers) h.ticket_free)
 
     -- or is gone at once
-    dropped : (p frame : ℕ) (page : Page) (counted : List Counted) (answer : Reply) → page_at old.pages p ≡ Some page → page.residence ≡ Held frame → Drops old p counted answer new → Effect old what answer new
+    dropped : (p frame : ℕ) (page : Page) (counted : List Counted) (answer : Reply) → page_at old.pages p ≡ Some page → page.residence ≡ Held frame → Drops old p counted answer new → OnTasks old what answer new
     dropped p frame page counted answer there held h =
         one_page what answer p None h.state h.gone (inl (ap ticket_in there ∙ ap ticket_at held)) tt (silent answer) (gives_none answer (ap ticket_given h.answers))
 
     -- by what the page holds
-    leaves_by : (p frame : ℕ) (page : Page) (content : Content) (answer : Reply) → page_at old.pages p ≡ Some page → page.residence ≡ Held frame → LeavesBy old p page content frame old.counted answer new → Effect old what answer new
+    leaves_by : (p frame : ℕ) (page : Page) (content : Content) (answer : Reply) → page_at old.pages p ≡ Some page → page.residence ≡ Held frame → LeavesBy old p page content frame old.counted answer new → OnTasks old what answer new
     leaves_by p frame page Memory answer there held h = sent p frame h.block page old.counted answer there held h.leave
     leaves_by p frame page (OfFile file q) answer there held h = by_either page.dirty (λ k. sent p frame _ page old.counted answer there held k) (λ k. dropped p frame page old.counted answer there held k) h
 
     -- by where it stands
-    takes : (target : ℕ) (answer : Reply) → Takes old target answer new → Effect old what answer new
+    takes : (target : ℕ) (answer : Reply) → Takes old target answer new → OnTasks old what answer new
     takes target answer h = by_residence h.page.residence refl h.leaves
       where
-        by_residence : (r : Residence) → h.page.residence ≡ r → LeavesFrom old h.p h.page r old.counted answer new → Effect old what answer new
+        by_residence : (r : Residence) → h.page.residence ≡ r → LeavesFrom old h.p h.page r old.counted answer new → OnTasks old what answer new
         by_residence (Held frame) held k = leaves_by h.p frame h.page h.page.content answer h.there held k
         by_residence (Coming frame block ticket) held k = absurd k
         by_residence (Going frame block ticket) held k = absurd k
         by_residence (Away block) held k = absurd k
 
     -- a page is taken, or none can be
-    reclaims : (target : ℕ) (Idle : Type 0) (answer : Reply) → (Idle → Effect old what answer new) → ReclaimStep old target Idle answer new → Effect old what answer new
+    reclaims : (target : ℕ) (Idle : Type 0) (answer : Reply) → (Idle → OnTasks old what answer new) → ReclaimStep old target Idle answer new → OnTasks old what answer new
     reclaims target Idle answer idle step =
         by_either (has_takeable old target) (takes target answer) (λ k. by_either (has_transfer old target) (λ w. quiet what answer w.1 (silent answer) (ap ticket_given w.0)) idle k) step
 
   -- a task is killed, or there is none
-  kills : (why : Cause) (limit : ℕ) (answer : Reply) → KillStep old limit answer new → Effect old (event.Relieve why) answer new
+  kills : (why : Cause) (limit : ℕ) (answer : Reply) → KillStep old limit answer new → OnTasks old (event.Relieve why) answer new
   kills why limit (reply.KilledTask t) h = task_ends (event.Relieve why) (reply.KilledTask t) t.0 Killed _ (λ t' v o. refl) refl h.1
   kills why limit reply.NoVictim h = quiet (event.Relieve why) reply.NoVictim h.1 (λ t v o. refl) refl
   kills why limit answer h = absurd h
 
   -- where the cause stands
-  relieves : (why : Cause) (answer : Reply) → RelieveStep old why answer new → Effect old (event.Relieve why) answer new
+  relieves : (why : Cause) (answer : Reply) → RelieveStep old why answer new → OnTasks old (event.Relieve why) answer new
   relieves why answer step =
       by_either (stands old why) (reclaims (event.Relieve why) (λ any t v o. refl) (target_of why) _ answer (kills why (target_of why) answer))
       (λ r. quiet (event.Relieve why) answer r.1 (λ t v o. refl) (ap ticket_given r.0)) step
 
   -- as it is asked for
-  takes_one : (g : GroupId) (answer : Reply) → ReclaimOneStep old g.0 answer new → Effect old (event.ReclaimOne g) answer new
+  takes_one : (g : GroupId) (answer : Reply) → ReclaimOneStep old g.0 answer new → OnTasks old (event.ReclaimOne g) answer new
   takes_one g answer step = reclaims (event.ReclaimOne g) (λ any t v o. refl) g.0 _ answer (λ n. quiet (event.ReclaimOne g) answer n.1 (λ t v o. refl) (ap ticket_given n.0)) step
 
   -- ---- ends of transfers
@@ -645,18 +730,18 @@ module _ (old new : State) (alive : AllLive old.page_tables old.tasks) (shows : 
         by_direction Out = refl
 
     -- the page is gone, or stands there
-    stands_so : (p : ℕ) (page now : Page) (to : Option Page) → Settled old.page_tables p page to now → Stood old what answer p now.residence → Stands what answer p to
+    stands_so : (p : ℕ) (page now : Page) (to : Option Page) → Settled old.page_tables p page to now → Stood old what answer p now → Stands what answer p to
     stands_so p page now to (inl gone) stood = subst (Stands what answer p) (sym gone.0) tt
     stands_so p page now to (inr is) stood = subst (Stands what answer p) (sym is.0) stood
 
     -- the transfer ends in the frame
-    lands : EndsTransfer old (λ frame block. flight direction frame block ticket.0) in_frame answer new → Effect old what answer new
+    lands : EndsTransfer old (λ frame block. flight direction frame block ticket.0) in_frame answer new → OnTasks old what answer new
     lands h =
         one_page what answer h.p _ h.state h.placed (inr (ap ticket_in h.there ∙ ap ticket_at h.moves ∙ under h.frame h.block))
         (stands_so h.p h.page _ _ (in_frame-cases old.page_tables h.p h.page h.frame h.block) (InFrame h.frame refl)) silent (gives_none answer (ap ticket_given h.answers))
 
     -- or on the block
-    lies : what ≡ end_on_block direction ticket → EndsTransfer old (λ frame block. flight direction frame block ticket.0) on_block answer new → Effect old what answer new
+    lies : what ≡ end_on_block direction ticket → EndsTransfer old (λ frame block. flight direction frame block ticket.0) on_block answer new → OnTasks old what answer new
     lies is h =
         one_page what answer h.p _ h.state h.placed (inr (ap ticket_in h.there ∙ ap ticket_at h.moves ∙ under h.frame h.block))
         (stands_so h.p h.page _ _ (on_block-cases old.page_tables h.p h.page h.frame h.block)
@@ -666,14 +751,14 @@ module _ (old new : State) (alive : AllLive old.page_tables old.tasks) (shows : 
   -- ---- groups that go
 
   -- every page stands where it did, and nothing is said
-  removes : (g : GroupId) → Removes old g.0 new → Effect old (event.Rmdir g) reply.Ok new
+  removes : (g : GroupId) → Removes old g.0 new → OnTasks old (event.Rmdir g) reply.Ok new
   removes g h =
       record {
         pages = record {
           stays = λ p n page there ticket other. (regrouped g.0 h.parent page, h.pages p ∙ ap (option_map (regrouped g.0 h.parent)) there, refl);
           stood = λ p page there.
               let was = regrouped-was g.0 h.parent (page_at old.pages p) page (sym (h.pages p) ∙ there) in
-              ItStays (record { before = was.0; there = was.1; same = ap (λ (x : Page). x.residence) was.2 });
+              ItStays (record { before = was.0; there = was.1; same = ap (λ (x : Page). x.residence) was.2; content = ap (λ (x : Page). x.content) was.2 });
         };
         places = places_same (event.Rmdir g) reply.Ok (ap (λ (s : State). s.page_tables) h.state) (ap (λ (s : State). s.tasks) h.state) (λ t v o. refl);
         fresh = gives_none reply.Ok refl;
@@ -683,7 +768,7 @@ module _ (old new : State) (alive : AllLive old.page_tables old.tasks) (shows : 
 
   -- a task begins, and shows nothing
   spawns : (t : TaskId) (g : GroupId) → SetsTask old.tasks t.0 g.0 Live new.tasks → ShowsNothing old.page_tables new.page_tables t.0 → new ≡ record old { tasks = new.tasks; page_tables = new.page_tables }
-      → Effect old (event.Spawn t g) reply.Ok new
+      → OnTasks old (event.Spawn t g) reply.Ok new
   spawns t g sets shown state =
       record {
         pages = pages_same (event.Spawn t g) reply.Ok (ap (λ (s : State). s.pages) state);
@@ -692,21 +777,27 @@ module _ (old new : State) (alive : AllLive old.page_tables old.tasks) (shows : 
       }
 
   -- what each step does
-  pub step_effect : (what : Event) (answer : Reply) → refusal old what ≡ None → Step old what answer new → Effect old what answer new
-  step_effect (event.Access t (Virtual v o) op) answer none h = accesses t v o op answer h
-  step_effect (event.Arrived ticket bytes) answer none h = lands (event.Arrived ticket bytes) answer In ticket refl (λ t v o. refl) h
-  step_effect (event.FetchFailed ticket) answer none h = lies (event.FetchFailed ticket) answer In ticket refl (λ t v o. refl) refl h
-  step_effect (event.Left ticket) answer none h = lies (event.Left ticket) answer Out ticket refl (λ t v o. refl) refl h
-  step_effect (event.LeaveFailed ticket) answer none h = lands (event.LeaveFailed ticket) answer Out ticket refl (λ t v o. refl) h
-  step_effect (event.Relieve why) answer none h = relieves why answer h
-  step_effect (event.ReclaimOne g) answer none h = takes_one g answer h
-  step_effect (event.Spawn t g) reply.Ok none h = spawns t g h.0 h.1 h.2
-  step_effect (event.Fork t child) answer none h = forks t child answer h
-  step_effect (event.Exit t) answer none h = exits t answer h
-  step_effect (event.Free t v) answer none h = frees t v answer h
-  step_effect (event.Attach t g) reply.Ok none h = attaches t g h
-  step_effect (event.Mkdir path) reply.Ok none h = quiet (event.Mkdir path) reply.Ok h (λ t v o. refl) refl
-  step_effect (event.Rmdir g) reply.Ok none h = removes g h
-  step_effect (event.Set g setting) reply.Ok none h = quiet (event.Set g setting) reply.Ok h (λ t v o. refl) refl
-  step_effect (event.Show what) (reply.Shown numbers) none h = quiet (event.Show what) (reply.Shown numbers) h.1 (λ t v o. refl) refl
-  step_effect what answer none h = absurd h
+  step_on_tasks : (what : Event) (answer : Reply) → refusal old what ≡ None → Step old what answer new → OnTasks old what answer new
+  step_on_tasks (event.Access t (Virtual v o) op) answer none h = accesses t v o op answer h
+  step_on_tasks (event.Access t (File f q o) op) answer none h = accesses_file t f q o op answer h
+  step_on_tasks (event.Arrived ticket bytes) answer none h = lands (event.Arrived ticket bytes) answer In ticket refl (λ t v o. refl) h
+  step_on_tasks (event.FetchFailed ticket) answer none h = lies (event.FetchFailed ticket) answer In ticket refl (λ t v o. refl) refl h
+  step_on_tasks (event.Left ticket) answer none h = lies (event.Left ticket) answer Out ticket refl (λ t v o. refl) refl h
+  step_on_tasks (event.LeaveFailed ticket) answer none h = lands (event.LeaveFailed ticket) answer Out ticket refl (λ t v o. refl) h
+  step_on_tasks (event.Relieve why) answer none h = relieves why answer h
+  step_on_tasks (event.ReclaimOne g) answer none h = takes_one g answer h
+  step_on_tasks (event.Spawn t g) reply.Ok none h = spawns t g h.0 h.1 h.2
+  step_on_tasks (event.Fork t child) answer none h = forks t child answer h
+  step_on_tasks (event.Exit t) answer none h = exits t answer h
+  step_on_tasks (event.Free t v) answer none h = frees t v answer h
+  step_on_tasks (event.Attach t g) reply.Ok none h = attaches t g h
+  step_on_tasks (event.Mkdir path) reply.Ok none h = quiet (event.Mkdir path) reply.Ok h (λ t v o. refl) refl
+  step_on_tasks (event.Rmdir g) reply.Ok none h = removes g h
+  step_on_tasks (event.Set g setting) reply.Ok none h = quiet (event.Set g setting) reply.Ok h (λ t v o. refl) refl
+  step_on_tasks (event.Show what) (reply.Shown numbers) none h = quiet (event.Show what) (reply.Shown numbers) h.1 (λ t v o. refl) refl
+  step_on_tasks what answer none h = absurd h
+
+-- what each step does
+pub step_effect : (old new : State) → AllLive old.page_tables old.tasks → ShowsPages old → AreFiled old → (what : Event) (answer : Reply) → refusal old what ≡ None → Step old what answer new → Effect old what answer new
+step_effect old new alive shows files what answer none step =
+    let done = step_on_tasks old new alive shows what answer none step in record { pages = done.pages; places = done.places; files = files_go old new what answer files step; fresh = done.fresh }

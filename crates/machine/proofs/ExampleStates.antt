@@ -1,5 +1,5 @@
 -- The groups, tasks, pages and states that the examples are about.
-use Rattle.std.proofs.Common.{ℕ, ◌-◌, Bool, true, false, List, [], ◌∷◌, Option, Some, None}
+use Rattle.std.proofs.Common.{ℕ, ◌+◌, ◌*◌, ◌-◌, Bool, true, false, List, [], ◌∷◌, Option, Some, None}
 use Rattle.std.specs.Prelude.{codes}
 use Rattle.machine.specs.declared.amount.Amount.TheVariants as amount
 use Rattle.machine.specs.declared.id.GroupId.{GroupId}
@@ -16,6 +16,7 @@ use Rattle.machine.specs.Tasks.{Tasks, PageTables, task_of}
 use Rattle.machine.specs.State.{Opening, State}
 use Rattle.machine.specs.Generations.{Listed, Gens, new_gens}
 use Rattle.machine.specs.Lists.{Order}
+use Rattle.machine.specs.History.{Spot, at_first}
 
 -- ---- numbers
 
@@ -88,6 +89,16 @@ busy = record {
   page_tables = tables;
   counted = [];
 }
+
+-- ---- bytes
+
+-- what files have before the run: of each byte of the first pages another
+abbrev pub in_files : ℕ → ℕ → ℕ → ℕ
+in_files f q o = 1 + 100 * f + 10 * q + o
+
+-- what bytes are at first
+abbrev pub first_bytes : Spot → ℕ
+first_bytes spot = at_first in_files spot
 
 -- ---- lists
 

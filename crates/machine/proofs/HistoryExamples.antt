@@ -11,10 +11,10 @@ use Rattle.machine.specs.Counts.{over_at}
 use Rattle.machine.specs.Protection.{effective_along}
 use Rattle.machine.specs.State.{State, first_state}
 use Rattle.machine.specs.Access.{page_size}
-use Rattle.machine.specs.History.{InTask, at_first, last, Right, Honest, fetch_of, taker, Numbered}
+use Rattle.machine.specs.History.{InTask, last, Right, Honest, fetch_of, taker, Numbered}
 use Rattle.machine.specs.Call.{knows_pass, need, is_full_for}
 use Rattle.machine.specs.Legal.{Extends}
-use Rattle.machine.proofs.ExampleStates.{group, task, frame, ticket}
+use Rattle.machine.proofs.ExampleStates.{first_bytes, group, task, frame, ticket}
 use Rattle.machine.proofs.LegalExamples.{entry, access, bytes, h2, h3, h4, h5, h6, h7, small, with_page, made, going, away, coming, back}
 
 -- ---- what is not legal
@@ -34,48 +34,48 @@ stranger after h = let e : false ≡ true = h.known in cc
 -- ---- bytes
 
 -- the byte that was written last, while the page went out and came in again
-last-written : last at_first h6 (InTask 1 2 1) ≡ 5
+last-written : last first_bytes h6 (InTask 1 2 1) ≡ 5
 last-written = refl
 
 -- the byte beside it was not written
-last-other_byte : last at_first h6 (InTask 1 2 0) ≡ 0
+last-other_byte : last first_bytes h6 (InTask 1 2 0) ≡ 0
 last-other_byte = refl
 
 -- of two writes, the later
-last-of_two : last at_first (entry 0 3 (access (Write 8)) (reply.Done 8 None) ∷ h2) (InTask 1 2 1) ≡ 8
+last-of_two : last first_bytes (entry 0 3 (access (Write 8)) (reply.Done 8 None) ∷ h2) (InTask 1 2 1) ≡ 8
 last-of_two = refl
 
 -- a write that was not done says nothing
-last-over : last at_first (entry 0 3 (access (Write 8)) (reply.Over (group 0)) ∷ h2) (InTask 1 2 1) ≡ 5
+last-over : last first_bytes (entry 0 3 (access (Write 8)) (reply.Over (group 0)) ∷ h2) (InTask 1 2 1) ≡ 5
 last-over = refl
 
 -- nor does a kill
-last-killed : last at_first (entry 1 1 (event.Relieve cause.Frame) (reply.KilledTask (task 1)) ∷ h2) (InTask 1 2 1) ≡ 5
+last-killed : last first_bytes (entry 1 1 (event.Relieve cause.Frame) (reply.KilledTask (task 1)) ∷ h2) (InTask 1 2 1) ≡ 5
 last-killed = refl
 
 -- a task begins with zeros, whatever was said of its number before
-last-spawned : last at_first (entry 0 3 (event.Spawn (task 1) (group 0)) reply.Ok ∷ h2) (InTask 1 2 1) ≡ 0
+last-spawned : last first_bytes (entry 0 3 (event.Spawn (task 1) (group 0)) reply.Ok ∷ h2) (InTask 1 2 1) ≡ 0
 last-spawned = refl
 
 -- each read gave what was written last
-right : Right at_first h7
+right : Right first_bytes h7
 right = (((((((tt, tt), tt), tt), tt), tt), tt), refl)
 
 -- the device brought what was written last
-honest : Honest at_first h7
+honest : Honest first_bytes h7
 honest = (((((((tt, tt), tt), tt), tt), tt), brought), tt)
   where
-    brought : (o : ℕ) → o < page_size → slice_index bytes o ≡ last at_first h5 (InTask 1 2 o)
+    brought : (o : ℕ) → o < page_size → slice_index bytes o ≡ last first_bytes h5 (InTask 1 2 o)
     brought zero within = refl
     brought (suc zero) within = refl
     brought (suc (suc o)) within = let e : (1 == suc (suc o)) ≡ false = ne_eqb 1 (suc (suc o)) (λ e. omega (arith, e)) in rw e refl
 
 -- a page of zeros would not have been
-honest-not : Honest at_first (entry 0 4 (event.Arrived (ticket 5) []) reply.Ok ∷ h5) → ⊥
+honest-not : Honest first_bytes (entry 0 4 (event.Arrived (ticket 5) []) reply.Ok ∷ h5) → ⊥
 honest-not h = absurd (let e : 0 ≡ 5 = h.1 1 (omega arith) in omega (arith, e))
 
 -- nor is an arrival that no read-in began
-honest-not_begun : Honest at_first (entry 0 3 (event.Arrived (ticket 5) bytes) reply.Ok ∷ h4) → ⊥
+honest-not_begun : Honest first_bytes (entry 0 3 (event.Arrived (ticket 5) bytes) reply.Ok ∷ h4) → ⊥
 honest-not_begun h = h.1
 
 -- ---- tickets

@@ -1,6 +1,8 @@
 pub mod Values
 pub mod TreeLemmas
 pub mod SlotLemmas
+pub mod FileLemmas
+pub mod FileSteps
 pub mod MappingLemmas
 pub mod CursorLemmas
 pub mod MoveLemmas
@@ -25,6 +27,7 @@ pub mod StepLemmas
 mod ExampleStates
 mod TreeExamples
 mod AccessExamples
+mod FileExamples
 mod ProtectionExamples
 mod ReclaimExamples
 mod StepExamples
@@ -33,13 +36,16 @@ mod TurnExamples
 mod ReliefExamples
 mod LegalExamples
 mod HistoryExamples
+mod FileHistoryExamples
 mod SharingExamples
 mod SharedHistoryExamples
 mod RemovalExamples
 mod RemovalHistoryExamples
+mod ConfigExamples
 mod ControlExamples
 mod GenerationExamples
 mod HeldExamples
 mod UsedExamples
 mod ListedExamples
+mod FileListedExamples
 mod MarkedExamples

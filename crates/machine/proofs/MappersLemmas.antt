@@ -25,7 +25,7 @@ use Rattle.machine.proofs.Values.{some_inj, unlike}
 use Rattle.machine.proofs.TreeLemmas.{eq_cases}
 use Rattle.machine.proofs.MappingLemmas.{mapped_at-mappers, mappers-shows, shown_once}
 use Rattle.machine.proofs.RemovedLemmas.{regrouped-was}
-use Rattle.machine.proofs.Did.{Did, Kept, Made, Moved, Dropped, Ended, Spawned, Forked, Freed, Attached, Removed, Grown, step_did}
+use Rattle.machine.proofs.Did.{Did, Kept, Made, Moved, Cached, Dropped, Ended, Spawned, Forked, Freed, Attached, Removed, Grown, step_did}
 use Rattle.machine.proofs.Effects.{AllLive}
 use Rattle.machine.proofs.SharedLemmas.{legal-live}
 
@@ -171,7 +171,9 @@ module _ (old new : State) (alive : AllLive old.page_tables old.tasks) (mapped :
       here : (after : Page) → Some (record { content = page.content; group = page.group; dirty = dirty; residence = now }) ≡ Some after → is_anon after.content ≡ true → in_transfer_at after.residence ≡ false
           → 1 ≤ mappers old.page_tables p
       here after is memory settled = by_flight (in_transfer_at page.residence) refl (ap (λ (x : Page). is_anon x.content) (some_inj is) ∙ memory)
-  did_mapped what answer none (Dropped p page counted out there may_go gone e) = one_mapped p None gone (ap (λ (s : State). s.page_tables) e) (λ after is memory settled. cc)
+  did_mapped what answer none (Cached t f q p frame ticket access out lives_t unread within free unused fresh filed placed e) =
+      one_mapped p _ placed (ap (λ (s : State). s.page_tables) e) (λ after is memory settled. absurd (let file : true ≡ false = ap (λ (x : Page). in_transfer_at x.residence) (some_inj is) ∙ settled in cc))
+  did_mapped what answer none (Dropped p page counted out there may_go went gone e) = one_mapped p None gone (ap (λ (s : State). s.page_tables) e) (λ after is memory settled. cc)
   did_mapped what answer none (Ended t ending counted out dead ends) = stilled ends.pages
   did_mapped what answer none (Spawned t g is sets shown e) =
       tables_grow t.0 (spawn_unused old t.0 g.0 (sym (ap (refusal old) is) ∙ none)) shown.others (ap (λ (s : State). s.pages) e)

@@ -12,7 +12,7 @@ use Rattle.machine.specs.State.{State}
 use Rattle.machine.specs.Refusals.{refusal}
 use Rattle.machine.specs.Step.{new_node, Step}
 use Rattle.machine.proofs.Values.{unlike}
-use Rattle.machine.proofs.Did.{changes_groups, Did, Kept, Made, Moved, Dropped, Ended, Spawned, Forked, Freed, Attached, Removed, Grown, step_did}
+use Rattle.machine.proofs.Did.{changes_groups, Did, Kept, Made, Moved, Cached, Dropped, Ended, Spawned, Forked, Freed, Attached, Removed, Grown, step_did}
 use Rattle.machine.specs.Call.{Past, Caller, Refuses, Answered, JudgedBy, Called, knows_pass, is_trace_full}
 
 -- the groups after an event that nothing refuses
@@ -29,7 +29,8 @@ step_opening old what answer new step = by_case (step_did old new what answer st
     by_case (Kept limits counted e) = ap (λ (s : State). s.opening) e
     by_case (Made t v p frame access out alive shared within free unused placed shown e) = ap (λ (s : State). s.opening) e
     by_case (Moved p page dirty now counted there placed moves mapped e) = ap (λ (s : State). s.opening) e
-    by_case (Dropped p page counted out there may_go gone e) = ap (λ (s : State). s.opening) e
+    by_case (Cached t f q p frame ticket access out alive unread within free unused fresh filed placed e) = ap (λ (s : State). s.opening) e
+    by_case (Dropped p page counted out there may_go went gone e) = ap (λ (s : State). s.opening) e
     by_case (Ended t ending counted out dead ends) = ap (λ (s : State). s.opening) ends.state
     by_case (Spawned t g is sets shown e) = ap (λ (s : State). s.opening) e
     by_case (Forked t child is out alive sets copies e) = ap (λ (s : State). s.opening) e
@@ -42,7 +43,8 @@ same_tree : (old new : State) (what : Event) (answer : Reply) → changes_groups
 same_tree old new what answer other (Kept limits counted e) = ap (λ (s : State). s.tree) e
 same_tree old new what answer other (Made t v p frame access out alive shared within free unused placed shown e) = ap (λ (s : State). s.tree) e
 same_tree old new what answer other (Moved p page dirty now counted there placed moves mapped e) = ap (λ (s : State). s.tree) e
-same_tree old new what answer other (Dropped p page counted out there may_go gone e) = ap (λ (s : State). s.tree) e
+same_tree old new what answer other (Cached t f q p frame ticket access out alive unread within free unused fresh filed placed e) = ap (λ (s : State). s.tree) e
+same_tree old new what answer other (Dropped p page counted out there may_go went gone e) = ap (λ (s : State). s.tree) e
 same_tree old new what answer other (Ended t ending counted out dead ends) = ap (λ (s : State). s.tree) ends.state
 same_tree old new what answer other (Spawned t g is sets shown e) = ap (λ (s : State). s.tree) e
 same_tree old new what answer other (Forked t child is out alive sets copies e) = ap (λ (s : State). s.tree) e

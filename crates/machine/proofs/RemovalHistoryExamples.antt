@@ -19,9 +19,9 @@ use Rattle.machine.specs.Protection.{effective_along}
 use Rattle.machine.specs.State.{State, first_state, usage}
 use Rattle.machine.specs.Access.{page_size}
 use Rattle.machine.specs.Step.{regrouped}
-use Rattle.machine.specs.History.{InTask, at_first, last, Right, Honest, entries_by, Numbered}
+use Rattle.machine.specs.History.{InTask, last, Right, Honest, entries_by, Numbered}
 use Rattle.machine.specs.Legal.{Extends, Legal}
-use Rattle.machine.proofs.ExampleStates.{group, task, frame, ticket, shows, below, memory}
+use Rattle.machine.proofs.ExampleStates.{first_bytes, group, task, frame, ticket, shows, below, memory}
 use Rattle.machine.proofs.LegalExamples.{entry, access, bytes, small, made, going, away, coming, back}
 
 -- ---- the history
@@ -270,18 +270,18 @@ numbered = ((((((((((((tt, refl), refl), refl), refl), refl), refl), refl), refl
 -- ---- bytes
 
 -- the byte that the task wrote, through two removals
-last-written : last at_first h12 (InTask 1 2 1) ≡ 5
+last-written : last first_bytes h12 (InTask 1 2 1) ≡ 5
 last-written = refl
 
 -- each read gave what was written last
-right : Right at_first h12
+right : Right first_bytes h12
 right = ((((((((((((tt, tt), tt), tt), tt), tt), tt), tt), tt), tt), tt), refl), tt)
 
 -- and the device brought it
-honest : Honest at_first h12
+honest : Honest first_bytes h12
 honest = ((((((((((((tt, tt), tt), tt), tt), tt), tt), tt), tt), tt), brought), tt), tt)
   where
-    brought : (o : ℕ) → o < page_size → slice_index bytes o ≡ last at_first h9 (InTask 1 2 o)
+    brought : (o : ℕ) → o < page_size → slice_index bytes o ≡ last first_bytes h9 (InTask 1 2 o)
     brought zero within = refl
     brought (suc zero) within = refl
     brought (suc (suc o)) within = let e : (1 == suc (suc o)) ≡ false = ne_eqb 1 (suc (suc o)) (λ e. omega (arith, e)) in rw e refl

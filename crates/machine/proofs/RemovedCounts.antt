@@ -52,10 +52,10 @@ module _ (tree : List Node) (falls : IsTree tree) (above : (g p : ℕ) → is_li
       by_own n a g less live (live-above n a) (a == g) refl (ap (λ (b : Bool). b) (sym (under_at-step tree falls a g)) ∙ is)
 
 -- so a group that is not live has no page, nor has any group below it
-pub usage-nobody : (swap : ℕ) (s : State) (g : ℕ) → IsSound swap s.pages s.tasks s.tree → is_live s.tree g ≡ false → usage s g ≡ 0
-usage-nobody swap s g sound dead = count_there-none (is_charged s.tree g) s.pages (λ p. by_slot (page_at s.pages p) (sound.fits p))
+pub usage-nobody : (swap : ℕ) (files : List ℕ) (s : State) (g : ℕ) → IsSound swap files s.pages s.tasks s.tree → is_live s.tree g ≡ false → usage s g ≡ 0
+usage-nobody swap files s g sound dead = count_there-none (is_charged s.tree g) s.pages (λ p. by_slot (page_at s.pages p) (sound.fits p))
   where
-    by_slot : (slot : Option Page) → IfSome slot (IsFit swap s.tree) → there_and (is_charged s.tree g) slot ≡ false
+    by_slot : (slot : Option Page) → IfSome slot (IsFit swap files s.tree) → there_and (is_charged s.tree g) slot ≡ false
     by_slot None fit = refl
     by_slot (Some page) fit = by_test (has_frame page && under s.tree g page.group) refl
       where

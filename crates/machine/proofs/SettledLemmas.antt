@@ -13,7 +13,7 @@ use Rattle.machine.specs.declared.event.Cause.{Cause}
 use Rattle.machine.specs.declared.event.Op.{Op}
 use Rattle.machine.specs.declared.event.Op.TheVariants.{Read, Write}
 use Rattle.machine.specs.declared.event.Place.{Place}
-use Rattle.machine.specs.declared.event.Place.TheVariants.{Virtual}
+use Rattle.machine.specs.declared.event.Place.TheVariants.{Virtual, File}
 use Rattle.machine.specs.declared.event.Event.{Event}
 use Rattle.machine.specs.declared.event.Event.TheVariants as event
 use Rattle.machine.specs.declared.refusal.Refusal.{Refusal}
@@ -25,17 +25,17 @@ use Rattle.machine.specs.Tree.{Node}
 use Rattle.machine.specs.Pages.{Content, Memory, OfFile, Residence, Held, Coming, Going, Away, Page, page_at, is_anon, is_held, is_held_in, home_block}
 use Rattle.machine.specs.Tasks.{Tasks, PageTables, task_at, size_of}
 use Rattle.machine.specs.State.{State, is_swap_free}
-use Rattle.machine.specs.Access.{Meeting, Unmapped, Hits, Transferring, NeedsPage, NeedsCopy, NeedsSwapIn, Dangling, meets, meets_mapped}
+use Rattle.machine.specs.Access.{Meeting, Unmapped, Hits, Transferring, NeedsPage, NeedsCopy, NeedsSwapIn, NeedsRead, Dangling, meets, meets_mapped}
 use Rattle.machine.specs.Reclaim.{has_takeable, has_transfer, stands, target_of}
 use Rattle.machine.specs.Victim.{is_candidate, is_worse, IsWorst}
 use Rattle.machine.specs.Eviction.{Picks}
 use Rattle.machine.specs.Lists.{HeldLists, Order, served, seen_of, PicksOf, TakesNext, Orders}
-use Rattle.machine.specs.Step.{ChargeStep, MakesPage, StartsFetch, HitStep, UnmappedStep, MeetStep, LifeStep, TaskStep, Takes, StartsLeave, Drops, LeavesBy, LeavesFrom, ReclaimStep, KillStep, EndsTransfer, Step}
+use Rattle.machine.specs.Step.{ChargeStep, MakesPage, StartsFetch, ReadsFile, HitStep, UnmappedStep, MeetStep, LifeStep, TaskStep, Takes, StartsLeave, Drops, LeavesBy, LeavesFrom, ReclaimStep, KillStep, EndsTransfer, Step}
 use Rattle.machine.specs.Refusals.{refusal}
 use Rattle.machine.specs.Call.{Past, Caller, Refuses, Answers, Answered, JudgedBy, Called, knows_pass, is_trace_full, AreBytesAlike, AreAlike}
 use Rattle.machine.proofs.Values.{some_inj, unlike}
 use Rattle.machine.proofs.TreeLemmas.{eq_cases}
-use Rattle.machine.proofs.MoveLemmas.{Met, met}
+use Rattle.machine.proofs.MoveLemmas.{Met, met, MetFile, met_file}
 use Rattle.machine.proofs.PicksLemmas.{picks_alike}
 
 -- ---- replies that are alike
@@ -174,8 +174,9 @@ takes_alike what old order target answer answer' h h' =
 -- ---- steps
 
 -- no write meets nothing
-writes_meet : {P : Type 0} (s : State) (t v o b : ℕ) → meets s t (Virtual v o) (Write b) ≡ Unmapped → P
-writes_meet s t v o b is =
+writes_meet : {P : Type 0} (s : State) (t : ℕ) (place : Place) (b : ℕ) → meets s t place (Write b) ≡ Unmapped → P
+writes_meet s t (File f q o) b is = absurd (let found : MetFile s f q Unmapped = subst (MetFile s f q) is (met_file s t f q o (Write b)) in found)
+writes_meet s t (Virtual v o) b is =
     let found : Met s t v (Write b) Unmapped = subst (Met s t v (Write b)) is (met s t v o (Write b)) in
     let makes : meets s t (Virtual v o) (Write b) ≡ NeedsPage v = ap (λ m. meets_mapped s v m (Write b)) found in
     cc
@@ -210,6 +211,10 @@ module _ (old new new' : State) (order order' order'' : Order) where
     -- a page that is read in
     fetches : (p g block : ℕ) (content : Content) → StartsFetch old p g content block answer new → StartsFetch old p g content block answer' new' → AreAlike what answer answer'
     fetches p g block content h h' = rw (h.answers, h'.answers) tt
+
+    -- so a page of a file
+    reads : (f q g : ℕ) → ReadsFile old f q g answer new → ReadsFile old f q g answer' new' → AreAlike what answer answer'
+    reads f q g h h' = rw (h.fetch.answers, h'.fetch.answers) tt
 
     -- the end of a transfer
     ends : (from : ℕ → ℕ → Residence) (to : PageTables → ℕ → Page → ℕ → ℕ → Option Page) → EndsTransfer old from to answer new → EndsTransfer old from to answer' new' → AreAlike what answer answer'
@@ -253,19 +258,21 @@ module _ (old new new' : State) (order order' order'' : Order) where
   unmapped t place answer answer' h h' = absurd h
 
   -- by what the access meets
-  meeting : (t : TaskId) (v o g : ℕ) (op : Op) (answer answer' : Reply) (met : Meeting) → meets old t.0 (Virtual v o) op ≡ met → MeetStep old t.0 g op met answer new → MeetStep old t.0 g op met answer' new'
-      → AreAlike (event.Access t (Virtual v o) op) answer answer'
-  meeting t v o g Read answer answer' Unmapped is h h' = unmapped t (Virtual v o) answer answer' h h'
-  meeting t v o g (Write b) answer answer' Unmapped is h h' = writes_meet old t.0 v o b is
-  meeting t v o g op answer answer' (Hits p page frame) is h h' = hit t (Virtual v o) op p frame page answer answer' h h'
-  meeting t v o g op answer answer' Transferring is h h' = both (event.Access t (Virtual v o) op) answer answer' _ h.0 h'.0
-  meeting t v o g op answer answer' (NeedsPage w) is h h' =
-      let what = event.Access t (Virtual v o) op in charged what answer answer' _ _ _ _ (makes what answer answer' t.0 w g op) h h'
-  meeting t v o g op answer answer' (NeedsCopy w) is h h' =
-      let what = event.Access t (Virtual v o) op in charged what answer answer' _ _ _ _ (makes what answer answer' t.0 w g op) h h'
-  meeting t v o g op answer answer' (NeedsSwapIn p page block) is h h' =
-      let what = event.Access t (Virtual v o) op in charged what answer answer' _ _ _ _ (fetches what answer answer' p page.group block page.content) h h'
-  meeting t v o g op answer answer' Dangling is h h' = absurd h
+  meeting : (t : TaskId) (place : Place) (g : ℕ) (op : Op) (answer answer' : Reply) (met : Meeting) → meets old t.0 place op ≡ met → MeetStep old t.0 g op met answer new → MeetStep old t.0 g op met answer' new'
+      → AreAlike (event.Access t place op) answer answer'
+  meeting t place g Read answer answer' Unmapped is h h' = unmapped t place answer answer' h h'
+  meeting t place g (Write b) answer answer' Unmapped is h h' = writes_meet old t.0 place b is
+  meeting t place g op answer answer' (Hits p page frame) is h h' = hit t place op p frame page answer answer' h h'
+  meeting t place g op answer answer' Transferring is h h' = both (event.Access t place op) answer answer' _ h.0 h'.0
+  meeting t place g op answer answer' (NeedsPage w) is h h' =
+      let what = event.Access t place op in charged what answer answer' _ _ _ _ (makes what answer answer' t.0 w g op) h h'
+  meeting t place g op answer answer' (NeedsCopy w) is h h' =
+      let what = event.Access t place op in charged what answer answer' _ _ _ _ (makes what answer answer' t.0 w g op) h h'
+  meeting t place g op answer answer' (NeedsSwapIn p page block) is h h' =
+      let what = event.Access t place op in charged what answer answer' _ _ _ _ (fetches what answer answer' p page.group block page.content) h h'
+  meeting t place g op answer answer' (NeedsRead f q) is h h' =
+      let what = event.Access t place op in charged what answer answer' _ _ _ _ (reads what answer answer' f q g) h h'
+  meeting t place g op answer answer' Dangling is h h' = absurd h
 
   -- both kill one task, or there is none
   kills : (what : Event) (limit : ℕ) (answer answer' : Reply) → KillStep old limit answer new → KillStep old limit answer' new' → AreAlike what answer answer'
@@ -281,8 +288,8 @@ module _ (old new new' : State) (order order' order'' : Order) where
   -- by the event
   steps_alike : (what : Event) (answer answer' : Reply) → Orders old order what answer new order' → Orders old order what answer' new' order'' → Step old what answer new → Step old what answer' new'
       → AreAlike what answer answer'
-  steps_alike (event.Access t (Virtual v o) op) answer answer' on on' h h' =
-      of_task (event.Access t (Virtual v o) op) answer answer' (task_at old.tasks t.0) _ _ (λ task. meeting t v o task.group.0 op answer answer' (meets old t.0 (Virtual v o) op) refl) h h'
+  steps_alike (event.Access t place op) answer answer' on on' h h' =
+      of_task (event.Access t place op) answer answer' (task_at old.tasks t.0) _ _ (λ task. meeting t place task.group.0 op answer answer' (meets old t.0 place op) refl) h h'
   steps_alike (event.Arrived ticket bytes) answer answer' on on' h h' = ends (event.Arrived ticket bytes) answer answer' _ _ h h'
   steps_alike (event.FetchFailed ticket) answer answer' on on' h h' = ends (event.FetchFailed ticket) answer answer' _ _ h h'
   steps_alike (event.Left ticket) answer answer' on on' h h' = ends (event.Left ticket) answer answer' _ _ h h'

@@ -18,9 +18,9 @@ use Rattle.machine.specs.Tasks.{PageTable, task_of, mapped_at}
 use Rattle.machine.specs.State.{State}
 use Rattle.machine.specs.Access.{page_size, Hits, NeedsCopy, NeedsSwapIn, meets}
 use Rattle.machine.specs.Step.{still, Step}
-use Rattle.machine.specs.History.{InTask, at_first, last, Right, IsHonest, Honest, fetch_of, entries_by, Numbered}
+use Rattle.machine.specs.History.{InTask, last, Right, IsHonest, Honest, fetch_of, entries_by, Numbered}
 use Rattle.machine.specs.Legal.{Extends, Legal}
-use Rattle.machine.proofs.ExampleStates.{task, frame, ticket, shows, memory}
+use Rattle.machine.proofs.ExampleStates.{first_bytes, task, frame, ticket, shows, memory}
 use Rattle.machine.proofs.LegalExamples.{entry, bytes, h2, h4, h5, small, spawned, with_page, made, away, coming, back, spawns, writes, reclaims, leaves}
 use Rattle.machine.proofs.SharingExamples.{fork, free, attach}
 
@@ -42,19 +42,19 @@ abbrev born : List Entry
 born = on h2 (fork 1 2) reply.Ok
 
 -- the child's byte is the parent's
-last-child : last at_first born (InTask 2 2 1) ≡ 5
+last-child : last first_bytes born (InTask 2 2 1) ≡ 5
 last-child = refl
 
 -- each of them, also where nothing was written
-last-child_all : (v o : ℕ) → last at_first born (InTask 2 v o) ≡ last at_first h2 (InTask 1 v o)
+last-child_all : (v o : ℕ) → last first_bytes born (InTask 2 v o) ≡ last first_bytes h2 (InTask 1 v o)
 last-child_all v o = refl
 
 -- a byte of the parent is what it was
-last-parent : last at_first born (InTask 1 2 1) ≡ 5
+last-parent : last first_bytes born (InTask 1 2 1) ≡ 5
 last-parent = refl
 
 -- a fork that was not done says nothing: of a killed task
-last-not_forked : last at_first (on h2 (fork 1 2) reply.Killed) (InTask 2 2 1) ≡ 0
+last-not_forked : last first_bytes (on h2 (fork 1 2) reply.Killed) (InTask 2 2 1) ≡ 0
 last-not_forked = refl
 
 -- the child writes 6
@@ -62,11 +62,11 @@ abbrev child_wrote : List Entry
 child_wrote = wrote born 2 6
 
 -- the child's byte is what it wrote
-last-child_wrote : last at_first child_wrote (InTask 2 2 1) ≡ 6
+last-child_wrote : last first_bytes child_wrote (InTask 2 2 1) ≡ 6
 last-child_wrote = refl
 
 -- and the parent's byte is as before
-last-child_wrote_parent : last at_first child_wrote (InTask 1 2 1) ≡ 5
+last-child_wrote_parent : last first_bytes child_wrote (InTask 1 2 1) ≡ 5
 last-child_wrote_parent = refl
 
 -- the parent writes 8
@@ -74,19 +74,19 @@ abbrev parent_wrote : List Entry
 parent_wrote = wrote born 1 8
 
 -- the parent's byte is what it wrote
-last-parent_wrote : last at_first parent_wrote (InTask 1 2 1) ≡ 8
+last-parent_wrote : last first_bytes parent_wrote (InTask 1 2 1) ≡ 8
 last-parent_wrote = refl
 
 -- and the child's byte is as before: what the parent wrote after the fork is not its
-last-parent_wrote_child : last at_first parent_wrote (InTask 2 2 1) ≡ 5
+last-parent_wrote_child : last first_bytes parent_wrote (InTask 2 2 1) ≡ 5
 last-parent_wrote_child = refl
 
 -- of two children, the later has what was written between
-last-two_children : last at_first (on parent_wrote (fork 1 3) reply.Ok) (InTask 3 2 1) ≡ 8
+last-two_children : last first_bytes (on parent_wrote (fork 1 3) reply.Ok) (InTask 3 2 1) ≡ 8
 last-two_children = refl
 
 -- and the earlier has not
-last-two_children_first : last at_first (on parent_wrote (fork 1 3) reply.Ok) (InTask 2 2 1) ≡ 5
+last-two_children_first : last first_bytes (on parent_wrote (fork 1 3) reply.Ok) (InTask 2 2 1) ≡ 5
 last-two_children_first = refl
 
 -- task 1 has written 4 to byte 0; it forks 2, which writes 6 and forks 3, which writes 7 and forks 4; then 2 writes 9
@@ -98,23 +98,23 @@ line =
     wrote third 2 9
 
 -- each has what it wrote last
-last-line_1 : last at_first line (InTask 1 2 1) ≡ 5
+last-line_1 : last first_bytes line (InTask 1 2 1) ≡ 5
 last-line_1 = refl
 
 -- a write after the forks is the last of task 2
-last-line_2 : last at_first line (InTask 2 2 1) ≡ 9
+last-line_2 : last first_bytes line (InTask 2 2 1) ≡ 9
 last-line_2 = refl
 
 -- what task 3 wrote stays
-last-line_3 : last at_first line (InTask 3 2 1) ≡ 7
+last-line_3 : last first_bytes line (InTask 3 2 1) ≡ 7
 last-line_3 = refl
 
 -- and task 4, which wrote nothing, has that of task 3, and nothing of what task 2 wrote later
-last-line_4 : last at_first line (InTask 4 2 1) ≡ 7
+last-line_4 : last first_bytes line (InTask 4 2 1) ≡ 7
 last-line_4 = refl
 
 -- and through three forks a byte that only the first wrote
-last-line_all : last at_first line (InTask 4 2 0) ≡ 4
+last-line_all : last first_bytes line (InTask 4 2 0) ≡ 4
 last-line_all = refl
 
 -- the parent frees the page
@@ -122,51 +122,51 @@ abbrev parent_freed : List Entry
 parent_freed = on born (free 1 2) reply.Ok
 
 -- of the parent each byte of the page is 0
-last-freed : (o : ℕ) → last at_first parent_freed (InTask 1 2 o) ≡ 0
+last-freed : (o : ℕ) → last first_bytes parent_freed (InTask 1 2 o) ≡ 0
 last-freed o = refl
 
 -- and as before for the child
-last-freed_child : last at_first parent_freed (InTask 2 2 1) ≡ 5
+last-freed_child : last first_bytes parent_freed (InTask 2 2 1) ≡ 5
 last-freed_child = refl
 
 -- the other way round too
-last-child_freed : last at_first (on born (free 2 2) reply.Ok) (InTask 1 2 1) ≡ 5
+last-child_freed : last first_bytes (on born (free 2 2) reply.Ok) (InTask 1 2 1) ≡ 5
 last-child_freed = refl
 
 -- a child that comes after the free has 0
-last-freed_before : last at_first (on (on h2 (free 1 2) reply.Ok) (fork 1 2) reply.Ok) (InTask 2 2 1) ≡ 0
+last-freed_before : last first_bytes (on (on h2 (free 1 2) reply.Ok) (fork 1 2) reply.Ok) (InTask 2 2 1) ≡ 0
 last-freed_before = refl
 
 -- a page that is free can be written to again
-last-freed_wrote : last at_first (wrote parent_freed 1 3) (InTask 1 2 1) ≡ 3
+last-freed_wrote : last first_bytes (wrote parent_freed 1 3) (InTask 1 2 1) ≡ 3
 last-freed_wrote = refl
 
 -- and the bytes beside it are 0
-last-freed_beside : last at_first (wrote parent_freed 1 3) (InTask 1 2 0) ≡ 0
+last-freed_beside : last first_bytes (wrote parent_freed 1 3) (InTask 1 2 0) ≡ 0
 last-freed_beside = refl
 
 -- a free of another page says nothing of this one
-last-freed_other : last at_first (on h2 (free 1 3) reply.Ok) (InTask 1 2 1) ≡ 5
+last-freed_other : last first_bytes (on h2 (free 1 3) reply.Ok) (InTask 1 2 1) ≡ 5
 last-freed_other = refl
 
 -- nor does one that was not done: of a killed task
-last-not_freed : last at_first (on h2 (free 1 2) reply.Killed) (InTask 1 2 1) ≡ 5
+last-not_freed : last first_bytes (on h2 (free 1 2) reply.Killed) (InTask 1 2 1) ≡ 5
 last-not_freed = refl
 
 -- nor a move
-last-moved : last at_first (on born (attach 1 0) reply.Ok) (InTask 1 2 1) ≡ 5
+last-moved : last first_bytes (on born (attach 1 0) reply.Ok) (InTask 1 2 1) ≡ 5
 last-moved = refl
 
 -- the child keeps its bytes when the parent ends
-last-ended : last at_first (on born (event.Exit (task 1)) reply.Ok) (InTask 2 2 1) ≡ 5
+last-ended : last first_bytes (on born (event.Exit (task 1)) reply.Ok) (InTask 2 2 1) ≡ 5
 last-ended = refl
 
 -- a read of the child that gives what the parent wrote after the fork is not right
-right-not_later : Right at_first (on parent_wrote (byte 2 Read) (reply.Done 8 (Some (frame 3)))) → ⊥
+right-not_later : Right first_bytes (on parent_wrote (byte 2 Read) (reply.Done 8 (Some (frame 3)))) → ⊥
 right-not_later h = absurd (let e : 8 ≡ 5 = h.1 in omega (arith, e))
 
 -- nor one of the parent that gives what the child wrote: its page was not to be written in place
-right-not_in_place : Right at_first (on child_wrote (byte 1 Read) (reply.Done 6 (Some (frame 3)))) → ⊥
+right-not_in_place : Right first_bytes (on child_wrote (byte 1 Read) (reply.Done 6 (Some (frame 3)))) → ⊥
 right-not_in_place h = absurd (let e : 6 ≡ 5 = h.1 in omega (arith, e))
 
 -- ---- a whole history: the child of task 1 writes to the page that they share, and then task 1 frees it
@@ -284,7 +284,7 @@ legal : Legal (small 7) h7_freed alone
 legal = (_, (_, (_, (_, (_, (_, (_, refl, spawns), writes), shares), parts), parent_reads), child_reads), frees)
 
 -- each read gave what was written last
-right : Right at_first h7_freed
+right : Right first_bytes h7_freed
 right = (((((((tt, tt), tt), tt), tt), refl), refl), tt)
 
 -- and each entry has its number
@@ -350,33 +350,33 @@ fetched : fetch_of 5 by_child ≡ Some (record { spot = InTask 2 2 1; earlier = 
 fetched = refl
 
 -- the bytes that the parent wrote are the child's
-brought : (o : ℕ) → o < page_size → slice_index bytes o ≡ last at_first h4 (InTask 1 2 o)
+brought : (o : ℕ) → o < page_size → slice_index bytes o ≡ last first_bytes h4 (InTask 1 2 o)
 brought zero within = refl
 brought (suc zero) within = refl
 brought (suc (suc o)) within = let e : (1 == suc (suc o)) ≡ false = ne_eqb 1 (suc (suc o)) (λ e. omega (arith, e)) in rw e refl
 
 -- so that an arrival of these bytes is honest where the child began the read-in
-honest-child : IsHonest at_first by_child (arrival bytes)
+honest-child : IsHonest first_bytes by_child (arrival bytes)
 honest-child = brought
 
 -- a page of zeros is not what the child had, though it never wrote
-honest-not_zeros : IsHonest at_first by_child (arrival []) → ⊥
+honest-not_zeros : IsHonest first_bytes by_child (arrival []) → ⊥
 honest-not_zeros h = absurd (let e : 0 ≡ 5 = h 1 (omega arith) in omega (arith, e))
 
 -- whatever an honest arrival brings to the place that began the read-in, it brings to the other place, too: to the child's
-honest-for_child : (came : List ℕ) → IsHonest at_first by_parent (arrival came) → (o : ℕ) → o < page_size → slice_index came o ≡ last at_first (on by_parent (arrival came) reply.Ok) (InTask 2 2 o)
+honest-for_child : (came : List ℕ) → IsHonest first_bytes by_parent (arrival came) → (o : ℕ) → o < page_size → slice_index came o ≡ last first_bytes (on by_parent (arrival came) reply.Ok) (InTask 2 2 o)
 honest-for_child came honest o within = honest o within
 
 -- and to the parent's
-honest-for_parent : (came : List ℕ) → IsHonest at_first by_child (arrival came) → (o : ℕ) → o < page_size → slice_index came o ≡ last at_first (on by_child (arrival came) reply.Ok) (InTask 1 2 o)
+honest-for_parent : (came : List ℕ) → IsHonest first_bytes by_child (arrival came) → (o : ℕ) → o < page_size → slice_index came o ≡ last first_bytes (on by_child (arrival came) reply.Ok) (InTask 1 2 o)
 honest-for_parent came honest o within = honest o within
 
 -- a child that is born while the page comes in has these bytes as well
-honest-born_meanwhile : (came : List ℕ) → IsHonest at_first (on h5 (fork 1 2) reply.Ok) (arrival came) → (o : ℕ) → o < page_size → slice_index came o ≡ last at_first (on h5 (fork 1 2) reply.Ok) (InTask 2 2 o)
+honest-born_meanwhile : (came : List ℕ) → IsHonest first_bytes (on h5 (fork 1 2) reply.Ok) (arrival came) → (o : ℕ) → o < page_size → slice_index came o ≡ last first_bytes (on h5 (fork 1 2) reply.Ok) (InTask 2 2 o)
 honest-born_meanwhile came honest o within = honest o within
 
 -- and the child has them though the parent, which began the read-in, frees its place meanwhile
-honest-freed_meanwhile : (came : List ℕ) → IsHonest at_first (on by_parent (free 1 2) reply.Ok) (arrival came) → (o : ℕ) → o < page_size → slice_index came o ≡ last at_first (on by_parent (free 1 2) reply.Ok) (InTask 2 2 o)
+honest-freed_meanwhile : (came : List ℕ) → IsHonest first_bytes (on by_parent (free 1 2) reply.Ok) (arrival came) → (o : ℕ) → o < page_size → slice_index came o ≡ last first_bytes (on by_parent (free 1 2) reply.Ok) (InTask 2 2 o)
 honest-freed_meanwhile came honest o within = honest o within
 
 -- the steps: wherever the page stands, nothing but the page changes
@@ -421,7 +421,7 @@ legal-away : Legal (small 7) (on by_child (arrival bytes) reply.Ok) (both back)
 legal-away = (_, (_, (_, (_, (_, (_, (_, refl, spawns), writes), reclaims), leaves), away_shares), away_fetches), away_arrives)
 
 -- and the device kept its promise
-honest-away : Honest at_first (on by_child (arrival bytes) reply.Ok)
+honest-away : Honest first_bytes (on by_child (arrival bytes) reply.Ok)
 honest-away = (((((((tt, tt), tt), tt), tt), tt), tt), honest-child)
 
 -- the page is back for each of them, in the one frame: the child's read is a hit

@@ -10,11 +10,11 @@ use Rattle.machine.specs.Tasks.{PageTables, mapped_at, mappers}
 use Rattle.machine.specs.State.{Opening, State, first_state}
 use Rattle.machine.specs.Step.{still, Step}
 use Rattle.machine.specs.Legal.{Legal}
-use Rattle.machine.proofs.Values.{some_inj, never_some}
+use Rattle.machine.proofs.Values.{some_inj, never_some, unlike}
 use Rattle.machine.proofs.TreeLemmas.{eq_cases}
 use Rattle.machine.proofs.MappingLemmas.{mapped_at-mappers, shows-cases, copies-cases, shows_nothing-was}
 use Rattle.machine.proofs.RemovedLemmas.{regrouped-test}
-use Rattle.machine.proofs.Did.{Did, Kept, Made, Moved, Dropped, Ended, Spawned, Forked, Freed, Attached, Removed, Grown, step_did}
+use Rattle.machine.proofs.Did.{Did, Kept, Made, Moved, Cached, Dropped, Ended, Spawned, Forked, Freed, Attached, Removed, Grown, step_did}
 
 -- a page that a place shows is there, and is memory
 pub record ShowsPages (s : State) : Type 0 where
@@ -75,7 +75,9 @@ module _ (old new : State) (shows : ShowsMemory old) where
       ]
   did_shows what answer (Moved p page dirty now counted there placed moves mapped e) u w q at =
       subst ShowsMemory (sym e) (one_changes p _ placed (λ t v at'. sym (ap is_memory there) ∙ shows t v p at')) u w q at
-  did_shows what answer (Dropped p page counted out there may_go gone e) u w q at = subst ShowsMemory (sym e) (one_changes p None gone unmapped) u w q at
+  did_shows what answer (Cached t f q p frame ticket access out alive unread within free unused fresh filed placed e) u w n at =
+      subst ShowsMemory (sym e) (one_changes p _ placed (λ t v at'. unlike (is_memory (page_at old.pages p)) (shows t v p at') (ap is_memory free))) u w n at
+  did_shows what answer (Dropped p page counted out there may_go went gone e) u w q at = subst ShowsMemory (sym e) (one_changes p None gone unmapped) u w q at
     where
       unmapped : (t v : ℕ) → mapped_at old.page_tables t v ≡ Some p → false ≡ true
       unmapped t v at' = absurd (let none = may_go (sym (ap is_memory there) ∙ shows t v p at') in let one = mapped_at-mappers old.page_tables t v p at' in omega (arith, none, one))

@@ -22,9 +22,9 @@ use Rattle.machine.specs.Counts.{no_limits, local, total, over_at, Counted}
 use Rattle.machine.specs.Tasks.{task_of}
 use Rattle.machine.specs.State.{State}
 use Rattle.machine.specs.Refusals.{refusal}
-use Rattle.machine.specs.History.{at_first, IsRight}
+use Rattle.machine.specs.History.{IsRight}
 use Rattle.machine.specs.Step.{in_frame, on_block, new_node, shown_of, Step}
-use Rattle.machine.proofs.ExampleStates.{group, task, frame, shows, below, tree, memory, of_file, tables, busy, max_of, opening}
+use Rattle.machine.proofs.ExampleStates.{first_bytes, group, task, frame, shows, below, tree, memory, of_file, tables, busy, max_of, opening}
 
 -- ---- tasks
 
@@ -154,7 +154,7 @@ unmapped-same (reply.Done byte hit) new step = step.1
 unmapped-same answer new step = absurd step
 
 -- and the history says which byte it is: 0, where nothing was written
-unmapped-zero : (b : ℕ) → IsRight at_first [] (read 1 9 0) (reply.Done b None) → b ≡ 0
+unmapped-zero : (b : ℕ) → IsRight first_bytes [] (read 1 9 0) (reply.Done b None) → b ≡ 0
 unmapped-zero b right = right
 
 -- a write to a hit gives the byte that it wrote, and the frame that it hit

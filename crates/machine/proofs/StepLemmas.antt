@@ -12,25 +12,26 @@ use Rattle.machine.specs.declared.record.Task.{Task}
 use Rattle.machine.specs.declared.entry.Entry.{Entry}
 use Rattle.machine.specs.declared.event.Op.{Op}
 use Rattle.machine.specs.declared.event.Op.TheVariants.{Read, Write}
-use Rattle.machine.specs.declared.event.Place.TheVariants.{Virtual}
+use Rattle.machine.specs.declared.event.Place.{Place}
+use Rattle.machine.specs.declared.event.Place.TheVariants.{Virtual, File}
 use Rattle.machine.specs.declared.event.Event.{Event}
 use Rattle.machine.specs.declared.event.Event.TheVariants as event
 use Rattle.machine.specs.declared.reply.Reply.{Reply}
 use Rattle.machine.specs.declared.reply.Reply.TheVariants as reply
 use Rattle.machine.specs.Slots.{Changes, there_and}
 use Rattle.machine.specs.Tree.{Node, no_node, is_live}
-use Rattle.machine.specs.Pages.{Residence, Page, Pages, page_at, is_held, is_held_at, is_held_in, is_anon, in_transfer_at}
-use Rattle.machine.specs.Tasks.{PageTables, mappers, mapped_at, task_at, group_of_task}
+use Rattle.machine.specs.Pages.{Residence, Coming, home_block, Page, Pages, page_at, is_held, is_held_at, is_held_in, is_anon, in_transfer_at}
+use Rattle.machine.specs.Tasks.{PageTables, mappers, task_at, group_of_task}
 use Rattle.machine.specs.State.{Opening, State, page_numbers, over_in, is_frame_free}
-use Rattle.machine.specs.Access.{Meeting, Unmapped, Hits, Transferring, NeedsPage, NeedsCopy, NeedsSwapIn, Dangling, meets}
+use Rattle.machine.specs.Access.{Meeting, Unmapped, Hits, Transferring, NeedsPage, NeedsCopy, NeedsSwapIn, NeedsRead, Dangling, meets}
 use Rattle.machine.specs.Step.{ChargeStep, HitStep, UnmappedStep, MeetStep, LifeStep, TaskStep, still, new_page, Step}
 use Rattle.machine.specs.Generations.{of_kind}
 use Rattle.machine.specs.Legal.{Legal}
-use Rattle.machine.specs.Lists.{HeldLists, is_held_of, hit_of}
+use Rattle.machine.specs.Lists.{HeldLists, is_held_of, shown_at, hit_of}
 use Rattle.machine.proofs.Values.{some_inj, unlike}
 use Rattle.machine.proofs.TreeLemmas.{eq_cases}
-use Rattle.machine.proofs.MoveLemmas.{Met, met}
-use Rattle.machine.proofs.Did.{is_rmdir, Did, Kept, Made, Moved, Dropped, Ended, Spawned, Forked, Freed, Attached, Removed, Grown, step_did}
+use Rattle.machine.proofs.MoveLemmas.{Met, met, MetFile, met_file}
+use Rattle.machine.proofs.Did.{is_rmdir, read_page, Did, Kept, Made, Moved, Cached, Dropped, Ended, Spawned, Forked, Freed, Attached, Removed, Grown, step_did}
 use Rattle.machine.proofs.RemovedLemmas.{regrouped-some}
 use Rattle.machine.proofs.SoundLemmas.{IsFit, legal-sound}
 use Rattle.machine.proofs.HeldLemmas.{SamePlaces, HasLists}
@@ -87,7 +88,8 @@ module _ (old new : State) where
   did-places what answer stays (Kept limits counted e) = places-same (ap (λ (s : State). s.pages) e)
   did-places what answer stays (Made t v p frame access out alive shared within free unused placed shown e) = let made : Option Page = Some (new_page (group_of_task old.tasks t) frame) in places-one p None made free placed (alike-new made)
   did-places what answer stays (Moved p page dirty now counted there placed moves mapped e) = let moved : Option Page = Some (record { content = page.content; group = page.group; dirty = dirty; residence = now }) in places-one p (Some page) moved there placed (alike-moved page dirty now)
-  did-places what answer stays (Dropped p page counted out there may_go gone e) = places-one p (Some page) None there gone (alike-gone (Some page))
+  did-places what answer stays (Cached t f q p frame ticket access out alive unread within free unused fresh filed placed e) = let read : Option Page = Some (read_page (group_of_task old.tasks t) f q (Coming frame (home_block old.opening.swap old.opening.files f q) ticket)) in places-one p None read free placed (alike-new read)
+  did-places what answer stays (Dropped p page counted out there may_go went gone e) = places-one p (Some page) None there gone (alike-gone (Some page))
   did-places what answer stays (Ended t ending counted out dead ends) =
       places (λ p. subst (λ (o : Option Page). AreAlike (page_at old.pages p) o) (sym (ends.pages p)) (alike-still new.page_tables p (page_at old.pages p)))
   did-places what answer stays (Spawned t g is sets shown e) = places-same (ap (λ (s : State). s.pages) e)
@@ -120,7 +122,7 @@ live-below tree g live =
 pub legal-lists : (opening : Opening) (history : List Entry) (s : State) (held : HeldLists) → Legal opening history s → length held.groups ≡ length s.tree → HasLists s.pages held
 legal-lists opening history s held legal same = record { group = λ p. below (page_at s.pages p) ((legal-sound opening history s legal).1.fits p) }
   where
-    below : (slot : Option Page) → IfSome slot (IsFit opening.swap s.tree) → IfSome slot (λ page. page.group < length held.groups)
+    below : (slot : Option Page) → IfSome slot (IsFit opening.swap opening.files s.tree) → IfSome slot (λ page. page.group < length held.groups)
     below None fit = tt
     below (Some page) fit = subst (λ (n : ℕ). page.group < n) (sym same) (live-below s.tree page.group fit.live)
 
@@ -155,7 +157,8 @@ module _ (old new : State) (many : ℕ) (numbers : page_numbers old.opening ≡ 
   did-numbered what answer (Kept limits counted e) = numbered-same (ap (λ (s : State). s.pages) e)
   did-numbered what answer (Made t v p frame access out alive shared within free unused placed shown e) = numbered-one p _ placed (subst (λ (n : ℕ). p < n) numbers within)
   did-numbered what answer (Moved p page dirty now counted there placed moves mapped e) = numbered-one p _ placed (subst (λ (o : Option Page). IfSome o (λ x. p < many)) there (was.below p))
-  did-numbered what answer (Dropped p page counted out there may_go gone e) = numbered-one p None gone tt
+  did-numbered what answer (Cached t f q p frame ticket access out alive unread within free unused fresh filed placed e) = numbered-one p _ placed (subst (λ (n : ℕ). p < n) numbers within)
+  did-numbered what answer (Dropped p page counted out there may_go went gone e) = numbered-one p None gone tt
   did-numbered what answer (Ended t ending counted out dead ends) =
       record { below = λ p. subst (λ (o : Option Page). IfSome o (λ page. p < many)) (sym (ends.pages p)) (numbered-still many new.page_tables p (page_at old.pages p) (was.below p)) }
   did-numbered what answer (Spawned t g is sets shown e) = numbered-same (ap (λ (s : State). s.pages) e)
@@ -184,58 +187,67 @@ abbrev has_hit : Reply → Bool
 has_hit (reply.Done byte (Some frame)) = true
 has_hit answer = false
 
--- the place shows a page, which stands in its frame, before and after
-pub record IsHit (old : State) (t v : ℕ) (new : State) : Type 0 where
+-- the place shows a page, of a task's memory or of a file, which stands in its frame, before and after
+pub record IsHit (old : State) (t : ℕ) (place : Place) (new : State) : Type 0 where
   pub p : ℕ
-  pub shown : mapped_at old.page_tables t v ≡ Some p
+  pub shown : shown_at old t place ≡ Some p
   pub before : is_held_in old.pages p ≡ true
   pub after : is_held_in new.pages p ≡ true
 
-module _ (old new : State) (t : TaskId) (v o : ℕ) (op : Op) (answer : Reply) (hit : has_hit answer ≡ true) where
+module _ (old new : State) (t : TaskId) (place : Place) (op : Op) (answer : Reply) (hit : has_hit answer ≡ true) where
   other_answer : {P : Type 0} (said : Reply) → has_hit said ≡ false → answer ≡ said → P
   other_answer said other e = unlike (has_hit answer) hit (ap has_hit e ∙ other)
 
-  charged : (low : Option ℕ) (free : Bool) (Granted : Type 0) → (Granted → IsHit old t.0 v new) → ChargeStep old low free Granted answer new → IsHit old t.0 v new
+  charged : (low : Option ℕ) (free : Bool) (Granted : Type 0) → (Granted → IsHit old t.0 place new) → ChargeStep old low free Granted answer new → IsHit old t.0 place new
   charged (Some low) free Granted granted h = other_answer _ refl h.0
   charged None true Granted granted h = granted h
   charged None false Granted granted h = other_answer _ refl h.0
 
-  unmapped : (said : Reply) → answer ≡ said → UnmappedStep old said new → IsHit old t.0 v new
+  unmapped : (said : Reply) → answer ≡ said → UnmappedStep old said new → IsHit old t.0 place new
   unmapped (reply.Done byte frame) e h = other_answer (reply.Done byte None) refl (e ∙ ap (reply.Done byte) h.0)
   unmapped said e h = absurd h
 
-  hits : (p : ℕ) (page : Page) (frame : ℕ) (op : Op) (said : Reply) → mapped_at old.page_tables t.0 v ≡ Some p → page_at old.pages p ≡ Some page → is_held page ≡ true → HitStep old p page frame op said new → IsHit old t.0 v new
+  hits : (p : ℕ) (page : Page) (frame : ℕ) (op : Op) (said : Reply) → shown_at old t.0 place ≡ Some p → page_at old.pages p ≡ Some page → is_held page ≡ true → HitStep old p page frame op said new → IsHit old t.0 place new
   hits p page frame Read (reply.Done byte at) shown there held h =
       let was : is_held_in old.pages p ≡ true = ap (there_and is_held) there ∙ held in record { p = p; shown = shown; before = was; after = ap (λ (s : State). is_held_in s.pages p) h.1 ∙ was }
   hits p page frame (Write b) (reply.Done byte at) shown there held h =
       record { p = p; shown = shown; before = ap (there_and is_held) there ∙ held; after = ap (there_and is_held) h.2.changed ∙ held }
   hits p page frame op said shown there held h = absurd h
 
-  meeting : (g : ℕ) (met : Meeting) → Met old t.0 v op met → MeetStep old t.0 g op met answer new → IsHit old t.0 v new
-  meeting g Unmapped found h = unmapped answer refl h
-  meeting g (Hits p page frame) found h = hits p page frame op answer found.0 found.1 (ap is_held_at found.2) h
-  meeting g Transferring found h = other_answer _ refl h.0
-  meeting g (NeedsPage w) found h = charged (over_in old g) (is_frame_free old) _ (λ made. other_answer _ refl made.answers) h
-  meeting g (NeedsCopy w) found h = charged (over_in old g) (is_frame_free old) _ (λ made. other_answer _ refl made.answers) h
-  meeting g (NeedsSwapIn p page block) found h = charged (over_in old page.group) (is_frame_free old) _ (λ begun. other_answer _ refl begun.answers) h
-  meeting g Dangling found h = absurd h
+  -- a page that it hits is one that the place shows, in its frame
+  shows_hit : (p : ℕ) (page : Page) (frame : ℕ) → meets old t.0 place op ≡ Hits p page frame → (shown_at old t.0 place ≡ Some p) × (page_at old.pages p ≡ Some page) × (is_held page ≡ true)
+  shows_hit p page frame is = by_place place is
+    where
+      by_place : (place : Place) → meets old t.0 place op ≡ Hits p page frame → (shown_at old t.0 place ≡ Some p) × (page_at old.pages p ≡ Some page) × (is_held page ≡ true)
+      by_place (Virtual v o) e = let found : Met old t.0 v op (Hits p page frame) = subst (Met old t.0 v op) e (met old t.0 v o op) in (found.0, found.1, ap is_held_at found.2)
+      by_place (File f q o) e = let found : MetFile old f q (Hits p page frame) = subst (MetFile old f q) e (met_file old t.0 f q o op) in (found.0, found.1, ap is_held_at found.2)
 
-  access : (slot : Option Task) → TaskStep old slot (λ task. MeetStep old t.0 task.group.0 op (meets old t.0 (Virtual v o) op) answer new) answer new → IsHit old t.0 v new
+  meeting : (g : ℕ) (met : Meeting) → meets old t.0 place op ≡ met → MeetStep old t.0 g op met answer new → IsHit old t.0 place new
+  meeting g Unmapped is h = unmapped answer refl h
+  meeting g (Hits p page frame) is h = let found = shows_hit p page frame is in hits p page frame op answer found.0 found.1 found.2 h
+  meeting g Transferring is h = other_answer _ refl h.0
+  meeting g (NeedsPage w) is h = charged (over_in old g) (is_frame_free old) _ (λ made. other_answer _ refl made.answers) h
+  meeting g (NeedsCopy w) is h = charged (over_in old g) (is_frame_free old) _ (λ made. other_answer _ refl made.answers) h
+  meeting g (NeedsSwapIn p page block) is h = charged (over_in old page.group) (is_frame_free old) _ (λ begun. other_answer _ refl begun.answers) h
+  meeting g (NeedsRead f q) is h = charged (over_in old g) (is_frame_free old) _ (λ begun. other_answer _ refl begun.fetch.answers) h
+  meeting g Dangling is h = absurd h
+
+  access : (slot : Option Task) → TaskStep old slot (λ task. MeetStep old t.0 task.group.0 op (meets old t.0 place op) answer new) answer new → IsHit old t.0 place new
   access None h = absurd h
   access (Some task) h = by_life task.life h
     where
-      by_life : (life : Life) → LifeStep old life (MeetStep old t.0 task.group.0 op (meets old t.0 (Virtual v o) op) answer new) answer new → IsHit old t.0 v new
-      by_life Live h = meeting task.group.0 (meets old t.0 (Virtual v o) op) (met old t.0 v o op) h
+      by_life : (life : Life) → LifeStep old life (MeetStep old t.0 task.group.0 op (meets old t.0 place op) answer new) answer new → IsHit old t.0 place new
+      by_life Live h = meeting task.group.0 (meets old t.0 place op) refl h
       by_life Exited h = absurd h
       by_life Killed h = other_answer _ refl h.0
 
 -- an access that is answered by a hit hits the page that its place shows
-pub access-hits : (old new : State) (t : TaskId) (v o : ℕ) (op : Op) (byte : ℕ) (frame : FrameId) → Step old (event.Access t (Virtual v o) op) (reply.Done byte (Some frame)) new → IsHit old t.0 v new
-access-hits old new t v o op byte frame step = access old new t v o op (reply.Done byte (Some frame)) refl (task_at old.tasks t.0) step
+pub access-hits : (old new : State) (t : TaskId) (place : Place) (op : Op) (byte : ℕ) (frame : FrameId) → Step old (event.Access t place op) (reply.Done byte (Some frame)) new → IsHit old t.0 place new
+access-hits old new t place op byte frame step = access old new t place op (reply.Done byte (Some frame)) refl (task_at old.tasks t.0) step
 
 -- and so the page that a hit marks is held
 pub step-hit : (old : State) (what : Event) (answer : Reply) (new : State) → Step old what answer new → (p : ℕ) → hit_of old what answer ≡ Some p → is_held_in old.pages p ≡ true
-step-hit old (event.Access t (Virtual v o) op) (reply.Done byte (Some frame)) new step p e =
-    let hit = access-hits old new t v o op byte frame step in
+step-hit old (event.Access t place op) (reply.Done byte (Some frame)) new step p e =
+    let hit = access-hits old new t place op byte frame step in
     ap (is_held_in old.pages) (some_inj (sym e ∙ hit.shown)) ∙ hit.before
 step-hit old what answer new step p e = cc

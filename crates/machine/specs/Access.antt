@@ -1,10 +1,10 @@
 -- What an access meets (mm/memory.c: handle_mm_fault).
-use Rattle.std.specs.Prelude.{ℕ, ◌&&◌, nat_lt, Bool, true, false, if◌then◌else◌, Option, Some, None}
+use Rattle.std.specs.Prelude.{ℕ, ◌&&◌, nat_lt, Bool, true, false, if◌then◌else◌, slice_index, Option, Some, None}
 use Rattle.machine.specs.declared.event.Place.{Place}
-use Rattle.machine.specs.declared.event.Place.TheVariants.{Virtual}
+use Rattle.machine.specs.declared.event.Place.TheVariants.{Virtual, File}
 use Rattle.machine.specs.declared.event.Op.{Op}
 use Rattle.machine.specs.declared.event.Op.TheVariants.{Read, Write}
-use Rattle.machine.specs.Pages.{Residence, Held, Coming, Going, Away, Page, page_at}
+use Rattle.machine.specs.Pages.{Residence, Held, Coming, Going, Away, Page, Pages, page_at, file_page}
 use Rattle.machine.specs.Tasks.{PageTables, mapped_at, mappers}
 use Rattle.machine.specs.State.{Opening, State}
 
@@ -15,9 +15,10 @@ page_size = 4096
 abbrev pub task_pages : ℕ
 task_pages = 1024
 
--- the place is there
+-- the place is there. A number that is no file's has no page
 abbrev pub is_place : Opening → Place → Bool
 is_place opening (Virtual v offset) = nat_lt v task_pages && nat_lt offset page_size
+is_place opening (File file q offset) = nat_lt q (slice_index opening.files file) && nat_lt offset page_size
 
 -- what an access meets: one case for each row of the rules of access
 pub data Meeting : Type 0 where
@@ -33,7 +34,9 @@ pub data Meeting : Type 0 where
   NeedsCopy : ℕ → Meeting
   -- a page on its swap block: its number, the page, the block
   NeedsSwapIn : ℕ → Page → ℕ → Meeting
-  -- a mapping of a page that is not there. No legal state has one, and no step answers it
+  -- a page of a file that has no record: it has to be read in. The file, and its page
+  NeedsRead : ℕ → ℕ → Meeting
+  -- a mapping of a page that is not there, or a page of a file out of its frame. No legal state has one, and no step answers it
   Dangling : Meeting
 
 -- a write in place would change what the others see. (Excludes a shared page written in place.)
@@ -56,18 +59,36 @@ meets_mapped s v None Read = Unmapped
 meets_mapped s v None (Write b) = NeedsPage v
 meets_mapped s v (Some p) op = meets_slot s v p (page_at s.pages p) op
 
--- what an access of a live task meets
+-- a page of a file is written in place, whoever else reads it
+abbrev pub meets_cached_at : ℕ → Page → Residence → Meeting
+meets_cached_at p page (Held frame) = Hits p page frame
+meets_cached_at p page (Coming frame block ticket) = Transferring
+meets_cached_at p page (Going frame block ticket) = Transferring
+meets_cached_at p page (Away block) = Dangling
+
+abbrev pub meets_record : ℕ → Option Page → Meeting
+meets_record p None = Dangling
+meets_record p (Some page) = meets_cached_at p page page.residence
+
+abbrev pub meets_cached : Pages → ℕ → ℕ → Option ℕ → Meeting
+meets_cached pages file q None = NeedsRead file q
+meets_cached pages file q (Some p) = meets_record p (page_at pages p)
+
+-- what an access of a live task meets. (Excludes a page of a file that each task, or each group, has for itself.)
 abbrev pub meets : State → ℕ → Place → Op → Meeting
 meets s t (Virtual v offset) op = meets_mapped s v (mapped_at s.page_tables t v) op
+meets s t (File file q offset) op = meets_cached s.pages file q (file_page s.pages file q)
 
 -- the group that an access would charge: the page's own for a swap-in, else the accessor's; None where it needs no charge
 abbrev pub charges : Meeting → ℕ → Option ℕ
 charges (NeedsSwapIn p page block) own = Some page.group
 charges (NeedsPage v) own = Some own
 charges (NeedsCopy v) own = Some own
+charges (NeedsRead file q) own = Some own
 charges meeting own = None
 
 -- it would begin a transfer
 abbrev pub is_fetch : Meeting → Bool
 is_fetch (NeedsSwapIn p page block) = true
+is_fetch (NeedsRead file q) = true
 is_fetch meeting = false

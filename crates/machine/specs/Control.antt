@@ -7,6 +7,7 @@ use Rattle.machine.specs.declared.amount.Amount.TheVariants.{Max, Pages}
 use Rattle.machine.specs.declared.control.ControlFile.{ControlFile}
 use Rattle.machine.specs.declared.control.ControlFile.TheVariants as file
 use Rattle.machine.specs.declared.record.EventCounts.{EventCounts}
+use Rattle.machine.specs.declared.record.MemoryStat.{MemoryStat}
 use Rattle.machine.specs.declared.reply.Shown.{Shown}
 use Rattle.machine.specs.declared.reply.Shown.TheVariants as shown
 use Rattle.machine.specs.Numbers.{is_numeral}
@@ -71,11 +72,16 @@ events_text counts =
     ++ (key_line (codes "oom_kill") counts.oom_kill
     ++ key_line (codes "oom_group_kill") counts.oom_group_kill))))
 
--- what a control file says: bytes, or `max`, or a line for each key
+-- the two types in order, in bytes
+abbrev pub stat_text : MemoryStat → List ℕ
+stat_text stat = key_line (codes "anon") (stat.anon * page_size) ++ key_line (codes "file") (stat.file * page_size)
+
+-- what a control file says: bytes, or `max`, or a line for each key or type
 abbrev pub text_of : Shown → List ℕ
 text_of (shown.Pages n) = line (bytes_text n)
 text_of (shown.Amount amount) = line (amount_text amount)
 text_of (shown.Events counts) = events_text counts
+text_of (shown.Stat stat) = stat_text stat
 
 -- ---- files
 
@@ -87,6 +93,7 @@ file_named name =
     else if bytes_eq name (codes "memory.min") then Some file.Min
     else if bytes_eq name (codes "memory.events") then Some file.Events
     else if bytes_eq name (codes "memory.events.local") then Some file.EventsLocal
+    else if bytes_eq name (codes "memory.stat") then Some file.Stat
     else if bytes_eq name (codes "memory.reclaim") then Some file.Reclaim
     else None
 
@@ -97,4 +104,5 @@ has_file g file.Max = not (g == 0)
 has_file g file.Min = not (g == 0)
 has_file g file.Events = not (g == 0)
 has_file g file.EventsLocal = not (g == 0)
+has_file g file.Stat = not (g == 0)
 has_file g file.Reclaim = true

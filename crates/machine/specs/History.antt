@@ -1,7 +1,7 @@
 -- Histories of the machine, the newest entry first: the bytes that they say (what a read gives: the last write), and their order.
 use Rattle.std.specs.Prelude.{◌≡◌, ℕ, ◌+◌, ◌<◌, ◌==◌, ◌&&◌, Bool, true, false, if◌then◌else◌, List, [], ◌∷◌, length, filter, slice_index, Option, Some, None}
 use Rattle.machine.specs.declared.event.Place.{Place}
-use Rattle.machine.specs.declared.event.Place.TheVariants.{Virtual}
+use Rattle.machine.specs.declared.event.Place.TheVariants.{Virtual, File}
 use Rattle.machine.specs.declared.event.Op.TheVariants.{Read, Write}
 use Rattle.machine.specs.declared.event.Event.{Event}
 use Rattle.machine.specs.declared.event.Event.TheVariants as event
@@ -12,19 +12,24 @@ use Rattle.machine.specs.Access.{page_size}
 
 -- ---- places of bytes
 
--- a byte of a task's memory: task, virtual page, offset
+-- a byte of a task's memory: task, virtual page, offset; or of a file: file, page, offset
 pub data Spot : Type 0 where
   InTask : ℕ → ℕ → ℕ → Spot
+  InFile : ℕ → ℕ → ℕ → Spot
 
 abbrev pub spot_of : ℕ → Place → Spot
 spot_of t (Virtual v offset) = InTask t v offset
+spot_of t (File file q offset) = InFile file q offset
 
 abbrev pub is_spot : Spot → Spot → Bool
 is_spot (InTask t v o) (InTask t' v' o') = (t == t') && ((v == v') && (o == o'))
+is_spot (InFile f q o) (InFile f' q' o') = (f == f') && ((q == q') && (o == o'))
+is_spot spot other = false
 
--- the same page of the same task, at another offset
+-- the same page of the same task or file, at another offset
 abbrev pub at_offset : ℕ → Spot → Spot
 at_offset o (InTask t v offset) = InTask t v o
+at_offset o (InFile file q offset) = InFile file q o
 
 -- ---- the last write
 
@@ -41,8 +46,9 @@ says_if false said = Nothing
 
 abbrev pub says_of_task : ℕ → Spot → (ℕ → ℕ → Says) → Says
 says_of_task t (InTask t' v o) said = says_if (t == t') (said v o)
+says_of_task t (InFile file q o) said = Nothing
 
--- a write says its byte; a task begins with zeros, and a child with its parent's bytes; a page that is freed is zeros. Nothing else says anything: no transfer and no kill
+-- a write says its byte, to whoever reads a file's page; a task begins with zeros, and a child with its parent's bytes; a page that is freed is zeros. Nothing else says anything: no transfer and no kill
 abbrev pub says : Event → Reply → Spot → Says
 says (event.Access t place (Write b)) (reply.Done byte hit) spot = says_if (is_spot (spot_of t.0 place) spot) (Byte b)
 says (event.Spawn t g) reply.Ok spot = says_of_task t.0 spot (λ v o. Byte 0)
@@ -56,9 +62,10 @@ follow (Byte b) before spot = b
 follow (As other) before spot = before other
 follow Nothing before spot = before spot
 
--- what bytes are at first: memory begins as zeros
-abbrev pub at_first : Spot → ℕ
-at_first (InTask t v offset) = 0
+-- what bytes are at first: memory begins as zeros, and a file with what it had before the run, which is given by file, page and offset
+abbrev pub at_first : (ℕ → ℕ → ℕ → ℕ) → Spot → ℕ
+at_first files (InTask t v offset) = 0
+at_first files (InFile file q offset) = files file q offset
 
 -- the byte last written, or what it was at first
 abbrev pub last : (Spot → ℕ) → List Entry → Spot → ℕ

@@ -5,14 +5,14 @@ use Rattle.machine.specs.declared.record.Direction.TheVariants.{In, Out}
 use Rattle.machine.specs.declared.record.Kind.{Kind}
 use Rattle.machine.specs.declared.record.Kind.TheVariants.{Anon, File}
 use Rattle.machine.specs.declared.event.Place.{Place}
-use Rattle.machine.specs.declared.event.Place.TheVariants.{Virtual}
+use Rattle.machine.specs.declared.event.Place.TheVariants as place
 use Rattle.machine.specs.declared.event.Event.{Event}
 use Rattle.machine.specs.declared.event.Event.TheVariants as event
 use Rattle.machine.specs.declared.reply.Reply.{Reply}
 use Rattle.machine.specs.declared.reply.Reply.TheVariants as reply
 use Rattle.machine.specs.Slots.{there_and, any_there}
-use Rattle.machine.specs.Pages.{Content, Memory, OfFile, Page, Pages, page_at, is_anon, is_held, is_held_in, is_number}
-use Rattle.machine.specs.Tasks.{PageTables, mapped_at}
+use Rattle.machine.specs.Pages.{Content, Memory, OfFile, Page, Pages, page_at, is_anon, is_held, is_held_in, is_number, file_page}
+use Rattle.machine.specs.Tasks.{mapped_at}
 use Rattle.machine.specs.Order.{served_by, cursor_at}
 use Rattle.machine.specs.State.{Opening, State, page_numbers, is_swap_free}
 use Rattle.machine.specs.Tree.{node_at}
@@ -134,13 +134,14 @@ pub record GoesOn (generation : Generation) (before : Pages) (held : HeldLists) 
   pub size : length held'.marks ≡ length held.marks
   pub marks : (p : ℕ) → is_marked held'.marks p ≡ (is_held_in before p && is_held_in after p && is_marked held.marks p)
 
--- the page that a place of a task's memory shows
-abbrev pub shown_at : PageTables → ℕ → Place → Option ℕ
-shown_at tables t (Virtual v offset) = mapped_at tables t v
+-- the page that a place shows: of a task's memory, or of a file
+abbrev pub shown_at : State → ℕ → Place → Option ℕ
+shown_at s t (place.Virtual v offset) = mapped_at s.page_tables t v
+shown_at s t (place.File file q offset) = file_page s.pages file q
 
 -- the page that an access used as it was. (Excludes a page that counts as used since it was made or copied. One that was read in is used by the access that wanted it, which is tried again.)
 abbrev pub hit_of : State → Event → Reply → Option ℕ
-hit_of s (event.Access t place op) (reply.Done byte (Some frame)) = shown_at s.page_tables t.0 place
+hit_of s (event.Access t at op) (reply.Done byte (Some frame)) = shown_at s t.0 at
 hit_of s what answer = None
 
 -- this page, if there is one, is marked

@@ -1,5 +1,5 @@
 -- Pages and where they stand (kernel: mm/memcontrol.c, mm/swap_state.c, mm/vmscan.c).
-use Rattle.std.specs.Prelude.{ℕ, ◌+◌, ◌==◌, ◌&&◌, Bool, true, false, List, sum, take, Option, Some, None}
+use Rattle.std.specs.Prelude.{◌≡◌, ℕ, ◌+◌, ◌<◌, ◌==◌, ◌&&◌, not, Bool, true, false, List, position, slice_index, sum, take, Option, Some, None}
 use Rattle.machine.specs.declared.record.Direction.{Direction}
 use Rattle.machine.specs.declared.record.Direction.TheVariants.{In, Out}
 use Rattle.machine.specs.Slots.{at, there_and, count_there, any_there}
@@ -31,6 +31,11 @@ Pages = List (Option Page)
 abbrev pub is_anon : Content → Bool
 is_anon Memory = true
 is_anon (OfFile file page) = false
+
+-- it holds this page of this file
+abbrev pub is_page_of : ℕ → ℕ → Content → Bool
+is_page_of file q Memory = false
+is_page_of file q (OfFile file' q') = (file' == file) && (q' == q)
 
 abbrev pub is_held_at : Residence → Bool
 is_held_at (Held frame) = true
@@ -71,6 +76,10 @@ is_some_number (Some n) = true
 abbrev pub page_at : Pages → ℕ → Option Page
 page_at pages p = at pages p
 
+-- the page that holds this page of this file, if one does (kernel: filemap_get_folio)
+abbrev pub file_page : Pages → ℕ → ℕ → Option ℕ
+file_page pages file q = position (there_and (λ page. is_page_of file q page.content)) pages
+
 -- the page has a frame, and so is charged: pages in transfer are. (Excludes a machine that uncharges when write-out begins.)
 abbrev pub has_frame : Page → Bool
 has_frame page = is_some_number (frame_at page.residence)
@@ -92,6 +101,13 @@ is_charged tree a page = has_frame page && under tree a page.group
 -- how many pages have a frame and a group at or under a (memory.current; mm/page_counter.c)
 abbrev pub charged : List Node → Pages → ℕ → ℕ
 charged tree pages a = count_there (is_charged tree a) pages
+
+-- of these how many hold memory of tasks, and how many a file's page (memory.stat)
+abbrev pub charged_anon : List Node → Pages → ℕ → ℕ
+charged_anon tree pages a = count_there (λ page. is_charged tree a page && is_anon page.content) pages
+
+abbrev pub charged_file : List Node → Pages → ℕ → ℕ
+charged_file tree pages a = count_there (λ page. is_charged tree a page && not (is_anon page.content)) pages
 
 -- how many frames, and how many swap blocks, are in use. A file page's block is its home and no swap block
 abbrev pub used_frames : Pages → ℕ
@@ -132,3 +148,20 @@ is_in_flight direction pages n = any_there (λ page. is_flying_at direction n pa
 -- the home block of a file's page: home blocks follow the swap blocks, in the files' order
 abbrev pub home_block : ℕ → List ℕ → ℕ → ℕ → ℕ
 home_block swap sizes file page = swap + sum (take file sizes) + page
+
+-- ---- what holds of each page
+
+-- where a page of a file stands: in its frame, or between that and its home block; and only what was written to is written out
+abbrev pub IsAtHome : ℕ → Bool → Residence → Type 0
+IsAtHome home dirty (Held frame) = Unit {0}
+IsAtHome home dirty (Coming frame block ticket) = block ≡ home
+IsAtHome home dirty (Going frame block ticket) = (block ≡ home) × (dirty ≡ true)
+IsAtHome home dirty (Away block) = ⊥
+
+abbrev pub IsFiledAs : ℕ → List ℕ → Page → Content → Type 0
+IsFiledAs swap sizes page Memory = page.dirty ≡ false
+IsFiledAs swap sizes page (OfFile file q) = (q < slice_index sizes file) × IsAtHome (home_block swap sizes file q) page.dirty page.residence
+
+-- memory is never dirty, and a page of a file is one that the file has, at home
+abbrev pub IsFiled : ℕ → List ℕ → Page → Type 0
+IsFiled swap sizes page = IsFiledAs swap sizes page page.content

@@ -74,6 +74,7 @@ show_refusal s (query.Max g) = file_refusal s.tree g.0
 show_refusal s (query.Min g) = file_refusal s.tree g.0
 show_refusal s (query.Events g) = file_refusal s.tree g.0
 show_refusal s (query.EventsLocal g) = file_refusal s.tree g.0
+show_refusal s (query.Stat g) = file_refusal s.tree g.0
 show_refusal s (query.Protection target g) = first_cause (not (below_target s.tree target.0 g.0)) NoEntry None
 
 abbrev pub spawn_refusal : State → ℕ → ℕ → Option Refusal

@@ -1,12 +1,17 @@
 -- The state of the plain machine: what the opening fixed, and its tables. Nothing in it is counted, linked or kept twice.
-use Rattle.std.specs.Prelude.{ℕ, ◌+◌, ◌-◌, ◌&&◌, nat_lt, nat_le, Bool, false, List, [], ◌∷◌, Option}
+use Rattle.std.specs.Prelude.{ℕ, ◌+◌, ◌-◌, ◌&&◌, nat_lt, nat_le, not, Bool, true, false, List, [], ◌∷◌, length, map, sum, Option}
+use Rattle.std.specs.List.{list_all, list_any}
+use Rattle.std.specs.Str.{bytes_eq}
 use Rattle.machine.specs.declared.amount.Amount.{Amount}
 use Rattle.machine.specs.declared.config.Config.{Config}
+use Rattle.machine.specs.declared.config.File.{File}
 use Rattle.machine.specs.declared.config.Watermarks.{Watermarks}
+use Rattle.machine.specs.Names.{is_name}
 use Rattle.machine.specs.Tree.{Node, root}
-use Rattle.machine.specs.Pages.{Pages, charged, used_frames, used_swap}
+use Rattle.machine.specs.Pages.{Pages, charged, charged_anon, charged_file, used_frames, used_swap}
 use Rattle.machine.specs.Tasks.{Tasks, PageTables}
 use Rattle.machine.specs.declared.record.Limits.{Limits}
+use Rattle.machine.specs.declared.record.MemoryStat.{MemoryStat}
 use Rattle.machine.specs.Counts.{no_limits, Counted, over}
 use Rattle.machine.specs.Protection.{effective, min_of}
 
@@ -23,23 +28,44 @@ pub record Opening : Type 0 where
 abbrev pub page_numbers : Opening → ℕ
 page_numbers opening = opening.frames + opening.swap
 
+-- how many pages each file has
+abbrev pub sizes_of : List File → List ℕ
+sizes_of files = map (λ file. file.pages) files
+
 -- the opening that a configuration asks for
 abbrev pub opening_of : Config → Opening
-opening_of config = record { frames = config.frames; swap = config.swap; files = []; watermarks = config.watermarks; trace_limit = config.trace; recursive = false }
+opening_of config = record { frames = config.frames; swap = config.swap; files = sizes_of config.files; watermarks = config.watermarks; trace_limit = config.trace; recursive = false }
 
 -- the low mark is at most the high one, and that at most the frames
 abbrev pub are_watermarks : Watermarks → ℕ → Bool
 are_watermarks watermarks frames = nat_le watermarks.low watermarks.high && nat_le watermarks.high frames
 
--- how many blocks the device has to have: the swap blocks, which come first
+-- how many blocks the device has to have: the swap blocks, which come first, and behind them one for each page of a file
 abbrev pub blocks_of : Config → ℕ
-blocks_of config = config.swap
+blocks_of config = config.swap + sum (sizes_of config.files)
 
--- within the limits: 1 to 65,536 frames, at most 65,536 swap blocks, marks in order, and a trace of 1 to 1,048,576 entries
-abbrev pub is_config : Config → Bool
-is_config config =
+-- a file has a name as a group has, and a page at least
+abbrev pub is_file : File → Bool
+is_file file = is_name file.name && nat_le 1 file.pages
+
+-- no two files have one name
+abbrev pub are_apart : List File → Bool
+are_apart [] = true
+are_apart (file ∷ files) = not (list_any (λ (other : File). bytes_eq other.name file.name) files) && are_apart files
+
+-- at most 64 files
+abbrev pub are_files : List File → Bool
+are_files files = nat_le (length files) 64 && (list_all is_file files && are_apart files)
+
+-- 1 to 65,536 frames, at most 65,536 swap blocks, marks in order, and a trace of 1 to 1,048,576 entries
+abbrev pub is_sized : Config → Bool
+is_sized config =
     (nat_le 1 config.frames && nat_le config.frames 65536)
     && (nat_le config.swap 65536 && (are_watermarks config.watermarks config.frames && (nat_le 1 config.trace && nat_le config.trace 1048576)))
+
+-- within the limits: these numbers, the files, and at most 131,072 blocks for both
+abbrev pub is_config : Config → Bool
+is_config config = is_sized config && (are_files config.files && nat_le (blocks_of config) 131072)
 
 -- the groups, their settings, the pages, the tasks and their page tables, and the events that were counted
 pub record State : Type 0 where
@@ -58,6 +84,10 @@ first_state opening = record { opening = opening; tree = root ∷ []; limits = n
 -- how many pages with a frame are at or under a group
 abbrev pub usage : State → ℕ → ℕ
 usage s a = charged s.tree s.pages a
+
+-- of these, how many are memory of tasks and how many of files
+abbrev pub stat_of : State → ℕ → MemoryStat
+stat_of s a = record { anon = charged_anon s.tree s.pages a; file = charged_file s.tree s.pages a }
 
 -- the lowest group from g up with no room for one page more
 abbrev pub over_in : State → ℕ → Option ℕ

@@ -27,8 +27,8 @@ use Rattle.machine.specs.Pages.{Content, Memory, OfFile, Residence, Held, Coming
 use Rattle.machine.specs.declared.record.Limits.{Limits}
 use Rattle.machine.specs.Counts.{no_limits, limits_at, Counted, local, total, counts_by}
 use Rattle.machine.specs.Tasks.{PageTables, task_at, SetsTask, group_of_task, mappers, Shows, Copies, ShowsNothing}
-use Rattle.machine.specs.State.{State, page_numbers, usage, over_in, is_frame_free, effective_min}
-use Rattle.machine.specs.Access.{Meeting, Unmapped, Hits, Transferring, NeedsPage, NeedsCopy, NeedsSwapIn, Dangling, meets}
+use Rattle.machine.specs.State.{State, page_numbers, usage, over_in, is_frame_free, effective_min, stat_of}
+use Rattle.machine.specs.Access.{Meeting, Unmapped, Hits, Transferring, NeedsPage, NeedsCopy, NeedsSwapIn, NeedsRead, Dangling, meets}
 use Rattle.machine.specs.Reclaim.{is_takeable, has_takeable, has_transfer, stands, target_of}
 use Rattle.machine.specs.Victim.{IsVictim}
 
@@ -91,6 +91,13 @@ pub record StartsFetch (old : State) (p g : ℕ) (content : Content) (block : �
   pub answers : answer ≡ reply.Fetch (record { 0 = ticket })
   pub state : new ≡ record old { pages = new.pages }
 
+-- a page of a file is read in from its home block, under a number that no page has, and charged to the group
+pub record ReadsFile (old : State) (file q g : ℕ) (answer : Reply) (new : State) : Type 0 where
+  pub page : ℕ
+  pub in_range : page < page_numbers old.opening
+  pub slot_free : page_at old.pages page ≡ None
+  pub fetch : StartsFetch old page g (OfFile file q) (home_block old.opening.swap old.opening.files file q) answer new
+
 -- ---- access
 
 -- a write to a file's page makes it dirty; a page of memory stays as it is
@@ -109,7 +116,7 @@ abbrev pub UnmappedStep : State → Reply → State → Type 0
 UnmappedStep old (reply.Done byte hit) new = (hit ≡ None) × (new ≡ old)
 UnmappedStep old answer new = ⊥
 
--- (Excludes an answer to an access through a mapping of a page that is not there.)
+-- (Excludes an answer to an access through a mapping of a page that is not there, and a file's page that is charged to whoever touches it last.)
 abbrev pub MeetStep : State → ℕ → ℕ → Op → Meeting → Reply → State → Type 0
 MeetStep old t g op Unmapped answer new = UnmappedStep old answer new
 MeetStep old t g op (Hits p page frame) answer new = HitStep old p page frame op answer new
@@ -117,6 +124,7 @@ MeetStep old t g op Transferring answer new = Only old reply.Busy answer new
 MeetStep old t g op (NeedsPage v) answer new = TriesCharge old g (MakesPage old t v g op answer new) answer new
 MeetStep old t g op (NeedsCopy v) answer new = TriesCharge old g (MakesPage old t v g op answer new) answer new
 MeetStep old t g op (NeedsSwapIn p page block) answer new = TriesCharge old page.group (StartsFetch old p page.group page.content block answer new) answer new
+MeetStep old t g op (NeedsRead file q) answer new = TriesCharge old g (ReadsFile old file q g answer new) answer new
 MeetStep old t g op Dangling answer new = ⊥
 
 -- an event of a task: a killed one is told so
@@ -285,6 +293,7 @@ shown_of s (query.Max g) = shown.Amount (limits_at s.limits g.0).max
 shown_of s (query.Min g) = shown.Amount (limits_at s.limits g.0).min
 shown_of s (query.Events g) = shown.Events (counts_by (total s.tree s.counted g.0))
 shown_of s (query.EventsLocal g) = shown.Events (counts_by (local s.counted g.0))
+shown_of s (query.Stat g) = shown.Stat (stat_of s g.0)
 shown_of s (query.Protection target g) = shown.Amount (effective_min s target.0 g.0)
 
 -- ---- the step

@@ -14,6 +14,9 @@ pub enum ControlFile {
     Events,
     /// `memory.events.local`, which is read: what was counted at the group itself.
     EventsLocal,
+    /// `memory.stat`, which is read: how many of the pages that are charged are memory of tasks, and how
+    /// many are pages of files.
+    Stat,
     /// `memory.reclaim`, which is written: as much is to be taken from the group and from below it.
     Reclaim,
 }

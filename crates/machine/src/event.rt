@@ -10,6 +10,9 @@ use crate::text::Text;
 pub enum Place {
     /// A byte of a virtual page of the task.
     Virtual { page: u32, offset: u32 },
+    /// A byte of a file, whichever task reaches for it. A file's number is its place in the opening's list
+    /// (kernel: `filemap_read` and `generic_perform_write`).
+    File { file: u32, page: u32, offset: u32 },
 }
 
 /// What an access does to its byte.
@@ -52,6 +55,8 @@ pub enum Query {
     Events(GroupId),
     /// `memory.events.local`
     EventsLocal(GroupId),
+    /// `memory.stat`
+    Stat(GroupId),
     /// The effective `memory.min` of a group below the target, for a reclaim of the target (kernel:
     /// `emin` of a `struct page_counter`).
     Protection { target: GroupId, group: GroupId },

@@ -6,6 +6,12 @@ pub const MOST_FRAMES: u32 = 65_536;
 /// Swap blocks of a machine, at most.
 pub const MOST_SWAP: u32 = 65_536;
 
+/// Blocks of a device that a machine uses, swap and files together, at most.
+pub const MOST_BLOCKS: u32 = 131_072;
+
+/// Files of a machine, at most.
+pub const MOST_FILES: usize = 64;
+
 /// Entries of a trace, at most.
 pub const MOST_ENTRIES: u32 = 1_048_576;
 

@@ -65,6 +65,16 @@ pub struct EventCounts {
     pub oom_group_kill: u64,
 }
 
+/// How much memory is charged to a group and below it, by what it holds, in pages (kernel: `anon` and
+/// `file` of `memory.stat`).
+#[derive(Clone, Copy, Debug, Default, PartialEq, Eq)]
+pub struct MemoryStat {
+    /// Memory of tasks.
+    pub anon: u64,
+    /// Pages of files.
+    pub file: u64,
+}
+
 /// The settings of a group.
 #[derive(Clone, Copy, Debug, PartialEq, Eq)]
 pub struct Limits {

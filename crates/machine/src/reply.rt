@@ -2,18 +2,19 @@
 
 use crate::amount::Amount;
 use crate::id::{FrameId, GroupId, TaskId, TicketId};
-use crate::record::EventCounts;
+use crate::record::{EventCounts, MemoryStat};
 use crate::refusal::Refusal;
 
-/// What a control file shows: pages, or how often events were counted.
+/// What a control file shows: pages, an amount, how often events were counted, or pages by type.
 #[derive(Clone, Copy, Debug, PartialEq, Eq)]
 pub enum Shown {
     Pages(u64),
     Amount(Amount),
     Events(EventCounts),
+    Stat(MemoryStat),
 }
 
-/// The answer to one event. There are no pages of files yet, so that none is answered by `Dropped`.
+/// The answer to one event.
 #[derive(Clone, Copy, Debug, PartialEq, Eq)]
 pub enum Reply {
     /// The byte read or written, and the frame that was hit.
