@@ -1,5 +1,5 @@
 -- Transfers in flight, after a change of one page and of one ticket.
-use Rattle.std.proofs.Common.{◌≡◌, ◌≢◌, ℕ, Bool, true, false, List, map, get_or, Option, Some, None, refl, sym, ap, ◌∙◌, subst, inl, inr, arith}
+use Rattle.std.proofs.Common.{◌≡◌, ◌≢◌, ℕ, Bool, true, false, List, Option, Some, None, refl, sym, ap, ◌∙◌, subst, inl, inr, arith}
 use Rattle.std.specs.Prelude.{option_map, IfSome, IsSome}
 use Rattle.std.proofs.lemmas.Bool.{false_from_ne_true}
 use Rattle.std.proofs.lemmas.Bool.Decides.{eqb_tells}
@@ -9,11 +9,8 @@ use Rattle.machine.proofs.Values.{some_inj}
 use Rattle.machine.specs.declared.record.Direction.{Direction}
 use Rattle.machine.specs.declared.record.Direction.TheVariants.{In, Out}
 use Rattle.pages.specs.declared.flight.Flight.{Flight}
-use Rattle.pages.specs.declared.owned_page.OwnedPage.{OwnedPage}
-use Rattle.pages.specs.declared.owned_page.OwnedPage.TheVariants as owned_page
-use Rattle.pages.specs.PagesOf.{anon_page, moving, flight, is_direction, is_flight_to, IsInTransfer, AreInFlight}
-use Rattle.pages.specs.Records.{page_of}
-use Rattle.pages.proofs.TableLemmas.{at-map, any-none, any-only}
+use Rattle.pages.specs.PagesOf.{Label, label_of, labelled, moving, flight, is_direction, is_flight_to, IsInTransfer, AreInFlight}
+use Rattle.pages.proofs.TableLemmas.{any-none, any-only}
 
 -- the page of a number is in transfer under a ticket
 abbrev pub under : Option Page → ℕ → Bool
@@ -23,22 +20,8 @@ under slot n = there_and (λ page. is_number (ticket_at page.residence) n) slot
 abbrev pub IsSettled : Option Page → Type 0
 IsSettled slot = (n : ℕ) → under slot n ≡ false
 
-abbrev pub AreMemory : Pages → Type 0
-AreMemory pages = (p : ℕ) → IfSome (page_at pages p) (λ page. page ≡ anon_page page.group page.residence)
-
 abbrev pub page_number : Option Flight → Option ℕ
 page_number slot = option_map (λ (f : Flight). f.page.0) slot
-
--- what pages own makes pages of memory
-memory_of : (slot : Option OwnedPage) → IfSome (option_map page_of slot) (λ page. page ≡ anon_page page.group page.residence)
-memory_of None = tt
-memory_of (Some (owned_page.Held frame charge)) = refl
-memory_of (Some (owned_page.Coming frame charge slot ticket)) = refl
-memory_of (Some (owned_page.Going frame charge slot ticket)) = refl
-memory_of (Some (owned_page.Away group slot)) = refl
-
-pub AreMemory-owned : (owned : List (Option OwnedPage)) → AreMemory (map (option_map page_of) owned)
-AreMemory-owned owned p = subst (λ slot. IfSome slot (λ page. page ≡ anon_page page.group page.residence)) (sym (at-map page_of owned p)) (memory_of (get_or owned p None))
 
 same_number : (ticket : Option ℕ) (m n : ℕ) → is_number ticket m ≡ true → is_number ticket n ≡ true → m ≡ n
 same_number None m n first second = absurd (cc)
@@ -52,8 +35,8 @@ same_number (Some t) m n first second =
     ]
 
 -- a page that is in transfer under a ticket
-pub under-moving : (slot : Option Page) (direction : Direction) (g frame block n : ℕ) → slot ≡ Some (anon_page g (moving direction frame block n)) → under slot n ≡ true
-under-moving slot direction g frame block n is = ap (λ s. under s n) is ∙ by_direction direction
+pub under-moving : (slot : Option Page) (direction : Direction) (label : Label) (frame block n : ℕ) → slot ≡ Some (labelled label (moving direction frame block n)) → under slot n ≡ true
+under-moving slot direction label frame block n is = ap (λ s. under s n) is ∙ by_direction direction
   where
     by_direction : (d : Direction) → is_number (ticket_at (moving d frame block n)) n ≡ true
     by_direction In = grind arith
@@ -95,14 +78,13 @@ module _ (old new : Pages) (p : ℕ) (to : Option Page) (placed : Changes old ne
   known-apart m None other is = tt
   known-apart m (Some f) other is =
       elim (eqb_tells f.page.0 p) [
-        | inl same ↦ absurd (other (under-moving _ f.direction is.group is.frame is.block m (ap (page_at old) (sym same.1) ∙ is.stands)))
-        | inr apart ↦ record { group = is.group; frame = is.frame; block = is.block; stands = placed.others f.page.0 apart.1 ∙ is.stands }
+        | inl same ↦ absurd (other (under-moving _ f.direction is.label is.frame is.block m (ap (page_at old) (sym same.1) ∙ is.stands)))
+        | inr apart ↦ record { label = is.label; frame = is.frame; block = is.block; stands = placed.others f.page.0 apart.1 ∙ is.stands }
       ]
 
   -- a page that begins and ends in no transfer changes
-  pub AreInFlight-apart : (flights : List (Option Flight)) → AreInFlight old flights → IsSettled (page_at old p) → IsSettled to → AreMemory new → AreInFlight new flights
-  AreInFlight-apart flights is before after memory = record {
-    memory = memory;
+  pub AreInFlight-apart : (flights : List (Option Flight)) → AreInFlight old flights → IsSettled (page_at old p) → IsSettled to → AreInFlight new flights
+  AreInFlight-apart flights is before after = record {
     known = λ n. known-apart n (at flights n) (λ moves. let not = sym (before n) ∙ moves in cc) (is.known n);
     listed = λ q n moves. elim (eqb_tells q p) [
       | inl same ↦ absurd (let not = sym (after n) ∙ sym (under-own n) ∙ ap (λ r. under (page_at new r) n) (sym same.1) ∙ moves in cc)
@@ -111,17 +93,16 @@ module _ (old new : Pages) (p : ℕ) (to : Option Page) (placed : Changes old ne
   }
 
   -- a transfer begins under a free ticket
-  pub AreInFlight-begun : (flights later : List (Option Flight)) (n worker : ℕ) (direction : Direction) (g frame block : ℕ) → to ≡ Some (anon_page g (moving direction frame block n)) → AreInFlight old flights → IsSettled (page_at old p) → at flights n ≡ None → Changes flights later n (Some (flight p worker direction)) → AreMemory new → AreInFlight new later
-  AreInFlight-begun flights later n worker direction g frame block begun is before free listed memory = record {
-    memory = memory;
+  pub AreInFlight-begun : (flights later : List (Option Flight)) (n worker : ℕ) (direction : Direction) (label : Label) (frame block : ℕ) → to ≡ Some (labelled label (moving direction frame block n)) → AreInFlight old flights → IsSettled (page_at old p) → at flights n ≡ None → Changes flights later n (Some (flight p worker direction)) → AreInFlight new later
+  AreInFlight-begun flights later n worker direction label frame block begun is before free listed = record {
     known = λ m. elim (eqb_tells m n) [
-      | inl same ↦ subst (λ k. IfSome (at later k) (IsInTransfer new k)) (sym same.1) (subst (λ slot. IfSome slot (IsInTransfer new n)) (sym listed.changed) (record { group = g; frame = frame; block = block; stands = placed.changed ∙ begun }))
+      | inl same ↦ subst (λ k. IfSome (at later k) (IsInTransfer new k)) (sym same.1) (subst (λ slot. IfSome slot (IsInTransfer new n)) (sym listed.changed) (record { label = label; frame = frame; block = block; stands = placed.changed ∙ begun }))
       | inr apart ↦ subst (λ slot. IfSome slot (IsInTransfer new m)) (sym (listed.others m apart.1)) (known-apart m (at flights m) (λ moves. let not = sym (before m) ∙ moves in cc) (is.known m))
     ];
     listed = λ q m moves. elim (eqb_tells q p) [
       | inl same ↦ (
           let here : under to m ≡ true = sym (under-own m) ∙ ap (λ r. under (page_at new r) m) (sym same.1) ∙ moves in
-          let number : m ≡ n = one_ticket to m n here (under-moving to direction g frame block n begun) in
+          let number : m ≡ n = one_ticket to m n here (under-moving to direction label frame block n begun) in
           ap page_number (ap (at later) number ∙ listed.changed) ∙ ap Some (sym same.1)
           )
       | inr apart ↦ (
@@ -135,9 +116,8 @@ module _ (old new : Pages) (p : ℕ) (to : Option Page) (placed : Changes old ne
   }
 
   -- a transfer ends, and its ticket is free
-  pub AreInFlight-ended : (flights later : List (Option Flight)) (n : ℕ) → AreInFlight old flights → under (page_at old p) n ≡ true → Changes flights later n None → IsSettled to → AreMemory new → AreInFlight new later
-  AreInFlight-ended flights later n is within unlisted after memory = record {
-    memory = memory;
+  pub AreInFlight-ended : (flights later : List (Option Flight)) (n : ℕ) → AreInFlight old flights → under (page_at old p) n ≡ true → Changes flights later n None → IsSettled to → AreInFlight new later
+  AreInFlight-ended flights later n is within unlisted after = record {
     known = λ m. elim (eqb_tells m n) [
       | inl same ↦ subst (λ slot. IfSome slot (IsInTransfer new m)) (sym (ap (at later) same.1 ∙ unlisted.changed)) tt
       | inr apart ↦ subst (λ slot. IfSome slot (IsInTransfer new m)) (sym (unlisted.others m apart.1)) (known-apart m (at flights m) (λ moves. apart.1 (one_ticket (page_at old p) m n moves within)) (is.known m))
@@ -154,12 +134,12 @@ module _ (old new : Pages) (p : ℕ) (to : Option Page) (placed : Changes old ne
     ];
   }
 
--- a page is of another group, where it was
-module _ (old new : Pages) (p g h : ℕ) (residence : Residence) (was : page_at old p ≡ Some (anon_page g residence)) (placed : Changes old new p (Some (anon_page h residence))) where
+-- a page changes and is where it was
+module _ (old new : Pages) (p : ℕ) (x y : Page) (was : page_at old p ≡ Some x) (placed : Changes old new p (Some y)) (stays : y.residence ≡ x.residence) where
   under-same : (q m : ℕ) → under (page_at new q) m ≡ under (page_at old q) m
   under-same q m =
       elim (eqb_tells q p) [
-        | inl same ↦ ap (λ r. under (page_at new r) m) same.1 ∙ ap (λ s. under s m) placed.changed ∙ sym (ap (λ s. under s m) (ap (page_at old) same.1 ∙ was))
+        | inl same ↦ ap (λ r. under (page_at new r) m) same.1 ∙ ap (λ s. under s m) placed.changed ∙ ap (λ r. is_number (ticket_at r) m) stays ∙ sym (ap (λ s. under s m) (ap (page_at old) same.1 ∙ was))
         | inr apart ↦ ap (λ s. under s m) (placed.others q apart.1)
       ]
 
@@ -169,14 +149,13 @@ module _ (old new : Pages) (p g h : ℕ) (residence : Residence) (was : page_at 
       elim (eqb_tells f.page.0 p) [
         | inl same ↦ (
             let moves = ap (λ page. page.residence) (some_inj (sym was ∙ ap (page_at old) (sym same.1) ∙ is.stands)) in
-            record { group = h; frame = is.frame; block = is.block; stands = ap (page_at new) same.1 ∙ placed.changed ∙ ap (λ r. Some (anon_page h r)) moves }
+            record { label = label_of y; frame = is.frame; block = is.block; stands = ap (page_at new) same.1 ∙ placed.changed ∙ ap (λ r. Some (labelled (label_of y) r)) (stays ∙ moves) }
             )
-        | inr apart ↦ record { group = is.group; frame = is.frame; block = is.block; stands = placed.others f.page.0 apart.1 ∙ is.stands }
+        | inr apart ↦ record { label = is.label; frame = is.frame; block = is.block; stands = placed.others f.page.0 apart.1 ∙ is.stands }
       ]
 
-  pub AreInFlight-regrouped : (flights : List (Option Flight)) → AreInFlight old flights → AreMemory new → AreInFlight new flights
-  AreInFlight-regrouped flights is memory = record {
-    memory = memory;
+  pub AreInFlight-same : (flights : List (Option Flight)) → AreInFlight old flights → AreInFlight new flights
+  AreInFlight-same flights is = record {
     known = λ n. known-same n (at flights n) (is.known n);
     listed = λ q n moves. is.listed q n (sym (under-same q n) ∙ moves);
   }

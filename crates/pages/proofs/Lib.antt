@@ -1,4 +1,5 @@
 pub mod TableLemmas
 pub mod FlightLemmas
+pub mod CacheLemmas
 pub mod MemberLemmas
 pub mod TransferLemmas

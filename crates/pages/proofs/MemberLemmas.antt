@@ -13,9 +13,8 @@ use Rattle.machine.specs.declared.id.PageId.{PageId}
 use Rattle.machine.proofs.Values.{some_inj, unlike}
 use Rattle.rings.specs.Rings.{list_at, has, is_listed, without}
 use Rattle.rings.proofs.ListLemmas.{has_first, list_at-map_without, listed_from, listed_in}
-use Rattle.pages.specs.PagesOf.{anon_page, HasResidence}
+use Rattle.pages.specs.PagesOf.{Label, label_of, labelled, HasResidence}
 use Rattle.pages.specs.Records.{is_of, AreMembers}
-use Rattle.pages.proofs.FlightLemmas.{AreMemory}
 
 has-added : (xs : List ℕ) (p q : ℕ) → has (xs ++ p ∷ []) q ≡ (has xs q || (q == p))
 has-added xs p q = list_any-append (λ x. q == x) xs (p ∷ []) ∙ ap (λ b. has xs q || b) (or-false (q == p))
@@ -91,24 +90,24 @@ module _ (lists : List (List ℕ)) (pages : Pages) (are : AreMembers lists pages
   listed p page there = listed_from lists page.group p (on_own_list p page there)
 
   -- the first of a group's list is a page of the group
-  first-there : AreMemory pages → (g p : ℕ) → slice_get (list_at lists g) 0 ≡ Some p → (r : Residence) × HasResidence pages p g r
-  first-there memory g p first = there (page_at pages p) refl (memory p) (sym (are g p) ∙ first_has (list_at lists g) first)
+  first-there : (g p : ℕ) → slice_get (list_at lists g) 0 ≡ Some p → (label : Label) × (r : Residence) × HasResidence pages p label r × (label.group ≡ g)
+  first-there g p first = there (page_at pages p) refl (sym (are g p) ∙ first_has (list_at lists g) first)
     where
       first_has : (xs : List ℕ) → slice_get xs 0 ≡ Some p → has xs p ≡ true
       first_has [] none = absurd (cc)
       first_has (x ∷ xs) is = ap (λ y. has (y ∷ xs) p) (some_inj is) ∙ has_first p xs
 
-      there : (slot : Option Page) → page_at pages p ≡ slot → IfSome slot (λ page. page ≡ anon_page page.group page.residence) → is_of g slot ≡ true → (r : Residence) × HasResidence pages p g r
-      there None e anon own = absurd (cc)
-      there (Some page) e anon own = (page.residence, e ∙ ap Some anon ∙ ap (λ h. Some (anon_page h page.residence)) (eqb-true page.group g own))
+      there : (slot : Option Page) → page_at pages p ≡ slot → is_of g slot ≡ true → (label : Label) × (r : Residence) × HasResidence pages p label r × (label.group ≡ g)
+      there None e own = absurd (cc)
+      there (Some page) e own = (label_of page, page.residence, e, eqb-true page.group g own)
 
-  pub first-some : AreMemory pages → (g : ℕ) (found : Option PageId) → option_map (λ (q : PageId). q.0) found ≡ slice_get (list_at lists g) 0 → IfSome found (λ q. (r : Residence) × HasResidence pages q.0 g r)
-  first-some memory g None is = tt
-  first-some memory g (Some q) is = first-there memory g q.0 (sym is)
+  pub first-some : (g : ℕ) (found : Option PageId) → option_map (λ (q : PageId). q.0) found ≡ slice_get (list_at lists g) 0 → IfSome found (λ q. (label : Label) × (r : Residence) × HasResidence pages q.0 label r × (label.group ≡ g))
+  first-some g None is = tt
+  first-some g (Some q) is = first-there g q.0 (sym is)
 
   -- where the list has no first, the group has no page
-  pub first-none : (g : ℕ) → slice_get (list_at lists g) 0 ≡ None → (p h : ℕ) (r : Residence) → HasResidence pages p h r → h ≢ g
-  first-none g none p h r there same = none_has (list_at lists g) none (ap (λ l. has (list_at lists l) p) (sym same) ∙ on_own_list p (anon_page h r) there)
+  pub first-none : (g : ℕ) → slice_get (list_at lists g) 0 ≡ None → (p : ℕ) (label : Label) (r : Residence) → HasResidence pages p label r → label.group ≢ g
+  first-none g none p label r there same = none_has (list_at lists g) none (ap (λ l. has (list_at lists l) p) (sym same) ∙ on_own_list p (labelled label r) there)
     where
       none_has : (xs : List ℕ) → slice_get xs 0 ≡ None → has xs p ≡ true → ⊥
       none_has [] is h = cc

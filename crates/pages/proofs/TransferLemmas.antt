@@ -1,11 +1,14 @@
 -- Pages after the change of what one of them owns, as transfers begin and end.
-use Rattle.std.proofs.Common.{◌≡◌, ◌≢◌, ℕ, ◌+◌, ◌<◌, ◌==◌, true, cond, List, length, map, set, Option, Some, None, is_some, refl, sym, ap, ◌∙◌, subst, inl, inr, arith}
+use Rattle.std.proofs.Common.{◌≡◌, ◌≢◌, ℕ, ◌+◌, ◌<◌, ◌==◌, Bool, true, List, [], ◌∷◌, ◌++◌, length, map, set, Option, Some, None, is_some, refl, sym, ap, ◌∙◌, subst, inl, inr, arith}
 use Rattle.std.specs.Prelude.{option_map, IfSome, IsSome, slice_index}
 use Rattle.std.proofs.lemmas.Bool.Decides.{eqb_tells}
-use Rattle.slab.specs.Slab.{Slab, get, slab_len, HasRoomFor}
+use Rattle.std.proofs.lemmas.List.{length-map, length-set}
+use Rattle.slab.specs.Slab.{Slab, get, slab_len, HasRoomFor, Updates}
 use Rattle.machine.specs.Slots.{at, there_and, Changes}
-use Rattle.machine.specs.Pages.{Page, Pages, Residence, page_at, is_held, in_transfer_at, frame_at, block_at}
+use Rattle.machine.specs.Pages.{Content, Memory, OfFile, Residence, Held, Page, Pages, page_at, is_held, in_transfer_at, frame_at, block_at, is_page_of, IsFiled}
 use Rattle.machine.specs.declared.id.PageId.{PageId}
+use Rattle.machine.proofs.Values.{some_inj}
+use Rattle.machine.proofs.FileLemmas.{holds_page}
 use Rattle.pages.specs.declared.end.End.{End}
 use Rattle.pages.specs.declared.end.End.TheVariants.{InFrame, OnBlock}
 use Rattle.pages.specs.declared.end.Freed.{Freed}
@@ -13,26 +16,37 @@ use Rattle.machine.specs.declared.record.Direction.{Direction}
 use Rattle.machine.specs.declared.record.Direction.TheVariants.{In, Out}
 use Rattle.pages.specs.declared.flight.Flight.{Flight}
 use Rattle.pages.specs.declared.owned_page.OwnedPage.{OwnedPage}
-use Rattle.pages.specs.PagesOf.{anon_page, moving, flight, byte_of, byte_in, HasResidence, is_under_ticket, IsInTransfer, AreInFlight}
-use Rattle.pages.specs.Transfers.{Starts, Ends, residence_after, IsFreed, given_ticket}
-use Rattle.rings.specs.Rings.{RingsOf}
-use Rattle.pages.specs.Records.{page_of, bytes_of, is_of, AreMembers, view_of, ArePages}
-use Rattle.pages.proofs.TableLemmas.{at-map, is_some-map, map-set, place_within, Changes-map, Changes-set, Changes-twice, byte_in-changes}
-use Rattle.pages.proofs.FlightLemmas.{under, under-moving, IsSettled, IsSettled-is, AreMemory-owned, AreInFlight-begun, AreInFlight-ended}
-use Rattle.pages.proofs.MemberLemmas.{AreMembers-kept}
+use Rattle.pages.specs.declared.owned_page.FilePage.{FilePage}
+use Rattle.pages.specs.declared.owned_page.Content.{Content as Holds}
+use Rattle.pages.specs.declared.owned_page.Content.TheVariants as holds
+use Rattle.files.specs.Files.{FilesOf}
+use Rattle.pages.specs.PagesOf.{Label, label_of, labelled, of_file, moving, flight, byte_of, byte_in, HasResidence, is_under_ticket, IsInTransfer, AreInFlight}
+use Rattle.pages.specs.Transfers.{Starts, Ends, on_block_as, page_after, IsFreed, given_ticket}
+use Rattle.rings.specs.Rings.{RingsOf, list_at, without}
+use Rattle.pages.specs.Records.{page_of, bytes_of, label_holding, file_at, place_in, is_of, AreMembers, AreCached, AreHome, view_of, ArePages}
+use Rattle.pages.proofs.TableLemmas.{at-map, is_some-map, map-set, place_within, Changes-map, Changes-set, taken-changes, free-page}
+use Rattle.pages.proofs.FlightLemmas.{under, under-moving, IsSettled, IsSettled-is, AreInFlight-begun, AreInFlight-ended}
+use Rattle.pages.proofs.MemberLemmas.{AreMembers-kept, AreMembers-gone, AreMembers-added}
+use Rattle.pages.proofs.CacheLemmas.{AreHome-changes, AreCached-kept, AreCached-left, filed-after}
 
 abbrev pub pages_of : List (Option OwnedPage) → Pages
 pages_of owned = map (option_map page_of) owned
+
+abbrev pub bytes_in : List (Option OwnedPage) → List (Option (List ℕ))
+bytes_in owned = map (option_map bytes_of) owned
 
 under-owned : (slot : Option OwnedPage) (n : ℕ) → under (option_map page_of slot) n ≡ true → IsSome slot
 under-owned None n is = absurd (cc)
 under-owned (Some k) n is = refl
 
 -- what is at the place of a page's number
-pub owned-stands : (owned : List (Option OwnedPage)) (p g : ℕ) (residence : Residence) (k : OwnedPage) → at owned p ≡ Some k → HasResidence (pages_of owned) p g residence → page_of k ≡ anon_page g residence
-owned-stands owned p g residence k was stands =
+pub owned-stands : (owned : List (Option OwnedPage)) (p : ℕ) (k : OwnedPage) (x : Page) → at owned p ≡ Some k → page_at (pages_of owned) p ≡ Some x → page_of k ≡ x
+owned-stands owned p k x was stands =
     let is = sym (ap (option_map page_of) was) ∙ sym (at-map page_of owned p) ∙ stands in
     cc
+
+pub page-stands : (owned : List (Option OwnedPage)) (p : ℕ) (k : OwnedPage) → at owned p ≡ Some k → page_at (pages_of owned) p ≡ Some (page_of k)
+page-stands owned p k was = at-map page_of owned p ∙ ap (option_map page_of) was
 
 moving-transfer : (d : Direction) (f b n : ℕ) → in_transfer_at (moving d f b n) ≡ true
 moving-transfer In f b n = refl
@@ -44,7 +58,7 @@ module _ (owned : List (Option OwnedPage)) (flights : List (Option Flight)) (n :
   under_at None is moves = absurd (cc)
   under_at (Some f) is moves =
       let same : f.page ≡ page = cc in
-      ap (λ q. is_under_ticket (pages_of owned) q.0 n) (sym same) ∙ under-moving _ f.direction moves.group moves.frame moves.block n moves.stands
+      ap (λ q. is_under_ticket (pages_of owned) q.0 n) (sym same) ∙ under-moving _ f.direction moves.label moves.frame moves.block n moves.stands
 
   page_at_slot : (slot : Option Flight) (p : ℕ) → option_map (λ (f : Flight). f.page) slot ≡ Some page → option_map (λ (f : Flight). f.page.0) slot ≡ Some p → page.0 ≡ p
   page_at_slot None p is listed = absurd (cc)
@@ -61,93 +75,160 @@ module _ (owned : List (Option OwnedPage)) (flights : List (Option Flight)) (n :
   flight-there = under-owned (at owned page.0) n (ap (λ slot. under slot n) (sym (at-map page_of owned page.0)) ∙ flight-under)
 
   -- and it is the only one
-  pub flight-page : (d : Direction) (p g f b : ℕ) → HasResidence (pages_of owned) p g (moving d f b n) → page.0 ≡ p
-  flight-page d p g f b stands = page_at_slot (at flights n) p known (in_flight.listed p n (under-moving _ d g f b n stands))
+  pub flight-page : (d : Direction) (p : ℕ) (label : Label) (f b : ℕ) → HasResidence (pages_of owned) p label (moving d f b n) → page.0 ≡ p
+  flight-page d p label f b stands = page_at_slot (at flights n) p known (in_flight.listed p n (under-moving _ d label f b n stands))
 
-  pub flight-stands : (d : Direction) (p g f b : ℕ) → HasResidence (pages_of owned) p g (moving d f b n) → HasResidence (pages_of owned) page.0 g (moving d f b n)
-  flight-stands d p g f b stands = subst (λ q. HasResidence (pages_of owned) q g (moving d f b n)) (sym (flight-page d p g f b stands)) stands
+  pub flight-stands : (d : Direction) (p : ℕ) (label : Label) (f b : ℕ) → HasResidence (pages_of owned) p label (moving d f b n) → HasResidence (pages_of owned) page.0 label (moving d f b n)
+  flight-stands d p label f b stands = subst (λ q. HasResidence (pages_of owned) q label (moving d f b n)) (sym (flight-page d p label f b stands)) stands
 
   -- what it owns is that of a page in transfer
-  pub flight-moves : (d : Direction) (p g f b : ℕ) → HasResidence (pages_of owned) p g (moving d f b n) → (k : OwnedPage) → at owned page.0 ≡ Some k → in_transfer_at (page_of k).residence ≡ true
-  flight-moves d p g f b stands k was = ap (λ page. in_transfer_at page.residence) (owned-stands owned page.0 g _ k was (flight-stands d p g f b stands)) ∙ moving-transfer d f b n
+  pub flight-moves : (d : Direction) (p : ℕ) (label : Label) (f b : ℕ) → HasResidence (pages_of owned) p label (moving d f b n) → (k : OwnedPage) → at owned page.0 ≡ Some k → in_transfer_at (page_of k).residence ≡ true
+  flight-moves d p label f b stands k was = ap (λ page. in_transfer_at page.residence) (owned-stands owned page.0 k _ was (flight-stands d p label f b stands)) ∙ moving-transfer d f b n
 
 -- a ticket that a page is in transfer under is in flight
-pub flight-listed : (owned : List (Option OwnedPage)) (flights : Slab Flight) (d : Direction) (p g f b n : ℕ) → AreInFlight (pages_of owned) flights.slots → HasResidence (pages_of owned) p g (moving d f b n) → IsSome (get flights n)
-flight-listed owned flights d p g f b n in_flight stands = some_of (at flights.slots n) (in_flight.listed p n (under-moving _ d g f b n stands))
+pub flight-listed : (owned : List (Option OwnedPage)) (flights : Slab Flight) (d : Direction) (p : ℕ) (label : Label) (f b n : ℕ) → AreInFlight (pages_of owned) flights.slots → HasResidence (pages_of owned) p label (moving d f b n) → IsSome (get flights n)
+flight-listed owned flights d p label f b n in_flight stands = some_of (at flights.slots n) (in_flight.listed p n (under-moving _ d label f b n stands))
   where
     some_of : (slot : Option Flight) → option_map (λ (f : Flight). f.page.0) slot ≡ Some p → IsSome slot
     some_of None is = absurd (cc)
     some_of (Some f) is = refl
 
--- what one page owns is taken out, and this is put in its place
-pub record Exchanges (old between new : List (Option OwnedPage)) (p : ℕ) (from to : OwnedPage) : Type 0 where
-  pub was : at old p ≡ Some from
-  pub gone : Changes old between p None
-  pub placed : Changes between new p (Some to)
+-- ---- the change of what one page owns
 
-module _ (old between new : List (Option OwnedPage)) (p : ℕ) (from to : OwnedPage) (exchanges : Exchanges old between new p from to) where
-  pub exchanged : Changes old new p (Some to)
-  exchanged = Changes-twice old between new p None (Some to) exchanges.gone exchanges.placed
+module _ (old new : List (Option OwnedPage)) (p : ℕ) (to : Option OwnedPage) (changes : Changes old new p to) where
+  pub changed-page : (q : ℕ) (page : Option Page) → p ≡ q → option_map page_of to ≡ page → Changes (pages_of old) (pages_of new) q page
+  changed-page q page here is =
+      subst (λ m. Changes (pages_of old) (pages_of new) m page) here (subst (λ x. Changes (pages_of old) (pages_of new) p x) is (Changes-map page_of old new p to changes))
 
-  pub exchanged-page : (q g : ℕ) (residence : Residence) → p ≡ q → page_of to ≡ anon_page g residence → Changes (pages_of old) (pages_of new) q (Some (anon_page g residence))
-  exchanged-page q g residence here is =
-      subst (λ m. Changes (pages_of old) (pages_of new) m (Some (anon_page g residence))) here (subst (λ page. Changes (pages_of old) (pages_of new) p (Some page)) is (Changes-map page_of old new p (Some to) exchanged))
-
-  pub exchanged-taken : {T : Type 0} (numbers : Slab T) → ((k : ℕ) → is_some (get numbers k) ≡ is_some (at old k)) → (k : ℕ) → is_some (get numbers k) ≡ is_some (at new k)
-  exchanged-taken numbers taken k =
-      elim (eqb_tells k p) [
-        | inl same ↦ taken k ∙ ap is_some (ap (at old) same.1 ∙ exchanges.was) ∙ sym (ap is_some (ap (at new) same.1 ∙ exchanges.placed.changed))
-        | inr apart ↦ taken k ∙ sym (ap is_some (exchanged.others k apart.1))
-      ]
-
-  -- a page that stays in its group stays on its list
-  pub exchanged-listed : (lists : List (List ℕ)) → (page_of from).group ≡ (page_of to).group → AreMembers lists (pages_of old) → AreMembers lists (pages_of new)
-  exchanged-listed lists same are =
-      AreMembers-kept lists (pages_of old) (pages_of new) p (Some (page_of to)) (Changes-map page_of old new p (Some to) exchanged) are
-      (λ g. ap (λ h. h == g) (sym same) ∙ sym (ap (is_of g) (at-map page_of old p ∙ ap (option_map page_of) exchanges.was)))
-
-  pub exchanged-byte : (q o : ℕ) → byte_in (map (option_map bytes_of) new) q o ≡ cond (q == p) (slice_index (bytes_of to) o) (byte_in (map (option_map bytes_of) old) q o)
-  exchanged-byte q o = byte_in-changes _ _ p (Some (bytes_of to)) (Changes-map bytes_of old new p (Some to) exchanged) q o
-
-  pub exchanged-byte-apart : (q o : ℕ) → q ≢ p → byte_in (map (option_map bytes_of) new) q o ≡ byte_in (map (option_map bytes_of) old) q o
-  exchanged-byte-apart q o apart = ap (λ bytes. byte_of bytes o) ((Changes-map bytes_of old new p (Some to) exchanged).others q apart)
-
-  pub own-byte : (o : ℕ) → byte_in (map (option_map bytes_of) old) p o ≡ slice_index (bytes_of from) o
-  own-byte o = ap (λ bytes. byte_of bytes o) (at-map bytes_of old p ∙ ap (option_map bytes_of) exchanges.was)
+  pub changed-byte-apart : (q o : ℕ) → q ≢ p → byte_in (bytes_in new) q o ≡ byte_in (bytes_in old) q o
+  changed-byte-apart q o apart = ap (λ bytes. byte_of bytes o) ((Changes-map bytes_of old new p to changes).others q apart)
 
   -- where its bytes stay, all do
-  pub exchanged-byte-kept : bytes_of to ≡ bytes_of from → (q o : ℕ) → byte_in (map (option_map bytes_of) new) q o ≡ byte_in (map (option_map bytes_of) old) q o
-  exchanged-byte-kept same q o =
+  pub changed-byte-kept : (from : OwnedPage) → at old p ≡ Some from → option_map bytes_of to ≡ Some (bytes_of from) → (q o : ℕ) → byte_in (bytes_in new) q o ≡ byte_in (bytes_in old) q o
+  changed-byte-kept from was same q o =
       elim (eqb_tells q p) [
         | inl here ↦ (
-            let after = ap (λ bytes. byte_of bytes o) ((Changes-map bytes_of old new p (Some to) exchanged).changed) in
-            rw here.1 (after ∙ ap (λ bytes. slice_index bytes o) same ∙ sym (own-byte o))
+            let after = ap (λ bytes. byte_of bytes o) ((Changes-map bytes_of old new p to changes).changed) in
+            let before = ap (λ bytes. byte_of bytes o) (at-map bytes_of old p ∙ ap (option_map bytes_of) was) in
+            rw here.1 (after ∙ ap (λ bytes. byte_of bytes o) same ∙ sym before)
             )
-        | inr apart ↦ exchanged-byte-apart q o apart.1
+        | inr apart ↦ changed-byte-apart q o apart.1
       ]
 
--- the parts of what a page owns, by where it is
-module _ (k : OwnedPage) (g : ℕ) (residence : Residence) (is : page_of k ≡ anon_page g residence) where
-  pub part-charge : (charge : ℕ) → (page_of k).group ≡ charge → charge ≡ g
-  part-charge charge own = sym own ∙ ap (λ page. page.group) is
+pub own-byte : (old : List (Option OwnedPage)) (p : ℕ) (from : OwnedPage) → at old p ≡ Some from → (o : ℕ) → byte_in (bytes_in old) p o ≡ slice_index (bytes_of from) o
+own-byte old p from was o = ap (λ bytes. byte_of bytes o) (at-map bytes_of old p ∙ ap (option_map bytes_of) was)
 
-  pub part-frame : (frame f : ℕ) → frame_at (page_of k).residence ≡ Some frame → frame_at residence ≡ Some f → frame ≡ f
-  part-frame frame f own stands =
-      let both = sym own ∙ ap (λ page. frame_at page.residence) is ∙ stands in
-      cc
+-- a page that is there is at home
+pub own-filed : (files : FilesOf) (owned : List (Option OwnedPage)) (p : ℕ) (k : OwnedPage) → AreHome files (pages_of owned) → at owned p ≡ Some k → IsFiled files.first files.sizes (page_of k)
+own-filed files owned p k home was = subst (λ slot. IfSome slot (IsFiled files.first files.sizes)) (page-stands owned p k was) (home p)
 
-  pub part-slot : (slot b : ℕ) → block_at (page_of k).residence ≡ Some slot → block_at residence ≡ Some b → slot ≡ b
-  part-slot slot b own stands =
-      let both = sym own ∙ ap (λ page. block_at page.residence) is ∙ stands in
-      cc
+-- ---- the numbers, the lists and the cache beside it
 
-pub anon_page-same : (charge g : ℕ) (from to : Residence) → charge ≡ g → from ≡ to → anon_page charge from ≡ anon_page g to
-anon_page-same charge g from to first second = ap (λ c. anon_page c from) first ∙ ap (λ r. anon_page g r) second
+-- the numbers, the groups' lists and the cache are those of the pages after a change
+pub record Fits {T : Type 0} (numbers numbers' : Slab T) (new : List (Option OwnedPage)) (members members' : RingsOf) (files : FilesOf) (cache cache' : List (Option PageId)) : Type 0 where
+  pub same_numbers : numbers'.capacity ≡ numbers.capacity
+  pub same_links : members'.numbers ≡ members.numbers
+  pub same_groups : length members'.lists ≡ length members.lists
+  pub same_room : members'.room ≡ members.room
+  pub taken : (n : ℕ) → is_some (get numbers' n) ≡ is_some (at new n)
+  pub listed : AreMembers members'.lists (pages_of new)
+  pub cached : AreCached files cache' (pages_of new)
+  pub homes : length cache' ≡ length cache
+
+-- what they are with the transfers and the pages at home
+pub Fits-are : {T : Type 0} {numbers numbers' : Slab T} {old new : List (Option OwnedPage)} {members members' : RingsOf} {files : FilesOf} {cache cache' : List (Option PageId)} {places room : ℕ} {flights later : Slab Flight}
+    → Fits numbers numbers' new members members' files cache cache' → ArePages numbers old places flights members files cache → room ≡ places → later.capacity ≡ flights.capacity
+    → AreInFlight (pages_of new) later.slots → AreHome files (pages_of new) → ArePages numbers' new room later members' files cache'
+Fits-are fits are same_places capacity in_flight home = record {
+  taken = fits.taken;
+  within = fits.same_numbers ∙ are.within ∙ sym same_places;
+  in_flight = in_flight;
+  few = (let few = are.few in let same = fits.same_numbers in omega (arith, few, same));
+  countable = (let few = are.countable in omega (arith, few, capacity));
+  linked = fits.same_links ∙ are.linked ∙ sym fits.same_numbers;
+  listed = fits.listed;
+  filed = home;
+  cached = fits.cached;
+  homes = fits.homes ∙ are.homes;
+}
+
+module _ {T : Type 0} (numbers : Slab T) (old new : List (Option OwnedPage)) (places : ℕ) (flights : Slab Flight) (members : RingsOf) (files : FilesOf) (cache : List (Option PageId)) (are : ArePages numbers old places flights members files cache) (p : ℕ) (from : OwnedPage) (was : at old p ≡ Some from) where
+  -- a page holds what it held, and the lists are others
+  pub Fits-stays-beside : (to : OwnedPage) → Changes old new p (Some to) → (page_of to).content ≡ (page_of from).content
+      → (members' : RingsOf) → members'.numbers ≡ members.numbers → length members'.lists ≡ length members.lists → members'.room ≡ members.room → AreMembers members'.lists (pages_of new)
+      → Fits numbers numbers new members members' files cache cache
+  Fits-stays-beside to changes content members' links groups room listed = record {
+    same_numbers = refl;
+    same_links = links;
+    same_groups = groups;
+    same_room = room;
+    taken = λ k. elim (eqb_tells k p) [
+      | inl same ↦ are.taken k ∙ ap is_some (ap (at old) same.1 ∙ was) ∙ sym (ap is_some (ap (at new) same.1 ∙ changes.changed))
+      | inr apart ↦ are.taken k ∙ sym (ap is_some (changes.others k apart.1))
+    ];
+    listed = listed;
+    cached = AreCached-kept files (pages_of old) (pages_of new) p (Some (page_of to)) (Changes-map page_of old new p (Some to) changes) cache are.cached (λ f q. ap (is_page_of f q) content ∙ sym (ap (holds_page f q) (page-stands old p from was)));
+    homes = refl;
+  }
+
+  -- a page stays in its group, and holds what it held
+  pub Fits-stays : (to : OwnedPage) → Changes old new p (Some to) → (page_of to).group ≡ (page_of from).group → (page_of to).content ≡ (page_of from).content → Fits numbers numbers new members members files cache cache
+  Fits-stays to changes group content =
+      Fits-stays-beside to changes content members refl refl refl
+      (AreMembers-kept members.lists (pages_of old) (pages_of new) p (Some (page_of to)) (Changes-map page_of old new p (Some to) changes) are.listed (λ g. ap (λ h. h == g) group ∙ sym (ap (is_of g) (page-stands old p from was))))
+
+  -- a page goes
+  pub Fits-left : (numbers' : Slab T) (members' : RingsOf) (cache' : List (Option PageId)) → Changes old new p None → Updates numbers numbers' p None → numbers'.capacity ≡ numbers.capacity
+      → members' ≡ record members { lists = map (without p) members.lists }
+      → ((a : FilePage) → file_at (page_of from).content ≡ Some a → Changes cache cache' (place_in files a.file a.page) None) → (file_at (page_of from).content ≡ None → cache' ≡ cache) → length cache' ≡ length cache
+      → Fits numbers numbers' new members members' files cache cache'
+  Fits-left numbers' members' cache' changes updates capacity lists frees same homes = record {
+    same_numbers = capacity;
+    same_links = ap (λ m. m.numbers) lists;
+    same_groups = ap (λ m. length m.lists) lists ∙ length-map members.lists (without p);
+    same_room = ap (λ m. m.room) lists;
+    taken = taken-changes numbers numbers' old new p None None updates changes refl are.taken;
+    listed = subst (λ ls. AreMembers ls (pages_of new)) (sym (ap (λ m. m.lists) lists)) (AreMembers-gone members.lists (pages_of old) (pages_of new) p None (Changes-map page_of old new p None changes) are.listed refl);
+    cached = AreCached-left files (pages_of old) (pages_of new) p (page_of from) cache cache' (Changes-map page_of old new p None changes) (page-stands old p from was) (own-filed files old p from are.filed was) frees same are.cached;
+    homes = homes;
+  }
+
+-- a page comes, at the end of its group's list
+pub Fits-added : {T : Type 0} (numbers numbers' : Slab T) (old new : List (Option OwnedPage)) (places : ℕ) (flights : Slab Flight) (members members' : RingsOf) (files : FilesOf) (cache cache' : List (Option PageId)) → ArePages numbers old places flights members files cache
+    → (p : ℕ) (to : OwnedPage) (value : T) → get numbers p ≡ None → Changes old new p (Some to) → Updates numbers numbers' p (Some value) → numbers'.capacity ≡ numbers.capacity
+    → (h : ℕ) → h < length members.lists → (page_of to).group ≡ h → members' ≡ record members { lists = set members.lists h (list_at members.lists h ++ p ∷ []) }
+    → AreCached files cache' (pages_of new) → length cache' ≡ length cache → Fits numbers numbers' new members members' files cache cache'
+Fits-added numbers numbers' old new places flights members members' files cache cache' are p to value free changes updates capacity h within group lists cached homes = record {
+  same_numbers = capacity;
+  same_links = ap (λ m. m.numbers) lists;
+  same_groups = ap (λ m. length m.lists) lists ∙ length-set members.lists h (list_at members.lists h ++ p ∷ []);
+  same_room = ap (λ m. m.room) lists;
+  taken = taken-changes numbers numbers' old new p (Some value) (Some to) updates changes refl are.taken;
+  listed = subst (λ ls. AreMembers ls (pages_of new)) (sym (ap (λ m. m.lists) lists))
+      (AreMembers-added members.lists (pages_of old) (pages_of new) p (Some (page_of to)) (Changes-map page_of old new p (Some to) changes) are.listed h within (free-page page_of numbers old p are.taken free) (λ g. ap (λ x. x == g) group));
+  cached = cached;
+  homes = homes;
+}
+
+-- ---- how a transfer ends
 
 -- a page whose transfer has ended is in none
-settled-after : (end : End) (page : Page) (g f b : ℕ) → page ≡ anon_page g (residence_after end f b) → IsSettled (Some page)
-settled-after InFrame page g f b is = IsSettled-is (Some page) _ (ap Some is) (λ n. refl)
-settled-after OnBlock page g f b is = IsSettled-is (Some page) _ (ap Some is) (λ n. refl)
+settled-after : (end : End) (label : Label) (f b : ℕ) → IsSettled (page_after end label f b)
+settled-after InFrame label f b = λ n. refl
+settled-after OnBlock label f b = by_content label.content
+  where
+    by_content : (content : Content) → IsSettled (on_block_as content label b)
+    by_content Memory = λ n. refl
+    by_content (OfFile file q) = λ n. refl
+
+-- and if it is still there, it is what it was
+pub label-after : (end : End) (label : Label) (f b : ℕ) (page : Page) → page_after end label f b ≡ Some page → label_of page ≡ label
+label-after InFrame label f b page is = ap label_of (some_inj (sym is))
+label-after OnBlock label f b page is = by_content label.content is
+  where
+    by_content : (content : Content) → on_block_as content label b ≡ Some page → label_of page ≡ label
+    by_content Memory is = ap label_of (some_inj (sym is))
+    by_content (OfFile file q) is = absurd (cc)
 
 moving-frame : (d : Direction) (f b n : ℕ) → frame_at (moving d f b n) ≡ Some f
 moving-frame In f b n = refl
@@ -157,119 +238,130 @@ moving-block : (d : Direction) (f b n : ℕ) → block_at (moving d f b n) ≡ S
 moving-block In f b n = refl
 moving-block Out f b n = refl
 
--- the steps of an ending: the transfer is unlisted, and what its page owns is exchanged
-pub record Landing {T : Type 0} (numbers : Slab T) (old between new : List (Option OwnedPage)) (places room : ℕ) (flights later : Slab Flight) (members : RingsOf) (n : ℕ) (number : PageId) (from to : OwnedPage) (charge frame block : ℕ) (end : End) : Type 0 where
-  pub are : ArePages numbers old places flights members
+-- the steps of an ending: the transfer is unlisted, and what its page owns is another thing, or nothing
+pub record Landing {T : Type 0} (numbers numbers' : Slab T) (old new : List (Option OwnedPage)) (places room : ℕ) (flights later : Slab Flight) (members members' : RingsOf) (files : FilesOf) (cache cache' : List (Option PageId)) (n : ℕ) (number : PageId) (from : OwnedPage) (to : Option OwnedPage) (label : Label) (frame block : ℕ) (end : End) : Type 0 where
+  pub are : ArePages numbers old places flights members files cache
   pub page : option_map (λ (f : Flight). f.page) (at flights.slots n) ≡ Some number
   pub unlisted : Changes flights.slots later.slots n None
   pub len : slab_len later + 1 ≡ slab_len flights
   pub fits : HasRoomFor later 1
   pub capacity : later.capacity ≡ flights.capacity
-  pub exchanges : Exchanges old between new number.0 from to
+  pub was : at old number.0 ≡ Some from
+  pub changes : Changes old new number.0 to
   pub same_places : room ≡ places
-  pub own_charge : (page_of from).group ≡ charge
+  pub own_label : label_of (page_of from) ≡ label
   pub own_frame : frame_at (page_of from).residence ≡ Some frame
   pub own_block : block_at (page_of from).residence ≡ Some block
-  pub after : page_of to ≡ anon_page charge (residence_after end frame block)
-  pub kept : end ≡ InFrame → bytes_of to ≡ bytes_of from
+  pub after : option_map page_of to ≡ page_after end label frame block
+  pub kept : end ≡ InFrame → option_map bytes_of to ≡ Some (bytes_of from)
+  pub beside : Fits numbers numbers' new members members' files cache cache'
 
-module _ {T : Type 0} {numbers : Slab T} {old between new : List (Option OwnedPage)} {places room : ℕ} {flights later : Slab Flight} {members : RingsOf} {n : ℕ} {number : PageId} {from to : OwnedPage} {charge frame block : ℕ} {end : End} (landing : Landing numbers old between new places room flights later members n number from to charge frame block end) where
-  pub Landing-are : ArePages numbers new room later members
+module _ {T : Type 0} {numbers numbers' : Slab T} {old new : List (Option OwnedPage)} {places room : ℕ} {flights later : Slab Flight} {members members' : RingsOf} {files : FilesOf} {cache cache' : List (Option PageId)} {n : ℕ} {number : PageId} {from : OwnedPage} {to : Option OwnedPage} {label : Label} {frame block : ℕ} {end : End} (landing : Landing numbers numbers' old new places room flights later members members' files cache cache' n number from to label frame block end) where
+  landed : Changes (pages_of old) (pages_of new) number.0 (option_map page_of to)
+  landed = Changes-map page_of old new number.0 to landing.changes
+
+  after_filed : IfSome (option_map page_of to) (IsFiled files.first files.sizes)
+  after_filed =
+      let home = own-filed files old number.0 from landing.are.filed landing.was in
+      subst (λ slot. IfSome slot (IsFiled files.first files.sizes)) (sym landing.after)
+      (filed-after files.first files.sizes end label (page_of from).residence frame block (subst (λ l. IsFiled files.first files.sizes (labelled l (page_of from).residence)) landing.own_label home))
+
+  pub Landing-are : ArePages numbers' new room later members' files cache'
   Landing-are =
       let is = landing.are in
-      record {
-        taken = exchanged-taken old between new number.0 from to landing.exchanges numbers is.taken;
-        within = rw landing.same_places is.within;
-        in_flight = AreInFlight-ended (pages_of old) (pages_of new) number.0 (Some (page_of to)) (Changes-map page_of old new number.0 (Some to) (exchanged old between new number.0 from to landing.exchanges)) flights.slots later.slots n is.in_flight (flight-under old flights.slots n number is.in_flight landing.page) landing.unlisted (settled-after end (page_of to) charge frame block landing.after) (AreMemory-owned new);
-        few = is.few;
-        countable = (let few = is.countable in let same = landing.capacity in omega (arith, few, same));
-        linked = is.linked;
-        listed = exchanged-listed old between new number.0 from to landing.exchanges members.lists (landing.own_charge ∙ sym (ap (λ page. page.group) landing.after)) is.listed;
-      }
+      Fits-are landing.beside is landing.same_places landing.capacity
+      (AreInFlight-ended (pages_of old) (pages_of new) number.0 (option_map page_of to) landed flights.slots later.slots n is.in_flight (flight-under old flights.slots n number is.in_flight landing.page) landing.unlisted (IsSettled-is _ _ landing.after (settled-after end label frame block)))
+      (AreHome-changes files (pages_of old) (pages_of new) number.0 (option_map page_of to) landed after_filed is.filed)
 
-  module _ (d : Direction) (p g f b : ℕ) (stands : HasResidence (pages_of old) p g (moving d f b n)) where
+  module _ (d : Direction) (p : ℕ) (l : Label) (f b : ℕ) (stands : HasResidence (pages_of old) p l (moving d f b n)) where
     -- the page of the ticket is the one that is in transfer under it
     Landing-page : number.0 ≡ p
-    Landing-page = flight-page old flights.slots n number landing.are.in_flight landing.page d p g f b stands
+    Landing-page = flight-page old flights.slots n number landing.are.in_flight landing.page d p l f b stands
 
-    from_is : page_of from ≡ anon_page g (moving d f b n)
-    from_is = owned-stands old number.0 g _ from landing.exchanges.was (flight-stands old flights.slots n number landing.are.in_flight landing.page d p g f b stands)
+    from_is : page_of from ≡ labelled l (moving d f b n)
+    from_is = owned-stands old number.0 from _ landing.was (flight-stands old flights.slots n number landing.are.in_flight landing.page d p l f b stands)
 
-    pub Landing-charge : charge ≡ g
-    Landing-charge = part-charge from g _ from_is charge landing.own_charge
+    Landing-label : label ≡ l
+    Landing-label = sym landing.own_label ∙ ap label_of from_is
 
-    pub Landing-frame : frame ≡ f
-    Landing-frame = part-frame from g _ from_is frame f landing.own_frame (moving-frame d f b n)
+    Landing-frame : frame ≡ f
+    Landing-frame = some_inj (sym landing.own_frame ∙ ap (λ page. frame_at page.residence) from_is ∙ moving-frame d f b n)
 
-    pub Landing-block : block ≡ b
-    Landing-block = part-slot from g _ from_is block b landing.own_block (moving-block d f b n)
+    Landing-block : block ≡ b
+    Landing-block = some_inj (sym landing.own_block ∙ ap (λ page. block_at page.residence) from_is ∙ moving-block d f b n)
 
-    pub Landing-ends : Ends (view_of numbers old flights members) (view_of numbers new later members) p g f b n end
+    pub Landing-ends : Ends (view_of numbers old flights members files) (view_of numbers' new later members' files) p l f b n end
     Landing-ends =
-        let is = landing.after ∙ anon_page-same charge g _ _ Landing-charge (ap (λ x. residence_after end x block) Landing-frame ∙ ap (λ x. residence_after end f x) Landing-block) in
+        let is = landing.after ∙ ap (λ x. page_after end x frame block) Landing-label ∙ ap (λ x. page_after end l x block) Landing-frame ∙ ap (λ x. page_after end l f x) Landing-block in
         record {
-          placed = exchanged-page old between new number.0 from to landing.exchanges p g _ Landing-page is;
+          placed = changed-page old new number.0 to landing.changes p _ Landing-page is;
           unlisted = landing.unlisted;
           more = (let len = landing.len in let fits = landing.fits in let capacity = landing.capacity in omega (arith, len, fits, capacity));
-          numbers = refl;
-          groups = refl;
-          room = refl;
-          bytes = λ in_frame. exchanged-byte-kept old between new number.0 from to landing.exchanges (landing.kept in_frame);
-          others = λ k o apart. exchanged-byte-apart old between new number.0 from to landing.exchanges k o (λ same. apart (same ∙ Landing-page));
+          numbers = landing.beside.same_numbers;
+          groups = landing.beside.same_groups;
+          room = rw (landing.beside.same_room, landing.beside.same_groups) refl;
+          files = refl;
+          bytes = λ in_frame. changed-byte-kept old new number.0 to landing.changes from landing.was (landing.kept in_frame);
+          others = λ k o apart. changed-byte-apart old new number.0 to landing.changes k o (λ same. apart (same ∙ Landing-page));
         }
 
-    pub Landing-freed : (freed : Freed) → IsFreed charge frame block end freed → IsFreed g f b end freed
-    Landing-freed freed is = subst (λ x. IsFreed x f b end freed) Landing-charge (subst (λ x. IsFreed charge x b end freed) Landing-frame (subst (λ x. IsFreed charge frame x end freed) Landing-block is))
+    pub Landing-freed : (freed : Freed) → IsFreed label frame block end freed → IsFreed l f b end freed
+    Landing-freed freed is = subst (λ x. IsFreed x f b end freed) Landing-label (subst (λ x. IsFreed label x b end freed) Landing-frame (subst (λ x. IsFreed label frame x end freed) Landing-block is))
 
--- the steps of a beginning: the transfer is listed under a free ticket, and what its page owns is exchanged
-pub record Takeoff {T : Type 0} (numbers : Slab T) (old between new : List (Option OwnedPage)) (places room : ℕ) (flights later : Slab Flight) (members : RingsOf) (n p worker : ℕ) (direction : Direction) (g frame block : ℕ) (from to : OwnedPage) : Type 0 where
-  pub are : ArePages numbers old places flights members
+-- ---- how a transfer begins
+
+-- the steps of a beginning: the transfer is listed under a free ticket, and what its page owns is another thing
+pub record Takeoff {T : Type 0} (numbers numbers' : Slab T) (old new : List (Option OwnedPage)) (places room : ℕ) (flights later : Slab Flight) (members members' : RingsOf) (files : FilesOf) (cache cache' : List (Option PageId)) (n p worker : ℕ) (direction : Direction) (label : Label) (frame block : ℕ) (to : OwnedPage) : Type 0 where
+  pub are : ArePages numbers old places flights members files cache
   pub free : at flights.slots n ≡ None
   pub listed : Changes flights.slots later.slots n (Some (flight p worker direction))
   pub len : slab_len later ≡ slab_len flights + 1
   pub fits : HasRoomFor flights 1
   pub capacity : later.capacity ≡ flights.capacity
-  pub exchanges : Exchanges old between new p from to
+  pub changes : Changes old new p (Some to)
   pub same_places : room ≡ places
-  pub settled : IsSettled (Some (page_of from))
-  pub own_charge : (page_of from).group ≡ g
-  pub moves : page_of to ≡ anon_page g (moving direction frame block n)
+  pub settled : IsSettled (page_at (pages_of old) p)
+  pub moves : page_of to ≡ labelled label (moving direction frame block n)
+  pub filed : IsFiled files.first files.sizes (page_of to)
+  pub beside : Fits numbers numbers' new members members' files cache cache'
 
-module _ {T : Type 0} {numbers : Slab T} {old between new : List (Option OwnedPage)} {places room : ℕ} {flights later : Slab Flight} {members : RingsOf} {n p worker : ℕ} {direction : Direction} {g frame block : ℕ} {from to : OwnedPage} (takeoff : Takeoff numbers old between new places room flights later members n p worker direction g frame block from to) where
-  pub Takeoff-are : ArePages numbers new room later members
+module _ {T : Type 0} {numbers numbers' : Slab T} {old new : List (Option OwnedPage)} {places room : ℕ} {flights later : Slab Flight} {members members' : RingsOf} {files : FilesOf} {cache cache' : List (Option PageId)} {n p worker : ℕ} {direction : Direction} {label : Label} {frame block : ℕ} {to : OwnedPage} (takeoff : Takeoff numbers numbers' old new places room flights later members members' files cache cache' n p worker direction label frame block to) where
+  pub Takeoff-are : ArePages numbers' new room later members' files cache'
   Takeoff-are =
       let is = takeoff.are in
-      let settled = IsSettled-is (page_at (pages_of old) p) (Some (page_of from)) (at-map page_of old p ∙ ap (option_map page_of) takeoff.exchanges.was) takeoff.settled in
-      record {
-        taken = exchanged-taken old between new p from to takeoff.exchanges numbers is.taken;
-        within = rw takeoff.same_places is.within;
-        in_flight = AreInFlight-begun (pages_of old) (pages_of new) p (Some (page_of to)) (Changes-map page_of old new p (Some to) (exchanged old between new p from to takeoff.exchanges)) flights.slots later.slots n worker direction g frame block (ap Some takeoff.moves) is.in_flight settled takeoff.free takeoff.listed (AreMemory-owned new);
-        few = is.few;
-        countable = (let few = is.countable in let same = takeoff.capacity in omega (arith, few, same));
-        linked = is.linked;
-        listed = exchanged-listed old between new p from to takeoff.exchanges members.lists (takeoff.own_charge ∙ sym (ap (λ page. page.group) takeoff.moves)) is.listed;
-      }
+      let placed = Changes-map page_of old new p (Some to) takeoff.changes in
+      Fits-are takeoff.beside is takeoff.same_places takeoff.capacity
+      (AreInFlight-begun (pages_of old) (pages_of new) p (Some (page_of to)) placed flights.slots later.slots n worker direction label frame block (ap Some takeoff.moves) is.in_flight takeoff.settled takeoff.free takeoff.listed)
+      (AreHome-changes files (pages_of old) (pages_of new) p (Some (page_of to)) placed takeoff.filed is.filed)
 
-  pub Takeoff-starts : (h f b entry : ℕ) (bytes : List ℕ) → page_of to ≡ anon_page h (moving direction f b n) → Starts (view_of numbers old flights members) (view_of numbers new later members) p h direction f b worker entry (given_ticket n worker entry b bytes)
-  Takeoff-starts h f b entry bytes is = record {
+  pub Takeoff-starts : (l : Label) (f b entry : ℕ) (bytes : List ℕ) → page_of to ≡ labelled l (moving direction f b n)
+      → Starts (view_of numbers old flights members files) (view_of numbers' new later members' files) p l direction f b worker entry (given_ticket n worker entry b bytes)
+  Takeoff-starts l f b entry bytes is = record {
     free = takeoff.free;
     listed = takeoff.listed;
-    placed = exchanged-page old between new p from to takeoff.exchanges p h _ refl is;
+    placed = changed-page old new p (Some to) takeoff.changes p _ refl (ap Some is);
     given = refl;
     fewer = (let len = takeoff.len in let fits = takeoff.fits in let capacity = takeoff.capacity in omega (arith, len, fits, capacity));
-    numbers = refl;
-    groups = refl;
-    room = refl;
+    numbers = takeoff.beside.same_numbers;
+    groups = takeoff.beside.same_groups;
+    room = rw (takeoff.beside.same_room, takeoff.beside.same_groups) refl;
+    files = refl;
   }
 
-  pub Takeoff-apart : (q o : ℕ) → q ≢ p → byte_in (map (option_map bytes_of) new) q o ≡ byte_in (map (option_map bytes_of) old) q o
-  Takeoff-apart = exchanged-byte-apart old between new p from to takeoff.exchanges
+  pub Takeoff-apart : (q o : ℕ) → q ≢ p → byte_in (bytes_in new) q o ≡ byte_in (bytes_in old) q o
+  Takeoff-apart = changed-byte-apart old new p (Some to) takeoff.changes
 
-  pub Takeoff-kept : bytes_of to ≡ bytes_of from → (q o : ℕ) → byte_in (map (option_map bytes_of) new) q o ≡ byte_in (map (option_map bytes_of) old) q o
-  Takeoff-kept = exchanged-byte-kept old between new p from to takeoff.exchanges
+  pub Takeoff-kept : (from : OwnedPage) → at old p ≡ Some from → bytes_of to ≡ bytes_of from → (q o : ℕ) → byte_in (bytes_in new) q o ≡ byte_in (bytes_in old) q o
+  Takeoff-kept from was same = changed-byte-kept old new p (Some to) takeoff.changes from was (ap Some same)
 
-  pub Takeoff-holds : (bytes : List ℕ) → bytes ≡ bytes_of from → (o : ℕ) → slice_index bytes o ≡ byte_in (map (option_map bytes_of) old) p o
-  Takeoff-holds bytes copied o = ap (λ b. slice_index b o) copied ∙ sym (own-byte old between new p from to takeoff.exchanges o)
+-- the parts of what a page owns
+pub part-frame : (k : OwnedPage) (label : Label) (residence : Residence) → page_of k ≡ labelled label residence → (frame f : ℕ) → frame_at (page_of k).residence ≡ Some frame → frame_at residence ≡ Some f → frame ≡ f
+part-frame k label residence is frame f own stands = some_inj (sym own ∙ ap (λ page. frame_at page.residence) is ∙ stands)
+
+pub part-slot : (k : OwnedPage) (label : Label) (residence : Residence) → page_of k ≡ labelled label residence → (slot b : ℕ) → block_at (page_of k).residence ≡ Some slot → block_at residence ≡ Some b → slot ≡ b
+part-slot k label residence is slot b own stands = some_inj (sym own ∙ ap (λ page. block_at page.residence) is ∙ stands)
+
+-- ---- in its place
 
 -- bytes of one page are written in its place: the pages are the same
 pub record Rewrites (owned : List (Option OwnedPage)) (p : ℕ) (before after : Option OwnedPage) : Type 0 where
@@ -277,12 +369,12 @@ pub record Rewrites (owned : List (Option OwnedPage)) (p : ℕ) (before after : 
   pub was : before ≡ at owned p
   pub page : option_map page_of after ≡ option_map page_of before
 
-module _ {T : Type 0} (numbers : Slab T) (flights : Slab Flight) (members : RingsOf) (owned : List (Option OwnedPage)) (p : ℕ) (before after : Option OwnedPage) (rewrites : Rewrites owned p before after) where
+module _ {T : Type 0} (numbers : Slab T) (flights : Slab Flight) (members : RingsOf) (files : FilesOf) (owned : List (Option OwnedPage)) (p : ℕ) (before after : Option OwnedPage) (rewrites : Rewrites owned p before after) where
   same_pages : pages_of (set owned p after) ≡ pages_of owned
   same_pages = map-set page_of owned p after (rewrites.page ∙ ap (option_map page_of) rewrites.was)
 
-  pub Rewrites-are : (places : ℕ) → ArePages numbers owned places flights members → ArePages numbers (set owned p after) places flights members
-  Rewrites-are places is = record {
+  pub Rewrites-are : (places : ℕ) (cache : List (Option PageId)) → ArePages numbers owned places flights members files cache → ArePages numbers (set owned p after) places flights members files cache
+  Rewrites-are places cache is = record {
     taken = λ n. is.taken n ∙ sym (sym (is_some-map page_of (at (set owned p after) n)) ∙ ap is_some (sym (at-map page_of (set owned p after) n) ∙ ap (λ pages. page_at pages n) same_pages ∙ at-map page_of owned n) ∙ is_some-map page_of (at owned n));
     within = is.within;
     in_flight = subst (λ pages. AreInFlight pages flights.slots) (sym same_pages) is.in_flight;
@@ -290,12 +382,15 @@ module _ {T : Type 0} (numbers : Slab T) (flights : Slab Flight) (members : Ring
     countable = is.countable;
     linked = is.linked;
     listed = subst (AreMembers members.lists) (sym same_pages) is.listed;
+    filed = subst (AreHome files) (sym same_pages) is.filed;
+    cached = subst (AreCached files cache) (sym same_pages) is.cached;
+    homes = is.homes;
   }
 
-  pub Rewrites-others : view_of numbers (set owned p after) flights members ≡ record (view_of numbers owned flights members) { bytes = map (option_map bytes_of) (set owned p after) }
-  Rewrites-others = ap (λ pages. record (view_of numbers (set owned p after) flights members) { pages = pages }) same_pages
+  pub Rewrites-others : view_of numbers (set owned p after) flights members files ≡ record (view_of numbers owned flights members files) { bytes = bytes_in (set owned p after) }
+  Rewrites-others = ap (λ pages. record (view_of numbers (set owned p after) flights members files) { pages = pages }) same_pages
 
-  pub Rewrites-bytes : Changes (map (option_map bytes_of) owned) (map (option_map bytes_of) (set owned p after)) p (option_map bytes_of after)
+  pub Rewrites-bytes : Changes (bytes_in owned) (bytes_in (set owned p after)) p (option_map bytes_of after)
   Rewrites-bytes = Changes-map bytes_of _ _ p after (Changes-set owned p after rewrites.within)
 
 -- a page that is held has its place
@@ -305,3 +400,44 @@ held-within owned p held = place_within owned p (there (at owned p) (ap (there_a
     there : (slot : Option OwnedPage) → there_and is_held (option_map page_of slot) ≡ true → IsSome slot
     there None is = absurd (cc)
     there (Some k) is = refl
+
+-- ---- what a page in a frame holds
+
+pub holding-group : (content : Holds) (g : ℕ) → (label_holding content g).group ≡ g
+holding-group holds.Memory g = refl
+holding-group (holds.OfFile at dirty) g = refl
+
+pub holding-file : (content : Holds) (charge file q g : ℕ) (dirty : Bool) → label_holding content charge ≡ of_file file q g dirty → content ≡ holds.OfFile (record { file = file; page = q }) dirty
+holding-file holds.Memory charge file q g dirty is = absurd (let not = ap (λ label. label.content) is in cc)
+holding-file (holds.OfFile at d) charge file q g dirty is =
+    let content = ap (λ label. label.content) is in
+    let one : at.file ≡ file = cc in
+    let other : at.page ≡ q = cc in
+    let soiled : d ≡ dirty = ap (λ label. label.dirty) is in
+    ap (λ x. holds.OfFile (record { file = x; page = at.page }) d) one ∙ ap (λ x. holds.OfFile (record { file = file; page = x }) d) other ∙ ap (λ x. holds.OfFile (record { file = file; page = q }) x) soiled
+
+-- ---- a page in a frame that is written to
+
+-- it is there
+pub held-there : (owned : List (Option OwnedPage)) (p : ℕ) → there_and is_held (page_at (pages_of owned) p) ≡ true → (k : OwnedPage) × (at owned p ≡ Some k)
+held-there owned p held = there (at owned p) (ap (there_and is_held) (sym (at-map page_of owned p)) ∙ held)
+  where
+    there : (slot : Option OwnedPage) → there_and is_held (option_map page_of slot) ≡ true → (k : OwnedPage) × (slot ≡ Some k)
+    there None is = absurd (cc)
+    there (Some k) is = (k, refl)
+
+-- and still is
+pub touched-there : (slot : Option OwnedPage) (page : Page) → option_map page_of slot ≡ Some page → (k : OwnedPage) × (slot ≡ Some k) × (page_of k ≡ page)
+touched-there None page is = absurd (cc)
+touched-there (Some k) page is = (k, refl, some_inj is)
+
+-- a page of a file in a frame, which was written to
+module _ (owned : List (Option OwnedPage)) (p : ℕ) (k : OwnedPage) (content : Holds) (charge : ℕ) (was : at owned p ≡ Some k) (label : label_of (page_of k) ≡ label_holding content charge)
+    (file q g f : ℕ) (stands : HasResidence (pages_of owned) p (of_file file q g true) (Held f)) where
+  -- what it holds
+  pub held-content : content ≡ holds.OfFile (record { file = file; page = q }) true
+  held-content = holding-file content charge file q g true (sym label ∙ ap label_of (owned-stands owned p k _ was stands))
+
+  -- its file has it
+  pub held-inside : (files : FilesOf) → AreHome files (pages_of owned) → q < slice_index files.sizes file
+  held-inside files home = (subst (IsFiled files.first files.sizes) (owned-stands owned p k _ was stands) (own-filed files owned p k home was)).0

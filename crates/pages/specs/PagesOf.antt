@@ -1,15 +1,18 @@
 -- What a contract sees of `Pages`.
-use Rattle.std.specs.Prelude.{◌≡◌, ℕ, Bool, true, false, List, Option, Some, None, IfSome, option_map, slice_index}
+use Rattle.std.specs.Prelude.{◌≡◌, ℕ, Bool, true, false, if◌then◌else◌, List, Option, Some, None, IfSome, option_map, slice_index}
 use Rattle.machine.specs.Slots.{at, there_and, count_there}
-use Rattle.machine.specs.Pages.{Memory, Residence, Held, Coming, Going, Away, Page, Pages, page_at, is_in_transfer, is_number, ticket_at}
+use Rattle.machine.specs.Pages.{Content, Memory, OfFile, Residence, Held, Coming, Going, Away, Page, Pages, page_at, file_page, is_in_transfer, is_number, ticket_at, IsFiled}
+use Rattle.files.specs.Files.{FilesOf}
 use Rattle.pages.specs.declared.residence.Residence.{Residence as Code_residence}
 use Rattle.pages.specs.declared.residence.Residence.TheVariants as code
 use Rattle.machine.specs.declared.record.Direction.{Direction}
 use Rattle.machine.specs.declared.record.Direction.TheVariants.{In, Out}
 use Rattle.pages.specs.declared.flight.Flight.{Flight}
+use Rattle.pages.specs.declared.way.WayOut.{WayOut}
+use Rattle.pages.specs.declared.way.WayOut.TheVariants as way
 
 -- the pages and their bytes, both by the page's number; how many page numbers there are; by ticket number the transfers in flight;
--- for how many transfers more there is memory; how many groups there are; and for how many groups more there is memory
+-- for how many transfers more there is memory; how many groups there are; for how many groups more there is memory; and the files
 pub record PagesOf : Type 0 where
   pub pages : Pages
   pub bytes : List (Option (List ℕ))
@@ -18,6 +21,7 @@ pub record PagesOf : Type 0 where
   pub tickets : ℕ
   pub groups : ℕ
   pub room : ℕ
+  pub files : FilesOf
 
 -- how many pages there are
 abbrev pub pages_there : Pages → ℕ
@@ -31,13 +35,29 @@ byte_of (Some bytes) offset = slice_index bytes offset
 abbrev pub byte_in : List (Option (List ℕ)) → ℕ → ℕ → ℕ
 byte_in bytes p offset = byte_of (at bytes p) offset
 
--- a page of memory of a group
-abbrev pub anon_page : ℕ → Residence → Page
-anon_page g residence = record { content = Memory; group = g; dirty = false; residence = residence }
+-- what a page is, wherever it is: what it holds, whose it is, and whether it was written to since its file's home block had its bytes
+pub record Label : Type 0 where
+  pub content : Content
+  pub group : ℕ
+  pub dirty : Bool
 
--- the page of this number is memory of this group, and is there
-abbrev pub HasResidence : Pages → ℕ → ℕ → Residence → Type 0
-HasResidence pages p g residence = page_at pages p ≡ Some (anon_page g residence)
+abbrev pub label_of : Page → Label
+label_of page = record { content = page.content; group = page.group; dirty = page.dirty }
+
+abbrev pub labelled : Label → Residence → Page
+labelled label residence = record { content = label.content; group = label.group; dirty = label.dirty; residence = residence }
+
+-- memory of a group
+abbrev pub memory_of : ℕ → Label
+memory_of g = record { content = Memory; group = g; dirty = false }
+
+-- a page of a file, of a group, and whether it was written to
+abbrev pub of_file : ℕ → ℕ → ℕ → Bool → Label
+of_file file q g dirty = record { content = OfFile file q; group = g; dirty = dirty }
+
+-- the page of this number is this one, and is there
+abbrev pub HasResidence : Pages → ℕ → Label → Residence → Type 0
+HasResidence pages p label residence = page_at pages p ≡ Some (labelled label residence)
 
 -- where a page is, as the code names it
 abbrev pub residence_of : Residence → Code_residence
@@ -73,13 +93,22 @@ is_flight_to direction slot = there_and (λ flight. is_direction direction fligh
 
 -- the page of a flight is in transfer in the flight's direction, under this ticket
 pub record IsInTransfer (pages : Pages) (n : ℕ) (flight : Flight) : Type 0 where
-  pub group : ℕ
+  pub label : Label
   pub frame : ℕ
   pub block : ℕ
-  pub stands : HasResidence pages flight.page.0 group (moving flight.direction frame block n)
+  pub stands : HasResidence pages flight.page.0 label (moving flight.direction frame block n)
 
--- what always holds: the pages are memory of tasks, and the transfers in flight are those of the pages that are in transfer
+-- what always holds: the transfers in flight are those of the pages that are in transfer
 pub record AreInFlight (pages : Pages) (flights : List (Option Flight)) : Type 0 where
-  pub memory : (p : ℕ) → IfSome (page_at pages p) (λ page. page ≡ anon_page page.group page.residence)
   pub known : (n : ℕ) → IfSome (at flights n) (λ flight. IsInTransfer pages n flight)
   pub listed : (p n : ℕ) → is_under_ticket pages p n ≡ true → option_map (λ (f : Flight). f.page.0) (at flights n) ≡ Some p
+
+-- and: memory is never dirty, each page of a file is one that the file has, at home, and none is there twice
+pub record AreFiled (files : FilesOf) (pages : Pages) : Type 0 where
+  pub filed : (p : ℕ) → IfSome (page_at pages p) (IsFiled files.first files.sizes)
+  pub single : (p file q : ℕ) → IfSome (page_at pages p) (λ page. page.content ≡ OfFile file q → file_page pages file q ≡ Some p)
+
+-- how a page leaves its frame for good
+abbrev pub way_of : Content → Bool → WayOut
+way_of Memory dirty = way.ToSwap
+way_of (OfFile file q) dirty = if dirty then way.ToHome else way.Dropped

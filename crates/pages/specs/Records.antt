@@ -1,26 +1,47 @@
 -- What a contract sees of pages, by what they are made of: the numbers that pages have, what the pages own, the transfers in flight, and
 -- the lists of the groups' pages.
-use Rattle.std.specs.Prelude.{◌≡◌, ◌≢◌, ℕ, ◌-◌, ◌^◌, ◌<◌, ◌==◌, Bool, List, [], length, min, Option, map, option_map, is_some}
+use Rattle.std.specs.Prelude.{◌≡◌, ◌≢◌, ℕ, ◌-◌, ◌^◌, ◌<◌, ◌==◌, Bool, List, [], length, min, sum, slice_index, Option, Some, None, IfSome, map, option_map, is_some}
 use Rattle.slab.specs.Slab.{Slab, get, slab_len}
 use Rattle.rings.specs.Rings.{RingsOf, list_at, has}
 use Rattle.machine.specs.Slots.{at, there_and}
-use Rattle.machine.specs.Pages.{Held, Coming, Going, Away, Page, Pages, page_at}
+use Rattle.machine.specs.Pages.{Content, Memory, OfFile, Held, Coming, Going, Away, Page, Pages, page_at, is_page_of, home_block, IsFiled}
+use Rattle.machine.specs.declared.id.PageId.{PageId}
 use Rattle.pages.specs.declared.flight.Flight.{Flight}
 use Rattle.pages.specs.declared.owned_page.OwnedPage.{OwnedPage}
 use Rattle.pages.specs.declared.owned_page.OwnedPage.TheVariants as owned_page
-use Rattle.pages.specs.PagesOf.{PagesOf, anon_page, byte_of, AreInFlight}
+use Rattle.pages.specs.declared.owned_page.FilePage.{FilePage}
+use Rattle.pages.specs.declared.owned_page.Content.{Content as Holds}
+use Rattle.pages.specs.declared.owned_page.Content.TheVariants as holds
+use Rattle.pages.specs.declared.owned_page.Backing.{Backing}
+use Rattle.pages.specs.declared.owned_page.Backing.TheVariants as backing
+use Rattle.files.specs.Files.{FilesOf}
+use Rattle.pages.specs.PagesOf.{PagesOf, memory_of, of_file, labelled, Label, byte_of, AreInFlight}
+
+-- a page of this group that holds this
+abbrev pub label_holding : Holds → ℕ → Label
+label_holding holds.Memory g = memory_of g
+label_holding (holds.OfFile at dirty) g = of_file at.file at.page g dirty
+
+-- a page of this group that is read from here, or written to here; and the block
+abbrev pub label_backed : Backing → ℕ → Label
+label_backed (backing.Swap slot) g = memory_of g
+label_backed (backing.Home at block dirty) g = of_file at.file at.page g dirty
+
+abbrev pub block_of : Backing → ℕ
+block_of (backing.Swap slot) = slot
+block_of (backing.Home at block dirty) = block
 
 -- the page that owns these
 abbrev pub page_of : OwnedPage → Page
-page_of (owned_page.Held frame charge) = anon_page charge (Held frame.number)
-page_of (owned_page.Coming frame charge slot ticket) = anon_page charge (Coming frame.number slot ticket.0)
-page_of (owned_page.Going frame charge slot ticket) = anon_page charge (Going frame.number slot ticket.0)
-page_of (owned_page.Away group slot) = anon_page group.0 (Away slot)
+page_of (owned_page.Held frame charge content) = labelled (label_holding content charge) (Held frame.number)
+page_of (owned_page.Coming frame charge from ticket) = labelled (label_backed from charge) (Coming frame.number (block_of from) ticket.0)
+page_of (owned_page.Going frame charge to ticket) = labelled (label_backed to charge) (Going frame.number (block_of to) ticket.0)
+page_of (owned_page.Away group slot) = labelled (memory_of group.0) (Away slot)
 
 abbrev pub bytes_of : OwnedPage → List ℕ
-bytes_of (owned_page.Held frame charge) = frame.bytes
-bytes_of (owned_page.Coming frame charge slot ticket) = frame.bytes
-bytes_of (owned_page.Going frame charge slot ticket) = frame.bytes
+bytes_of (owned_page.Held frame charge content) = frame.bytes
+bytes_of (owned_page.Coming frame charge from ticket) = frame.bytes
+bytes_of (owned_page.Going frame charge to ticket) = frame.bytes
 bytes_of (owned_page.Away group slot) = []
 
 -- one byte of a page is written, and no other changes
@@ -40,10 +61,32 @@ AreMembers lists pages = (g p : ℕ) → has (list_at lists g) p ≡ is_of g (pa
 abbrev pub room_of : ℕ → ℕ → ℕ
 room_of lists groups = min lists (2 ^ 32 - 1 - groups)
 
+-- the page of a file that a page holds, if it holds one
+abbrev pub file_at : Content → Option FilePage
+file_at Memory = None
+file_at (OfFile file q) = Some (record { file = file; page = q })
+
+-- how far the home block of a page of a file is behind the first
+abbrev pub place_in : FilesOf → ℕ → ℕ → ℕ
+place_in files file q = home_block files.first files.sizes file q - files.first
+
+-- this page is found at a place of the cache
+abbrev pub is_found : Option PageId → ℕ → Bool
+is_found slot p = there_and (λ (page : PageId). page.0 == p) slot
+
+-- by home block, from the first on, a page is found exactly where it holds the page of a file that is at home there
+abbrev pub AreCached : FilesOf → List (Option PageId) → Pages → Type 0
+AreCached files cache pages = (file q p : ℕ) → q < slice_index files.sizes file
+    → is_found (at cache (place_in files file q)) p ≡ there_and (λ page. is_page_of file q page.content) (page_at pages p)
+
+-- memory is never dirty, and each page of a file is one that the file has, at home
+abbrev pub AreHome : FilesOf → Pages → Type 0
+AreHome files pages = (p : ℕ) → IfSome (page_at pages p) (IsFiled files.first files.sizes)
+
 module _ {T : Type 0} where
-  -- the numbers, what the pages own, the transfers, and the groups' lists
-  abbrev pub view_of : Slab T → List (Option OwnedPage) → Slab Flight → RingsOf → PagesOf
-  view_of numbers owned transfers members = record {
+  -- the numbers, what the pages own, the transfers, the groups' lists, and the files
+  abbrev pub view_of : Slab T → List (Option OwnedPage) → Slab Flight → RingsOf → FilesOf → PagesOf
+  view_of numbers owned transfers members files = record {
     pages = map (option_map page_of) owned;
     bytes = map (option_map bytes_of) owned;
     numbers = numbers.capacity;
@@ -51,12 +94,13 @@ module _ {T : Type 0} where
     tickets = transfers.capacity - slab_len transfers;
     groups = length members.lists;
     room = room_of members.room (length members.lists);
+    files = files;
   }
 
   -- a number is taken exactly where a page owns something at its place, and there is memory for the place of each number;
   -- the transfers are those of the pages that are in transfer; the number of each page and of each transfer fits 32 bits;
-  -- and each page is on its group's list, which has a link for each number
-  pub record ArePages (numbers : Slab T) (owned : List (Option OwnedPage)) (places : ℕ) (transfers : Slab Flight) (members : RingsOf) : Type 0 where
+  -- each page is on its group's list, which has a link for each number; and each page of a file is at home, and is found by its home
+  pub record ArePages (numbers : Slab T) (owned : List (Option OwnedPage)) (places : ℕ) (transfers : Slab Flight) (members : RingsOf) (files : FilesOf) (cache : List (Option PageId)) : Type 0 where
     pub taken : (n : ℕ) → is_some (get numbers n) ≡ is_some (at owned n)
     pub within : numbers.capacity ≡ places
     pub in_flight : AreInFlight (map (option_map page_of) owned) transfers.slots
@@ -64,3 +108,7 @@ module _ {T : Type 0} where
     pub countable : transfers.capacity < 4294967296
     pub linked : members.numbers ≡ numbers.capacity
     pub listed : AreMembers members.lists (map (option_map page_of) owned)
+    pub filed : AreHome files (map (option_map page_of) owned)
+    pub cached : AreCached files cache (map (option_map page_of) owned)
+    -- there is a place in the cache for each page of a file
+    pub homes : length cache ≡ sum files.sizes

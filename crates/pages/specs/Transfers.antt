@@ -1,7 +1,7 @@
 -- How transfers begin and end.
-use Rattle.std.specs.Prelude.{◌≡◌, ◌≢◌, ℕ, ◌+◌, ◌<◌, false, List, Some, None, slice_index}
+use Rattle.std.specs.Prelude.{◌≡◌, ◌≢◌, ℕ, ◌+◌, ◌<◌, true, false, List, Option, Some, None, slice_index}
 use Rattle.machine.specs.Slots.{at, Changes}
-use Rattle.machine.specs.Pages.{Residence, Held, Away}
+use Rattle.machine.specs.Pages.{Content, Memory, OfFile, Held, Away, Page, is_anon}
 use Rattle.machine.specs.Access.{page_size}
 use Rattle.machine.specs.declared.record.Direction.{Direction}
 use Rattle.machine.specs.declared.record.Direction.TheVariants.{In, Out}
@@ -10,51 +10,58 @@ use Rattle.pages.specs.declared.end.End.TheVariants.{InFrame, OnBlock}
 use Rattle.pages.specs.declared.end.Freed.{Freed}
 use Rattle.pages.specs.declared.end.Freed.TheVariants as freed
 use Rattle.pages.specs.Tickets.{TicketOf}
-use Rattle.pages.specs.PagesOf.{PagesOf, byte_in, anon_page, moving, flight}
+use Rattle.pages.specs.PagesOf.{PagesOf, byte_in, Label, labelled, moving, flight}
 
 -- a ticket as it is given out
 abbrev pub given_ticket : ℕ → ℕ → ℕ → ℕ → List ℕ → TicketOf
 given_ticket n worker entry block bytes = record { number = n; worker = worker; entry = entry; block = block; handed = false; bytes = bytes }
 
 -- a transfer of a page begins, in this direction, under a ticket that was free
-pub record Starts (old new : PagesOf) (p g : ℕ) (direction : Direction) (frame block worker entry : ℕ) (ticket : TicketOf) : Type 0 where
+pub record Starts (old new : PagesOf) (p : ℕ) (label : Label) (direction : Direction) (frame block worker entry : ℕ) (ticket : TicketOf) : Type 0 where
   pub free : at old.flights ticket.number ≡ None
   pub listed : Changes old.flights new.flights ticket.number (Some (flight p worker direction))
-  pub placed : Changes old.pages new.pages p (Some (anon_page g (moving direction frame block ticket.number)))
+  pub placed : Changes old.pages new.pages p (Some (labelled label (moving direction frame block ticket.number)))
   pub given : ticket ≡ given_ticket ticket.number worker entry block ticket.bytes
   pub fewer : old.tickets ≡ new.tickets + 1
   pub numbers : new.numbers ≡ old.numbers
   pub groups : new.groups ≡ old.groups
   pub room : new.room ≡ old.room
+  pub files : new.files ≡ old.files
 
--- a page on its block is read into a frame
-pub record StartsIn (old new : PagesOf) (p g frame block worker entry : ℕ) (ticket : TicketOf) : Type 0 where
-  pub starts : Starts old new p g In frame block worker entry ticket
+-- a page is read from its block into a frame
+pub record StartsIn (old new : PagesOf) (p : ℕ) (label : Label) (frame block worker entry : ℕ) (ticket : TicketOf) : Type 0 where
+  pub starts : Starts old new p label In frame block worker entry ticket
   pub bytes : (q o : ℕ) → q ≢ p → byte_in new.bytes q o ≡ byte_in old.bytes q o
 
 -- a page in a frame is written to a block; the ticket has a copy of its bytes
-pub record StartsOut (old new : PagesOf) (p g frame block worker entry : ℕ) (ticket : TicketOf) : Type 0 where
-  pub starts : Starts old new p g Out frame block worker entry ticket
+pub record StartsOut (old new : PagesOf) (p : ℕ) (label : Label) (frame block worker entry : ℕ) (ticket : TicketOf) : Type 0 where
+  pub starts : Starts old new p label Out frame block worker entry ticket
   pub holds : (o : ℕ) → o < page_size → slice_index ticket.bytes o ≡ byte_in old.bytes p o
   pub bytes : (q o : ℕ) → byte_in new.bytes q o ≡ byte_in old.bytes q o
 
--- where a page is after a transfer between a frame and a block
-abbrev pub residence_after : End → ℕ → ℕ → Residence
-residence_after InFrame frame block = Held frame
-residence_after OnBlock frame block = Away block
+-- a page after a transfer between a frame and a block: a page of a file that is out of its frame is no page any more
+abbrev pub on_block_as : Content → Label → ℕ → Option Page
+on_block_as Memory label block = Some (labelled label (Away block))
+on_block_as (OfFile file q) label block = None
 
--- what a page of a group owns no more after a transfer between a frame and a block
-abbrev pub IsFreed : ℕ → ℕ → ℕ → End → Freed → Type 0
-IsFreed g frame block end (freed.Slot slot) = (end ≡ InFrame) × (slot ≡ block)
-IsFreed g frame block end (freed.Room room charge) = (end ≡ OnBlock) × (room.number ≡ frame) × (charge ≡ g)
+abbrev pub page_after : End → Label → ℕ → ℕ → Option Page
+page_after InFrame label frame block = Some (labelled label (Held frame))
+page_after OnBlock label frame block = on_block_as label.content label block
+
+-- what a page owns no more after a transfer between a frame and a block: memory its slot, or each page its frame and its charge. A home block is nobody's
+abbrev pub IsFreed : Label → ℕ → ℕ → End → Freed → Type 0
+IsFreed label frame block end (freed.Slot slot) = (end ≡ InFrame) × (is_anon label.content ≡ true) × (slot ≡ block)
+IsFreed label frame block end (freed.Room room charge) = (end ≡ OnBlock) × (room.number ≡ frame) × (charge ≡ label.group)
+IsFreed label frame block end freed.Nothing = (end ≡ InFrame) × (is_anon label.content ≡ false)
 
 -- the transfer of a page under a ticket has ended so: its bytes are the same where it is in its frame
-pub record Ends (old new : PagesOf) (p g frame block n : ℕ) (end : End) : Type 0 where
-  pub placed : Changes old.pages new.pages p (Some (anon_page g (residence_after end frame block)))
+pub record Ends (old new : PagesOf) (p : ℕ) (label : Label) (frame block n : ℕ) (end : End) : Type 0 where
+  pub placed : Changes old.pages new.pages p (page_after end label frame block)
   pub unlisted : Changes old.flights new.flights n None
   pub more : new.tickets ≡ old.tickets + 1
   pub numbers : new.numbers ≡ old.numbers
   pub groups : new.groups ≡ old.groups
   pub room : new.room ≡ old.room
+  pub files : new.files ≡ old.files
   pub bytes : end ≡ InFrame → (q o : ℕ) → byte_in new.bytes q o ≡ byte_in old.bytes q o
   pub others : (q o : ℕ) → q ≢ p → byte_in new.bytes q o ≡ byte_in old.bytes q o

@@ -10,15 +10,17 @@ use page_counter::Charge;
 pub enum End {
     /// In its frame.
     InFrame,
-    /// On its block alone.
+    /// On its block alone. A page of a file is no page any more then.
     OnBlock,
 }
 
 /// What a page owns no more once its transfer has ended. Each part of it has to be spent.
 #[must_use]
 pub enum Freed {
-    /// The slot, where the page is in its frame.
+    /// The slot, where memory of tasks is in its frame.
     Slot(Slot),
     /// The frame and its charge, where the page is on its block.
     Room(Frame, Charge),
+    /// Nothing, where a page of a file is in its frame: a home block is nobody's.
+    Nothing,
 }

@@ -1,30 +1,33 @@
-//! The pages of memory that there are, by their numbers, with what each owns: a frame and a charge, a
-//! swap slot, or all three while it is in transfer. And the tickets of the transfers in flight.
+//! The pages that there are, by their numbers, with what each owns: a frame and a charge, a swap slot, or
+//! all three while it is in transfer. And the tickets of the transfers in flight.
 //!
 //! Each page is on a list of its group's pages, so that the pages of a group are found without a look
 //! at any other.
 //!
-//! A page here is anonymous. Its number is free again once the page is dropped, and the number of a
-//! ticket once its transfer has ended.
+//! A page holds memory of tasks, or a page of a file, which is found by the file and its place there. Its
+//! number is free again once the page is gone, and the number of a ticket once its transfer has ended.
 #![tactic(auto)]
 
-ghost use Rattle.std.specs.Prelude.{◌≡◌, ◌≢◌, ℕ, ◌+◌, ◌<◌, ◌≤◌, ◌==◌, ◌&&◌, [], Some, None, OnOk, IsOk, IfOk, IfSome, slice_index, true, false, map, option_map, if◌then◌else◌};
+ghost use Rattle.std.specs.Prelude.{◌≡◌, ◌≢◌, ℕ, ◌+◌, ◌<◌, ◌≤◌, ◌==◌, ◌&&◌, [], Some, None, OnOk, IsOk, IsSome, IfOk, IfSome, slice_index, true, false, map, option_map, if◌then◌else◌};
 ghost use Rattle.machine.specs.Slots.{at, Changes};
-ghost use Rattle.machine.specs.Pages.{Residence as PageResidence, Held, Coming, Away, page_at, is_held_in, is_in_flight, is_some_number, frame_at};
+ghost use Rattle.machine.specs.Pages.{Residence as PageResidence, Held, Coming, Away, Page, page_at, file_page, home_block, has_frame, is_held_in, is_in_flight};
 ghost use Rattle.machine.specs.Tree.{node_at};
 ghost use Rattle.page_counter.specs.Counts.{IsOut, MovesUp, SameGroups};
 ghost use Rattle.machine.specs.Access.{page_size};
-ghost use Rattle.machine.specs.Step.{new_page};
-ghost use Rattle.pages.specs.PagesOf.{pages_there, byte_in, anon_page, HasResidence, residence_of, moving, is_moving_in, is_flight_to, IsInTransfer, AreInFlight};
+ghost use Rattle.machine.specs.declared.event.Op.TheVariants.{Write};
+ghost use Rattle.machine.specs.Lists.{kind_at};
+ghost use Rattle.machine.specs.Step.{new_page, touched};
+ghost use Rattle.pages.specs.PagesOf.{pages_there, byte_in, Label, memory_of, of_file, HasResidence, residence_of, moving, is_moving_in, is_flight_to, IsInTransfer, AreInFlight, AreFiled, way_of};
 ghost use Rattle.pages.specs.Transfers.{StartsIn, StartsOut, Ends, IsFreed};
 ghost use Rattle.machine.specs.declared.record.Direction.{Direction};
 ghost use Rattle.pages.specs.Records.{page_of};
 
 pub use end::{End, Freed};
 pub use flight::Flight;
-pub use owned_page::OwnedPage;
+pub use owned_page::{Backing, Content, FilePage, OwnedPage};
 pub use residence::Residence;
 pub use ticket::{Carries, InTicket, OutTicket, Ticket};
+pub use way::WayOut;
 
 mod end;
 mod flight;
@@ -32,20 +35,23 @@ mod owned_page;
 mod residence;
 mod table;
 mod ticket;
+mod way;
 
 use block_store::Slot;
+use files::Files;
 use frames::{FRAME_BYTES, Frame, Spare};
 use machine::id::{GroupId, PageId, TicketId, WorkerId};
-use machine::record::Direction;
+use machine::record::{Direction, Kind};
 use page_counter::{Charge, Counters};
 use rings::{ListId, Rings};
 use slab::Slab;
 use std::alloc::{AllocError, Global};
 use std::marker::Model;
 use table::{
-    bytes_at, divide, fill_at, group_of, into_away, into_held, into_moving, list, open_members,
-    open_numbers, owned_at, page_under, place, read_at, regrouped, residence_of, set_bytes_but,
-    set_zeros_but, take_at, unlist, write_at,
+    bytes_at, divide, file_of, file_page_of, fill_at, group_of, home, home_place, into_away,
+    into_held, into_moving, kind_of, land, leave, list, open_cache, open_members, open_numbers,
+    owned_at, page_under, place, read_at, regrouped, residence_of, set_bytes_but, set_zeros_but,
+    take_at, unlist, write_at,
 };
 
 /// The pages by their numbers, the transfers in flight by theirs, and the pages of each group. It must be
@@ -60,6 +66,9 @@ pub struct Pages {
     flights: Slab<Flight>,
     // The pages of each group, by page number. A list's number is its group's.
     members: Rings,
+    // The files, and by home block, from the first on, the page that holds the page at home there.
+    files: Files,
+    cache: Vec<Option<PageId>>,
 }
 
 impl Model for Pages {
@@ -70,22 +79,29 @@ impl Model for Pages {
     ghost use Rattle.std.specs.Prelude.{vec_capacity};
     ghost use Rattle.pages.specs.Records.{view_of, ArePages};
 
-    ghost view = { λ s. view_of s.numbers s.owned.items s.flights s.members };
+    ghost view = { λ s. view_of s.numbers s.owned.items s.flights s.members s.files };
 
-    ghost invariant = { λ s. ArePages s.numbers s.owned.items (vec_capacity s.owned) s.flights s.members };
+    ghost invariant = { λ s. ArePages s.numbers s.owned.items (vec_capacity s.owned) s.flights s.members s.files s.cache.items };
 }
 
 impl Pages {
-    /// No page, so many page numbers, the root as the only group, and memory for so many transfers in
-    /// flight at once. `AllocError` where there is none.
-    pub fn new(alloc: Global, numbers: u32, transfers: u32) -> Result<Self, AllocError>
+    /// No page, so many page numbers, the root as the only group, memory for so many transfers in flight at
+    /// once, and the files. `AllocError` where there is no memory.
+    pub fn new(
+        alloc: Global,
+        numbers: u32,
+        transfers: u32,
+        files: Files,
+    ) -> Result<Self, AllocError>
         ensures pages { IfOk result (λ t. t.pages ≡ []) }
         ensures bytes { IfOk result (λ t. t.bytes ≡ []) }
         ensures flights { IfOk result (λ t. t.flights ≡ []) }
         ensures numbers { IfOk result (λ t. t.numbers ≡ numbers) }
         ensures tickets { IfOk result (λ t. transfers ≤ t.tickets) }
         ensures groups { IfOk result (λ t. t.groups ≡ 1) }
+        ensures files { IfOk result (λ t. t.files ≡ files) }
     {
+        let cache = open_cache(alloc, files.pages())?;
         let members = open_members(alloc, numbers)?;
         let numbers = open_numbers(alloc, numbers)?;
         let flights = open_numbers(alloc, transfers)?;
@@ -95,7 +111,16 @@ impl Pages {
             owned,
             flights,
             members,
+            files,
+            cache,
         })
+    }
+
+    /// The files.
+    pub fn files(&self) -> &Files
+        ensures { result.now ≡ self.now.files }
+    {
+        &self.files
     }
 
     /// How many page numbers there are. Each page has one that is below this.
@@ -178,7 +203,16 @@ impl Pages {
     {
         let page = PageId(self.numbers.insert_reserved(()) as u32);
         let group = charge.group();
-        place(&mut self.owned, page, OwnedPage::Held { frame, charge });
+        let content = Content::Memory;
+        place(
+            &mut self.owned,
+            page,
+            OwnedPage::Held {
+                frame,
+                charge,
+                content,
+            },
+        );
         self.members.push_back(ListId(group.0), page);
         page
     }
@@ -186,7 +220,6 @@ impl Pages {
     /// The group that the page belongs to, if the page is there.
     pub fn group(&self, page: PageId) -> Option<GroupId>
         ensures group { option_map (λ g. g.0) result ≡ option_map (λ page. page.group) (page_at self.now.pages page.0) }
-        ensures memory { IfSome (page_at self.now.pages page.0) (λ page. page ≡ anon_page page.group page.residence) }
     {
         match owned_at(&self.owned, page) {
             Some(owned) => Some(group_of(owned)),
@@ -197,7 +230,6 @@ impl Pages {
     /// Where the page is, if it is there.
     pub fn residence(&self, page: PageId) -> Option<Residence>
         ensures residence { result ≡ option_map (λ page. residence_of page.residence) (page_at self.now.pages page.0) }
-        ensures memory { IfSome (page_at self.now.pages page.0) (λ page. page ≡ anon_page page.group page.residence) }
     {
         match owned_at(&self.owned, page) {
             Some(owned) => Some(residence_of(owned)),
@@ -205,11 +237,41 @@ impl Pages {
         }
     }
 
+    /// Of which type the page is, if it is there.
+    pub fn kind(&self, page: PageId) -> Option<Kind>
+        ensures { result ≡ option_map (λ page. kind_at page.content) (page_at self.now.pages page.0) }
+    {
+        match owned_at(&self.owned, page) {
+            Some(owned) => Some(kind_of(owned)),
+            None => None,
+        }
+    }
+
+    /// The page that holds this page of the file, which has it, if there is one (kernel:
+    /// filemap_get_folio).
+    pub fn cached(&self, file: u32, page: u32) -> Option<PageId>
+        requires { page < slice_index self.now.files.sizes file }
+        ensures { option_map (λ page. page.0) result ≡ file_page self.now.pages file page }
+    {
+        self.cache[home_place(&self.files, file, page)]
+    }
+
+    /// How the page, which is in a frame, would leave it.
+    pub fn way_out(&self, page: PageId) -> WayOut
+        requires { is_held_in self.now.pages page.0 ≡ true }
+        ensures { (label : Label) (residence : PageResidence) → HasResidence self.now.pages page.0 label residence → result ≡ way_of label.content label.dirty }
+    {
+        match owned_at(&self.owned, page) {
+            Some(owned) => table::way_of(owned),
+            None => unreachable!(),
+        }
+    }
+
     /// A page of the group. `None` where it has none.
     pub fn first_of(&self, group: GroupId) -> Option<PageId>
         requires { group.0 < self.now.groups }
-        ensures some { IfSome result (λ page. (r : PageResidence) × HasResidence self.now.pages page.0 group.0 r) }
-        ensures none { result ≡ None → (p g : ℕ) → (r : PageResidence) → HasResidence self.now.pages p g r → g ≢ group.0 }
+        ensures some { IfSome result (λ page. (label : Label) × (r : PageResidence) × HasResidence self.now.pages page.0 label r × (label.group ≡ group.0)) }
+        ensures none { result ≡ None → (p : ℕ) (label : Label) (r : PageResidence) → HasResidence self.now.pages p label r → label.group ≢ group.0 }
     {
         self.members.front(ListId(group.0))
     }
@@ -226,18 +288,20 @@ impl Pages {
         }
     }
 
-    /// Changes a byte of a page in a frame.
+    /// Changes a byte of a page in a frame. A page of a file is dirty from then on (kernel:
+    /// folio_mark_dirty).
     pub fn write(&mut self, page: PageId, offset: usize, byte: u8)
         requires held { is_held_in self.old.pages page.0 ≡ true }
         requires within { offset < page_size }
         ensures bytes { (q o : ℕ) → byte_in self.new.bytes q o
             ≡ (if (q == page.0) && (offset == o) then byte else byte_in self.old.bytes q o) }
-        ensures others { self.new ≡ record self.old { bytes = self.new.bytes } }
+        ensures placed { (x : Page) → page_at self.old.pages page.0 ≡ Some x → Changes self.old.pages self.new.pages page.0 (Some (touched x (Write byte))) }
+        ensures others { self.new ≡ record self.old { pages = self.new.pages; bytes = self.new.bytes } }
     {
         write_at(&mut self.owned[page.0 as usize], offset, byte);
     }
 
-    /// A page on its block is from now on being read into the frame. Whoever has the ticket reads the
+    /// Memory on its block is from now on being read into the frame. Whoever has the ticket reads the
     /// block. Takes no memory: the buffer is the caller's.
     pub fn start_in(
         &mut self,
@@ -248,9 +312,9 @@ impl Pages {
         entry: u32,
         buffer: Box<[u8; FRAME_BYTES]>,
     ) -> InTicket
-        requires away { (block : ℕ) × HasResidence self.old.pages page.0 charge (Away block) }
+        requires away { (block : ℕ) × HasResidence self.old.pages page.0 (memory_of charge) (Away block) }
         requires room { 0 < self.old.tickets }
-        ensures { (block : ℕ) → HasResidence self.old.pages page.0 charge (Away block) → StartsIn self.old self.new page.0 charge frame.number block worker.0 entry result }
+        ensures { (block : ℕ) → HasResidence self.old.pages page.0 (memory_of charge) (Away block) → StartsIn self.old self.new page.0 (memory_of charge) frame.number block worker.0 entry result }
     {
         let slot = into_away(take_at(&mut self.owned, page));
         let block = slot.block();
@@ -265,14 +329,64 @@ impl Pages {
         let coming = OwnedPage::Coming {
             frame,
             charge,
-            slot,
+            from: Backing::Swap(slot),
             ticket,
         };
         place(&mut self.owned, page, coming);
         InTicket::new(ticket, worker, entry, block, buffer)
     }
 
-    /// A page in a frame is from now on being written to the slot. The ticket has a copy of its bytes
+    /// A page of a file that no page holds is from now on being read from its home block into the frame,
+    /// under a page number that is free for it. Takes no memory: the buffer is the caller's.
+    pub fn start_in_file(
+        &mut self,
+        at: FilePage,
+        frame: Frame,
+        charge: Charge,
+        worker: WorkerId,
+        entry: u32,
+        buffer: Box<[u8; FRAME_BYTES]>,
+    ) -> (PageId, InTicket)
+        requires inside { at.page < slice_index self.old.files.sizes at.file }
+        requires none { file_page self.old.pages at.file at.page ≡ None }
+        requires room { pages_there self.old.pages < self.old.numbers }
+        requires group { charge < self.old.groups }
+        requires tickets { 0 < self.old.tickets }
+        ensures within { result.0.0 < self.old.numbers }
+        ensures free { page_at self.old.pages result.0.0 ≡ None }
+        ensures starts { StartsIn self.old self.new result.0.0 (of_file at.file at.page charge false) frame.number
+            (home_block self.old.files.first self.old.files.sizes at.file at.page) worker.0 entry result.1 }
+    {
+        let index = home_place(&self.files, at.file, at.page);
+        let block = home(&self.files, at.file, at.page);
+        let page = PageId(self.numbers.insert_reserved(()) as u32);
+        let group = charge.group();
+        let ticket = list(
+            &mut self.flights,
+            Flight {
+                page,
+                worker,
+                direction: Direction::In,
+            },
+        );
+        let coming = OwnedPage::Coming {
+            frame,
+            charge,
+            from: Backing::Home {
+                at,
+                block,
+                dirty: false,
+            },
+            ticket,
+        };
+        place(&mut self.owned, page, coming);
+        self.members.push_back(ListId(group.0), page);
+        self.cache[index] = Some(page);
+        let ticket = InTicket::new(ticket, worker, entry, block, buffer);
+        (page, ticket)
+    }
+
+    /// Memory in a frame is from now on being written to the slot. The ticket has a copy of its bytes
     /// in the spare. Takes no memory.
     pub fn start_out(
         &mut self,
@@ -282,11 +396,11 @@ impl Pages {
         worker: WorkerId,
         entry: u32,
     ) -> OutTicket
-        requires held { (g f : ℕ) × HasResidence self.old.pages page.0 g (Held f) }
+        requires held { (g f : ℕ) × HasResidence self.old.pages page.0 (memory_of g) (Held f) }
         requires room { 0 < self.old.tickets }
-        ensures { (g f : ℕ) → HasResidence self.old.pages page.0 g (Held f) → StartsOut self.old self.new page.0 g f slot worker.0 entry result }
+        ensures { (g f : ℕ) → HasResidence self.old.pages page.0 (memory_of g) (Held f) → StartsOut self.old self.new page.0 (memory_of g) f slot worker.0 entry result }
     {
-        let (frame, charge) = into_held(take_at(&mut self.owned, page));
+        let (frame, charge, _) = into_held(take_at(&mut self.owned, page));
         spare.fill(frame.bytes());
         let block = slot.block();
         let ticket = list(
@@ -300,7 +414,47 @@ impl Pages {
         let going = OwnedPage::Going {
             frame,
             charge,
-            slot,
+            to: Backing::Swap(slot),
+            ticket,
+        };
+        place(&mut self.owned, page, going);
+        OutTicket::new(ticket, worker, entry, block, spare)
+    }
+
+    /// A page of a file in a frame, which was written to, is from now on being written to its home block.
+    /// The ticket has a copy of its bytes in the spare. Takes no memory.
+    pub fn start_home(
+        &mut self,
+        page: PageId,
+        mut spare: Spare,
+        worker: WorkerId,
+        entry: u32,
+    ) -> OutTicket
+        requires held { (file q g f : ℕ) × HasResidence self.old.pages page.0 (of_file file q g true) (Held f) }
+        requires room { 0 < self.old.tickets }
+        ensures { (file q g f : ℕ) → HasResidence self.old.pages page.0 (of_file file q g true) (Held f)
+            → StartsOut self.old self.new page.0 (of_file file q g true) f (home_block self.old.files.first self.old.files.sizes file q) worker.0 entry result }
+    {
+        let (frame, charge, content) = into_held(take_at(&mut self.owned, page));
+        let at = file_page_of(content);
+        spare.fill(frame.bytes());
+        let block = home(&self.files, at.file, at.page);
+        let ticket = list(
+            &mut self.flights,
+            Flight {
+                page,
+                worker,
+                direction: Direction::Out,
+            },
+        );
+        let going = OwnedPage::Going {
+            frame,
+            charge,
+            to: Backing::Home {
+                at,
+                block,
+                dirty: true,
+            },
             ticket,
         };
         place(&mut self.owned, page, going);
@@ -318,8 +472,8 @@ impl Pages {
 
     /// The page that is being read in has the bytes that the ticket read. Takes no memory.
     pub fn fill(&mut self, ticket: &InTicket)
-        requires { (p g f b : ℕ) × HasResidence self.old.pages p g (Coming f b ticket.now.number) }
-        ensures bytes { (p g f b : ℕ) → HasResidence self.old.pages p g (Coming f b ticket.now.number) → (q o : ℕ) → byte_in self.new.bytes q o
+        requires { (p : ℕ) × (label : Label) × (f b : ℕ) × HasResidence self.old.pages p label (Coming f b ticket.now.number) }
+        ensures bytes { (p : ℕ) (label : Label) (f b : ℕ) → HasResidence self.old.pages p label (Coming f b ticket.now.number) → (q o : ℕ) → byte_in self.new.bytes q o
             ≡ (if q == p then slice_index ticket.now.bytes o else byte_in self.old.bytes q o) }
         ensures others { self.new ≡ record self.old { bytes = self.new.bytes } }
     {
@@ -327,29 +481,41 @@ impl Pages {
         fill_at(&mut self.owned[page.0 as usize], ticket.read());
     }
 
-    /// The transfer has ended, and its ticket with it: the page is in its frame or on its block. Hands
-    /// out what the page owns no more, and what the ticket carried. Takes no memory.
+    /// The transfer has ended, and its ticket with it: the page is in its frame or on its block, where a page
+    /// of a file is no page any more. Hands out what the page owns no more, and what the ticket carried.
+    /// Takes no memory.
     pub fn settle<B: Carries>(&mut self, ticket: Ticket<B>, end: End) -> (Freed, B)
-        requires { (d : Direction) × (p g f b : ℕ) × HasResidence self.old.pages p g (moving d f b ticket.number) }
-        ensures ends { (d : Direction) (p g f b : ℕ) → HasResidence self.old.pages p g (moving d f b ticket.number) → Ends self.old self.new p g f b ticket.number end }
-        ensures freed { (d : Direction) (p g f b : ℕ) → HasResidence self.old.pages p g (moving d f b ticket.number) → IsFreed g f b end result.0 }
+        requires { (d : Direction) × (p : ℕ) × (label : Label) × (f b : ℕ) × HasResidence self.old.pages p label (moving d f b ticket.number) }
+        ensures ends { (d : Direction) (p : ℕ) (label : Label) (f b : ℕ) → HasResidence self.old.pages p label (moving d f b ticket.number) → Ends self.old self.new p label f b ticket.number end }
+        ensures freed { (d : Direction) (p : ℕ) (label : Label) (f b : ℕ) → HasResidence self.old.pages p label (moving d f b ticket.number) → IsFreed label f b end result.0 }
         ensures carried { B.bytes result.1 ≡ ticket.bytes }
     {
         let page = unlist(&mut self.flights, ticket.number());
-        let (frame, charge, slot) = into_moving(take_at(&mut self.owned, page));
-        let (owned, freed) = divide(frame, charge, slot, end);
-        place(&mut self.owned, page, owned);
+        let moving = take_at(&mut self.owned, page);
+        let at = file_of(&moving);
+        let (frame, charge, backing) = into_moving(moving);
+        let (owned, freed) = divide(frame, charge, backing, end);
+        land(
+            &mut self.numbers,
+            &mut self.owned,
+            &mut self.members,
+            &mut self.cache,
+            &self.files,
+            page,
+            at,
+            owned,
+        );
         (freed, ticket.into_carried())
     }
 
     /// The page is of the group that its group hangs below, and so is its charge, if it has one (kernel:
     /// the charges of a memory cgroup that goes are its parent's). Takes no memory.
     pub fn move_up(&mut self, counters: &mut Counters, page: PageId, parent: GroupId)
-        requires there { (g : ℕ) × (r : PageResidence) × (HasResidence self.old.pages page.0 g r) × ((node_at counters.old.tree g).parent ≡ Some parent.0) × (is_some_number (frame_at r) ≡ true → IsOut counters.old g) }
+        requires there { (x : Page) × (page_at self.old.pages page.0 ≡ Some x) × ((node_at counters.old.tree x.group).parent ≡ Some parent.0) × (has_frame x ≡ true → IsOut counters.old x.group) }
         requires parent { parent.0 < self.old.groups }
-        ensures moved { (g : ℕ) (r : PageResidence) → HasResidence self.old.pages page.0 g r → Changes self.old.pages self.new.pages page.0 (Some (anon_page parent.0 r)) }
-        ensures charged { (g : ℕ) (r : PageResidence) → HasResidence self.old.pages page.0 g r → is_some_number (frame_at r) ≡ true → MovesUp counters.old counters.new g }
-        ensures uncharged { (g : ℕ) (r : PageResidence) → HasResidence self.old.pages page.0 g r → is_some_number (frame_at r) ≡ false → counters.new ≡ counters.old }
+        ensures moved { (x : Page) → page_at self.old.pages page.0 ≡ Some x → Changes self.old.pages self.new.pages page.0 (Some (record x { group = parent.0 })) }
+        ensures charged { (x : Page) → page_at self.old.pages page.0 ≡ Some x → has_frame x ≡ true → MovesUp counters.old counters.new x.group }
+        ensures uncharged { (x : Page) → page_at self.old.pages page.0 ≡ Some x → has_frame x ≡ false → counters.new ≡ counters.old }
         ensures groups { SameGroups counters.old counters.new }
         ensures bytes { (q o : ℕ) → byte_in self.new.bytes q o ≡ byte_in self.old.bytes q o }
         ensures others { self.new ≡ record self.old { pages = self.new.pages; bytes = self.new.bytes } }
@@ -364,15 +530,24 @@ impl Pages {
     /// The page is gone: what it owned is the caller's to give back. It is in no transfer. Takes no
     /// memory.
     pub fn drop_page(&mut self, page: PageId) -> OwnedPage
-        requires { (g : ℕ) × (r : PageResidence) × (HasResidence self.old.pages page.0 g r) × (is_moving_in self.old.pages page.0 ≡ false) }
+        requires there { IsSome (page_at self.old.pages page.0) }
+        requires settled { is_moving_in self.old.pages page.0 ≡ false }
         ensures gone { Changes self.old.pages self.new.pages page.0 None }
         ensures bytes { (q o : ℕ) → byte_in self.new.bytes q o ≡ (if q == page.0 then 0 else byte_in self.old.bytes q o) }
         ensures owned { page_at self.old.pages page.0 ≡ Some (page_of result) }
         ensures others { self.new ≡ record self.old { pages = self.new.pages; bytes = self.new.bytes } }
     {
-        self.numbers.remove(page.0 as usize);
-        self.members.remove(page);
-        take_at(&mut self.owned, page)
+        let owned = take_at(&mut self.owned, page);
+        let at = file_of(&owned);
+        leave(
+            &mut self.numbers,
+            &mut self.members,
+            &mut self.cache,
+            &self.files,
+            page,
+            at,
+        );
+        owned
     }
 
     /// Nothing is done: what holds of all pages.
@@ -380,6 +555,13 @@ impl Pages {
         ensures { AreInFlight self.now.pages self.now.flights }
     {
         let _ = &self.flights;
+    }
+
+    /// Nothing is done: what holds of pages of files.
+    pub fn are_filed(&self)
+        ensures { AreFiled self.now.files self.now.pages }
+    {
+        let _ = &self.files;
     }
 
     /// Nothing is done: the number of each page is below [`Pages::numbers`].
@@ -398,6 +580,8 @@ impl Pages {
             owned,
             flights: _,
             members: _,
+            files: _,
+            cache: _,
         } = self;
         owned
     }

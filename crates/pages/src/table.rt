@@ -1,25 +1,33 @@
 //! The places of pages by their numbers, the numbers of pages and of transfers, and the groups' lists.
 
-ghost use Rattle.std.specs.Prelude.{◌≡◌, ℕ, ◌+◌, ◌<◌, ◌≤◌, ◌==◌, ◌∷◌, [], Some, None, true, false, IsSome, IfOk, option_map, option_copied, slice_index, vec_len, vec_capacity, if◌then◌else◌};
-ghost use Rattle.slab.specs.Slab.{slab_len, HasRoomFor, ContainsKey};
+ghost use Rattle.std.specs.Prelude.{◌≡◌, ℕ, ◌+◌, ◌-◌, ◌<◌, sum, Bool, ◌≤◌, ◌==◌, ◌∷◌, [], Some, None, true, false, IsSome, IfSome, IfOk, map, option_map, option_copied, length, slice_index, vec_len, vec_capacity, if◌then◌else◌};
+ghost use Rattle.slab.specs.Slab.{slab_len, HasRoomFor, ContainsKey, Updates};
+ghost use Rattle.rings.specs.Rings.{is_listed, without};
 ghost use Rattle.machine.specs.Slots.{at, there_and, Changes};
-ghost use Rattle.machine.specs.Pages.{Coming, in_transfer_at, is_held, is_held_at, has_frame, frame_at, block_at};
+ghost use Rattle.machine.specs.Pages.{Coming, in_transfer_at, is_held, is_held_at, has_frame, frame_at, block_at, home_block};
 ghost use Rattle.machine.specs.Tree.{node_at};
 ghost use Rattle.page_counter.specs.Counts.{IsOut, MovesUp, SameGroups};
 ghost use Rattle.machine.specs.Access.{page_size};
 ghost use Rattle.pages.specs.PagesOf as pages;
-ghost use Rattle.pages.specs.PagesOf.{anon_page};
-ghost use Rattle.pages.specs.Transfers.{residence_after, IsFreed};
+ghost use Rattle.pages.specs.PagesOf.{Label, label_of, labelled};
+ghost use Rattle.pages.specs.Transfers.{page_after, IsFreed};
 ghost use Rattle.pages.specs.declared.end.End.TheVariants as end_of;
-ghost use Rattle.pages.specs.Records.{page_of, bytes_of, WritesByte};
+ghost use Rattle.pages.specs.Records.{page_of, bytes_of, label_holding, label_backed, block_of, file_at, place_in, WritesByte};
+ghost use Rattle.machine.specs.Lists.{kind_at};
+ghost use Rattle.machine.specs.Step.{touched};
+ghost use Rattle.machine.specs.declared.event.Op.TheVariants.{Write};
+ghost use Rattle.pages.specs.declared.owned_page.FilePage.{FilePage as FilePage_of};
 
 use crate::end::{End, Freed};
 use crate::flight::Flight;
-use crate::owned_page::OwnedPage;
+use crate::owned_page::{Backing, Content, FilePage, OwnedPage};
 use crate::residence::Residence;
+use crate::way::WayOut;
 use block_store::Slot;
+use files::Files;
 use frames::{FRAME_BYTES, Frame};
 use machine::id::{GroupId, PageId, TicketId};
+use machine::record::Kind;
 use page_counter::{Charge, Counters};
 use rings::Rings;
 use slab::Slab;
@@ -83,22 +91,93 @@ pub(crate) fn bytes_at(slots: &[Option<OwnedPage>], page: PageId) -> &[u8; FRAME
     }
 }
 
-/// Changes a byte of the page in a frame that is there.
+/// Changes a byte of the page in a frame that is there. A page of a file is dirty then.
 pub(crate) fn write_at(slot: &mut Option<OwnedPage>, offset: usize, byte: u8)
     requires held { there_and is_held (option_map page_of slot.old) ≡ true }
     requires within { offset < page_size }
-    ensures page { option_map page_of slot.new ≡ option_map page_of slot.old }
+    ensures page { option_map page_of slot.new ≡ option_map (λ page. touched page (Write byte)) (option_map page_of slot.old) }
     ensures bytes { WritesByte (option_map bytes_of slot.old) (option_map bytes_of slot.new) offset byte }
 {
     match slot {
-        Some(OwnedPage::Held { frame, .. }) => frame.write(offset, byte),
+        Some(owned) => write_in(owned, offset, byte),
+        None => unreachable!(),
+    }
+}
+
+/// The same, of what a page in a frame owns.
+fn write_in(owned: &mut OwnedPage, offset: usize, byte: u8)
+    requires held { is_held (page_of owned.old) ≡ true }
+    requires within { offset < page_size }
+    ensures page { page_of owned.new ≡ touched (page_of owned.old) (Write byte) }
+    ensures bytes { WritesByte (Some (bytes_of owned.old)) (Some (bytes_of owned.new)) offset byte }
+{
+    match owned {
+        OwnedPage::Held { frame, content, .. } => {
+            frame.write(offset, byte);
+            soil(content);
+        }
+        _ => unreachable!(),
+    }
+}
+
+/// It was written to: a page of a file is dirty from now on.
+fn soil(content: &mut Content)
+    ensures memory { content.old ≡ Content.Memory → content.new ≡ content.old }
+    ensures file { (at : FilePage_of) (dirty : Bool) → content.old ≡ Content.OfFile at dirty → content.new ≡ Content.OfFile at true }
+{
+    match content {
+        Content::Memory => {}
+        Content::OfFile { dirty, .. } => *dirty = true,
+    }
+}
+
+/// What the page holds: memory of tasks, or a page of a file.
+pub(crate) fn kind_of(owned: &OwnedPage) -> Kind
+    ensures { result ≡ kind_at (page_of owned.now).content }
+{
+    match owned {
+        OwnedPage::Held { content, .. } => match content {
+            Content::Memory => Kind::Anon,
+            Content::OfFile { .. } => Kind::File,
+        },
+        OwnedPage::Coming { from, .. } => kind_behind(from),
+        OwnedPage::Going { to, .. } => kind_behind(to),
+        OwnedPage::Away { .. } => Kind::Anon,
+    }
+}
+
+fn kind_behind(backing: &Backing) -> Kind
+    ensures { (g : ℕ) → result ≡ kind_at (label_backed backing.now g).content }
+{
+    match backing {
+        Backing::Swap(_) => Kind::Anon,
+        Backing::Home { .. } => Kind::File,
+    }
+}
+
+/// How the page in a frame would leave it.
+pub(crate) fn way_of(owned: &OwnedPage) -> WayOut
+    requires { is_held (page_of owned.now) ≡ true }
+    ensures { result ≡ pages.way_of (page_of owned.now).content (page_of owned.now).dirty }
+{
+    match owned {
+        OwnedPage::Held { content, .. } => match content {
+            Content::Memory => WayOut::ToSwap,
+            Content::OfFile { dirty, .. } => {
+                if *dirty {
+                    WayOut::ToHome
+                } else {
+                    WayOut::Dropped
+                }
+            }
+        },
         _ => unreachable!(),
     }
 }
 
 /// Other bytes in place of all of those of the page that is being read in there.
 pub(crate) fn fill_at(slot: &mut Option<OwnedPage>, bytes: &[u8; FRAME_BYTES])
-    requires { (g f b n : ℕ) × (option_map page_of slot.old ≡ Some (anon_page g (Coming f b n))) }
+    requires { (label : Label) × (f b n : ℕ) × (option_map page_of slot.old ≡ Some (labelled label (Coming f b n))) }
     ensures page { option_map page_of slot.new ≡ option_map page_of slot.old }
     ensures bytes { option_map bytes_of slot.new ≡ Some bytes.now }
 {
@@ -168,55 +247,97 @@ fn reach(slots: &mut Vec<Option<OwnedPage>>, number: usize)
 }
 
 /// What a page in a frame owns.
-pub(crate) fn into_held(owned: OwnedPage) -> (Frame, Charge)
+pub(crate) fn into_held(owned: OwnedPage) -> (Frame, Charge, Content)
     requires { is_held_at (page_of owned).residence ≡ true }
     ensures frame { frame_at (page_of owned).residence ≡ Some result.0.number }
     ensures bytes { bytes_of owned ≡ result.0.bytes }
-    ensures charge { (page_of owned).group ≡ result.1 }
+    ensures label { label_of (page_of owned) ≡ label_holding result.2 result.1 }
 {
     match owned {
-        OwnedPage::Held { frame, charge } => (frame, charge),
+        OwnedPage::Held {
+            frame,
+            charge,
+            content,
+        } => (frame, charge, content),
         _ => unreachable!(),
     }
 }
 
 /// What a page in transfer owns.
-pub(crate) fn into_moving(owned: OwnedPage) -> (Frame, Charge, Slot)
+pub(crate) fn into_moving(owned: OwnedPage) -> (Frame, Charge, Backing)
     requires { in_transfer_at (page_of owned).residence ≡ true }
     ensures frame { frame_at (page_of owned).residence ≡ Some result.0.number }
     ensures bytes { bytes_of owned ≡ result.0.bytes }
-    ensures charge { (page_of owned).group ≡ result.1 }
-    ensures slot { block_at (page_of owned).residence ≡ Some result.2 }
+    ensures label { label_of (page_of owned) ≡ label_backed result.2 result.1 }
+    ensures block { block_at (page_of owned).residence ≡ Some (block_of result.2) }
 {
     match owned {
         OwnedPage::Coming {
             frame,
             charge,
-            slot,
+            from,
             ticket: _,
-        } => (frame, charge, slot),
+        } => (frame, charge, from),
         OwnedPage::Going {
             frame,
             charge,
-            slot,
+            to,
             ticket: _,
-        } => (frame, charge, slot),
+        } => (frame, charge, to),
         _ => unreachable!(),
     }
 }
 
-/// What a page owns once its transfer has ended, and what it owns no more.
-pub(crate) fn divide(frame: Frame, charge: Charge, slot: Slot, end: End) -> (OwnedPage, Freed)
-    ensures page { page_of result.0 ≡ anon_page charge (residence_after end frame.number slot) }
-    ensures bytes { end ≡ end_of.InFrame → bytes_of result.0 ≡ frame.bytes }
-    ensures freed { IsFreed charge frame.number slot end result.1 }
+/// What a page owns once its transfer has ended, if it is one still, and what it owns no more.
+pub(crate) fn divide(
+    frame: Frame,
+    charge: Charge,
+    backing: Backing,
+    end: End,
+) -> (Option<OwnedPage>, Freed)
+    ensures page { option_map page_of result.0 ≡ page_after end (label_backed backing charge) frame.number (block_of backing) }
+    ensures bytes { end ≡ end_of.InFrame → option_map bytes_of result.0 ≡ Some frame.bytes }
+    ensures freed { IsFreed (label_backed backing charge) frame.number (block_of backing) end result.1 }
 {
-    match end {
-        End::InFrame => (OwnedPage::Held { frame, charge }, Freed::Slot(slot)),
-        End::OnBlock => {
-            let group = charge.group();
-            (OwnedPage::Away { group, slot }, Freed::Room(frame, charge))
+    match (backing, end) {
+        (Backing::Swap(slot), End::InFrame) => {
+            let content = Content::Memory;
+            let held = OwnedPage::Held {
+                frame,
+                charge,
+                content,
+            };
+            (Some(held), Freed::Slot(slot))
         }
+        (Backing::Swap(slot), End::OnBlock) => {
+            let group = charge.group();
+            let away = OwnedPage::Away { group, slot };
+            (Some(away), Freed::Room(frame, charge))
+        }
+        (
+            Backing::Home {
+                at,
+                block: _,
+                dirty,
+            },
+            End::InFrame,
+        ) => {
+            let content = Content::OfFile { at, dirty };
+            let held = OwnedPage::Held {
+                frame,
+                charge,
+                content,
+            };
+            (Some(held), Freed::Nothing)
+        }
+        (
+            Backing::Home {
+                at: _,
+                block: _,
+                dirty: _,
+            },
+            End::OnBlock,
+        ) => (None, Freed::Room(frame, charge)),
     }
 }
 
@@ -236,37 +357,42 @@ pub(crate) fn into_away(owned: OwnedPage) -> Slot
 pub(crate) fn regrouped(owned: OwnedPage, parent: GroupId, counters: &mut Counters) -> OwnedPage
     requires below { (node_at counters.old.tree (page_of owned).group).parent ≡ Some parent.0 }
     requires out { has_frame (page_of owned) ≡ true → IsOut counters.old (page_of owned).group }
-    ensures page { page_of result ≡ anon_page parent.0 (page_of owned).residence }
+    ensures page { page_of result ≡ record (page_of owned) { group = parent.0 } }
     ensures bytes { bytes_of result ≡ bytes_of owned }
     ensures charged { has_frame (page_of owned) ≡ true → MovesUp counters.old counters.new (page_of owned).group }
     ensures uncharged { has_frame (page_of owned) ≡ false → counters.new ≡ counters.old }
     ensures groups { SameGroups counters.old counters.new }
 {
     match owned {
-        OwnedPage::Held { frame, charge } => OwnedPage::Held {
+        OwnedPage::Held {
+            frame,
+            charge,
+            content,
+        } => OwnedPage::Held {
             frame,
             charge: counters.move_up(charge),
+            content,
         },
         OwnedPage::Coming {
             frame,
             charge,
-            slot,
+            from,
             ticket,
         } => OwnedPage::Coming {
             frame,
             charge: counters.move_up(charge),
-            slot,
+            from,
             ticket,
         },
         OwnedPage::Going {
             frame,
             charge,
-            slot,
+            to,
             ticket,
         } => OwnedPage::Going {
             frame,
             charge: counters.move_up(charge),
-            slot,
+            to,
             ticket,
         },
         OwnedPage::Away { group: _, slot } => OwnedPage::Away {
@@ -330,4 +456,134 @@ pub(crate) fn unlist(flights: &mut Slab<Flight>, ticket: TicketId) -> PageId
     ensures capacity { flights.new.capacity ≡ flights.old.capacity }
 {
     flights.remove(ticket.0 as usize).page
+}
+
+/// The home block of a page that the file has.
+pub(crate) fn home(files: &Files, file: u32, page: u32) -> u32
+    requires { page < slice_index files.now.sizes file }
+    ensures { result ≡ home_block files.now.first files.now.sizes file page }
+{
+    let Some(block) = files.home(file, page) else {
+        unreachable!()
+    };
+    block
+}
+
+/// Its place in the cache: how far its home block is behind the first.
+pub(crate) fn home_place(files: &Files, file: u32, page: u32) -> usize
+    requires { page < slice_index files.now.sizes file }
+    ensures place { result ≡ place_in files.now file page }
+    ensures within { result < sum files.now.sizes }
+{
+    (home(files, file, page) - files.first()) as usize
+}
+
+/// So many places of the cache, with no page. `AllocError` where there is no memory.
+pub(crate) fn open_cache(alloc: Global, places: u32) -> Result<Vec<Option<PageId>>, AllocError>
+    ensures len { IfOk result (λ c. vec_len c ≡ places) }
+    ensures empty { IfOk result (λ c. (n : ℕ) → at c.items n ≡ None) }
+{
+    let mut cache = Vec::with_capacity(alloc, places as usize)?;
+    for _ in 0..places {
+        cache.push_reserved(None);
+    }
+    Ok(cache)
+}
+
+/// The page of a file that the page holds, if it holds one.
+pub(crate) fn file_of(owned: &OwnedPage) -> Option<FilePage>
+    ensures { result ≡ file_at (page_of owned.now).content }
+{
+    match owned {
+        OwnedPage::Held { content, .. } => match content {
+            Content::Memory => None,
+            Content::OfFile { at, .. } => Some(*at),
+        },
+        OwnedPage::Coming { from, .. } => file_behind(from),
+        OwnedPage::Going { to, .. } => file_behind(to),
+        OwnedPage::Away { .. } => None,
+    }
+}
+
+fn file_behind(backing: &Backing) -> Option<FilePage>
+    ensures { (g : ℕ) → result ≡ file_at (label_backed backing.now g).content }
+{
+    match backing {
+        Backing::Swap(_) => None,
+        Backing::Home { at, .. } => Some(*at),
+    }
+}
+
+/// The page is gone: its number, its place on its group's list, and its place in the cache, if it holds a
+/// page of a file, are free.
+pub(crate) fn leave(
+    numbers: &mut Slab<()>,
+    members: &mut Rings,
+    cache: &mut Vec<Option<PageId>>,
+    files: &Files,
+    page: PageId,
+    file_page: Option<FilePage>,
+)
+    requires taken { ContainsKey numbers.old page.0 }
+    requires listed { is_listed members.old.lists page.0 ≡ true }
+    requires inside { IfSome file_page (λ a. a.page < slice_index files.now.sizes a.file) }
+    requires homes { length cache.old.items ≡ sum files.now.sizes }
+    ensures numbers { Updates numbers.old numbers.new page.0 None }
+    ensures capacity { numbers.new.capacity ≡ numbers.old.capacity }
+    ensures lists { members.new ≡ record members.old { lists = map (without page.0) members.old.lists } }
+    ensures none { (a : FilePage_of) → file_page ≡ Some a → Changes cache.old.items cache.new.items (place_in files.now a.file a.page) None }
+    ensures same { file_page ≡ None → cache.new ≡ cache.old }
+    ensures homes { length cache.new.items ≡ length cache.old.items }
+{
+    numbers.remove(page.0 as usize);
+    members.remove(page);
+    if let Some(at) = file_page {
+        let index = home_place(files, at.file, at.page);
+        cache[index] = None;
+    }
+}
+
+/// What the page owns once its transfer has ended, if it is one still; if not, it is gone. What it owned
+/// was taken out.
+pub(crate) fn land(
+    numbers: &mut Slab<()>,
+    slots: &mut Vec<Option<OwnedPage>>,
+    members: &mut Rings,
+    cache: &mut Vec<Option<PageId>>,
+    files: &Files,
+    page: PageId,
+    file_page: Option<FilePage>,
+    after: Option<OwnedPage>,
+)
+    requires vacant { at slots.old.items page.0 ≡ None }
+    requires room { page.0 < vec_capacity slots.old }
+    requires taken { ContainsKey numbers.old page.0 }
+    requires listed { is_listed members.old.lists page.0 ≡ true }
+    requires inside { IfSome file_page (λ a. a.page < slice_index files.now.sizes a.file) }
+    requires homes { length cache.old.items ≡ sum files.now.sizes }
+    ensures placed { Changes slots.old.items slots.new.items page.0 after }
+    ensures places { vec_capacity slots.new ≡ vec_capacity slots.old }
+    ensures homes { length cache.new.items ≡ length cache.old.items }
+    ensures stays { IsSome after → (numbers.new ≡ numbers.old) × (members.new ≡ members.old) × (cache.new ≡ cache.old) }
+    ensures numbers { after ≡ None → Updates numbers.old numbers.new page.0 None }
+    ensures capacity { numbers.new.capacity ≡ numbers.old.capacity }
+    ensures lists { after ≡ None → members.new ≡ record members.old { lists = map (without page.0) members.old.lists } }
+    ensures none { after ≡ None → (a : FilePage_of) → file_page ≡ Some a → Changes cache.old.items cache.new.items (place_in files.now a.file a.page) None }
+    ensures same { after ≡ None → file_page ≡ None → cache.new ≡ cache.old }
+{
+    match after {
+        Some(owned) => place(slots, page, owned),
+        None => leave(numbers, members, cache, files, page, file_page),
+    }
+}
+
+/// The page of a file that a page holds.
+pub(crate) fn file_page_of(content: Content) -> FilePage
+    requires { (at : FilePage_of) × (dirty : Bool) × (content ≡ Content.OfFile at dirty) }
+    ensures { (at : FilePage_of) (dirty : Bool) → content ≡ Content.OfFile at dirty → result ≡ at }
+{
+    match content {
+        Content::OfFile { at, .. } => at,
+        Content::Memory => unreachable!(),
+    }
 }

@@ -40,15 +40,15 @@ rewrites c =
     }
 
 pub invariant_of-self : goal.invariant_of-self
-invariant_of-self c = Rewrites-are c.self.inside.numbers c.self.inside.flights c.self.inside.members _ _ _ _ (rewrites c) _ c.self.invariant
+invariant_of-self c = Rewrites-are c.self.inside.numbers c.self.inside.flights c.self.inside.members c.self.inside.files _ _ _ _ (rewrites c) _ _ c.self.invariant
 
 pub returns-clause-others : goal.returns-clause-others
-returns-clause-others c = rw (← c.self.view_is) (Rewrites-others c.self.inside.numbers c.self.inside.flights c.self.inside.members _ _ _ _ (rewrites c))
+returns-clause-others c = rw (← c.self.view_is) (Rewrites-others c.self.inside.numbers c.self.inside.flights c.self.inside.members c.self.inside.files _ _ _ _ (rewrites c))
 
 pub returns-clause-bytes : goal.returns-clause-bytes
-returns-clause-bytes c = λ p g f b stands q o.
+returns-clause-bytes c = λ p label f b stands q o.
     let owned = c.self.inside.owned.items in
     let page = c.page_under-page.result in
-    let here = flight-page owned c.self.inside.flights.slots c.number.result.0 page c.self.invariant.in_flight c.page_under-page.ensures In p g f b (rw (← c.self.view_is, ← c.number.ensures) at stands) in
+    let here = flight-page owned c.self.inside.flights.slots c.number.result.0 page c.self.invariant.in_flight c.page_under-page.ensures In p label f b (rw (← c.self.view_is, ← c.number.ensures) at stands) in
     let filled = ap (λ bytes. byte_of bytes o) (c.fill_at.ensures.bytes ∙ ap Some c.read.ensures) in
-    rw (← c.self.view_is, ← here) (byte_in-changes _ _ page.0 (option_map bytes_of c.fill_at.new.slot) (Rewrites-bytes c.self.inside.numbers c.self.inside.flights c.self.inside.members _ _ _ _ (rewrites c)) q o ∙ ap (λ byte. cond (q == page.0) byte (byte_in (map (option_map bytes_of) owned) q o)) filled)
+    rw (← c.self.view_is, ← here) (byte_in-changes _ _ page.0 (option_map bytes_of c.fill_at.new.slot) (Rewrites-bytes c.self.inside.numbers c.self.inside.flights c.self.inside.members c.self.inside.files _ _ _ _ (rewrites c)) q o ∙ ap (λ byte. cond (q == page.0) byte (byte_in (map (option_map bytes_of) owned) q o)) filled)

@@ -1,8 +1,11 @@
-use Rattle.std.proofs.Common.{◌==◌, Some, ap, sym, refl, arith}
+use Rattle.std.proofs.Common.{Some, ap, sym, refl, arith}
 use Rattle.pages.specs.Records.{page_of, bytes_of}
-use Rattle.pages.proofs.TableLemmas.{Changes-map, byte_in-changes, taken-changes, free-page, taken-there}
-use Rattle.pages.proofs.FlightLemmas.{AreInFlight-apart, AreMemory-owned, IsSettled-is}
-use Rattle.pages.proofs.MemberLemmas.{AreMembers-added, unlisted}
+use Rattle.pages.proofs.TableLemmas.{Changes-map, byte_in-changes, free-page, taken-there}
+use Rattle.pages.proofs.FlightLemmas.{AreInFlight-apart, IsSettled-is}
+use Rattle.pages.proofs.MemberLemmas.{unlisted}
+use Rattle.pages.proofs.CacheLemmas.{AreHome-changes, AreCached-kept}
+use Rattle.machine.proofs.FileLemmas.{holds_page}
+use Rattle.pages.proofs.TransferLemmas.{Fits-are, Fits-added}
 use Rattle.pages.proofs.Pages.insert.Goals as goal
 
 pub push_back-requires-clause-unlisted : goal.push_back-requires-clause-unlisted
@@ -17,20 +20,20 @@ insert_reserved-requires c =
 pub invariant_of-self : goal.invariant_of-self
 invariant_of-self c =
     let is = c.self.invariant in
+    let files = c.self.inside.files in
     let p = c.insert_reserved.result in
     let placed = c.place.ensures.placed in
     let room = rw (← c.self.view_is) at c.requires.group in
     let group = c.group-group.ensures in
     let vacant = free-page page_of c.self.inside.numbers _ p is.taken c.insert_reserved.ensures.was_vacant in
-    record {
-      taken = taken-changes _ _ _ _ p (Some tt) (Some _) c.insert_reserved.ensures.updates placed refl is.taken;
-      within = rw (c.insert_reserved.ensures.capacity, c.place.ensures.capacity) is.within;
-      in_flight = AreInFlight-apart _ _ p (Some _) (Changes-map page_of _ _ p _ placed) c.self.inside.flights.slots is.in_flight (IsSettled-is _ _ vacant (λ n. refl)) (λ n. refl) (AreMemory-owned c.place.new.slots.items);
-      few = rw c.insert_reserved.ensures.capacity is.few;
-      countable = is.countable;
-      linked = rw (c.push_back.ensures.others, c.insert_reserved.ensures.capacity) is.linked;
-      listed = rw c.push_back.ensures.lists (AreMembers-added _ _ _ p (Some _) (Changes-map page_of _ _ p _ placed) is.listed c.group-group.result.0 (omega (arith, room, group)) vacant (λ g. ap (λ h. h == g) (sym group)));
-    }
+    let page = Changes-map page_of _ _ p _ placed in
+    Fits-are
+    (Fits-added c.self.inside.numbers _ _ _ _ c.self.inside.flights c.self.inside.members _ files c.self.inside.cache.items _ is p _ tt c.insert_reserved.ensures.was_vacant placed c.insert_reserved.ensures.updates c.insert_reserved.ensures.capacity c.group-group.result.0 (omega (arith, room, group)) (sym group)
+    (rw (← c.push_back.ensures.lists) c.push_back.ensures.others)
+    (AreCached-kept files _ _ p _ page c.self.inside.cache.items is.cached (λ f q. sym (ap (holds_page f q) vacant))) refl)
+    is c.place.ensures.capacity refl
+    (AreInFlight-apart _ _ p (Some _) page c.self.inside.flights.slots is.in_flight (IsSettled-is _ _ vacant (λ n. refl)) (λ n. refl))
+    (AreHome-changes files _ _ p (Some _) page refl is.filed)
 
 pub returns-clause-placed : goal.returns-clause-placed
 returns-clause-placed c = rw (← c.self.view_is) (Changes-map page_of _ _ c.insert_reserved.result _ c.place.ensures.placed)

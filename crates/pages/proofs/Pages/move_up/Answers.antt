@@ -1,34 +1,33 @@
 use Rattle.std.proofs.Common.{◌≡◌, ◌==◌, ◌<◌, ℕ, List, Option, None, Some, map, length, ap, sym, refl, ◌∙◌, subst, arith}
-use Rattle.std.specs.Prelude.{option_map}
-use Rattle.std.proofs.lemmas.List.{length-map}
+use Rattle.std.proofs.lemmas.List.{length-map, length-set}
 use Rattle.machine.specs.Slots.{Changes}
-use Rattle.machine.specs.Pages.{Residence, page_at, has_frame}
+use Rattle.machine.specs.Pages.{Page, page_at, has_frame, IsFiled}
 use Rattle.machine.specs.Tree.{node_at}
 use Rattle.page_counter.specs.Counts.{IsOut, MovesUp}
 use Rattle.rings.specs.Rings.{without}
-use Rattle.pages.specs.PagesOf.{HasResidence, anon_page}
 use Rattle.pages.specs.declared.owned_page.OwnedPage.{OwnedPage}
 use Rattle.pages.specs.Records.{page_of, AreMembers}
-use Rattle.pages.proofs.TableLemmas.{at-map, Changes-map}
-use Rattle.pages.proofs.FlightLemmas.{AreInFlight-regrouped, AreMemory-owned}
+use Rattle.pages.proofs.TableLemmas.{Changes-map, Changes-twice}
+use Rattle.pages.proofs.FlightLemmas.{AreInFlight-same}
 use Rattle.pages.proofs.MemberLemmas.{AreMembers-gone, AreMembers-added, listed, unlisted}
-use Rattle.pages.proofs.TransferLemmas.{pages_of, owned-stands, Exchanges, exchanged-page, exchanged-taken, exchanged-byte-kept}
+use Rattle.pages.proofs.CacheLemmas.{AreHome-changes, regrouped-filed}
+use Rattle.pages.proofs.TransferLemmas.{pages_of, page-stands, owned-stands, own-filed, changed-byte-kept, Fits, Fits-stays-beside, Fits-are}
 use Rattle.pages.proofs.Pages.move_up.Goals as goal
 
 pub regrouped-moved-requires-clause-below : goal.regrouped-moved-requires-clause-below
 regrouped-moved-requires-clause-below c =
     let there = c.requires.there in
-    let is = owned-stands c.self.inside.owned.items c.args.page.0 there.0 there.1 c.take_at-owned.result c.take_at-owned.ensures.owned (rw (← c.self.view_is) at there.2) in
-    ap (λ page. (node_at c.args.counters.now.tree page.group).parent) is ∙ there.3
+    let is = owned-stands c.self.inside.owned.items c.args.page.0 c.take_at-owned.result there.0 c.take_at-owned.ensures.owned (rw (← c.self.view_is) at there.1) in
+    ap (λ page. (node_at c.args.counters.now.tree page.group).parent) is ∙ there.2
 
 pub regrouped-moved-requires-clause-out : goal.regrouped-moved-requires-clause-out
 regrouped-moved-requires-clause-out c = λ has.
     let there = c.requires.there in
-    let is = owned-stands c.self.inside.owned.items c.args.page.0 there.0 there.1 c.take_at-owned.result c.take_at-owned.ensures.owned (rw (← c.self.view_is) at there.2) in
-    subst (IsOut c.args.counters.now) (sym (ap (λ page. page.group) is)) (there.4 (sym (ap has_frame is) ∙ has))
+    let is = owned-stands c.self.inside.owned.items c.args.page.0 c.take_at-owned.result there.0 c.take_at-owned.ensures.owned (rw (← c.self.view_is) at there.1) in
+    subst (IsOut c.args.counters.now) (sym (ap (λ page. page.group) is)) (there.3 (sym (ap has_frame is) ∙ has))
 
 pub remove-requires : goal.remove-requires
-remove-requires c = listed c.self.inside.members.lists _ c.self.invariant.listed c.args.page.0 (page_of c.take_at-owned.result) (at-map page_of _ c.args.page.0 ∙ ap (option_map page_of) c.take_at-owned.ensures.owned)
+remove-requires c = listed c.self.inside.members.lists _ c.self.invariant.listed c.args.page.0 (page_of c.take_at-owned.result) (page-stands c.self.inside.owned.items c.args.page.0 c.take_at-owned.result c.take_at-owned.ensures.owned)
 
 -- the lists while the page is on none
 without_page : (lists after : List (List ℕ)) (old new : List (Option OwnedPage)) (p : ℕ) → after ≡ map (without p) lists → Changes old new p None → AreMembers lists (pages_of old) → AreMembers after (pages_of new)
@@ -44,17 +43,17 @@ push_back-requires-clause-unlisted c =
     unlisted c.remove.new.self.lists _ (without_page _ _ _ _ _ c.remove.ensures.lists gone c.self.invariant.listed) c.args.page.0 (not_there _ _ _ gone)
 
 -- what the page was
-was : (c : goal.After-push_back) (g : ℕ) (r : Residence) → HasResidence c.args.self.now.pages c.args.page.0 g r → page_of c.take_at-owned.result ≡ anon_page g r
-was c g r stands = owned-stands c.self.inside.owned.items c.args.page.0 g r c.take_at-owned.result c.take_at-owned.ensures.owned (rw (← c.self.view_is) at stands)
+was : (c : goal.After-push_back) (x : Page) → page_at c.args.self.now.pages c.args.page.0 ≡ Some x → page_of c.take_at-owned.result ≡ x
+was c x stands = owned-stands c.self.inside.owned.items c.args.page.0 c.take_at-owned.result x c.take_at-owned.ensures.owned (rw (← c.self.view_is) at stands)
 
-exchanges : (c : goal.After-push_back) → Exchanges c.self.inside.owned.items c.take_at-owned.new.slots.items c.place.new.slots.items c.args.page.0 c.take_at-owned.result c.regrouped-moved.result
-exchanges c = record { was = c.take_at-owned.ensures.owned; gone = c.take_at-owned.ensures.gone; placed = c.place.ensures.placed }
+changes : (c : goal.After-push_back) → Changes c.self.inside.owned.items c.place.new.slots.items c.args.page.0 (Some c.regrouped-moved.result)
+changes c = Changes-twice _ _ _ _ None _ c.take_at-owned.ensures.gone c.place.ensures.placed
 
 -- the page is of the other group, and where it was
-moved : (c : goal.After-push_back) (g : ℕ) (r : Residence) → HasResidence c.args.self.now.pages c.args.page.0 g r → Changes (pages_of c.self.inside.owned.items) (pages_of c.place.new.slots.items) c.args.page.0 (Some (anon_page c.args.parent.0 r))
-moved c g r stands =
-    exchanged-page _ _ _ _ _ _ (exchanges c) c.args.page.0 c.args.parent.0 r refl
-    (c.regrouped-moved.ensures.page ∙ ap (λ page. anon_page c.args.parent.0 page.residence) (was c g r stands))
+moved : (c : goal.After-push_back) (x : Page) → page_at c.args.self.now.pages c.args.page.0 ≡ Some x → Changes (pages_of c.self.inside.owned.items) (pages_of c.place.new.slots.items) c.args.page.0 (Some (record x { group = c.args.parent.0 }))
+moved c x stands =
+    subst (λ y. Changes (pages_of c.self.inside.owned.items) (pages_of c.place.new.slots.items) c.args.page.0 (Some y)) (c.regrouped-moved.ensures.page ∙ ap (λ (y : Page). record y { group = c.args.parent.0 }) (was c x stands))
+    (Changes-map page_of _ _ c.args.page.0 _ (changes c))
 
 parent_within : (c : goal.After-push_back) → c.args.parent.0 < length c.remove.new.self.lists
 parent_within c =
@@ -62,27 +61,34 @@ parent_within c =
     let same = ap length c.remove.ensures.lists ∙ length-map c.self.inside.members.lists (without c.args.page.0) in
     omega (arith, within, same)
 
+beside : (c : goal.After-push_back) → Fits c.self.inside.numbers c.self.inside.numbers c.place.new.slots.items c.self.inside.members c.push_back.new.self c.self.inside.files c.self.inside.cache.items c.self.inside.cache.items
+beside c =
+    let same = ap length c.remove.ensures.lists ∙ length-map c.self.inside.members.lists (without c.args.page.0) in
+    Fits-stays-beside c.self.inside.numbers _ _ _ c.self.inside.flights c.self.inside.members c.self.inside.files c.self.inside.cache.items c.self.invariant c.args.page.0 c.take_at-owned.result c.take_at-owned.ensures.owned c.regrouped-moved.result (changes c)
+    (ap (λ (x : Page). x.content) c.regrouped-moved.ensures.page) c.push_back.new.self
+    (ap (λ m. m.numbers) c.push_back.ensures.others ∙ ap (λ m. m.numbers) c.remove.ensures.others)
+    (ap length c.push_back.ensures.lists ∙ length-set c.remove.new.self.lists _ _ ∙ same)
+    (ap (λ m. m.room) c.push_back.ensures.others ∙ ap (λ m. m.room) c.remove.ensures.others)
+    (rw c.push_back.ensures.lists (AreMembers-added _ _ _ c.args.page.0 (Some (page_of c.regrouped-moved.result)) (Changes-map page_of _ _ _ _ c.place.ensures.placed) (without_page _ _ _ _ _ c.remove.ensures.lists c.take_at-owned.ensures.gone c.self.invariant.listed) c.args.parent.0 (parent_within c) (not_there _ _ _ c.take_at-owned.ensures.gone) (λ g. ap (λ (page : Page). page.group == g) c.regrouped-moved.ensures.page)))
+
 pub invariant_of-self : goal.invariant_of-self
 invariant_of-self c =
     let is = c.self.invariant in
-    let there = c.requires.there in
-    record {
-      taken = exchanged-taken _ _ _ _ _ _ (exchanges c) c.self.inside.numbers is.taken;
-      within = rw (c.place.ensures.capacity, c.take_at-owned.ensures.capacity) is.within;
-      in_flight = AreInFlight-regrouped _ _ c.args.page.0 there.0 c.args.parent.0 there.1 (rw (← c.self.view_is) at there.2) (moved c there.0 there.1 there.2) c.self.inside.flights.slots is.in_flight (AreMemory-owned c.place.new.slots.items);
-      few = is.few;
-      countable = is.countable;
-      linked = rw (c.push_back.ensures.others, c.remove.ensures.others) is.linked;
-      listed = rw c.push_back.ensures.lists (AreMembers-added _ _ _ c.args.page.0 (Some (page_of c.regrouped-moved.result)) (Changes-map page_of _ _ _ _ c.place.ensures.placed) (without_page _ _ _ _ _ c.remove.ensures.lists c.take_at-owned.ensures.gone is.listed) c.args.parent.0 (parent_within c) (not_there _ _ _ c.take_at-owned.ensures.gone) (λ g. ap (λ page. page.group == g) c.regrouped-moved.ensures.page));
-    }
+    let files = c.self.inside.files in
+    let from = c.take_at-owned.result in
+    let page = Changes-map page_of _ _ c.args.page.0 _ (changes c) in
+    let filed = regrouped-filed files.first files.sizes (page_of from) c.args.parent.0 (own-filed files c.self.inside.owned.items c.args.page.0 from is.filed c.take_at-owned.ensures.owned) in
+    Fits-are (beside c) is (c.place.ensures.capacity ∙ c.take_at-owned.ensures.capacity) refl
+    (AreInFlight-same _ _ c.args.page.0 (page_of from) (page_of c.regrouped-moved.result) (page-stands c.self.inside.owned.items c.args.page.0 from c.take_at-owned.ensures.owned) page (ap (λ (x : Page). x.residence) c.regrouped-moved.ensures.page) c.self.inside.flights.slots is.in_flight)
+    (AreHome-changes files _ _ c.args.page.0 _ page (subst (IsFiled files.first files.sizes) (sym c.regrouped-moved.ensures.page) filed) is.filed)
 
 pub returns-clause-moved : goal.returns-clause-moved
-returns-clause-moved c = λ g r stands. rw (← c.self.view_is) (moved c g r stands)
+returns-clause-moved c = λ x stands. rw (← c.self.view_is) (moved c x stands)
 
 pub returns-clause-charged : goal.returns-clause-charged
-returns-clause-charged c = λ g r stands has.
-    let is = was c g r stands in
+returns-clause-charged c = λ x stands has.
+    let is = was c x stands in
     subst (MovesUp c.args.counters.now c.regrouped-moved.new.counters) (ap (λ page. page.group) is) (c.regrouped-moved.ensures.charged (ap has_frame is ∙ has))
 
 pub returns-clause-bytes : goal.returns-clause-bytes
-returns-clause-bytes c = rw (← c.self.view_is) (exchanged-byte-kept _ _ _ _ _ _ (exchanges c) c.regrouped-moved.ensures.bytes)
+returns-clause-bytes c = rw (← c.self.view_is) (changed-byte-kept _ _ _ _ (changes c) c.take_at-owned.result c.take_at-owned.ensures.owned (ap Some c.regrouped-moved.ensures.bytes))

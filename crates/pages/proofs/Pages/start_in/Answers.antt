@@ -1,20 +1,31 @@
-use Rattle.std.proofs.Common.{vec_capacity, ◌≡◌, ℕ, Some, ap, refl, ◌∙◌, arith}
+use Rattle.std.proofs.Common.{vec_capacity, ◌≡◌, ℕ, Some, None, ap, sym, refl, ◌∙◌, arith}
+use Rattle.machine.specs.Slots.{Changes}
 use Rattle.machine.specs.Pages.{Coming, Away}
+use Rattle.pages.specs.declared.owned_page.OwnedPage.{OwnedPage}
 use Rattle.pages.specs.declared.owned_page.OwnedPage.TheVariants as owned_page
+use Rattle.pages.specs.declared.owned_page.Backing.TheVariants as backing
 use Rattle.machine.specs.declared.record.Direction.TheVariants.{In}
-use Rattle.pages.specs.PagesOf.{HasResidence, anon_page}
+use Rattle.pages.specs.PagesOf.{HasResidence, memory_of, labelled}
 use Rattle.pages.specs.Transfers.{given_ticket}
 use Rattle.pages.specs.Records.{page_of}
+use Rattle.pages.proofs.TableLemmas.{Changes-twice}
 use Rattle.pages.proofs.FlightLemmas.{IsSettled-is}
-use Rattle.pages.proofs.TransferLemmas.{owned-stands, Takeoff, Takeoff-are, Takeoff-starts, Takeoff-apart, part-slot}
+use Rattle.pages.proofs.TransferLemmas.{owned-stands, page-stands, Fits-stays, Takeoff, Takeoff-are, Takeoff-starts, Takeoff-apart, part-slot}
 use Rattle.pages.proofs.Pages.start_in.Goals as goal
 
-was_away : (c : goal.After-new) (block : ℕ) → HasResidence c.args.self.now.pages c.args.page.0 c.args.charge (Away block) → page_of c.take_at.result ≡ anon_page c.args.charge (Away block)
-was_away c block stands = owned-stands c.self.inside.owned.items c.args.page.0 c.args.charge (Away block) c.take_at.result c.take_at.ensures.owned (rw (← c.self.view_is) at stands)
+was_away : (c : goal.After-new) (block : ℕ) → HasResidence c.args.self.now.pages c.args.page.0 (memory_of c.args.charge) (Away block) → page_of c.take_at.result ≡ labelled (memory_of c.args.charge) (Away block)
+was_away c block stands = owned-stands c.self.inside.owned.items c.args.page.0 c.take_at.result _ c.take_at.ensures.owned (rw (← c.self.view_is) at stands)
 
-takeoff : (c : goal.After-new) → Takeoff c.self.inside.numbers c.self.inside.owned.items c.take_at.new.slots.items c.place.new.slots.items (vec_capacity c.self.inside.owned) (vec_capacity c.place.new.slots) c.self.inside.flights c.list-ticket.new.flights c.self.inside.members c.list-ticket.result.0 c.args.page.0 c.args.worker.0 In c.args.charge c.args.frame.number c.into_away-slot.result c.take_at.result (owned_page.Coming c.args.frame c.args.charge c.into_away-slot.result c.list-ticket.result)
+abbrev coming : (c : goal.After-new) → OwnedPage
+coming c = owned_page.Coming c.args.frame c.args.charge (backing.Swap c.into_away-slot.result) c.list-ticket.result
+
+changes : (c : goal.After-new) → Changes c.self.inside.owned.items c.place.new.slots.items c.args.page.0 (Some (coming c))
+changes c = Changes-twice _ _ _ _ None _ c.take_at.ensures.gone c.place.ensures.placed
+
+takeoff : (c : goal.After-new) → Takeoff c.self.inside.numbers c.self.inside.numbers c.self.inside.owned.items c.place.new.slots.items (vec_capacity c.self.inside.owned) (vec_capacity c.place.new.slots) c.self.inside.flights c.list-ticket.new.flights c.self.inside.members c.self.inside.members c.self.inside.files c.self.inside.cache.items c.self.inside.cache.items c.list-ticket.result.0 c.args.page.0 c.args.worker.0 In (memory_of c.args.charge) c.args.frame.number c.into_away-slot.result (coming c)
 takeoff c =
     let requires = rw (← c.self.view_is) at c.requires in
+    let was = was_away c c.requires.away.0 c.requires.away.1 in
     record {
       are = c.self.invariant;
       free = c.list-ticket.ensures.free;
@@ -22,11 +33,12 @@ takeoff c =
       len = c.list-ticket.ensures.len;
       fits = omega (arith, requires.room);
       capacity = c.list-ticket.ensures.capacity;
-      exchanges = record { was = c.take_at.ensures.owned; gone = c.take_at.ensures.gone; placed = c.place.ensures.placed };
+      changes = changes c;
       same_places = c.place.ensures.capacity ∙ c.take_at.ensures.capacity;
-      settled = IsSettled-is _ _ (ap Some (was_away c c.requires.away.0 c.requires.away.1)) (λ n. refl);
-      own_charge = ap (λ page. page.group) (was_away c c.requires.away.0 c.requires.away.1);
+      settled = IsSettled-is _ _ (page-stands c.self.inside.owned.items c.args.page.0 _ c.take_at.ensures.owned ∙ ap Some was) (λ n. refl);
       moves = refl;
+      filed = refl;
+      beside = Fits-stays c.self.inside.numbers _ _ _ c.self.inside.flights c.self.inside.members c.self.inside.files c.self.inside.cache.items c.self.invariant c.args.page.0 c.take_at.result c.take_at.ensures.owned (coming c) (changes c) (sym (ap (λ page. page.group) was)) (sym (ap (λ page. page.content) was));
     }
 
 pub invariant_of-self : goal.invariant_of-self
@@ -34,10 +46,10 @@ invariant_of-self c = Takeoff-are (takeoff c)
 
 pub returns : goal.returns
 returns c = λ block stands.
-    let slot = part-slot c.take_at.result c.args.charge _ (was_away c block stands) _ block c.into_away-slot.ensures refl in
+    let slot = part-slot c.take_at.result _ _ (was_away c block stands) _ block c.into_away-slot.ensures refl in
     let ticket = c.new.ensures ∙ ap (λ b. given_ticket c.list-ticket.result.0 c.args.worker.0 c.args.entry b c.args.buffer.value) (c.block-block.ensures ∙ slot) in
     rw (ticket, ← c.self.view_is) (
     record {
-      starts = Takeoff-starts (takeoff c) c.args.charge c.args.frame.number block c.args.entry c.args.buffer.value (ap (λ b. anon_page c.args.charge (Coming c.args.frame.number b c.list-ticket.result.0)) slot);
+      starts = Takeoff-starts (takeoff c) (memory_of c.args.charge) c.args.frame.number block c.args.entry c.args.buffer.value (ap (λ b. labelled (memory_of c.args.charge) (Coming c.args.frame.number b c.list-ticket.result.0)) slot);
       bytes = Takeoff-apart (takeoff c);
     })

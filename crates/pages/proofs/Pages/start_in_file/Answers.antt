@@ -1,0 +1,94 @@
+use Rattle.std.proofs.Common.{vec_capacity, ◌≡◌, false, set, Some, None, ap, sym, refl, subst, ◌∙◌, arith}
+use Rattle.std.proofs.lemmas.List.{length-set}
+use Rattle.machine.specs.Slots.{Changes}
+use Rattle.machine.specs.Pages.{page_at, home_block}
+use Rattle.machine.specs.declared.id.PageId.{PageId}
+use Rattle.pages.specs.declared.owned_page.OwnedPage.{OwnedPage}
+use Rattle.pages.specs.declared.owned_page.OwnedPage.TheVariants as owned_page
+use Rattle.pages.specs.declared.owned_page.Backing.TheVariants as backing
+use Rattle.machine.specs.declared.record.Direction.TheVariants.{In}
+use Rattle.pages.specs.PagesOf.{of_file}
+use Rattle.pages.specs.Transfers.{given_ticket}
+use Rattle.pages.specs.Records.{page_of, place_in, AreCached}
+use Rattle.pages.proofs.TableLemmas.{Changes-map, Changes-set, free-page, taken-there}
+use Rattle.pages.proofs.FlightLemmas.{IsSettled-is}
+use Rattle.pages.proofs.MemberLemmas.{unlisted}
+use Rattle.pages.proofs.CacheLemmas.{AreCached-added}
+use Rattle.pages.proofs.TransferLemmas.{pages_of, Fits, Fits-added, Takeoff, Takeoff-are, Takeoff-starts, Takeoff-apart}
+use Rattle.pages.proofs.Pages.start_in_file.Goals as goal
+
+pub insert_reserved-requires : goal.insert_reserved-requires
+insert_reserved-requires c =
+    let room = rw (← c.self.view_is) at c.requires.room in
+    let taken = taken-there page_of c.self.inside.numbers c.self.inside.owned.items c.self.invariant.taken in
+    omega (arith, room, taken)
+
+pub push_back-requires-clause-unlisted : goal.push_back-requires-clause-unlisted
+push_back-requires-clause-unlisted c = unlisted c.self.inside.members.lists _ c.self.invariant.listed c.insert_reserved.result (free-page page_of c.self.inside.numbers _ c.insert_reserved.result c.self.invariant.taken c.insert_reserved.ensures.was_vacant)
+
+abbrev coming : (c : goal.After-new-ticket) → OwnedPage
+coming c = owned_page.Coming c.args.frame c.args.charge (backing.Home c.args.at c.home-block.result false) c.list-ticket.result
+
+abbrev found : (c : goal.After-new-ticket) → PageId
+found c = record { 0 = c.insert_reserved.result }
+
+vacant : (c : goal.After-new-ticket) → page_at (pages_of c.self.inside.owned.items) c.insert_reserved.result ≡ None
+vacant c = free-page page_of c.self.inside.numbers _ c.insert_reserved.result c.self.invariant.taken c.insert_reserved.ensures.was_vacant
+
+swaps : (c : goal.After-new-ticket) → Changes c.self.inside.cache.items (set c.self.inside.cache.items c.home_place-index.result (Some (found c))) (place_in c.self.inside.files c.args.at.file c.args.at.page) (Some (found c))
+swaps c =
+    let cache = c.self.inside.cache.items in
+    let index = c.home_place-index.result in
+    let homes = c.self.invariant.homes in
+    let within = c.home_place-index.ensures.within in
+    subst (λ m. Changes cache (set cache index (Some (found c))) m (Some (found c))) c.home_place-index.ensures.place (Changes-set cache index (Some (found c)) (omega (arith, homes, within)))
+
+cached : (c : goal.After-new-ticket) → AreCached c.self.inside.files (set c.self.inside.cache.items c.home_place-index.result (Some (found c))) (pages_of c.place.new.slots.items)
+cached c =
+    let requires = rw (← c.self.view_is) at c.requires in
+    let files = c.self.inside.files in
+    AreCached-added files (pages_of c.self.inside.owned.items) (pages_of c.place.new.slots.items) c.insert_reserved.result (Some (page_of (coming c))) (Changes-map page_of _ _ _ (Some (coming c)) c.place.ensures.placed) c.self.inside.cache.items c.self.invariant.cached
+    (set c.self.inside.cache.items c.home_place-index.result (Some (found c))) c.args.at.file c.args.at.page requires.inside (Some (found c)) (swaps c) (page_of (coming c)) refl refl (vacant c) requires.none refl
+
+beside : (c : goal.After-new-ticket) → Fits c.self.inside.numbers c.insert_reserved.new.self c.place.new.slots.items c.self.inside.members c.push_back.new.self c.self.inside.files c.self.inside.cache.items (set c.self.inside.cache.items c.home_place-index.result (Some (found c)))
+beside c =
+    let room = rw (← c.self.view_is) at c.requires.group in
+    let group = c.group-group.ensures in
+    Fits-added c.self.inside.numbers _ _ _ _ c.self.inside.flights c.self.inside.members _ c.self.inside.files c.self.inside.cache.items _ c.self.invariant c.insert_reserved.result (coming c) tt c.insert_reserved.ensures.was_vacant c.place.ensures.placed c.insert_reserved.ensures.updates c.insert_reserved.ensures.capacity
+    c.group-group.result.0 (omega (arith, room, group)) (sym group) (rw (← c.push_back.ensures.lists) c.push_back.ensures.others) (cached c) (length-set c.self.inside.cache.items c.home_place-index.result (Some (found c)))
+
+takeoff : (c : goal.After-new-ticket) → Takeoff c.self.inside.numbers c.insert_reserved.new.self c.self.inside.owned.items c.place.new.slots.items (vec_capacity c.self.inside.owned) (vec_capacity c.place.new.slots) c.self.inside.flights c.list-ticket.new.flights c.self.inside.members c.push_back.new.self c.self.inside.files c.self.inside.cache.items (set c.self.inside.cache.items c.home_place-index.result (Some (found c))) c.list-ticket.result.0 c.insert_reserved.result c.args.worker.0 In (of_file c.args.at.file c.args.at.page c.args.charge false) c.args.frame.number c.home-block.result (coming c)
+takeoff c =
+    let requires = rw (← c.self.view_is) at c.requires in
+    record {
+      are = c.self.invariant;
+      free = c.list-ticket.ensures.free;
+      listed = c.list-ticket.ensures.listed;
+      len = c.list-ticket.ensures.len;
+      fits = omega (arith, requires.tickets);
+      capacity = c.list-ticket.ensures.capacity;
+      changes = c.place.ensures.placed;
+      same_places = c.place.ensures.capacity;
+      settled = IsSettled-is _ _ (vacant c) (λ n. refl);
+      moves = refl;
+      filed = (requires.inside, c.home-block.ensures);
+      beside = beside c;
+    }
+
+pub invariant_of-self : goal.invariant_of-self
+invariant_of-self c = Takeoff-are (takeoff c)
+
+pub returns-clause-free : goal.returns-clause-free
+returns-clause-free c = rw (← c.self.view_is) (vacant c)
+
+pub returns-clause-starts : goal.returns-clause-starts
+returns-clause-starts c =
+    let files = c.self.inside.files in
+    let n = c.list-ticket.result.0 in
+    let ticket = c.new-ticket.ensures ∙ ap (λ b. given_ticket n c.args.worker.0 c.args.entry b c.args.buffer.value) c.home-block.ensures in
+    rw (ticket, ← c.self.view_is) (
+    record {
+      starts = Takeoff-starts (takeoff c) (of_file c.args.at.file c.args.at.page c.args.charge false) c.args.frame.number (home_block files.first files.sizes c.args.at.file c.args.at.page) c.args.entry c.args.buffer.value
+          (ap (λ b. page_of (owned_page.Coming c.args.frame c.args.charge (backing.Home c.args.at b false) c.list-ticket.result)) c.home-block.ensures);
+      bytes = Takeoff-apart (takeoff c);
+    })
