@@ -1,16 +1,16 @@
 -- The counters go on to count the pages that have a frame, whatever page comes, goes or moves.
-use Rattle.std.proofs.Common.{◌≡◌, inl, inr, ℕ, zero, suc, ◌+◌, ◌<◌, ◌≤◌, ◌&&◌, Bool, true, false, List, [], ◌∷◌, ◌++◌, length, Option, Some, None, refl, sym, ap, subst, ◌∙◌, arith}
+use Rattle.std.proofs.Common.{◌≡◌, inl, inr, ℕ, zero, suc, ◌+◌, ◌<◌, ◌≤◌, ◌&&◌, Bool, true, false, List, [], ◌∷◌, ◌++◌, length, take, Option, Some, None, refl, sym, ap, subst, ◌∙◌, arith}
 use Rattle.std.specs.Prelude.{IfSome, count_by, slice_index}
 use Rattle.std.specs.List.{All}
 use Rattle.std.proofs.lemmas.List.{get_or_append_left}
 use Rattle.std.proofs.lemmas.List.Elements.{All-cons}
 use Rattle.std.proofs.lemmas.List.Sums.{sum_by-cons}
-use Rattle.machine.specs.Slots.{Changes, there_and}
+use Rattle.machine.specs.Slots.{Changes, there_and, count_there}
 use Rattle.machine.specs.Tree.{Node, no_node, is_live, under, share, IsTree}
 use Rattle.machine.specs.Pages.{Page, Pages, page_at, has_frame, is_charged, charged, used_frames}
 use Rattle.machine.specs.Counts.{over}
 use Rattle.machine.proofs.TreeLemmas.{eq_cases, share-is, over_at-same}
-use Rattle.machine.proofs.SlotLemmas.{one_if}
+use Rattle.machine.proofs.SlotLemmas.{one_if, count_there-none}
 use Rattle.group_tree.specs.Lineages.{IsLineage}
 use Rattle.group_tree.proofs.LineageLemmas.{live-within}
 use Rattle.page_counter.specs.Counts.{Counts, AreCounts, IsOut, Charges, usage_of, over_in}
@@ -121,6 +121,17 @@ root-small counters pages frames free is counted all few =
     let most = charged-used counters.tree 0 pages in
     omega (arith, here, most, all, few)
 
+-- those below a number are all, where none is from it on
+pub count-below : (test : Page → Bool) (pages : Pages) (k : ℕ) → ((n : ℕ) → k ≤ n → there_and test (page_at pages n) ≡ false) → count_there test (take k pages) ≡ count_there test pages
+count-below test [] zero none = refl
+count-below test [] (suc k) none = refl
+count-below test (slot ∷ pages) zero none = sym (count_there-none test (slot ∷ pages) (λ n. none n (omega arith)))
+count-below test (slot ∷ pages) (suc k) none =
+    let some = sum_by-cons (λ (slot : Option Page). one_if (there_and test slot)) slot (take k pages) in
+    let all = sum_by-cons (λ (slot : Option Page). one_if (there_and test slot)) slot pages in
+    let rest = count-below test pages k (λ n le. none (suc n) (omega (arith, le))) in
+    omega (arith, some, all, rest)
+
 -- ---- a place changes
 
 pub charge-usage : (c d : Counts) (g a : ℕ) → Charges c d g → a < length c.tree → usage_of d a ≡ usage_of c a + one_if (under c.tree a g)
@@ -161,9 +172,10 @@ counted-step c d pages pages' p from to stood changes charges counted =
       live = each-after (λ page. is_live c.tree page.group ≡ true) pages pages' p to changes charges.live counted.live;
     })
 
-uncharged_at : (tree : List Node) (a : ℕ) (slot : Option Page) → there_and has_frame slot ≡ false → one_if (there_and (is_charged tree a) slot) ≡ 0
-uncharged_at tree a None e = refl
-uncharged_at tree a (Some page) e = ap (λ b. one_if (b && under tree a page.group)) e
+-- a page without a frame is charged to nobody
+pub uncharged-at : (tree : List Node) (a : ℕ) (slot : Option Page) → there_and has_frame slot ≡ false → one_if (there_and (is_charged tree a) slot) ≡ 0
+uncharged-at tree a None e = refl
+uncharged-at tree a (Some page) e = ap (λ b. one_if (b && under tree a page.group)) e
 
 -- the charge of a page that lost its frame is out
 pub page-out : (c : Counts) (pages pages' : Pages) (p : ℕ) (page : Page) (to : Option Page) → IsTree c.tree → page_at pages p ≡ Some page → has_frame page ≡ true → Changes pages pages' p to → there_and has_frame to ≡ false
@@ -178,7 +190,7 @@ page-out c pages pages' p page to is stood framed changes unframed live counted 
             (let before = counted.counts a lt in
             let n = changed-count (is_charged c.tree a) pages pages' p (Some page) to stood changes in
             let was : one_if (has_frame page && under c.tree a page.group) ≡ one_if (under c.tree a page.group) = ap (λ b. one_if (b && under c.tree a page.group)) framed in
-            let none = uncharged_at c.tree a to unframed in
+            let none = uncharged-at c.tree a to unframed in
             let cons = sum_by-cons (λ x. one_if (under c.tree a x)) page.group (groups_of pages') in
             let groups = charged-groups c.tree a pages' in
             omega (arith, before, n, was, none, cons, groups));

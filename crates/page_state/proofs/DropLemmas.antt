@@ -34,18 +34,24 @@ fewer old new t v shows p = let both = mappers-shows old new t v p None shows in
 
 -- ---- nothing goes where nothing came to be unmapped
 
+-- what is no memory, or is in transfer, stays
+pub still-unsettled : (tables : PageTables) (p : ℕ) (slot : Option Page) → there_and (λ page. is_anon page.content && not (is_in_transfer page)) slot ≡ false → still tables p slot ≡ slot
+still-unsettled tables p None other = refl
+still-unsettled tables p (Some page) other = by_tests (is_anon page.content) (mappers tables p == 0) (not (in_transfer_at page.residence)) other
+  where
+    by_tests : (a b c : Bool) → (a && c) ≡ false → cond (a && (b && c)) None (Some page) ≡ Some page
+    by_tests true true true e = cc
+    by_tests true true false e = refl
+    by_tests true false c e = refl
+    by_tests false b c e = refl
+
 pub stays_settled : (tables : PageTables) (p : ℕ) (slot : Option Page) → is_settled slot ≤ mappers tables p → still tables p slot ≡ slot
 stays_settled tables p None least = refl
-stays_settled tables p (Some page) least = by_moving (in_transfer_at page.residence) refl
+stays_settled tables p (Some page) least = by_settled (is_anon page.content && not (is_in_transfer page)) refl
   where
-    in_transfer_stays : (a b : Bool) → cond (a && (b && false)) None (Some page) ≡ Some page
-    in_transfer_stays true true = refl
-    in_transfer_stays true false = refl
-    in_transfer_stays false b = refl
-
-    by_moving : (m : Bool) → in_transfer_at page.residence ≡ m → still tables p (Some page) ≡ Some page
-    by_moving true moves = ap (λ b. cond (is_anon page.content && ((mappers tables p == 0) && not b)) None (Some page)) moves ∙ in_transfer_stays (is_anon page.content) (mappers tables p == 0)
-    by_moving false rests = still-mapped tables p (Some page) (let one : is_settled (Some page) ≡ 1 = ap (λ b. cond b 0 1) rests in omega (arith, one, least))
+    by_settled : (b : Bool) → (is_anon page.content && not (is_in_transfer page)) ≡ b → still tables p (Some page) ≡ Some page
+    by_settled true settles = still-mapped tables p (Some page) (let one : is_settled (Some page) ≡ 1 = ap (λ b. cond b 1 0) settles in omega (arith, one, least))
+    by_settled false other = still-unsettled tables p (Some page) other
 
 -- what stays held is as it was
 pub still-stays : (tables : PageTables) (p : ℕ) (slot : Option Page) → there_and is_held (still tables p slot) ≡ true → still tables p slot ≡ slot

@@ -30,6 +30,7 @@ use Rattle.page_state.specs.Changes.{RemovesGroup}
 use Rattle.page_state.specs.Joined.{joined_of, IsJoined}
 use Rattle.page_state.specs.Mapped.{is_settled}
 use Rattle.page_state.proofs.TallyLemmas.{tells-on}
+use Rattle.page_state.proofs.MappedLemmas.{is_cached, mapped-fits, file_unmapped}
 
 -- ---- whether it may go
 
@@ -85,6 +86,10 @@ settled_same : (g parent : ℕ) (slot : Option Page) → is_settled (option_map 
 settled_same g parent None = refl
 settled_same g parent (Some page) = refl
 
+cached_same : (g parent : ℕ) (slot : Option Page) → is_cached (option_map (regrouped g parent) slot) ≡ is_cached slot
+cached_same g parent None = refl
+cached_same g parent (Some page) = refl
+
 none_was : (g parent : ℕ) (slot : Option Page) → option_map (regrouped g parent) slot ≡ None → slot ≡ None
 none_was g parent None e = refl
 none_was g parent (Some page) e = let wrong : Some (regrouped g parent page) ≡ None = e in cc
@@ -97,14 +102,18 @@ module _ (s : Inside) (is : IsJoined s) (g parent : ℕ) (may : MayGo (joined_of
         sized = is.sized;
         frames = ap (λ (x : HoldingsOf). x.frames) hands.others ∙ is.frames;
         swap = ap (λ (x : HoldingsOf). x.swap) hands.others ∙ is.swap;
+        files = ap (λ (x : HoldingsOf). x.files) hands.others ∙ is.files;
         numbers = is.numbers ∙ sym (ap (λ (x : HoldingsOf). x.numbers) hands.others);
         page_numbers = ap (λ (x : HoldingsOf). x.numbers) hands.others ∙ is.page_numbers;
         held_kin = subst (λ (k : List Node). AreKin k tree) (sym (ap (λ (x : HoldingsOf). x.kin) hands.others)) (subst (AreKin (without_group s.holdings.kin g)) (sym fewer) (kin-removed s.holdings.kin s.tree g is.held_kin));
         counted_kin = subst (λ (k : List Node). AreKin k tree) (sym counted) (subst (AreKin (without_group s.events.tree g)) (sym fewer) (kin-removed s.events.tree s.tree g is.counted_kin));
-        mapped = record {
-          there = λ p gone. is.mapped.there p (none_was g parent (page_at s.holdings.stored.pages p) (sym (hands.pages p) ∙ gone));
-          least = λ p. (let least = is.mapped.least p in let same = ap is_settled (hands.pages p) ∙ settled_same g parent (page_at s.holdings.stored.pages p) in omega (arith, least, same));
-        };
+        mapped = mapped-fits h.stored.pages s.spaces.page_tables
+            (λ p.
+            record {
+              none = λ gone. is.mapped.there p (none_was g parent (page_at s.holdings.stored.pages p) (sym (hands.pages p) ∙ gone));
+              least = (let least = is.mapped.least p in let same = ap is_settled (hands.pages p) ∙ settled_same g parent (page_at s.holdings.stored.pages p) in omega (arith, least, same));
+              cached = λ e. file_unmapped s.holdings.stored.pages s.spaces.page_tables is.mapped p (sym (ap is_cached (hands.pages p) ∙ cached_same g parent (page_at s.holdings.stored.pages p)) ∙ e);
+            });
         homes = λ t alive. ap (λ (ns : List Node). is_live ns (group_of_task s.spaces.tasks t)) fewer
             ∙ ap (λ (n : Node). n.live) (without-other s.tree g (group_of_task s.spaces.tasks t) (elsewhere s.spaces.tasks g t may.taskless alive)) ∙ is.homes t alive;
         cursors = ap length served ∙ length-set s.cursors.cursors g None ∙ is.cursors ∙ sym (ap length fewer ∙ length-set s.tree g _);

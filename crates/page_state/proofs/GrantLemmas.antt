@@ -3,13 +3,13 @@ use Rattle.std.proofs.Common.{◌≡◌, ℕ, ◌<◌, true, false, length, Opti
 use Rattle.std.specs.Prelude.{IfSome}
 use Rattle.machine.specs.Slots.{there_and}
 use Rattle.machine.specs.Tree.{is_live}
-use Rattle.machine.specs.Pages.{Residence, Held, Pages, has_frame, has_this_frame, is_held, used_frames, is_frame_taken}
+use Rattle.machine.specs.Pages.{home_block, Residence, Held, Pages, has_frame, has_this_frame, is_held, used_frames, is_frame_taken}
 use Rattle.machine.proofs.SlotLemmas.{count_there-some}
 use Rattle.group_tree.specs.Lineages.{IsLineage}
 use Rattle.group_tree.proofs.LineageLemmas.{live-within}
 use Rattle.frames.specs.Pool.{PoolOf}
 use Rattle.page_counter.specs.Counts.{Counts, usage_of, over_in}
-use Rattle.pages.specs.PagesOf.{HasResidence, pages_there, AreInFlight}
+use Rattle.pages.specs.PagesOf.{Label, HasResidence, pages_there, AreFiled}
 use Rattle.page_state.specs.declared.holdings.Holdings.TheInside.{Inside}
 use Rattle.page_state.specs.Room.{TakesRoom}
 use Rattle.page_state.specs.Holdings.{over_of, IsGranted}
@@ -19,8 +19,8 @@ use Rattle.page_state.proofs.CountLemmas.{root-small, over-counted}
 use Rattle.page_state.proofs.HoldingLemmas.{there-owned, used-split, going-least}
 
 -- the group of a page is there
-pub stands-live : (c : Counts) (pages : Pages) (p g : ℕ) (r : Residence) → HasResidence pages p g r → IsCounted c pages → is_live c.tree g ≡ true
-stands-live c pages p g r stood counted = subst (λ slot. IfSome slot (λ page. is_live c.tree page.group ≡ true)) stood (counted.live p)
+pub stands-live : (c : Counts) (pages : Pages) (p : ℕ) (label : Label) (r : Residence) → HasResidence pages p label r → IsCounted c pages → is_live c.tree label.group ≡ true
+stands-live c pages p label r stood counted = subst (λ slot. IfSome slot (λ page. is_live c.tree page.group ≡ true)) stood (counted.live p)
 
 module _ (h : Inside) (is : IsHolding h) where
   -- where a frame is free, a page more may come to be in transfer
@@ -34,17 +34,17 @@ module _ (h : Inside) (is : IsHolding h) where
       (omega arith, omega arith)
 
   -- and a number is free for one
-  pub number-free : AreInFlight h.pages.pages h.pages.flights → 0 < length h.pool.free → pages_there h.pages.pages < h.pages.numbers
-  number-free in_flight some =
-      let owned = there-owned h.pages.pages in_flight.memory in
+  pub number-free : AreFiled h.pages.files h.pages.pages → 0 < length h.pool.free → pages_there h.pages.pages < h.pages.numbers
+  number-free are some =
+      let owned = there-owned h.pages.files h.pages.pages are.filed in
       let frames = is.kept.frames.all in
       let blocks = is.kept.blocks.all in
       let numbers = is.numbers in
       omega (arith, owned, frames, blocks, numbers, some)
 
   -- a page in a frame may come to be in transfer
-  pub room-held : (p g f : ℕ) → HasResidence h.pages.pages p g (Held f) → (length h.moving.numbers < h.moving.room) × (0 < h.pages.tickets) × (0 < h.pool.spares)
-  room-held p g f stood =
+  pub room-held : (p : ℕ) (label : Label) (f : ℕ) → HasResidence h.pages.pages p label (Held f) → (length h.moving.numbers < h.moving.room) × (0 < h.pages.tickets) × (0 < h.pool.spares)
+  room-held p label f stood =
       let split = used-split h.pages.pages in
       let all = is.kept.frames.all in
       let moving = is.moving.len in
@@ -54,6 +54,10 @@ module _ (h : Inside) (is : IsHolding h) where
       let going = going-least h.pages.pages in
       let one = count_there-some is_held h.pages.pages p (ap (there_and is_held) stood) in
       (omega arith, omega arith, omega arith)
+
+  -- the home blocks stand behind the swap blocks
+  pub home-same : (file q : ℕ) → home_block h.pages.files.first h.pages.files.sizes file q ≡ home_block (holdings_of h).swap (holdings_of h).files file q
+  home-same file q = ap (λ (first : ℕ). home_block first h.pages.files.sizes file q) is.homes
 
   -- a group that is there has its lists
   pub group-listed : (g : ℕ) → is_live h.counters.tree g ≡ true → g < length h.held.lists.groups

@@ -1,19 +1,18 @@
 -- The parts of the holdings go on to agree after one page changed.
-use Rattle.std.proofs.Common.{◌≡◌, ◌≢◌, inl, inr, ℕ, zero, suc, ◌+◌, ◌<◌, ◌≤◌, ◌==◌, ◌&&◌, ◌||◌, Bool, true, false, cond, List, [], ◌∷◌, ◌++◌, length, Option, Some, None, eq-eqb, refl, sym, ap, ◌∙◌, subst, arith}
+use Rattle.std.proofs.Common.{◌≡◌, ◌≢◌, inl, inr, ℕ, zero, suc, ◌+◌, ◌<◌, ◌≤◌, ◌==◌, ◌&&◌, ◌||◌, not, Bool, true, false, cond, List, [], ◌∷◌, ◌++◌, length, Option, Some, None, eq-eqb, refl, sym, ap, ◌∙◌, subst, arith}
 use Rattle.std.specs.Prelude.{IfSome, option_map, option_to_list, replicate}
-use Rattle.std.proofs.lemmas.Bool.{cases_Bool, or_right, ne_eqb}
+use Rattle.std.proofs.lemmas.Bool.{cases_Bool, ne_eqb}
 use Rattle.std.proofs.lemmas.Bool.Decides.{eqb_tells}
 use Rattle.std.proofs.lemmas.List.{map-append}
 use Rattle.std.proofs.lemmas.List.Sums.{sum_by-cons}
 use Rattle.machine.specs.Slots.{at, Changes, there_and, count_there, any_there}
-use Rattle.machine.specs.Pages.{Residence, Held, Coming, Going, Away, Page, Pages, page_at, is_some_number, frame_at, block_at, ticket_at, is_number, is_held_at, in_transfer_at, has_frame, has_this_frame, has_swap, is_held, is_held_in, is_in_transfer, in_transfer, used_frames, used_swap, is_ticket_taken}
+use Rattle.machine.specs.Pages.{Content, Memory, OfFile, Residence, Held, Coming, Going, Away, Page, Pages, IsFiled, IsFiledAs, IsAtHome, home_block, page_at, is_anon, is_some_number, frame_at, block_at, ticket_at, is_number, is_held_at, in_transfer_at, has_frame, has_this_frame, has_swap, is_held, is_held_in, is_in_transfer, in_transfer, used_frames, used_swap, is_ticket_taken}
 use Rattle.machine.specs.declared.record.Kind.TheVariants.{Anon, File}
 use Rattle.machine.specs.declared.record.Kind.{Kind}
 use Rattle.machine.specs.Generations.{Gens, new_gens, row_of, has_page, is_listed, is_listed_in, gens_at}
 use Rattle.machine.specs.Aging.{is_marked}
-use Rattle.machine.specs.Lists.{HeldLists, is_held_of, ListsHeld, Generation, Youngest, GoesOn}
+use Rattle.machine.specs.Lists.{HeldLists, kind_at, is_held_of, ListsHeld, Generation, Youngest, GoesOn}
 use Rattle.machine.proofs.SlotLemmas.{one_if, any_there-none, count_there-none}
-use Rattle.machine.proofs.Values.{some_inj}
 use Rattle.machine.proofs.TreeLemmas.{eq_cases}
 use Rattle.machine.proofs.HeldChanges.{goes-on-same, goes-on-out, goes-on-in, unheld-unlisted}
 use Rattle.machine.proofs.HeldLemmas.{goes_length, held-go_on}
@@ -28,7 +27,8 @@ use Rattle.pages.proofs.TableLemmas.{any-some}
 use Rattle.pages.specs.declared.flight.Flight.{Flight}
 use Rattle.pages.specs.declared.owned_page.OwnedPage.{OwnedPage}
 use Rattle.pages.specs.Records.{page_of}
-use Rattle.pages.specs.PagesOf.{pages_there, anon_page, HasResidence, is_under_ticket, AreInFlight}
+use Rattle.pages.specs.PagesOf.{pages_there, Label, label_of, labelled, HasResidence, is_under_ticket, AreInFlight}
+use Rattle.files.specs.Files.{FilesOf}
 use Rattle.page_state.specs.declared.holdings.Holdings.TheInside.{Inside}
 use Rattle.page_state.specs.Queue.{page_count}
 use Rattle.page_state.specs.Holdings.{with_lists}
@@ -137,16 +137,22 @@ relists-out test xs xs' pages q p from to same stood fails listed counts fewer =
 -- ---- the lists of held pages, where one page changes
 
 module _ (pages : Pages) (held : HeldLists) (lists : ListsHeld pages held) (p : ℕ) where
-  -- a page that stands in a frame is on a list of its group
-  pub stands-listed : (g f : ℕ) → HasResidence pages p g (Held f) → is_listed (gens_at held.groups g) p ≡ true
-  stands-listed g f stood =
-      ap (λ b. has_page p (gens_at held.groups g).file.pages || b) (lists.rows g Anon p ∙ ap (there_and (is_held_of g Anon)) stood ∙ ap (λ b. b && true) (eq-eqb g g refl)) ∙ or_right (has_page p (gens_at held.groups g).file.pages) true refl
+  -- a page that stands in a frame is on the lists of its group, and of no other
+  stands-where : (label : Label) (f g : ℕ) → HasResidence pages p label (Held f) → is_listed (gens_at held.groups g) p ≡ (label.group == g)
+  stands-where label f g stood =
+      ap (λ b. b || has_page p (gens_at held.groups g).anon.pages) (lists.rows g File p ∙ ap (there_and (is_held_of g File)) stood)
+      ∙ ap (λ b. ((label.group == g) && not (is_anon label.content)) || b) (lists.rows g Anon p ∙ ap (there_and (is_held_of g Anon)) stood) ∙ either (label.group == g) (is_anon label.content)
+    where
+      either : (b anon : Bool) → ((b && not anon) || (b && anon)) ≡ b
+      either true true = refl
+      either true false = refl
+      either false anon = refl
 
-  -- and of no other
-  stands-elsewhere : (g f h : ℕ) → HasResidence pages p g (Held f) → h ≢ g → is_listed (gens_at held.groups h) p ≡ false
-  stands-elsewhere g f h stood other =
-      ap (λ b. b || has_page p (gens_at held.groups h).anon.pages) (lists.rows h File p ∙ ap (there_and (is_held_of h File)) stood ∙ ap (λ b. b && false) (ne_eqb g h (λ e. other (sym e))))
-      ∙ (lists.rows h Anon p ∙ ap (there_and (is_held_of h Anon)) stood ∙ ap (λ b. b && true) (ne_eqb g h (λ e. other (sym e))))
+  pub stands-listed : (label : Label) (f : ℕ) → HasResidence pages p label (Held f) → is_listed (gens_at held.groups label.group) p ≡ true
+  stands-listed label f stood = stands-where label f label.group stood ∙ eq-eqb label.group label.group refl
+
+  stands-elsewhere : (label : Label) (f h : ℕ) → HasResidence pages p label (Held f) → h ≢ label.group → is_listed (gens_at held.groups h) p ≡ false
+  stands-elsewhere label f h stood other = stands-where label f h stood ∙ ne_eqb label.group h (λ e. other (sym e))
 
   -- a page that is not held is on none
   pub absent-unlisted : is_held_in pages p ≡ false → is_listed_in held.groups p ≡ false
@@ -166,16 +172,17 @@ module _ (pages : Pages) (held : HeldLists) (lists : ListsHeld pages held) (p : 
         ])
 
   -- a page leaves its list
-  pub goes-out : (generation : Generation) (pages' : Pages) (to : Option Page) (g f : ℕ) → HasResidence pages p g (Held f) → Changes pages pages' p to → there_and is_held to ≡ false → GoesOn generation pages held pages' (left held g p)
-  goes-out generation pages' to g f stood changes gone =
-      goes-on-out generation pages pages' held lists p (elsewhere generation pages' (Some (anon_page g (Held f))) to stood changes) g (stands-listed g f stood) (λ h other. stands-elsewhere g f h stood other)
+  pub goes-out : (generation : Generation) (pages' : Pages) (to : Option Page) (label : Label) (f : ℕ) → HasResidence pages p label (Held f) → Changes pages pages' p to → there_and is_held to ≡ false
+      → GoesOn generation pages held pages' (left held label.group p)
+  goes-out generation pages' to label f stood changes gone =
+      goes-on-out generation pages pages' held lists p (elsewhere generation pages' (Some (labelled label (Held f))) to stood changes) label.group (stands-listed label f stood) (λ h other. stands-elsewhere label f h stood other)
       (ap (there_and is_held) changes.changed ∙ gone)
 
-  -- a page comes to the list of its group
-  pub goes-in : (generation : Generation) (pages' : Pages) (from : Option Page) (g f : ℕ) → page_at pages p ≡ from → there_and is_held from ≡ false → Changes pages pages' p (Some (anon_page g (Held f)))
-      → GoesOn generation pages held pages' (entered held g p generation)
-  goes-in generation pages' from g f stood absent changes =
-      goes-on-in generation pages pages' held lists p (elsewhere generation pages' from (Some (anon_page g (Held f))) stood changes) (anon_page g (Held f)) changes.changed refl (ap (there_and is_held) stood ∙ absent)
+  -- a page comes to the list of its group and its type
+  pub goes-in : (generation : Generation) (pages' : Pages) (from : Option Page) (label : Label) (f : ℕ) → page_at pages p ≡ from → there_and is_held from ≡ false → Changes pages pages' p (Some (labelled label (Held f)))
+      → GoesOn generation pages held pages' (entered held label.group (kind_at label.content) p generation)
+  goes-in generation pages' from label f stood absent changes =
+      goes-on-in generation pages pages' held lists p (elsewhere generation pages' from (Some (labelled label (Held f))) stood changes) (labelled label (Held f)) changes.changed refl (ap (there_and is_held) stood ∙ absent)
 
 -- ---- what is free, or a page's
 
@@ -189,14 +196,16 @@ kept-step c d pool pool' slots slots' pages pages' p from to stood changes frame
       counted = counted-step c d pages pages' p from to stood changes charges kept.counted;
     }
 
--- the frame and the block of a page are not free
-pub frame-out : (c : Counts) (pool : PoolOf) (slots : SlotsOf) (pages : Pages) (p g : ℕ) (r : Residence) (f : ℕ) → HasResidence pages p g r → frame_at r ≡ Some f → AreKept c pool slots pages → (free_count pool.free f ≡ 0) × (f < pool.frames)
-frame-out c pool slots pages p g r f stood is kept =
+-- the frame of a page is not free, nor is the block of memory
+pub frame-out : (c : Counts) (pool : PoolOf) (slots : SlotsOf) (pages : Pages) (p : ℕ) (label : Label) (r : Residence) (f : ℕ) → HasResidence pages p label r → frame_at r ≡ Some f → AreKept c pool slots pages → (free_count pool.free f ≡ 0) × (f < pool.frames)
+frame-out c pool slots pages p label r f stood is kept =
     given-out has_this_frame has_frame pool.frames pool.free pages p f (ap (there_and (has_this_frame f)) stood ∙ ap (λ (o : Option ℕ). is_number o f) is ∙ eq-eqb f f refl) kept.frames
 
-pub block-out : (c : Counts) (pool : PoolOf) (slots : SlotsOf) (pages : Pages) (p g : ℕ) (r : Residence) (b : ℕ) → HasResidence pages p g r → block_at r ≡ Some b → AreKept c pool slots pages → (slot_count slots.free b ≡ 0) × (b < slots.blocks)
-block-out c pool slots pages p g r b stood is kept =
-    given-out has_this_block has_swap slots.blocks slots.free pages p b (ap (there_and (has_this_block b)) stood ∙ ap (λ (o : Option ℕ). is_number o b) is ∙ eq-eqb b b refl) kept.blocks
+pub block-out : (c : Counts) (pool : PoolOf) (slots : SlotsOf) (pages : Pages) (p : ℕ) (label : Label) (r : Residence) (b : ℕ) → HasResidence pages p label r → is_anon label.content ≡ true → block_at r ≡ Some b → AreKept c pool slots pages
+    → (slot_count slots.free b ≡ 0) × (b < slots.blocks)
+block-out c pool slots pages p label r b stood anon is kept =
+    given-out has_this_block has_swap slots.blocks slots.free pages p b
+    (ap (there_and (has_this_block b)) stood ∙ ap (λ (a : Bool). a && is_number (block_at r) b) anon ∙ ap (λ (o : Option ℕ). is_number o b) is ∙ eq-eqb b b refl) kept.blocks
 
 -- ---- the holdings
 
@@ -211,6 +220,7 @@ pub record Stays (h h' : Inside) : Type 0 where
   pub held_numbers : h'.held.numbers ≡ h.held.numbers
   pub held_room : h'.held.room ≡ h.held.room
   pub moving_room : h'.moving.room ≡ h.moving.room
+  pub files : h'.pages.files ≡ h.pages.files
 
 -- one page changes, and each part with it
 pub record Moves (h h' : Inside) (p : ℕ) (from to : Option Page) : Type 0 where
@@ -259,6 +269,7 @@ holding-step h h' p from to moves is =
       page_groups = moves.stays.page_groups ∙ is.page_groups ∙ sym (ap length moves.stays.groups.tree);
       moving_room = (let room = moves.stays.moving_room in let fit = is.moving_room in omega (arith, room, fit, frames));
       numbers = (let fit = is.numbers in omega (arith, fit, frames, blocks, numbers));
+      homes = ap (λ (files : FilesOf). files.first) moves.stays.files ∙ is.homes ∙ sym blocks;
       spares = (let k = moves.spares in let before = is.spares in omega (arith, k, before, going, frames));
       tickets = (let k = moves.tickets in let before = is.tickets in omega (arith, k, before, moving, frames));
     }
@@ -308,56 +319,58 @@ going-least (slot ∷ pages) =
 pub not-going : (slot : Option Page) → there_and is_in_transfer slot ≡ false → one_if (there_and is_going slot) ≡ 0
 not-going slot settled = let less = going_slot slot in let none : one_if (there_and is_in_transfer slot) ≡ 0 = ap one_if settled in omega (arith, less, none)
 
-owned_at : (r : Residence) → 1 ≤ one_if (is_some_number (frame_at r)) + one_if (is_some_number (block_at r))
-owned_at (Held f) = omega arith
-owned_at (Coming f b n) = omega arith
-owned_at (Going f b n) = omega arith
-owned_at (Away b) = omega arith
+-- a page of a file is never out of its frame
+owned_page : (files : FilesOf) (page : Page) (content : Content) (r : Residence) → page.residence ≡ r → IsFiledAs files.first files.sizes page content → 1 ≤ one_if (is_some_number (frame_at r)) + one_if (is_anon content && is_some_number (block_at r))
+owned_page files page content (Held f) is filed = omega arith
+owned_page files page content (Coming f b n) is filed = omega arith
+owned_page files page content (Going f b n) is filed = omega arith
+owned_page files page Memory (Away b) is filed = omega arith
+owned_page files page (OfFile file q) (Away b) is filed = absurd (subst (IsAtHome (home_block files.first files.sizes file q) page.dirty) is filed.1)
 
-owned_slot : (slot : Option Page) → IfSome slot (λ page. page ≡ anon_page page.group page.residence) → one_if (there_and (λ page. true) slot) ≤ one_if (there_and has_frame slot) + one_if (there_and has_swap slot)
-owned_slot None memory = omega arith
-owned_slot (Some page) memory = subst (λ page. 1 ≤ one_if (has_frame page) + one_if (has_swap page)) (sym memory) (owned_at page.residence)
+owned_slot : (files : FilesOf) (slot : Option Page) → IfSome slot (IsFiled files.first files.sizes) → one_if (there_and (λ page. true) slot) ≤ one_if (there_and has_frame slot) + one_if (there_and has_swap slot)
+owned_slot files None filed = omega arith
+owned_slot files (Some page) filed = owned_page files page page.content page.residence refl filed
 
 -- each page has a frame or a swap block
-pub there-owned : (pages : Pages) → ((p : ℕ) → IfSome (page_at pages p) (λ page. page ≡ anon_page page.group page.residence)) → pages_there pages ≤ used_frames pages + used_swap pages
-there-owned [] memory = omega arith
-there-owned (slot ∷ pages) memory =
+pub there-owned : (files : FilesOf) (pages : Pages) → ((p : ℕ) → IfSome (page_at pages p) (IsFiled files.first files.sizes)) → pages_there pages ≤ used_frames pages + used_swap pages
+there-owned files [] filed = omega arith
+there-owned files (slot ∷ pages) filed =
     let there = sum_by-cons (λ (slot : Option Page). one_if (there_and (λ page. true) slot)) slot pages in
     let used = sum_by-cons (λ (slot : Option Page). one_if (there_and has_frame slot)) slot pages in
     let cut = sum_by-cons (λ (slot : Option Page). one_if (there_and has_swap slot)) slot pages in
-    let here = owned_slot slot (memory 0) in
-    let rest = there-owned pages (λ p. memory (suc p)) in
+    let here = owned_slot files slot (filed 0) in
+    let rest = there-owned files pages (λ p. filed (suc p)) in
     omega (arith, there, used, cut, here, rest)
 
 -- ---- where a page stands
 
-some_stands : (slot : Option Page) → IfSome slot (λ page. page ≡ anon_page page.group page.residence) → there_and is_held slot ≡ true → (g f : ℕ) × (slot ≡ Some (anon_page g (Held f)))
-some_stands None memory held = cc
-some_stands (Some page) memory held = let there = held_res page.residence held memory in (page.group, there.0, there.1)
-  where
-    held_res : (r : Residence) → is_held_at r ≡ true → page ≡ anon_page page.group r → (f : ℕ) × (Some page ≡ Some (anon_page page.group (Held f)))
-    held_res (Held f) held is = (f, ap Some is)
-    held_res (Coming f b n) held is = cc
-    held_res (Going f b n) held is = cc
-    held_res (Away b) held is = cc
-
-pub held-stands-in : (page : Page) → page ≡ anon_page page.group page.residence → is_held page ≡ true → (f : ℕ) × (Some page ≡ Some (anon_page page.group (Held f)))
-held-stands-in page memory held = let stands = some_stands (Some page) memory held in (stands.1, stands.2 ∙ ap (λ (g : ℕ). Some (anon_page g (Held stands.1))) (sym (ap (λ (x : Page). x.group) (some_inj stands.2))))
+held_at : (page : Page) (r : Residence) → page.residence ≡ r → is_held_at r ≡ true → (f : ℕ) × (Some page ≡ Some (labelled (label_of page) (Held f)))
+held_at page (Held f) is held = (f, ap (λ (r : Residence). Some (labelled (label_of page) r)) is)
+held_at page (Coming f b n) is held = absurd cc
+held_at page (Going f b n) is held = absurd cc
+held_at page (Away b) is held = absurd cc
 
 -- a page that is held stands in a frame
-pub held-stands : (pages : Pages) (flights : List (Option Flight)) (p : ℕ) → AreInFlight pages flights → is_held_in pages p ≡ true → (g f : ℕ) × HasResidence pages p g (Held f)
-held-stands pages flights p is held = some_stands (page_at pages p) (is.memory p) held
+pub held-stands-in : (page : Page) → is_held page ≡ true → (f : ℕ) × (Some page ≡ Some (labelled (label_of page) (Held f)))
+held-stands-in page held = held_at page page.residence refl held
+
+some_stands : (slot : Option Page) → there_and is_held slot ≡ true → (label : Label) × (f : ℕ) × (slot ≡ Some (labelled label (Held f)))
+some_stands None held = absurd cc
+some_stands (Some page) held = let there = held-stands-in page held in (label_of page, there.0, there.1)
+
+pub held-stands : (pages : Pages) (p : ℕ) → is_held_in pages p ≡ true → (label : Label) × (f : ℕ) × HasResidence pages p label (Held f)
+held-stands pages p held = some_stands (page_at pages p) held
 
 -- a page goes, and leaves its list if it was on one
-pub goes-dropped : (pages : Pages) (flights : List (Option Flight)) (held : HeldOf) (lists : ListsHeld pages held.lists) (are : AreInFlight pages flights) (p : ℕ) (pages' : Pages) (from : Option Page) → page_at pages p ≡ from → Changes pages pages' p None
+pub goes-dropped : (pages : Pages) (held : HeldOf) (lists : ListsHeld pages held.lists) (p : ℕ) (pages' : Pages) (from : Option Page) → page_at pages p ≡ from → Changes pages pages' p None
     → (held' : HeldOf) → ((g : ℕ) → is_listed (gens_at held.lists.groups g) p ≡ true → held' ≡ record held { lists = left held.lists g p }) → (is_listed_in held.lists.groups p ≡ false → held' ≡ held)
     → GoesOn Youngest pages held.lists pages' held'.lists × (held'.numbers ≡ held.numbers) × (held'.room ≡ held.room)
-goes-dropped pages flights held lists are p pages' from stood changes held' listed unlisted = by_held (is_held_in pages p) refl
+goes-dropped pages held lists p pages' from stood changes held' listed unlisted = by_held (is_held_in pages p) refl
   where
     by_held : (b : Bool) → is_held_in pages p ≡ b → GoesOn Youngest pages held.lists pages' held'.lists × (held'.numbers ≡ held.numbers) × (held'.room ≡ held.room)
     by_held true is =
-        let w = held-stands pages flights p are is in
-        let same = listed w.0 (stands-listed pages held.lists lists p w.0 w.1 w.2) in (
+        let w = held-stands pages p is in
+        let same = listed w.0.group (stands-listed pages held.lists lists p w.0 w.1 w.2) in (
           subst (λ (x : HeldLists). GoesOn Youngest pages held.lists pages' x) (sym (ap (λ (x : HeldOf). x.lists) same)) (goes-out pages held.lists lists p Youngest pages' None w.0 w.1 w.2 changes refl),
           ap (λ (x : HeldOf). x.numbers) same,
           ap (λ (x : HeldOf). x.room) same,
@@ -383,7 +396,7 @@ ticket-free pages flights n is free = any_there-none (λ page. is_number (ticket
 -- ---- views
 
 pub same-view : (h h' : Inside) → Stays h h' → holdings_of h' ≡ with_lists (holdings_of h) (holdings_of h').stored (holdings_of h').held
-same-view h h' stays = rw (stays.groups.tree, stays.groups.limits, stays.groups.room, stays.frames, stays.blocks, stays.numbers, stays.held_room, stays.page_room) refl
+same-view h h' stays = rw (stays.groups.tree, stays.groups.limits, stays.groups.room, stays.frames, stays.blocks, stays.numbers, stays.held_room, stays.page_room, stays.files) refl
 
 -- ---- what pages own, one after the other
 
@@ -422,6 +435,7 @@ holding-counted h d held groups room counted lists sized many numbers is =
       page_groups = many;
       held_numbers = numbers ∙ is.held_numbers;
       numbers = is.numbers;
+      homes = is.homes;
       spares = is.spares;
       tickets = is.tickets;
     }

@@ -33,6 +33,7 @@ joined-pages s is h cursors spaces same mapped numbers homes numbered =
       sized = is.sized;
       frames = ap (λ (h : HoldingsOf). h.frames) same ∙ is.frames;
       swap = ap (λ (h : HoldingsOf). h.swap) same ∙ is.swap;
+      files = ap (λ (h : HoldingsOf). h.files) same ∙ is.files;
       held_kin = subst (λ (k : List Node). AreKin k s.tree) (sym (ap (λ (h : HoldingsOf). h.kin) same)) is.held_kin;
       counted_kin = is.counted_kin;
       mapped = mapped;
@@ -50,6 +51,7 @@ joined-tasks s is spaces mapped numbers homes =
       sized = is.sized;
       frames = is.frames;
       swap = is.swap;
+      files = is.files;
       held_kin = is.held_kin;
       counted_kin = is.counted_kin;
       mapped = mapped;
@@ -63,13 +65,14 @@ joined-tasks s is spaces mapped numbers homes =
 pub joined-group : (s : Inside) → IsJoined s → (path : List ℕ) (parent : ℕ) → find_group s.tree (parent_path path) ≡ Some parent
     → (tree : List Node) (h : HoldingsOf) (cursors : CursorsOf) (events : Tallies) → tree ≡ s.tree ++ new_node s.tree path ∷ []
     → h.kin ≡ s.holdings.kin ++ bare (Some parent) ∷ [] → events.tree ≡ s.events.tree ++ bare (Some parent) ∷ []
-    → h.stored ≡ s.holdings.stored → h.frames ≡ s.holdings.frames → h.swap ≡ s.holdings.swap → h.numbers ≡ s.holdings.numbers
+    → h.stored ≡ s.holdings.stored → h.frames ≡ s.holdings.frames → h.swap ≡ s.holdings.swap → h.numbers ≡ s.holdings.numbers → h.files ≡ s.holdings.files
     → cursors.cursors ≡ s.cursors.cursors ++ None ∷ [] → IsJoined (record s { tree = tree; holdings = h; cursors = cursors; events = events })
-joined-group s is path parent found tree h cursors events more kin counted stored frames swap numbers numbered =
+joined-group s is path parent found tree h cursors events more kin counted stored frames swap numbers files numbered =
     record {
       sized = is.sized;
       frames = frames ∙ is.frames;
       swap = swap ∙ is.swap;
+      files = files ∙ is.files;
       numbers = is.numbers ∙ sym numbers;
       page_numbers = numbers ∙ is.page_numbers;
       held_kin = rw (kin, more) (kin-push s.holdings.kin s.tree parent (new_node s.tree path) is.held_kin found refl);

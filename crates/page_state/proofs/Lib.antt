@@ -19,4 +19,9 @@ pub mod MakeLemmas
 pub mod EndingLemmas
 pub mod UnmapLemmas
 pub mod TakeLemmas
+pub mod WayLemmas
+pub mod TouchLemmas
 pub mod GoneLemmas
+pub mod LeaveLemmas
+pub mod AccessLemmas
+pub mod StatLemmas

@@ -23,7 +23,7 @@ module _ (s : Inside) (is : IsJoined s) (t v p g offset byte : ℕ) (begins : �
   pub joined-made : ((q : ℕ) → mapped_at s.spaces.page_tables t v ≡ Some q → 1 < mappers s.spaces.page_tables q) → spaces.numbers ≡ s.spaces.numbers → IsJoined (record s { holdings = h; spaces = spaces })
   joined-made shared numbers =
       joined-pages s is h s.cursors spaces adds.others
-      (mapped-made s.holdings.stored.pages s.spaces.page_tables is.mapped h.stored.pages spaces.page_tables t v p (new_page g adds.frame) adds.slot_free adds.placed shared shown) numbers
+      (mapped-made s.holdings.stored.pages s.spaces.page_tables is.mapped h.stored.pages spaces.page_tables t v p (new_page g adds.frame) refl adds.slot_free adds.placed shared shown) numbers
       (subst (λ (ts : Tasks). (u : ℕ) → lives ts u ≡ true → is_live s.tree (group_of_task ts u) ≡ true) (sym tasks) is.homes) refl
 
   -- the page begins as what the place showed

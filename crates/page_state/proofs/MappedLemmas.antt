@@ -1,21 +1,26 @@
 -- How pages and page tables agree after a change, and where the tasks' groups are.
 use Rattle.std.proofs.Common.{◌≡◌, inl, inr, ℕ, ◌+◌, ◌<◌, ◌≤◌, ◌≢◌, ◌==◌, ◌&&◌, not, Bool, true, false, cond, [], Option, Some, None, List, eqb-true, eq-eqb, ne_eqb, refl, sym, ap, ◌∙◌, arith, subst}
 use Rattle.std.specs.Prelude.{◌⊎◌, IsSome, IfSome}
+use Rattle.std.proofs.lemmas.Bool.{and_right}
 use Rattle.std.proofs.lemmas.Bool.Decides.{nat_tests}
 use Rattle.machine.specs.declared.record.Life.{Life}
 use Rattle.machine.specs.declared.record.Life.TheVariants.{Live}
 use Rattle.machine.specs.declared.record.Task.{Task}
 use Rattle.machine.specs.Slots.{Changes, there_and}
 use Rattle.machine.specs.Tree.{Node, is_live}
-use Rattle.machine.specs.Pages.{Residence, Page, Pages, page_at, is_anon, in_transfer_at, is_in_transfer}
+use Rattle.machine.specs.Pages.{Content, Memory, OfFile, Residence, Held, Away, Page, Pages, page_at, is_anon, in_transfer_at, is_in_transfer}
 use Rattle.machine.specs.Tasks.{Tasks, PageTables, task_at, is_live_life, is_live_task, lives, group_of, group_of_task, SetsTask, mapped_at, mappers, Shows, Copies}
-use Rattle.machine.specs.Step.{still, or_gone}
+use Rattle.machine.specs.Step.{still, or_gone, on_block_of}
 use Rattle.machine.proofs.Values.{unlike}
 use Rattle.machine.proofs.TreeLemmas.{eq_cases}
 use Rattle.machine.proofs.SlotLemmas.{one_if}
 use Rattle.machine.proofs.MappingLemmas.{mapped_at-mappers, mappers-alike, mappers-shows, copies-cases, shown_once}
 use Rattle.machine.proofs.MappersLemmas.{Mapper, mappers_some}
-use Rattle.pages.specs.PagesOf.{anon_page}
+use Rattle.pages.specs.declared.end.End.{End}
+use Rattle.pages.specs.declared.end.End.TheVariants.{InFrame, OnBlock}
+use Rattle.pages.specs.PagesOf.{Label, labelled}
+use Rattle.pages.specs.Transfers.{on_block_as, page_after}
+use Rattle.page_state.specs.Changes.{ended_as}
 use Rattle.page_state.specs.Mapped.{AreMapped, is_settled}
 
 -- ---- what stays
@@ -79,10 +84,96 @@ still-moving tables p (Some page) = by_tests (is_anon page.content) (mappers tab
     by_tests true false c e = refl
     by_tests false b c e = refl
 
+-- ---- what may stand at a number
+
+-- a page of a file is there
+abbrev pub is_cached : Option Page → Bool
+is_cached slot = there_and (λ page. not (is_anon page.content)) slot
+
+not_true : (b : Bool) → not b ≡ true → b ≡ false
+not_true true e = cc
+not_true false e = refl
+
+-- a page that is there counts for one mapper at most
+settled_one : (slot : Option Page) → is_settled slot ≤ 1
+settled_one None = omega arith
+settled_one (Some page) = elim (is_anon page.content && not (is_in_transfer page)) as (λ b. cond b 1 0 ≤ 1) [ true ↦ omega arith | false ↦ omega arith ]
+
+-- one in transfer for none, and one of a file
+settled_moving : (page : Page) → is_in_transfer page ≡ true → is_settled (Some page) ≡ 0
+settled_moving page moves = ap (λ b. cond (is_anon page.content && not b) 1 0) moves ∙ ap (λ b. cond b 1 0) (and_right (is_anon page.content) false refl)
+
+settled_file : (page : Page) → is_anon page.content ≡ false → is_settled (Some page) ≡ 0
+settled_file page file = ap (λ b. cond (b && not (is_in_transfer page)) 1 0) file
+
+-- this may stand at a number that has so many mappers
+pub record FitsAt (tables : PageTables) (p : ℕ) (slot : Option Page) : Type 0 where
+  pub none : slot ≡ None → mappers tables p ≡ 0
+  pub least : is_settled slot ≤ mappers tables p
+  pub cached : is_cached slot ≡ true → mappers tables p ≡ 0
+
+some_of_none : (n : ℕ) → (n == 0) ≡ false → 1 ≤ n
+some_of_none n e = grind (arith, nat_tests, e)
+
+-- what is left of a page with these page tables
+pub still-fits : (tables : PageTables) (p : ℕ) (slot : Option Page) → (slot ≡ None → mappers tables p ≡ 0) → (is_cached slot ≡ true → mappers tables p ≡ 0) → FitsAt tables p (still tables p slot)
+still-fits tables p None none cached = record { none = none; least = omega arith; cached = cached }
+still-fits tables p (Some page) none cached = by_tests (is_anon page.content) (mappers tables p == 0) (in_transfer_at page.residence) refl refl refl
+  where
+    by_tests : (a b c : Bool) → is_anon page.content ≡ a → (mappers tables p == 0) ≡ b → in_transfer_at page.residence ≡ c → FitsAt tables p (cond (a && (b && not c)) None (Some page))
+    by_tests true true false anon zero rests = let unmapped = eqb-true (mappers tables p) 0 zero in record { none = λ e. unmapped; least = omega arith; cached = λ e. unmapped }
+    by_tests true true true anon zero moves =
+        let unmapped = eqb-true (mappers tables p) 0 zero in let settled = settled_moving page moves in record { none = λ e. unmapped; least = omega (arith, settled); cached = λ e. unmapped }
+    by_tests true false c anon zero rests =
+        let one = settled_one (Some page) in let some = some_of_none (mappers tables p) zero in record { none = λ e. absurd cc; least = omega (arith, one, some); cached = cached }
+    by_tests false b c file zero rests = let settled = settled_file page file in record { none = λ e. absurd cc; least = omega (arith, settled); cached = cached }
+
+-- what a page comes to at a transfer's end is what is left of it as it was settled
+pub still-after : (end : End) (tables : PageTables) (p : ℕ) (label : Label) (from : Residence) (f b : ℕ) → still tables p (page_after end label f b) ≡ ended_as end tables p (labelled label from) f b
+still-after InFrame tables p label from f b = still-rests tables p (labelled label (Held f)) refl
+still-after OnBlock tables p label from f b = by_content label.content
+  where
+    by_content : (content : Content) → still tables p (on_block_as content label b) ≡ on_block_of content tables p (labelled label from) b
+    by_content Memory = still-rests tables p (labelled label (Away b)) refl
+    by_content (OfFile file q) = refl
+
+-- a page of a file that is settled was one before
+after-cached : (end : End) (label : Label) (from : Residence) (f b : ℕ) → is_cached (page_after end label f b) ≡ true → is_cached (Some (labelled label from)) ≡ true
+after-cached InFrame label from f b e = e
+after-cached OnBlock label from f b e = by_content label.content e
+  where
+    by_content : (content : Content) → is_cached (on_block_as content label b) ≡ true → not (is_anon label.content) ≡ true
+    by_content Memory e = e
+    by_content (OfFile file q) e = absurd cc
+
+-- and so was one that is gone
+after-none : (end : End) (label : Label) (from : Residence) (f b : ℕ) → page_after end label f b ≡ None → is_cached (Some (labelled label from)) ≡ true
+after-none InFrame label from f b e = absurd cc
+after-none OnBlock label from f b e = by_content label.content refl e
+  where
+    by_content : (content : Content) → label.content ≡ content → on_block_as content label b ≡ None → not (is_anon label.content) ≡ true
+    by_content Memory is e = absurd cc
+    by_content (OfFile file q) is e = ap (λ (c : Content). not (is_anon c)) is
+
 -- ---- how they agree
 
+-- a page of a file is mapped nowhere, said of what stands at a number
+files_of : (tables : PageTables) (p : ℕ) (slot : Option Page) → (is_cached slot ≡ true → mappers tables p ≡ 0) → IfSome slot (λ page. is_anon page.content ≡ false → mappers tables p ≡ 0)
+files_of tables p None cached = tt
+files_of tables p (Some page) cached = λ file. cached (ap not file)
+
+pub files_in : (tables : PageTables) (p : ℕ) (slot : Option Page) → IfSome slot (λ page. is_anon page.content ≡ false → mappers tables p ≡ 0) → is_cached slot ≡ true → mappers tables p ≡ 0
+files_in tables p None files e = absurd cc
+files_in tables p (Some page) files e = files (not_true (is_anon page.content) e)
+
+pub mapped-fits : (pages : Pages) (tables : PageTables) → ((p : ℕ) → FitsAt tables p (page_at pages p)) → AreMapped pages tables
+mapped-fits pages tables fits = record { there = λ p. (fits p).none; least = λ p. (fits p).least; files = λ p. files_of tables p (page_at pages p) (fits p).cached }
+
+pub fits-mapped : (pages : Pages) (tables : PageTables) → AreMapped pages tables → (p : ℕ) → FitsAt tables p (page_at pages p)
+fits-mapped pages tables mapped p = record { none = mapped.there p; least = mapped.least p; cached = files_in tables p (page_at pages p) (mapped.files p) }
+
 pub mapped-open : (pages : Pages) (tables : PageTables) → pages ≡ [] → tables ≡ [] → AreMapped pages tables
-mapped-open pages tables no_pages no_tables = rw (no_pages, no_tables) (record { there = λ p e. refl; least = λ p. omega arith })
+mapped-open pages tables no_pages no_tables = rw (no_pages, no_tables) (record { there = λ p e. refl; least = λ p. omega arith; files = λ p. tt })
 
 module _ (pages : Pages) (tables : PageTables) (mapped : AreMapped pages tables) where
   -- what something maps is there
@@ -96,14 +187,14 @@ module _ (pages : Pages) (tables : PageTables) (mapped : AreMapped pages tables)
   pub mapped_there : (t v p : ℕ) → mapped_at tables t v ≡ Some p → IsSome (page_at pages p)
   mapped_there t v p e = mappers_there p (mapped_at-mappers tables t v p e)
 
-  settled_one : (slot : Option Page) → is_settled slot ≤ 1
-  settled_one None = omega arith
-  settled_one (Some page) = elim (is_in_transfer page) as (λ b. cond b 0 1 ≤ 1) [ true ↦ omega arith | false ↦ omega arith ]
+  -- a page of a file is mapped nowhere
+  pub file_unmapped : (p : ℕ) → is_cached (page_at pages p) ≡ true → mappers tables p ≡ 0
+  file_unmapped p = files_in tables p (page_at pages p) (mapped.files p)
 
-  -- a page more, at a place that showed nothing, or a page that others show too
-  pub mapped-made : (pages' : Pages) (tables' : PageTables) (t v p : ℕ) (page : Page) → page_at pages p ≡ None → Changes pages pages' p (Some page)
+  -- memory more, at a place that showed nothing, or a page that others show too
+  pub mapped-made : (pages' : Pages) (tables' : PageTables) (t v p : ℕ) (page : Page) → is_anon page.content ≡ true → page_at pages p ≡ None → Changes pages pages' p (Some page)
       → ((q : ℕ) → mapped_at tables t v ≡ Some q → 1 < mappers tables q) → Shows tables tables' t v (Some p) → AreMapped pages' tables'
-  mapped-made pages' tables' t v p page free changes shared shows = record { there = there; least = least }
+  mapped-made pages' tables' t v p page memory free changes shared shows = mapped-fits pages' tables' (λ q. elim (eq_cases q p) [ inl same ↦ here q same | inr other ↦ elsewhere q other ])
     where
       counts : (q : ℕ) → mappers tables' q + shown_once (mapped_at tables t v) q ≡ mappers tables q + one_if (p == q)
       counts q = mappers-shows tables tables' t v q (Some p) shows
@@ -127,34 +218,39 @@ module _ (pages : Pages) (tables : PageTables) (mapped : AreMapped pages tables)
           let none = mapped.there q (ap (page_at pages) same ∙ free) in
           elim (was q) [ inl miss ↦ omega (arith, more, hit, none, miss) | inr two ↦ absurd (let many = two.1 in omega (arith, none, many)) ]
 
-      there : (q : ℕ) → page_at pages' q ≡ None → mappers tables' q ≡ 0
-      there q e =
-          elim (eq_cases q p) [
-            | inl same ↦ absurd (let wrong : Some page ≡ None = sym changes.changed ∙ sym (ap (page_at pages') same) ∙ e in cc)
-            | inr other ↦
-                (let more = counts q in
-                let miss : one_if (p == q) ≡ 0 = ap one_if (ne_eqb p q (λ e. other (sym e))) in
-                let none = mapped.there q (sym (changes.others q other) ∙ e) in
-                omega (arith, more, miss, none))
-          ]
+      is_now : (q : ℕ) → q ≡ p → page_at pages' q ≡ Some page
+      is_now q same = ap (page_at pages') same ∙ changes.changed
 
-      least : (q : ℕ) → is_settled (page_at pages' q) ≤ mappers tables' q
-      least q =
-          elim (eq_cases q p) [
-            | inl same ↦ (let one = at_p q same in let now = settled_one (page_at pages' q) in omega (arith, one, now))
-            | inr other ↦
-                (let more = counts q in
+      here : (q : ℕ) → q ≡ p → FitsAt tables' q (page_at pages' q)
+      here q same =
+          record {
+            none = λ e. absurd (let wrong : Some page ≡ None = sym (is_now q same) ∙ e in cc);
+            least = (let one = at_p q same in let now = settled_one (page_at pages' q) in omega (arith, one, now));
+            cached = λ e. absurd (let wrong : false ≡ true = sym (ap not memory) ∙ sym (ap is_cached (is_now q same)) ∙ e in cc);
+          }
+
+      -- what nothing maps is no more mapped than it was
+      unmapped : (q : ℕ) → q ≢ p → mappers tables q ≡ 0 → mappers tables' q ≡ 0
+      unmapped q other none = let more = counts q in let miss : one_if (p == q) ≡ 0 = ap one_if (ne_eqb p q (λ e. other (sym e))) in omega (arith, more, miss, none)
+
+      elsewhere : (q : ℕ) → q ≢ p → FitsAt tables' q (page_at pages' q)
+      elsewhere q other =
+          record {
+            none = λ e. unmapped q other (mapped.there q (sym (changes.others q other) ∙ e));
+            least = (let more = counts q in
                 let miss : one_if (p == q) ≡ 0 = ap one_if (ne_eqb p q (λ e. other (sym e))) in
                 let before = mapped.least q in
                 let now = settled_one (page_at pages' q) in
                 let slot = ap is_settled (changes.others q other) in
-                elim (was q) [ inl none ↦ omega (arith, more, miss, before, slot, none) | inr two ↦ (let hit = two.0 in let many = two.1 in omega (arith, more, miss, now, hit, many)) ])
-          ]
+                elim (was q) [ inl none ↦ omega (arith, more, miss, before, slot, none) | inr two ↦ (let hit = two.0 in let many = two.1 in omega (arith, more, miss, now, hit, many)) ]);
+            cached = λ e. unmapped q other (file_unmapped q (sym (ap is_cached (changes.others q other)) ∙ e));
+          }
 
   -- a task more, that shows what another shows
   pub mapped-copied : (tasks : Tasks) (tables' : PageTables) (parent child : ℕ) → ((t v p : ℕ) → mapped_at tables t v ≡ Some p → lives tasks t ≡ true) → task_at tasks child ≡ None → Copies tables tables' parent child
       → AreMapped pages tables'
-  mapped-copied tasks tables' parent child owners unused copies = record { there = there; least = least }
+  mapped-copied tasks tables' parent child owners unused copies =
+      mapped-fits pages tables' (λ p. record { none = λ e. unmapped p (mapped.there p e); least = least p; cached = λ e. unmapped p (file_unmapped p e) })
     where
       -- whoever shows a page from now on shows what was shown
       was_shown : (p : ℕ) → Mapper tables' p → 1 ≤ mappers tables p
@@ -171,16 +267,15 @@ module _ (pages : Pages) (tables : PageTables) (mapped : AreMapped pages tables)
           another : by.task ≢ child
           another same = unlike (lives tasks by.task) (owners by.task by.place p by.mapped) (ap (lives tasks) same ∙ ap (there_and is_live_task) unused)
 
-      there : (p : ℕ) → page_at pages p ≡ None → mappers tables' p ≡ 0
-      there p e = by_test (mappers tables' p == 0) refl
+      unmapped : (p : ℕ) → mappers tables p ≡ 0 → mappers tables' p ≡ 0
+      unmapped p none = by_test (mappers tables' p == 0) refl
         where
           by_test : (b : Bool) → (mappers tables' p == 0) ≡ b → mappers tables' p ≡ 0
           by_test true is = eqb-true (mappers tables' p) 0 is
           by_test false is =
               absurd
-              (let some : 1 ≤ mappers tables' p = grind (arith, nat_tests, is) in
+              (let some : 1 ≤ mappers tables' p = some_of_none (mappers tables' p) is in
               let before = was_shown p (mappers_some tables' p some) in
-              let none = mapped.there p e in
               omega (arith, before, none))
 
       least : (p : ℕ) → is_settled (page_at pages p) ≤ mappers tables' p
@@ -189,92 +284,91 @@ module _ (pages : Pages) (tables : PageTables) (mapped : AreMapped pages tables)
           by_test : (b : Bool) → (mappers tables p == 0) ≡ b → is_settled (page_at pages p) ≤ mappers tables' p
           by_test true is = let before = mapped.least p in let none = eqb-true (mappers tables p) 0 is in omega (arith, before, none)
           by_test false is =
-              let some : 1 ≤ mappers tables p = grind (arith, nat_tests, is) in
+              let some : 1 ≤ mappers tables p = some_of_none (mappers tables p) is in
               let after = still_shown p (mappers_some tables p some) in
               let one = settled_one (page_at pages p) in
               omega (arith, after, one)
 
-  -- a page that is in transfer from now on
-  pub mapped-begun : (pages' : Pages) (p : ℕ) (page page' : Page) → page_at pages p ≡ Some page → Changes pages pages' p (Some page') → is_in_transfer page' ≡ true → AreMapped pages' tables
-  mapped-begun pages' p page page' is changes moves =
-      record {
-        there = λ q e. elim (eq_cases q p) [ inl same ↦ absurd (let wrong : Some page' ≡ None = sym changes.changed ∙ sym (ap (page_at pages') same) ∙ e in cc) | inr other ↦ mapped.there q (sym (changes.others q other) ∙ e) ];
-        least = λ q.
-            elim (eq_cases q p) [
-              | inl same ↦ (let now : is_settled (page_at pages' q) ≡ 0 = ap (λ (x : ℕ). is_settled (page_at pages' x)) same ∙ ap is_settled changes.changed ∙ ap (λ b. cond b 0 1) moves in omega (arith, now))
-              | inr other ↦ (let least = mapped.least q in let slot = ap is_settled (changes.others q other) in omega (arith, least, slot))
-            ];
-      }
+  -- something else at one number, with the page tables that were
+  pub mapped-changed : (pages' : Pages) (p : ℕ) (to : Option Page) → Changes pages pages' p to → FitsAt tables p to → AreMapped pages' tables
+  mapped-changed pages' p to changes fits =
+      mapped-fits pages' tables
+      (λ q.
+      elim (eq_cases q p) [
+        | inl same ↦ subst (λ (x : ℕ). FitsAt tables x (page_at pages' x)) (sym same) (subst (λ (slot : Option Page). FitsAt tables p slot) (sym changes.changed) fits)
+        | inr other ↦ subst (λ (slot : Option Page). FitsAt tables q slot) (sym (changes.others q other)) (fits-mapped pages tables mapped q)
+      ])
 
-  -- one whose transfer ends, and which is gone where nothing maps it
-  pub mapped-ended : (pages' : Pages) (p g : ℕ) (page : Page) (residence : Residence) → page_at pages p ≡ Some page → Changes pages pages' p (or_gone tables p (anon_page g residence)) → AreMapped pages' tables
-  mapped-ended pages' p g page residence is changes =
+  -- a page that is in transfer from now on, and holds what it held
+  pub mapped-begun : (pages' : Pages) (p : ℕ) (page page' : Page) → page_at pages p ≡ Some page → Changes pages pages' p (Some page') → is_in_transfer page' ≡ true → page'.content ≡ page.content → AreMapped pages' tables
+  mapped-begun pages' p page page' is changes moves same =
+      mapped-changed pages' p (Some page') changes
+      (let settled = settled_moving page' moves in
       record {
-        there = λ q e.
-            elim (eq_cases q p) [
-              | inl same ↦ ap (mappers tables) same ∙ gone (mappers tables p == 0) refl (sym changes.changed ∙ sym (ap (page_at pages') same) ∙ e)
-              | inr other ↦ mapped.there q (sym (changes.others q other) ∙ e)
-            ];
-        least = λ q.
-            elim (eq_cases q p) [
-              | inl same ↦ subst (λ (x : ℕ). is_settled (page_at pages' x) ≤ mappers tables x) (sym same) (subst (λ (slot : Option Page). is_settled slot ≤ mappers tables p) (sym changes.changed) (least_by (mappers tables p) (mappers tables p == 0) refl))
-              | inr other ↦ (let least = mapped.least q in let slot = ap is_settled (changes.others q other) in omega (arith, least, slot))
-            ];
-      }
+        none = λ e. absurd cc;
+        least = omega (arith, settled);
+        cached = λ e. file_unmapped p (ap is_cached is ∙ sym (ap (λ (content : Content). not (is_anon content)) same) ∙ e);
+      })
+
+  -- a page in transfer at a number that was free
+  pub mapped-new : (pages' : Pages) (p : ℕ) (page : Page) → page_at pages p ≡ None → Changes pages pages' p (Some page) → is_in_transfer page ≡ true → AreMapped pages' tables
+  mapped-new pages' p page free changes moves =
+      mapped-changed pages' p (Some page) changes (let settled = settled_moving page moves in record { none = λ e. mapped.there p free; least = omega (arith, settled); cached = λ e. mapped.there p free })
+
+  -- a page of a file that is gone
+  pub mapped-gone : (pages' : Pages) (p : ℕ) → is_cached (page_at pages p) ≡ true → Changes pages pages' p None → AreMapped pages' tables
+  mapped-gone pages' p file changes =
+      mapped-changed pages' p None changes (record { none = λ e. file_unmapped p file; least = omega arith; cached = λ e. file_unmapped p file })
+
+  -- a page that holds what it held, where it was
+  pub mapped-touched : (pages' : Pages) (p : ℕ) (page page' : Page) → page_at pages p ≡ Some page → Changes pages pages' p (Some page') → page'.content ≡ page.content → page'.residence ≡ page.residence → AreMapped pages' tables
+  mapped-touched pages' p page page' is changes same stays =
+      mapped-changed pages' p (Some page') changes
+      (let before = mapped.least p in
+      let settled : is_settled (Some page') ≡ is_settled (page_at pages p) = ap (λ (c : Content). cond (is_anon c && not (is_in_transfer page')) 1 0) same
+      ∙ ap (λ (r : Residence). cond (is_anon page.content && not (in_transfer_at r)) 1 0) stays ∙ sym (ap is_settled is) in
+      record {
+        none = λ e. absurd cc;
+        least = omega (arith, before, settled);
+        cached = λ e. file_unmapped p (ap is_cached is ∙ sym (ap (λ (content : Content). not (is_anon content)) same) ∙ e);
+      })
+
+  -- one whose transfer ends: memory is gone where nothing maps it, and a page of a file where it is on its block
+  pub mapped-ended : (pages' : Pages) (p : ℕ) (label : Label) (from : Residence) (end : End) (f b : ℕ) → page_at pages p ≡ Some (labelled label from) → Changes pages pages' p (ended_as end tables p (labelled label from) f b)
+      → AreMapped pages' tables
+  mapped-ended pages' p label from end f b is changes =
+      mapped-changed pages' p (ended_as end tables p (labelled label from) f b) changes
+      (subst (λ (slot : Option Page). FitsAt tables p slot) (still-after end tables p label from f b)
+      (still-fits tables p (page_after end label f b) (λ e. unmapped (after-none end label from f b e)) (λ e. unmapped (after-cached end label from f b e))))
     where
-      gone : (b : Bool) → (mappers tables p == 0) ≡ b → cond b None (Some (anon_page g residence)) ≡ None → mappers tables p ≡ 0
-      gone true is e = eqb-true (mappers tables p) 0 is
-      gone false is e = cc
+      unmapped : is_cached (Some (labelled label from)) ≡ true → mappers tables p ≡ 0
+      unmapped file = file_unmapped p (ap is_cached is ∙ file)
 
-      least_by : (n : ℕ) (b : Bool) → (n == 0) ≡ b → is_settled (cond b None (Some (anon_page g residence))) ≤ n
-      least_by n true is = omega arith
-      least_by n false is = let one = settled_one (Some (anon_page g residence)) in let some : 1 ≤ n = grind (arith, nat_tests, is) in omega (arith, one, some)
-
-  -- pages that nothing maps any more, but for those in transfer
-  pub mapped-dropped : (pages' : Pages) (tables' : PageTables) → ((p : ℕ) → IfSome (page_at pages p) (λ page. page ≡ anon_page page.group page.residence)) → ((p : ℕ) → mappers tables' p ≤ mappers tables p)
-      → ((p : ℕ) → page_at pages' p ≡ still tables' p (page_at pages p)) → AreMapped pages' tables'
-  mapped-dropped pages' tables' memory less drops =
-      record {
-        there = λ p e. there_by p (page_at pages p) refl (memory p) (sym (drops p) ∙ e);
-        least = λ p. subst (λ (slot : Option Page). is_settled slot ≤ mappers tables' p) (sym (drops p)) (least_by p (page_at pages p) (memory p));
-      }
+  -- memory that nothing maps any more is gone, but for that in transfer
+  pub mapped-dropped : (pages' : Pages) (tables' : PageTables) → ((p : ℕ) → mappers tables' p ≤ mappers tables p) → ((p : ℕ) → page_at pages' p ≡ still tables' p (page_at pages p)) → AreMapped pages' tables'
+  mapped-dropped pages' tables' less drops =
+      mapped-fits pages' tables'
+      (λ p.
+      subst (λ (slot : Option Page). FitsAt tables' p slot) (sym (drops p)) (still-fits tables' p (page_at pages p) (λ e. unmapped p (mapped.there p e)) (λ e. unmapped p (file_unmapped p e))))
     where
-      anon : (page : Page) → page ≡ anon_page page.group page.residence → is_anon page.content ≡ true
-      anon page is = ap (λ (x : Page). is_anon x.content) is
-
-      there_by : (p : ℕ) (slot : Option Page) → page_at pages p ≡ slot → IfSome slot (λ page. page ≡ anon_page page.group page.residence) → still tables' p slot ≡ None → mappers tables' p ≡ 0
-      there_by p None is memory e = let none = mapped.there p is in let fewer = less p in omega (arith, none, fewer)
-      there_by p (Some page) is memory e = by_tests (is_anon page.content) (mappers tables' p == 0) (not (in_transfer_at page.residence)) refl e
-        where
-          by_tests : (a b c : Bool) → (mappers tables' p == 0) ≡ b → cond (a && (b && c)) None (Some page) ≡ None → mappers tables' p ≡ 0
-          by_tests a true c zero e = eqb-true (mappers tables' p) 0 zero
-          by_tests true false c zero e = cc
-          by_tests false false c zero e = cc
-
-      least_by : (p : ℕ) (slot : Option Page) → IfSome slot (λ page. page ≡ anon_page page.group page.residence) → is_settled (still tables' p slot) ≤ mappers tables' p
-      least_by p None memory = omega arith
-      least_by p (Some page) memory = by_tests (is_anon page.content) (mappers tables' p == 0) (in_transfer_at page.residence) (anon page memory) refl refl
-        where
-          by_tests : (a b c : Bool) → a ≡ true → (mappers tables' p == 0) ≡ b → in_transfer_at page.residence ≡ c → is_settled (cond (a && (b && not c)) None (Some page)) ≤ mappers tables' p
-          by_tests false b c anon zero moves = cc
-          by_tests true true false anon zero moves = omega arith
-          by_tests true true true anon zero moves = let none : is_settled (Some page) ≡ 0 = ap (λ b. cond b 0 1) moves in omega (arith, none)
-          by_tests true false c anon zero moves = let one = settled_one (Some page) in let some : 1 ≤ mappers tables' p = grind (arith, nat_tests, zero) in omega (arith, one, some)
+      unmapped : (p : ℕ) → mappers tables p ≡ 0 → mappers tables' p ≡ 0
+      unmapped p none = let fewer = less p in omega (arith, none, fewer)
 
 -- places that show what they showed
 pub mapped-alike : (pages : Pages) (tables tables' : PageTables) → AreMapped pages tables → ((t v : ℕ) → mapped_at tables' t v ≡ mapped_at tables t v) → AreMapped pages tables'
 mapped-alike pages tables tables' mapped same =
-    record {
-      there = λ p e. mappers-alike tables tables' p same ∙ mapped.there p e;
-      least = λ p. let alike = mappers-alike tables tables' p same in let least = mapped.least p in omega (arith, alike, least);
-    }
+    mapped-fits pages tables'
+    (λ p.
+    let alike = mappers-alike tables tables' p same in
+    let least = mapped.least p in
+    record { none = λ e. alike ∙ mapped.there p e; least = omega (arith, alike, least); cached = λ e. alike ∙ file_unmapped pages tables mapped p e })
 
 -- a page that was settled, and then let go where nothing maps it
-pub settled-then : (pages mid pages' : Pages) (tables : PageTables) (p g : ℕ) (residence : Residence) → in_transfer_at residence ≡ false → Changes pages mid p (Some (anon_page g residence))
-    → Changes mid pages' p (still tables p (page_at mid p)) → Changes pages pages' p (or_gone tables p (anon_page g residence))
-settled-then pages mid pages' tables p g residence rests settles goes =
+pub settled-then : (pages mid pages' : Pages) (tables : PageTables) (p : ℕ) (label : Label) (from : Residence) (end : End) (f b : ℕ) → Changes pages mid p (page_after end label f b)
+    → Changes mid pages' p (still tables p (page_at mid p)) → Changes pages pages' p (ended_as end tables p (labelled label from) f b)
+settled-then pages mid pages' tables p label from end f b settles goes =
     record {
-      changed = goes.changed ∙ ap (still tables p) settles.changed ∙ still-rests tables p (anon_page g residence) rests;
+      changed = goes.changed ∙ ap (still tables p) settles.changed ∙ still-after end tables p label from f b;
       others = λ q other. goes.others q other ∙ settles.others q other;
     }
 

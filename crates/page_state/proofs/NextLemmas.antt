@@ -1,10 +1,9 @@
 -- Which pages a reclaim may take, and which group gives the next, by the lists of held pages and by the table of pages.
-use Rattle.std.proofs.Common.{◌≡◌, ◌≢◌, inl, inr, ℕ, suc, ◌<◌, ◌≤◌, ◌==◌, ◌&&◌, ◌||◌, not, Bool, true, false, cond, List, [], ◌∷◌, length, get_or, Option, Some, None, refl, sym, ap, ◌∙◌, subst, arith}
+use Rattle.std.proofs.Common.{◌≡◌, ◌≢◌, inl, inr, ℕ, suc, ◌<◌, ◌≤◌, ◌==◌, ◌&&◌, ◌||◌, not, Bool, true, false, cond, List, [], ◌∷◌, length, get_or, Option, Some, None, refl, sym, ap, ◌∙◌, arith}
 use Rattle.std.specs.Prelude.{IfSome, IfNone, is_none, find, option_map, nat_lt}
 use Rattle.std.specs.List.{All, list_any}
 use Rattle.std.proofs.lemmas.Bool.{cases_Bool, and_parts, and_from, and_right, or_right}
 use Rattle.std.proofs.lemmas.Bool.Decides.{nat_tests}
-use Rattle.std.proofs.lemmas.List.{get_or_default}
 use Rattle.std.proofs.lemmas.List.Elements.{All-head, All-tail}
 use Rattle.std.proofs.lemmas.List.Folds.{list_any_at}
 use Rattle.machine.specs.declared.amount.Amount.{Amount}
@@ -16,8 +15,9 @@ use Rattle.machine.specs.Tree.{Node, IsTree, is_live, under}
 use Rattle.machine.specs.Pages.{Held, Page, Pages, page_at, is_anon, is_held, is_held_in, charged, used_swap}
 use Rattle.machine.specs.Protection.{effective, min_of, is_unprotected_in}
 use Rattle.machine.specs.Order.{asking_order, served_by}
+use Rattle.machine.specs.declared.record.Kind.{Kind}
 use Rattle.machine.specs.declared.record.Kind.TheVariants.{Anon, File}
-use Rattle.machine.specs.Generations.{Listed, has_page, is_listed, gens_at}
+use Rattle.machine.specs.Generations.{Listed, row_of, has_page, is_listed, gens_at}
 use Rattle.machine.specs.Aging.{is_marked}
 use Rattle.machine.specs.Eviction.{is_nil, has_usable}
 use Rattle.machine.specs.Lists.{HeldLists, ListsHeld, is_held_of}
@@ -29,7 +29,7 @@ use Rattle.group_tree.specs.Kin.{AreKin}
 use Rattle.group_tree.proofs.LineageLemmas.{live-within}
 use Rattle.page_counter.specs.Counts.{usage_of}
 use Rattle.protection.proofs.CallerLemmas.{effective-same}
-use Rattle.pages.specs.PagesOf.{anon_page, HasResidence}
+use Rattle.pages.specs.PagesOf.{Label, label_of, labelled, HasResidence}
 use Rattle.reclaim.specs.Pass.{is_unprotected_by_counts, gives_by_lists, GivesNone}
 use Rattle.reclaim.proofs.PassLemmas.{found-passes, asked-order}
 use Rattle.page_state.specs.declared.holdings.Holdings.TheInside.{Inside}
@@ -113,59 +113,89 @@ module _ (test : Page → Bool) (more : ℕ → Bool) (numbers : List ℕ) (page
 
 -- ---- what a group has on its lists
 
-module _ (pages : Pages) (held : HeldLists) (lists : ListsHeld pages held) (memory : (p : ℕ) → IfSome (page_at pages p) (λ page. page ≡ anon_page page.group page.residence)) where
-  -- a page is none of a file
-  not-file : (g : ℕ) (slot : Option Page) → IfSome slot (λ page. page ≡ anon_page page.group page.residence) → there_and (is_held_of g File) slot ≡ false
-  not-file g None anon = refl
-  not-file g (Some page) anon = ap (is_held_of g File) anon ∙ ap (λ b. is_held page && b) (and_right (page.group == g) false refl) ∙ and_right (is_held page) false refl
+-- a page that is held, of the group, is usable where it is a page of a file, or a swap block is free
+abbrev pub is_usable : Bool → ℕ → Page → Bool
+is_usable free g page = is_held page && ((page.group == g) && (not (is_anon page.content) || free))
 
-  held-of : (g : ℕ) (slot : Option Page) → IfSome slot (λ page. page ≡ anon_page page.group page.residence) → there_and (is_held_of g Anon) slot ≡ there_and (λ page. is_held page && (page.group == g)) slot
-  held-of g None anon = refl
-  held-of g (Some page) anon = ap (is_held_of g Anon) anon ∙ ap (λ b. is_held page && b) (and_true (page.group == g))
-    where
-      and_true : (b : Bool) → (b && true) ≡ b
-      and_true true = refl
-      and_true false = refl
+-- one test of a place is that a first passes, or a condition and a second
+any_either : (f h k : Page → Bool) (b : Bool) (pages : Pages) → ((p : ℕ) → there_and k (page_at pages p) ≡ (there_and f (page_at pages p) || (b && there_and h (page_at pages p))))
+    → (any_there f pages || (b && any_there h pages)) ≡ any_there k pages
+any_either f h k true [] same = refl
+any_either f h k false [] same = refl
+any_either f h k b (slot ∷ pages) same = both b (there_and f slot) (there_and h slot) (any_there f pages) (any_there h pages) (same 0) (any_either f h k b pages (λ p. same (suc p)))
+  where
+    mixed : (b x y u v : Bool) → ((x || u) || (b && (y || v))) ≡ ((x || (b && y)) || (u || (b && v)))
+    mixed b true y u v = refl
+    mixed true false true true v = refl
+    mixed true false true false v = refl
+    mixed true false false u v = refl
+    mixed false false y true v = refl
+    mixed false false y false v = refl
 
+    both : (b x y u v : Bool) → there_and k slot ≡ (x || (b && y)) → (u || (b && v)) ≡ any_there k pages → ((x || u) || (b && (y || v))) ≡ (there_and k slot || any_there k pages)
+    both b x y u v here rest = mixed b x y u v ∙ ap (λ c. c || (u || (b && v))) (sym here) ∙ ap (λ c. there_and k slot || c) rest
+
+module _ (pages : Pages) (held : HeldLists) (lists : ListsHeld pages held) where
   own : (l : Listed) (ls : List Listed) → has_page l.page (l ∷ ls) ≡ true
   own l ls = let same : (l.page == l.page) ≡ true = grind (arith, nat_tests) in ap (λ b. b || has_page l.page ls) same
 
-  no-files : (g : ℕ) → is_nil (gens_at held.groups g).file.pages ≡ true
-  no-files g = by_row (gens_at held.groups g).file.pages (lists.rows g File)
+  -- a row has a page where one of the group and the type is held
+  some-held : (g : ℕ) (kind : Kind) → not (is_nil (row_of kind (gens_at held.groups g)).pages) ≡ any_there (is_held_of g kind) pages
+  some-held g kind = by_row (row_of kind (gens_at held.groups g)).pages (lists.rows g kind)
     where
-      by_row : (row : List Listed) → ((p : ℕ) → has_page p row ≡ there_and (is_held_of g File) (page_at pages p)) → is_nil row ≡ true
-      by_row [] rows = refl
-      by_row (l ∷ ls) rows = absurd (let wrong : true ≡ false = sym (own l ls) ∙ rows l.page ∙ not-file g (page_at pages l.page) (memory l.page) in cc)
+      by_row : (row : List Listed) → ((p : ℕ) → has_page p row ≡ there_and (is_held_of g kind) (page_at pages p)) → not (is_nil row) ≡ any_there (is_held_of g kind) pages
+      by_row [] rows = sym (any_there-none (is_held_of g kind) pages (count_there-none (is_held_of g kind) pages (λ p. sym (rows p))))
+      by_row (l ∷ ls) rows = sym (any-some (is_held_of g kind) pages l.page (sym (rows l.page) ∙ own l ls))
 
-  some-held : (g : ℕ) → not (is_nil (gens_at held.groups g).anon.pages) ≡ any_there (λ page. is_held page && (page.group == g)) pages
-  some-held g = by_row (gens_at held.groups g).anon.pages (lists.rows g Anon)
+  -- a page may be taken of the group where one of a file is held, or a swap block is free and one of memory is held
+  pub usable-held : (free : Bool) (g : ℕ) → has_usable free (gens_at held.groups g) ≡ any_there (is_usable free g) pages
+  usable-held free g =
+      by_free free ∙ ap (λ b. b || (free && not (is_nil (gens_at held.groups g).anon.pages))) (some-held g File) ∙ ap (λ b. any_there (is_held_of g File) pages || (free && b)) (some-held g Anon)
+      ∙ any_either (is_held_of g File) (is_held_of g Anon) (is_usable free g) free pages (λ p. by_slot (page_at pages p))
     where
-      by_row : (row : List Listed) → ((p : ℕ) → has_page p row ≡ there_and (is_held_of g Anon) (page_at pages p)) → not (is_nil row) ≡ any_there (λ page. is_held page && (page.group == g)) pages
-      by_row [] rows =
-          sym
-          (any_there-none (λ page. is_held page && (page.group == g)) pages
-          (count_there-none (λ page. is_held page && (page.group == g)) pages (λ p. sym (held-of g (page_at pages p) (memory p)) ∙ sym (rows p))))
-      by_row (l ∷ ls) rows =
-          sym (any-some (λ page. is_held page && (page.group == g)) pages l.page (sym (held-of g (page_at pages l.page) (memory l.page)) ∙ sym (rows l.page) ∙ own l ls))
+      either : (x y : Bool) → not (x && y) ≡ (not x || (true && not y))
+      either true y = refl
+      either false y = refl
 
-  -- a page may be taken of the group where a swap block is free and one is held
-  pub usable-held : (free : Bool) (g : ℕ) → has_usable free (gens_at held.groups g) ≡ (free && any_there (λ page. is_held page && (page.group == g)) pages)
-  usable-held true g = ap (λ b. not (b && is_nil (gens_at held.groups g).anon.pages)) (no-files g) ∙ some-held g
-  usable-held false g = ap (λ b. not (b && true)) (no-files g)
+      first : (x : Bool) (y : Bool) → not (x && true) ≡ (not x || (false && y))
+      first true y = refl
+      first false y = refl
+
+      by_free : (b : Bool) → has_usable b (gens_at held.groups g) ≡ (not (is_nil (gens_at held.groups g).file.pages) || (b && not (is_nil (gens_at held.groups g).anon.pages)))
+      by_free true = either (is_nil (gens_at held.groups g).file.pages) (is_nil (gens_at held.groups g).anon.pages)
+      by_free false = first (is_nil (gens_at held.groups g).file.pages) (not (is_nil (gens_at held.groups g).anon.pages))
+
+      split : (h e anon b : Bool) → (h && (e && (not anon || b))) ≡ ((h && (e && not anon)) || (b && (h && (e && anon))))
+      split false e anon true = refl
+      split false e anon false = refl
+      split true false anon true = refl
+      split true false anon false = refl
+      split true true true true = refl
+      split true true true false = refl
+      split true true false b = refl
+
+      by_slot : (slot : Option Page) → there_and (is_usable free g) slot ≡ (there_and (is_held_of g File) slot || (free && there_and (is_held_of g Anon) slot))
+      by_slot None = sym (and_right free false refl)
+      by_slot (Some page) = split (is_held page) (page.group == g) (is_anon page.content) free
 
   -- a page on the group's lists stands in a frame
-  pub listed-stands : (g p : ℕ) → is_listed (gens_at held.groups g) p ≡ true → (f : ℕ) × HasResidence pages p g (Held f)
+  pub listed-stands : (g p : ℕ) → is_listed (gens_at held.groups g) p ≡ true → (label : Label) × (f : ℕ) × HasResidence pages p label (Held f) × (label.group ≡ g)
   listed-stands g p listed =
-      by_slot (page_at pages p) (memory p)
-      (sym (held-of g (page_at pages p) (memory p)) ∙ sym (lists.rows g Anon p) ∙ sym (ap (λ b. b || has_page p (gens_at held.groups g).anon.pages) (lists.rows g File p ∙ not-file g (page_at pages p) (memory p))) ∙ listed)
+      by_slot (page_at pages p)
+      (sym (ap (λ b. b || has_page p (gens_at held.groups g).anon.pages) (lists.rows g File p) ∙ ap (λ b. there_and (is_held_of g File) (page_at pages p) || b) (lists.rows g Anon p)) ∙ listed)
     where
-      by_slot : (slot : Option Page) → IfSome slot (λ page. page ≡ anon_page page.group page.residence) → there_and (λ page. is_held page && (page.group == g)) slot ≡ true → (f : ℕ) × (slot ≡ Some (anon_page g (Held f)))
-      by_slot None anon e = absurd cc
-      by_slot (Some page) anon e =
-          let both = and_parts (is_held page) (page.group == g) e in
+      either : (h e anon : Bool) → ((h && (e && not anon)) || (h && (e && anon))) ≡ true → (h && e) ≡ true
+      either true true anon is = refl
+      either true false anon is = absurd cc
+      either false e anon is = absurd cc
+
+      by_slot : (slot : Option Page) → (there_and (is_held_of g File) slot || there_and (is_held_of g Anon) slot) ≡ true → (label : Label) × (f : ℕ) × (slot ≡ Some (labelled label (Held f))) × (label.group ≡ g)
+      by_slot None e = absurd cc
+      by_slot (Some page) e =
+          let both = and_parts (is_held page) (page.group == g) (either (is_held page) (page.group == g) (is_anon page.content) e) in
           let same : page.group ≡ g = grind (arith, nat_tests, both.1) in
-          let stands = held-stands-in page anon both.0 in
-          (stands.0, stands.1 ∙ ap (λ (x : ℕ). Some (anon_page x (Held stands.0))) same)
+          let stands = held-stands-in page both.0 in
+          (label_of page, stands.0, stands.1, same)
 
   -- after a search the lists have the held pages still
   pub held-searched : (held' : HeldLists) → KeepsRows held held' → ListsHeld pages held'
@@ -207,152 +237,118 @@ module _ (h : Inside) (is : IsHolding h) (tree : List Node) (are : AreKin h.coun
           | inr other ↦ same_open (g == target) (sym (usages g (live-within tree g live))) (sym (effective-charged g live (λ e. other (sym e)) below))
         ]
 
-    module _ (memory : (p : ℕ) → IfSome (page_at h.pages.pages p) (λ page. page ≡ anon_page page.group page.residence)) where
-      -- a swap block is free
-      abbrev free : Bool
-      free = nat_lt (used_swap h.pages.pages) h.slots.blocks
+    -- a swap block is free
+    abbrev free : Bool
+    free = nat_lt (used_swap h.pages.pages) h.slots.blocks
 
-      -- the page stands in a frame, and its group is open to the target
-      abbrev is_taken : Page → Bool
-      is_taken page = is_held page && (under tree target page.group && is_unprotected_by_counts tree h.counters target page.group)
+    -- a group below the target gives one, by the table and by the lists
+    gives_by_lists-same : (g : ℕ) → is_live tree g ≡ true → under tree target g ≡ true → gives_of (holdings_of h) tree target g ≡ gives_by_lists tree h.counters h.held.lists.groups free target g
+    gives_by_lists-same g live below =
+        any_both (is_usable free g) (λ page. (page.group == g) && may_take (holdings_of h) tree target page) (is_unprotected_by_counts tree h.counters target g) h.pages.pages (λ p. by_slot (page_at h.pages.pages p))
+        ∙ ap (λ b. is_unprotected_by_counts tree h.counters target g && b) (sym (usable-held h.pages.pages h.held.lists is.held free g))
+      where
+        own_bits : (t u o o' b : Bool) → u ≡ true → o ≡ o' → (((t && u) && o) && b) ≡ (o' && (t && b))
+        own_bits true true true true b e same = refl
+        own_bits true true false false b e same = refl
+        own_bits false u true true b e same = refl
+        own_bits false u false false b e same = refl
+        own_bits t false o o' b e same = absurd cc
+        own_bits t u true false b e same = absurd cc
+        own_bits t u false true b e same = absurd cc
 
-      takes-slot : (p : ℕ) → there_and (may_take (holdings_of h) tree target) (page_at h.pages.pages p) ≡ (free && there_and is_taken (page_at h.pages.pages p))
-      takes-slot p = by_slot (page_at h.pages.pages p) (memory p) (live_at p)
+        by_test : (page : Page) (e : Bool) → (page.group == g) ≡ e → (e && may_take (holdings_of h) tree target page) ≡ (is_unprotected_by_counts tree h.counters target g && (is_held page && (e && (not (is_anon page.content) || free))))
+        by_test page true hit =
+            let same : page.group ≡ g = grind (arith, nat_tests, hit) in
+            own_bits (is_held page) (under tree target page.group) (is_unprotected_in false tree h.counters.limits (charged tree h.pages.pages) target page.group) (is_unprotected_by_counts tree h.counters target g) (not (is_anon page.content) || free)
+            (ap (under tree target) same ∙ below) (ap (is_unprotected_in false tree h.counters.limits (charged tree h.pages.pages) target) same ∙ open-same g live below)
+        by_test page false miss = sym (ap (λ b. is_unprotected_by_counts tree h.counters target g && b) (and_right (is_held page) false refl) ∙ and_right (is_unprotected_by_counts tree h.counters target g) false refl)
+
+        by_slot : (slot : Option Page) → there_and (λ page. (page.group == g) && may_take (holdings_of h) tree target page) slot ≡ (is_unprotected_by_counts tree h.counters target g && there_and (is_usable free g) slot)
+        by_slot None = sym (and_right (is_unprotected_by_counts tree h.counters target g) false refl)
+        by_slot (Some page) = by_test page (page.group == g) refl
+
+    module _ (groups : IsGroupTree tree) (live : is_live tree target ≡ true) (last : Option ℕ) (group : Option GroupId)
+        (serves : option_map (λ (g : GroupId). g.0) group ≡ served_by tree (gives_by_lists tree h.counters h.held.lists.groups free target) target last) where
+      -- the group that the lists tell is the one that the table tells
+      turn_told : option_map (λ (g : GroupId). g.0) group ≡ served_by tree (gives_of (holdings_of h) tree target) target last
+      turn_told =
+          serves
+          ∙ sym
+          (find_agree (gives_of (holdings_of h) tree target) (gives_by_lists tree h.counters h.held.lists.groups free target) (asking_order tree target last)
+          (λ k d lt. let here = asked-order tree target last groups live k d lt in gives_by_lists-same (get_or (asking_order tree target last) k d) here.0 here.1))
+
+      turn_of : (g : Option GroupId) → option_map (λ (x : GroupId). x.0) g ≡ served_by tree (gives_of (holdings_of h) tree target) target last → IfSome g (λ x. served_by tree (gives_of (holdings_of h) tree target) target last ≡ Some x.0)
+      turn_of None told = tt
+      turn_of (Some g) told = sym told
+
+      pub turn-is : IfSome group (λ g. served_by tree (gives_of (holdings_of h) tree target) target last ≡ Some g.0)
+      turn-is = turn_of group turn_told
+
+      none_taken : GivesNone tree h.counters h.held.lists.groups free target → any_there (may_take (holdings_of h) tree target) h.pages.pages ≡ false
+      none_taken none = any_there-none (may_take (holdings_of h) tree target) h.pages.pages (count_there-none (may_take (holdings_of h) tree target) h.pages.pages (λ p. by_slot p (page_at h.pages.pages p) refl (live_at p)))
         where
-          shuffle : (t u o o' b : Bool) → (u ≡ true → o ≡ o') → (((t && u) && o) && b) ≡ (b && (t && (u && o')))
-          shuffle false u o o' b same = sym (and_right b false refl)
-          shuffle true false o o' b same = sym (and_right b false refl)
-          shuffle true true o o' true same = ap (λ x. x && true) (same refl) ∙ and_true o'
-            where
-              and_true : (x : Bool) → (x && true) ≡ x
-              and_true true = refl
-              and_true false = refl
-          shuffle true true o o' false same = and_right o false refl
+          fails : (p : ℕ) (page : Page) → page_at h.pages.pages p ≡ Some page → is_live tree page.group ≡ true → may_take (holdings_of h) tree target page ≡ true → may_take (holdings_of h) tree target page ≡ false
+          fails p page there alive passes =
+              let below = (and_parts (is_held page) (under tree target page.group) (and_parts (is_held page && under tree target page.group) _ (and_parts _ _ passes).0).0).1 in
+              let own : (page.group == page.group) ≡ true = grind (arith, nat_tests) in
+              let given = any-some (λ (x : Page). (x.group == page.group) && may_take (holdings_of h) tree target x) h.pages.pages p
+              (ap (there_and (λ (x : Page). (x.group == page.group) && may_take (holdings_of h) tree target x)) there ∙ and_from (page.group == page.group) (may_take (holdings_of h) tree target page) own passes) in
+              let told = sym (gives_by_lists-same page.group alive below) ∙ given in
+              let wrong : true ≡ false = sym told ∙ none page.group alive below in
+              absurd cc
 
-          by_slot : (slot : Option Page) → IfSome slot (λ page. page ≡ anon_page page.group page.residence) → IfSome slot (λ page. is_live tree page.group ≡ true)
-              → there_and (may_take (holdings_of h) tree target) slot ≡ (free && there_and is_taken slot)
-          by_slot None anon live = sym (and_right free false refl)
-          by_slot (Some page) anon live =
-              let swaps : (not (is_anon page.content) || free) ≡ free = ap (λ (x : Page). not (is_anon x.content) || free) anon in
-              ap (λ b. ((is_held page && under tree target page.group) && is_unprotected_in false tree h.counters.limits (charged tree h.pages.pages) target page.group) && b) swaps
-              ∙ shuffle (is_held page) (under tree target page.group) (is_unprotected_in false tree h.counters.limits (charged tree h.pages.pages) target page.group) (is_unprotected_by_counts tree h.counters target page.group) free (open-same page.group live)
+          by_slot : (p : ℕ) (slot : Option Page) → page_at h.pages.pages p ≡ slot → IfSome slot (λ page. is_live tree page.group ≡ true) → there_and (may_take (holdings_of h) tree target) slot ≡ false
+          by_slot p None there alive = refl
+          by_slot p (Some page) there alive =
+              elim (cases_Bool (may_take (holdings_of h) tree target page)) [
+                | inl passes ↦ fails p page there alive passes
+                | inr not_so ↦ not_so
+              ]
 
-      -- a group below the target gives one, by the table and by the lists
-      gives_by_lists-same : (g : ℕ) → is_live tree g ≡ true → under tree target g ≡ true → gives_of (holdings_of h) tree target g ≡ gives_by_lists tree h.counters h.held.lists.groups free target g
-      gives_by_lists-same g live below =
-          any_both (λ page. is_held page && (page.group == g)) (λ page. (page.group == g) && may_take (holdings_of h) tree target page) (free && is_unprotected_by_counts tree h.counters target g) h.pages.pages
-          (λ p. by_slot (page_at h.pages.pages p) (takes-slot p))
-          ∙ regroup free (is_unprotected_by_counts tree h.counters target g) (any_there (λ page. is_held page && (page.group == g)) h.pages.pages)
-          ∙ ap (λ b. is_unprotected_by_counts tree h.counters target g && b) (sym (usable-held h.pages.pages h.held.lists is.held memory free g))
+      none_of : (g : Option GroupId) → IfSome g (λ x. served_by tree (gives_of (holdings_of h) tree target) target last ≡ Some x.0) → IfNone g (GivesNone tree h.counters h.held.lists.groups free target)
+          → is_none g ≡ not (any_there (may_take (holdings_of h) tree target) h.pages.pages)
+      none_of None turn none = sym (ap not (none_taken none))
+      none_of (Some g) turn none =
+          let given = (found-passes (λ (x : ℕ). Unit {0}) (gives_of (holdings_of h) tree target) (asking_order tree target last) g.0 (λ k d lt. tt) turn).1 in
+          sym (ap not (any_more (there_and (λ (page : Page). (page.group == g.0) && may_take (holdings_of h) tree target page)) (there_and (may_take (holdings_of h) tree target)) h.pages.pages passes given))
         where
-          regroup : (a b c : Bool) → ((a && b) && c) ≡ (b && (a && c))
-          regroup true b c = refl
-          regroup false b c = sym (and_right b false refl)
+          passes : (slot : Option Page) → there_and (λ (page : Page). (page.group == g.0) && may_take (holdings_of h) tree target page) slot ≡ true → there_and (may_take (holdings_of h) tree target) slot ≡ true
+          passes None e = e
+          passes (Some page) e = (and_parts (page.group == g.0) _ e).1
 
-          own_bits : (t u o b : Bool) → u ≡ true → (b && (t && (u && o))) ≡ ((b && o) && (t && true))
-          own_bits true true true true e = refl
-          own_bits true true true false e = refl
-          own_bits true true false true e = refl
-          own_bits true true false false e = refl
-          own_bits false true o b e = and_right b false refl ∙ sym (and_right (b && o) false refl)
-          own_bits t false o b e = absurd cc
-
-          by_test : (page : Page) (e : Bool) → (page.group == g) ≡ e → may_take (holdings_of h) tree target page ≡ (free && is_taken page)
-              → (e && may_take (holdings_of h) tree target page) ≡ ((free && is_unprotected_by_counts tree h.counters target g) && (is_held page && e))
-          by_test page true own is_so =
-              let same : page.group ≡ g = grind (arith, nat_tests, own) in
-              is_so ∙ ap (λ x. free && (is_held page && (under tree target x && is_unprotected_by_counts tree h.counters target x))) same
-              ∙ own_bits (is_held page) (under tree target g) (is_unprotected_by_counts tree h.counters target g) free below
-          by_test page false own is_so = sym (ap (λ b. (free && is_unprotected_by_counts tree h.counters target g) && b) (and_right (is_held page) false refl) ∙ and_right (free && is_unprotected_by_counts tree h.counters target g) false refl)
-
-          by_slot : (slot : Option Page) → there_and (may_take (holdings_of h) tree target) slot ≡ (free && there_and is_taken slot)
-              → there_and (λ page. (page.group == g) && may_take (holdings_of h) tree target page) slot ≡ ((free && is_unprotected_by_counts tree h.counters target g) && there_and (λ page. is_held page && (page.group == g)) slot)
-          by_slot None is_so = sym (and_right (free && is_unprotected_by_counts tree h.counters target g) false refl)
-          by_slot (Some page) is_so = by_test page (page.group == g) refl is_so
-
-      module _ (groups : IsGroupTree tree) (live : is_live tree target ≡ true) (last : Option ℕ) (group : Option GroupId)
-          (serves : option_map (λ (g : GroupId). g.0) group ≡ served_by tree (gives_by_lists tree h.counters h.held.lists.groups free target) target last) where
-        -- the group that the lists tell is the one that the table tells
-        turn_told : option_map (λ (g : GroupId). g.0) group ≡ served_by tree (gives_of (holdings_of h) tree target) target last
-        turn_told =
-            serves
-            ∙ sym
-            (find_agree (gives_of (holdings_of h) tree target) (gives_by_lists tree h.counters h.held.lists.groups free target) (asking_order tree target last)
-            (λ k d lt. let here = asked-order tree target last groups live k d lt in gives_by_lists-same (get_or (asking_order tree target last) k d) here.0 here.1))
-
-        turn_of : (g : Option GroupId) → option_map (λ (x : GroupId). x.0) g ≡ served_by tree (gives_of (holdings_of h) tree target) target last → IfSome g (λ x. served_by tree (gives_of (holdings_of h) tree target) target last ≡ Some x.0)
-        turn_of None told = tt
-        turn_of (Some g) told = sym told
-
-        pub turn-is : IfSome group (λ g. served_by tree (gives_of (holdings_of h) tree target) target last ≡ Some g.0)
-        turn-is = turn_of group turn_told
-
-        none_taken : GivesNone tree h.counters h.held.lists.groups free target → any_there (may_take (holdings_of h) tree target) h.pages.pages ≡ false
-        none_taken none = any_there-none (may_take (holdings_of h) tree target) h.pages.pages (count_there-none (may_take (holdings_of h) tree target) h.pages.pages (λ p. by_slot p (page_at h.pages.pages p) refl (live_at p)))
-          where
-            fails : (p : ℕ) (page : Page) → page_at h.pages.pages p ≡ Some page → is_live tree page.group ≡ true → may_take (holdings_of h) tree target page ≡ true → may_take (holdings_of h) tree target page ≡ false
-            fails p page there alive passes =
-                let below = (and_parts (is_held page) (under tree target page.group) (and_parts (is_held page && under tree target page.group) _ (and_parts _ _ passes).0).0).1 in
-                let own : (page.group == page.group) ≡ true = grind (arith, nat_tests) in
-                let given = any-some (λ (x : Page). (x.group == page.group) && may_take (holdings_of h) tree target x) h.pages.pages p
-                (ap (there_and (λ (x : Page). (x.group == page.group) && may_take (holdings_of h) tree target x)) there ∙ and_from (page.group == page.group) (may_take (holdings_of h) tree target page) own passes) in
-                let told = sym (gives_by_lists-same page.group alive below) ∙ given in
-                let wrong : true ≡ false = sym told ∙ none page.group alive below in
-                absurd cc
-
-            by_slot : (p : ℕ) (slot : Option Page) → page_at h.pages.pages p ≡ slot → IfSome slot (λ page. is_live tree page.group ≡ true) → there_and (may_take (holdings_of h) tree target) slot ≡ false
-            by_slot p None there alive = refl
-            by_slot p (Some page) there alive =
-                elim (cases_Bool (may_take (holdings_of h) tree target page)) [
-                  | inl passes ↦ fails p page there alive passes
-                  | inr not_so ↦ not_so
-                ]
-
-        none_of : (g : Option GroupId) → IfSome g (λ x. served_by tree (gives_of (holdings_of h) tree target) target last ≡ Some x.0) → IfNone g (GivesNone tree h.counters h.held.lists.groups free target)
-            → is_none g ≡ not (any_there (may_take (holdings_of h) tree target) h.pages.pages)
-        none_of None turn none = sym (ap not (none_taken none))
-        none_of (Some g) turn none =
-            let given = (found-passes (λ (x : ℕ). Unit {0}) (gives_of (holdings_of h) tree target) (asking_order tree target last) g.0 (λ k d lt. tt) turn).1 in
-            sym (ap not (any_more (there_and (λ (page : Page). (page.group == g.0) && may_take (holdings_of h) tree target page)) (there_and (may_take (holdings_of h) tree target)) h.pages.pages passes given))
-          where
-            passes : (slot : Option Page) → there_and (λ (page : Page). (page.group == g.0) && may_take (holdings_of h) tree target page) slot ≡ true → there_and (may_take (holdings_of h) tree target) slot ≡ true
-            passes None e = e
-            passes (Some page) e = (and_parts (page.group == g.0) _ e).1
-
-        -- none has one where no page may be taken
-        pub none-is : IfNone group (GivesNone tree h.counters h.held.lists.groups free target) → is_none group ≡ not (any_there (may_take (holdings_of h) tree target) h.pages.pages)
-        none-is none = none_of group turn-is none
+      -- none has one where no page may be taken
+      pub none-is : IfNone group (GivesNone tree h.counters h.held.lists.groups free target) → is_none group ≡ not (any_there (may_take (holdings_of h) tree target) h.pages.pages)
+      none-is none = none_of group turn-is none
 
 -- ---- the page that a group gives
 
-module _ (h : HoldingsOf) (memory : (p : ℕ) → IfSome (page_at h.stored.pages p) (λ page. page ≡ anon_page page.group page.residence)) (target g : ℕ) where
-  abbrev IsMemory : Option Page → Type 0
-  IsMemory slot = IfSome slot (λ page. page ≡ anon_page page.group page.residence)
-
+module _ (h : HoldingsOf) (target g : ℕ) where
   -- what a page that may be taken says of its group
   record MayGive (tree : List Node) : Type 0 where
     pub below : under tree target g ≡ true
     pub opened : is_unprotected_in false tree h.limits (charged tree h.stored.pages) target g ≡ true
-    pub room : is_swap_left h ≡ true
 
   abbrev gives_page : List Node → Page → Bool
   gives_page tree page = (page.group == g) && may_take h tree target page
 
-  held_given : (tree : List Node) → any_there (gives_page tree) h.stored.pages ≡ true → any_there (λ page. is_held page && (page.group == g)) h.stored.pages ≡ true
-  held_given tree given = any_more (there_and (gives_page tree)) (there_and (λ page. is_held page && (page.group == g))) h.stored.pages by_slot given
+  usable_given : (tree : List Node) → any_there (gives_page tree) h.stored.pages ≡ true → any_there (is_usable (is_swap_left h) g) h.stored.pages ≡ true
+  usable_given tree given = any_more (there_and (gives_page tree)) (there_and (is_usable (is_swap_left h) g)) h.stored.pages by_slot given
     where
-      by_slot : (slot : Option Page) → there_and (gives_page tree) slot ≡ true → there_and (λ page. is_held page && (page.group == g)) slot ≡ true
+      by_slot : (slot : Option Page) → there_and (gives_page tree) slot ≡ true → there_and (is_usable (is_swap_left h) g) slot ≡ true
       by_slot None e = e
       by_slot (Some page) e =
           let both = and_parts (page.group == g) _ e in
-          and_from (is_held page) (page.group == g) (and_parts (is_held page) _ (and_parts (is_held page && under tree target page.group) _ (and_parts _ _ both.1).0).0).0 both.0
+          let swaps = and_parts _ (not (is_anon page.content) || is_swap_left h) both.1 in
+          let opened = and_parts (is_held page && under tree target page.group) _ swaps.0 in
+          and_from (is_held page) ((page.group == g) && (not (is_anon page.content) || is_swap_left h)) (and_parts (is_held page) _ opened.0).0
+          (and_from (page.group == g) (not (is_anon page.content) || is_swap_left h) both.0 swaps.1)
 
   may_give : (tree : List Node) → any_there (gives_page tree) h.stored.pages ≡ true → MayGive tree
-  may_give tree given = one_passes IsMemory (there_and (gives_page tree)) h.stored.pages (λ k d lt. subst IsMemory (get_or_default h.stored.pages k None d lt) (memory k)) given by_slot
+  may_give tree given = one_passes (λ slot. Unit {0}) (there_and (gives_page tree)) h.stored.pages (λ k d lt. tt) given by_slot
     where
-      by_slot : (slot : Option Page) → IsMemory slot → there_and (gives_page tree) slot ≡ true → MayGive tree
-      by_slot None anon e = absurd cc
-      by_slot (Some page) anon e =
+      by_slot : (slot : Option Page) → Unit {0} → there_and (gives_page tree) slot ≡ true → MayGive tree
+      by_slot None any e = absurd cc
+      by_slot (Some page) any e =
           let both = and_parts (page.group == g) _ e in
           let same : page.group ≡ g = grind (arith, nat_tests, both.0) in
           let swaps = and_parts _ (not (is_anon page.content) || is_swap_left h) both.1 in
@@ -360,7 +356,6 @@ module _ (h : HoldingsOf) (memory : (p : ℕ) → IfSome (page_at h.stored.pages
           record {
             below = ap (under tree target) (sym same) ∙ (and_parts (is_held page) _ opened.0).1;
             opened = ap (is_unprotected_in false tree h.limits (charged tree h.stored.pages) target) (sym same) ∙ opened.1;
-            room = sym (ap (λ (x : Page). not (is_anon x.content) || is_swap_left h) anon) ∙ swaps.1;
           }
 
   -- a group whose turn it is has a page to give
@@ -369,12 +364,12 @@ module _ (h : HoldingsOf) (memory : (p : ℕ) → IfSome (page_at h.stored.pages
 
   -- and one on its lists
   pub given-usable : (tree : List Node) → gives_of h tree target g ≡ true → ListsHeld h.stored.pages h.held → has_usable (is_swap_left h) (gens_at h.held.groups g) ≡ true
-  given-usable tree given lists =
-      usable-held h.stored.pages h.held lists memory (is_swap_left h) g ∙ ap (λ b. b && any_there (λ page. is_held page && (page.group == g)) h.stored.pages) (may_give tree given).room ∙ held_given tree given
+  given-usable tree given lists = usable-held h.stored.pages h.held lists (is_swap_left h) g ∙ usable_given tree given
 
-  -- each of its held pages may be taken
-  pub given-takes : (tree : List Node) → gives_of h tree target g ≡ true → (f : ℕ) → may_take h tree target (anon_page g (Held f)) ≡ true
-  given-takes tree given f =
+  -- each of its held pages may be taken, memory where a swap block is free
+  pub given-takes : (tree : List Node) → gives_of h tree target g ≡ true → (label : Label) (f : ℕ) → label.group ≡ g → (not (is_anon label.content) || is_swap_left h) ≡ true → may_take h tree target (labelled label (Held f)) ≡ true
+  given-takes tree given label f own room =
       let may = may_give tree given in
-      and_from (true && under tree target g && is_unprotected_in false tree h.limits (charged tree h.stored.pages) target g) (is_swap_left h)
-      (and_from (under tree target g) (is_unprotected_in false tree h.limits (charged tree h.stored.pages) target g) may.below may.opened) may.room
+      and_from (true && under tree target label.group && is_unprotected_in false tree h.limits (charged tree h.stored.pages) target label.group) (not (is_anon label.content) || is_swap_left h)
+      (and_from (under tree target label.group) (is_unprotected_in false tree h.limits (charged tree h.stored.pages) target label.group) (ap (under tree target) own ∙ may.below)
+      (ap (is_unprotected_in false tree h.limits (charged tree h.stored.pages) target) own ∙ may.opened)) room

@@ -4,7 +4,7 @@ use Rattle.std.specs.Prelude.{slice_set, slice_index, option_map, min, IfSome}
 use Rattle.std.proofs.lemmas.List.{get_or-set_other}
 use Rattle.machine.specs.Slots.{at, Changes, there_and, count_there}
 use Rattle.machine.specs.Tree.{Node, node_at, is_live, is_parent, is_child, has_children, under_at, under, share, IsTree, without_group}
-use Rattle.machine.specs.Pages.{Residence, Page, Pages, page_at, frame_at, is_some_number, has_frame, has_this_frame, has_swap, is_in_transfer, is_charged, charged}
+use Rattle.machine.specs.Pages.{Residence, Page, Pages, page_at, has_frame, has_this_frame, has_swap, is_in_transfer, is_charged, charged}
 use Rattle.machine.specs.declared.record.Limits.{Limits}
 use Rattle.machine.specs.Generations.{with_gens, handed_over}
 use Rattle.machine.specs.Step.{regrouped}
@@ -17,7 +17,7 @@ use Rattle.machine.proofs.HandedLemmas.{held-handed}
 use Rattle.group_tree.specs.Lineages.{IsLineage}
 use Rattle.group_tree.proofs.LineageLemmas.{live-within}
 use Rattle.page_counter.specs.Counts.{Counts, IsOut, SameGroups, MovesUp, usage_of}
-use Rattle.pages.specs.PagesOf.{PagesOf, byte_in, anon_page, HasResidence}
+use Rattle.pages.specs.PagesOf.{PagesOf, byte_in, Label, label_of, HasResidence}
 use Rattle.page_state.specs.declared.holdings.Holdings.TheInside.{Inside}
 use Rattle.page_state.specs.Held.{HeldOf}
 use Rattle.page_state.specs.Holdings.{HoldingsOf, HandsUp}
@@ -28,24 +28,23 @@ use Rattle.page_state.proofs.CountLemmas.{Recharges, counted-step, page-out}
 -- ---- one page
 
 -- a page and its charge become those of the group above
-recharges-up : (c d : Counts) (g parent : ℕ) (r : Residence) → IsTree c.tree → (node_at c.tree g).parent ≡ Some parent → is_live c.tree parent ≡ true → SameGroups c d → (is_some_number (frame_at r) ≡ true → MovesUp c d g)
-    → (is_some_number (frame_at r) ≡ false → d ≡ c) → Recharges c d (Some (anon_page g r)) (Some (anon_page parent r))
-recharges-up c d g parent r falls below live same charged uncharged = record { tree = same.tree; usage = λ a lt. by_frame a lt (is_some_number (frame_at r)) refl; live = live }
+recharges-up : (c d : Counts) (x : Page) (parent : ℕ) → IsTree c.tree → (node_at c.tree x.group).parent ≡ Some parent → is_live c.tree parent ≡ true → SameGroups c d → (has_frame x ≡ true → MovesUp c d x.group)
+    → (has_frame x ≡ false → d ≡ c) → Recharges c d (Some x) (Some (record x { group = parent }))
+recharges-up c d x parent falls below live same charged uncharged = record { tree = same.tree; usage = λ a lt. by_frame a lt (has_frame x) refl; live = live }
   where
-    by_frame : (a : ℕ) → a < length c.tree → (b : Bool) → is_some_number (frame_at r) ≡ b
-        → usage_of d a + one_if (is_some_number (frame_at r) && under c.tree a g) ≡ usage_of c a + one_if (is_some_number (frame_at r) && under c.tree a parent)
+    by_frame : (a : ℕ) → a < length c.tree → (b : Bool) → has_frame x ≡ b → usage_of d a + one_if (has_frame x && under c.tree a x.group) ≡ usage_of c a + one_if (has_frame x && under c.tree a parent)
     by_frame a lt true framed =
         let less = (charged framed).usage a lt in
-        let here : one_if (is_some_number (frame_at r) && under c.tree a g) ≡ one_if (under c.tree a g) = ap (λ b. one_if (b && under c.tree a g)) framed in
-        let there : one_if (is_some_number (frame_at r) && under c.tree a parent) ≡ one_if (under c.tree a parent) = ap (λ b. one_if (b && under c.tree a parent)) framed in
-        let step = share-step c.tree falls a g in
-        let own : share c.tree a (Some g) ≡ one_if (under c.tree a g) = share-is c.tree a (Some g) in
-        let up : share c.tree a (node_at c.tree g).parent ≡ one_if (under c.tree a parent) = ap (share c.tree a) below ∙ share-is c.tree a (Some parent) in
+        let here : one_if (has_frame x && under c.tree a x.group) ≡ one_if (under c.tree a x.group) = ap (λ b. one_if (b && under c.tree a x.group)) framed in
+        let there : one_if (has_frame x && under c.tree a parent) ≡ one_if (under c.tree a parent) = ap (λ b. one_if (b && under c.tree a parent)) framed in
+        let step = share-step c.tree falls a x.group in
+        let own : share c.tree a (Some x.group) ≡ one_if (under c.tree a x.group) = share-is c.tree a (Some x.group) in
+        let up : share c.tree a (node_at c.tree x.group).parent ≡ one_if (under c.tree a parent) = ap (share c.tree a) below ∙ share-is c.tree a (Some parent) in
         omega (arith, less, here, there, step, own, up)
     by_frame a lt false unframed =
-        let kept : usage_of d a ≡ usage_of c a = ap (λ (x : Counts). usage_of x a) (uncharged unframed) in
-        let here : one_if (is_some_number (frame_at r) && under c.tree a g) ≡ 0 = ap (λ b. one_if (b && under c.tree a g)) unframed in
-        let there : one_if (is_some_number (frame_at r) && under c.tree a parent) ≡ 0 = ap (λ b. one_if (b && under c.tree a parent)) unframed in
+        let kept : usage_of d a ≡ usage_of c a = ap (λ (y : Counts). usage_of y a) (uncharged unframed) in
+        let here : one_if (has_frame x && under c.tree a x.group) ≡ 0 = ap (λ b. one_if (b && under c.tree a x.group)) unframed in
+        let there : one_if (has_frame x && under c.tree a parent) ≡ 0 = ap (λ b. one_if (b && under c.tree a parent)) unframed in
         omega (arith, kept, here, there)
 
 gone-there : (pages : Pages) (p : ℕ) → at (slice_set pages p None) p ≡ None
@@ -54,9 +53,9 @@ gone-there (x ∷ pages) zero = refl
 gone-there (x ∷ pages) (suc p) = gone-there pages p
 
 -- the charge of a page that has a frame is out
-pub framed-out : (c : Counts) (pages : Pages) (p g : ℕ) (r : Residence) → IsTree c.tree → IsCounted c pages → HasResidence pages p g r → is_some_number (frame_at r) ≡ true → IsOut c g
-framed-out c pages p g r falls counted stood framed =
-    page-out c pages (slice_set pages p None) p (anon_page g r) None falls stood framed (record { changed = gone-there pages p; others = λ q other. get_or-set_other pages p q None None other }) refl tt counted
+pub framed-out : (c : Counts) (pages : Pages) (p : ℕ) (x : Page) → IsTree c.tree → IsCounted c pages → page_at pages p ≡ Some x → has_frame x ≡ true → IsOut c x.group
+framed-out c pages p x falls counted stood framed =
+    page-out c pages (slice_set pages p None) p x None falls stood framed (record { changed = gone-there pages p; others = λ q other. get_or-set_other pages p q None None other }) refl tt counted
 
 -- ---- page by page
 
@@ -76,8 +75,8 @@ pub hands-none : (g parent : ℕ) (c : Counts) (old : PagesOf) → IsCounted c o
 hands-none g parent c old counted = record { pages = λ p. inl refl; bytes = λ q o. refl; others = refl; counted = counted; same = record { tree = refl; limits = refl; room = refl } }
 
 -- a page of the group is another's
-regrouped-own : (g parent : ℕ) (r : Residence) → regrouped g parent (anon_page g r) ≡ anon_page parent r
-regrouped-own g parent r = ap (λ b. anon_page (cond b parent g) r) (eq-eqb g g refl)
+regrouped-own : (g parent : ℕ) (x : Page) → x.group ≡ g → regrouped g parent x ≡ (record x { group = parent })
+regrouped-own g parent x own = ap (λ b. record { content = x.content; group = cond b parent x.group; dirty = x.dirty; residence = x.residence }) (eq-eqb x.group g own)
 
 -- a page of another group stays as it is
 regrouped-other : (g parent : ℕ) (page : Page) → page.group ≢ g → regrouped g parent page ≡ page
@@ -95,53 +94,53 @@ regrouped-left g parent page apart same = by_test (page.group == g) refl same
     by_test true is same = apart same
     by_test false differs same = unlike (page.group == g) (eq-eqb page.group g same) differs
 
-module _ (g parent : ℕ) (apart : parent ≢ g) (c d e : Counts) (old now next : PagesOf) (p : ℕ) (r : Residence) (stood : HasResidence now.pages p g r) (moved : Changes now.pages next.pages p (Some (anon_page parent r)))
+module _ (g parent : ℕ) (apart : parent ≢ g) (c d e : Counts) (old now next : PagesOf) (p : ℕ) (x : Page) (own : x.group ≡ g) (stood : page_at now.pages p ≡ Some x) (moved : Changes now.pages next.pages p (Some (record x { group = parent })))
     (bytes : (q o : ℕ) → byte_in next.bytes q o ≡ byte_in now.bytes q o) (others : next ≡ record now { pages = next.pages; bytes = next.bytes }) (falls : IsTree c.tree) (below : (node_at c.tree g).parent ≡ Some parent)
-    (live : is_live c.tree parent ≡ true) (same : SameGroups d e) (charged : is_some_number (frame_at r) ≡ true → MovesUp d e g) (uncharged : is_some_number (frame_at r) ≡ false → e ≡ d) where
+    (live : is_live c.tree parent ≡ true) (same : SameGroups d e) (charged : has_frame x ≡ true → MovesUp d e x.group) (uncharged : has_frame x ≡ false → e ≡ d) where
   handed-here : IsHanded g parent (page_at old.pages p) (page_at now.pages p) → page_at next.pages p ≡ option_map (regrouped g parent) (page_at old.pages p)
-  handed-here (inl kept) = moved.changed ∙ ap Some (sym (regrouped-own g parent r)) ∙ ap (option_map (regrouped g parent)) (sym stood ∙ kept)
+  handed-here (inl kept) = moved.changed ∙ ap Some (sym (regrouped-own g parent x own)) ∙ ap (option_map (regrouped g parent)) (sym stood ∙ kept)
   handed-here (inr handed) =
-      let was = regrouped-was g parent (page_at old.pages p) (anon_page g r) (sym handed ∙ stood) in
-      absurd (regrouped-left g parent was.0 apart (sym (ap (λ (x : Page). x.group) was.2)))
+      let was = regrouped-was g parent (page_at old.pages p) x (sym handed ∙ stood) in
+      absurd (regrouped-left g parent was.0 apart (sym (ap (λ (y : Page). y.group) was.2) ∙ own))
 
   -- one page more
   pub hands-more : HandsSome g parent c d old now → HandsSome g parent c e old next
   hands-more hands =
       record {
         pages = λ q. elim (eq_cases q p) [
-          | inl is ↦ inr (ap (page_at next.pages) is ∙ handed-here (hands.pages p) ∙ ap (λ (x : ℕ). option_map (regrouped g parent) (page_at old.pages x)) (sym is))
+          | inl is ↦ inr (ap (page_at next.pages) is ∙ handed-here (hands.pages p) ∙ ap (λ (n : ℕ). option_map (regrouped g parent) (page_at old.pages n)) (sym is))
           | inr other ↦ subst (IsHanded g parent (page_at old.pages q)) (sym (moved.others q other)) (hands.pages q)
         ];
         bytes = λ q o. bytes q o ∙ hands.bytes q o;
-        others = others ∙ ap (λ (x : PagesOf). record x { pages = next.pages; bytes = next.bytes }) hands.others;
-        counted = counted-step d e now.pages next.pages p (Some (anon_page g r)) (Some (anon_page parent r)) stood moved
-            (recharges-up d e g parent r (subst IsTree (sym hands.same.tree) falls) (ap (λ (t : List Node). (node_at t g).parent) hands.same.tree ∙ below) (ap (λ (t : List Node). is_live t parent) hands.same.tree ∙ live) same charged uncharged) hands.counted;
+        others = others ∙ ap (λ (t : PagesOf). record t { pages = next.pages; bytes = next.bytes }) hands.others;
+        counted = counted-step d e now.pages next.pages p (Some x) (Some (record x { group = parent })) stood moved
+            (recharges-up d e x parent (subst IsTree (sym hands.same.tree) falls) (ap (λ (t : List Node). (node_at t x.group).parent) hands.same.tree ∙ ap (λ (h : ℕ). (node_at c.tree h).parent) own ∙ below) (ap (λ (t : List Node). is_live t parent) hands.same.tree ∙ live) same charged uncharged) hands.counted;
         same = record { tree = same.tree ∙ hands.same.tree; limits = same.limits ∙ hands.same.limits; room = same.room ∙ hands.same.room };
       }
 
   -- and one less is to go
   pub hands-fewer : count_there (λ page. page.group == g) next.pages < count_there (λ page. page.group == g) now.pages
   hands-fewer =
-      let change = changed-count (λ page. page.group == g) now.pages next.pages p (Some (anon_page g r)) (Some (anon_page parent r)) stood moved in
-      let own : one_if (g == g) ≡ 1 = ap one_if (eq-eqb g g refl) in
+      let change = changed-count (λ page. page.group == g) now.pages next.pages p (Some x) (Some (record x { group = parent })) stood moved in
+      let here : one_if (x.group == g) ≡ 1 = ap one_if (eq-eqb x.group g own) in
       let left : one_if (parent == g) ≡ 0 = by_test (parent == g) refl in
-      omega (arith, change, own, left)
+      omega (arith, change, here, left)
     where
       by_test : (b : Bool) → (parent == g) ≡ b → one_if (parent == g) ≡ 0
       by_test true is = absurd (apart (eqb-true parent g is))
       by_test false differs = ap one_if differs
 
 -- where none is the group's any more, all are its parent's
-pub hands-all : (g parent : ℕ) (c d : Counts) (old now : PagesOf) → HandsSome g parent c d old now → ((p : ℕ) → IfSome (page_at now.pages p) (λ page. page ≡ anon_page page.group page.residence))
-    → ((p h : ℕ) (r : Residence) → HasResidence now.pages p h r → h ≢ g) → (p : ℕ) → page_at now.pages p ≡ option_map (regrouped g parent) (page_at old.pages p)
-hands-all g parent c d old now hands memory none p = by_case (hands.pages p)
+pub hands-all : (g parent : ℕ) (c d : Counts) (old now : PagesOf) → HandsSome g parent c d old now → ((p : ℕ) (label : Label) (r : Residence) → HasResidence now.pages p label r → label.group ≢ g) → (p : ℕ)
+    → page_at now.pages p ≡ option_map (regrouped g parent) (page_at old.pages p)
+hands-all g parent c d old now hands none p = by_case (hands.pages p)
   where
-    stays : (slot : Option Page) → page_at now.pages p ≡ slot → IfSome slot (λ page. page ≡ anon_page page.group page.residence) → slot ≡ option_map (regrouped g parent) slot
-    stays None is anon = refl
-    stays (Some page) is anon = ap Some (sym (regrouped-other g parent page (none p page.group page.residence (is ∙ ap Some anon))))
+    stays : (slot : Option Page) → page_at now.pages p ≡ slot → slot ≡ option_map (regrouped g parent) slot
+    stays None is = refl
+    stays (Some page) is = ap Some (sym (regrouped-other g parent page (none p (label_of page) page.residence is)))
 
     by_case : IsHanded g parent (page_at old.pages p) (page_at now.pages p) → page_at now.pages p ≡ option_map (regrouped g parent) (page_at old.pages p)
-    by_case (inl kept) = stays (page_at now.pages p) refl (memory p) ∙ ap (option_map (regrouped g parent)) kept
+    by_case (inl kept) = stays (page_at now.pages p) refl ∙ ap (option_map (regrouped g parent)) kept
     by_case (inr handed) = handed
 
 -- ---- the counters
@@ -283,14 +282,15 @@ module _ (h : Inside) (is : IsHolding h) (g parent : ℕ) (d e : Counts) (pages 
         held_groups = lists ∙ is.held_groups ∙ sym size;
         page_groups = groups ∙ is.page_groups ∙ sym size;
         held_numbers = is.held_numbers ∙ sym numbers;
+        homes = ap (λ (t : PagesOf). t.files.first) others ∙ is.homes;
         spares = (let was = is.spares in omega (arith, was, going));
         numbers = (let was = is.numbers in omega (arith, was, numbers));
         tickets = (let was = is.tickets in omega (arith, was, moving, tickets));
       })
 
   -- and what a contract sees of it
-  abbrev seen : List Node → List Limits → ℕ → ℕ → ℕ → ℕ → HoldingsOf
-  seen tree limits counts numbers lists many =
+  abbrev seen : List Node → List Limits → ℕ → ℕ → ℕ → ℕ → List ℕ → HoldingsOf
+  seen tree limits counts numbers lists many sizes =
       record {
         kin = tree;
         limits = limits;
@@ -300,11 +300,12 @@ module _ (h : Inside) (is : IsHolding h) (g parent : ℕ) (d e : Counts) (pages 
         swap = h.slots.blocks;
         numbers = numbers;
         room = min counts (min lists many);
+        files = sizes;
       }
 
-  seen-same : (tree : List Node) (limits : List Limits) (counts numbers lists many : ℕ) → tree ≡ without_group h.counters.tree g → limits ≡ h.counters.limits → counts ≡ h.counters.room → numbers ≡ h.pages.numbers → lists ≡ h.held.room → many ≡ h.pages.room
-      → seen tree limits counts numbers lists many ≡ seen (without_group h.counters.tree g) h.counters.limits h.counters.room h.pages.numbers h.held.room h.pages.room
-  seen-same tree limits counts numbers lists many of_tree of_limits of_counts of_numbers of_lists of_many = rw (of_tree, of_limits, of_counts, of_numbers, of_lists, of_many) refl
+  seen-same : (tree : List Node) (limits : List Limits) (counts numbers lists many : ℕ) (sizes : List ℕ) → tree ≡ without_group h.counters.tree g → limits ≡ h.counters.limits → counts ≡ h.counters.room → numbers ≡ h.pages.numbers → lists ≡ h.held.room
+      → many ≡ h.pages.room → sizes ≡ h.pages.files.sizes → seen tree limits counts numbers lists many sizes ≡ seen (without_group h.counters.tree g) h.counters.limits h.counters.room h.pages.numbers h.held.room h.pages.room h.pages.files.sizes
+  seen-same tree limits counts numbers lists many sizes of_tree of_limits of_counts of_numbers of_lists of_many of_sizes = rw (of_tree, of_limits, of_counts, of_numbers, of_lists, of_many, of_sizes) refl
 
   pub hands-up : e.tree ≡ without_group d.tree g → e.limits ≡ d.limits → e.room ≡ d.room → ((q o : ℕ) → byte_in pages.bytes q o ≡ byte_in h.pages.bytes q o)
       → HandsUp (holdings_of h) (holdings_of (record h { pages = pages; counters = e; held = held })) g parent
@@ -314,6 +315,6 @@ module _ (h : Inside) (is : IsHolding h) (g parent : ℕ) (d e : Counts) (pages 
         bytes = bytes;
         flights = ap (λ (t : PagesOf). t.flights) others;
         held = ap (λ (x : HeldOf). x.lists) takes;
-        others = seen-same e.tree e.limits e.room pages.numbers held.room pages.room (tree ∙ ap (λ (t : List Node). without_group t g) same.tree) (limits ∙ same.limits) (room ∙ same.room) (ap (λ (t : PagesOf). t.numbers) others)
-            (ap (λ (x : HeldOf). x.room) takes) (ap (λ (t : PagesOf). t.room) others);
+        others = seen-same e.tree e.limits e.room pages.numbers held.room pages.room pages.files.sizes (tree ∙ ap (λ (t : List Node). without_group t g) same.tree) (limits ∙ same.limits) (room ∙ same.room) (ap (λ (t : PagesOf). t.numbers) others)
+            (ap (λ (x : HeldOf). x.room) takes) (ap (λ (t : PagesOf). t.room) others) (ap (λ (t : PagesOf). t.files.sizes) others);
       }

@@ -1,23 +1,24 @@
 -- What a reclaim takes: the holdings and the machine speak of the same pages.
 use Rattle.std.proofs.Common.{◌≡◌, ℕ, ◌<◌, ◌==◌, ◌&&◌, ◌||◌, not, Bool, true, false, List, [], Option, Some, sym, ap, subst, ◌∙◌, arith}
-use Rattle.std.specs.Prelude.{nat_lt, slice_set, IfSome}
+use Rattle.std.specs.Prelude.{nat_lt, slice_set}
 use Rattle.std.proofs.lemmas.Bool.Decides.{nat_tests}
 use Rattle.machine.specs.declared.config.Config.{Config}
 use Rattle.machine.specs.Slots.{any_there}
 use Rattle.machine.specs.Tree.{Node, under}
-use Rattle.machine.specs.Pages.{Held, Page, page_at, is_anon, is_held, is_held_in, charged, used_swap}
+use Rattle.machine.specs.Pages.{Held, Page, is_anon, is_held, is_held_in, charged, used_swap}
 use Rattle.machine.specs.Tasks.{Tasks, PageTables}
 use Rattle.machine.specs.Protection.{is_unprotected_in}
 use Rattle.machine.specs.Order.{served_by, cursor_at}
 use Rattle.machine.specs.State.{State, opening_of, is_swap_free}
 use Rattle.machine.specs.Reclaim.{is_unprotected, is_takeable, has_takeable}
-use Rattle.machine.specs.Lists.{HeldLists, Youngest, PicksOf, GoesOn, TakesNext, served}
-use Rattle.pages.specs.PagesOf.{anon_page}
+use Rattle.machine.specs.Lists.{HeldLists, ListsHeld, AreGenerations, Youngest, PicksOf, GoesOn, TakesNext, served}
+use Rattle.pages.specs.PagesOf.{Label, labelled, HasResidence}
 use Rattle.page_state.specs.declared.joined.State.TheInside.{Inside}
 use Rattle.page_state.specs.States.{StateOf}
 use Rattle.page_state.specs.Joined.{joined_of, IsJoined}
 use Rattle.page_state.specs.Holdings.{HoldingsOf, is_swap_left, may_take, gives_of, IsTurn}
 use Rattle.page_state.proofs.NextLemmas.{turn-given, given-takes}
+use Rattle.page_state.proofs.ListedLemmas.{picked-usable}
 
 -- ---- the holdings
 
@@ -63,25 +64,26 @@ module _ (config : Config) (tree : List Node) (h : HoldingsOf) (tasks : Tasks) (
       }
 
   -- it may be taken
-  pub taken-page : (memory : (q : ℕ) → IfSome (page_at h.stored.pages q) (λ page. page ≡ anon_page page.group page.residence)) (cursors : List (Option ℕ)) (g f : ℕ) → IsTurn h tree cursors target g
-      → is_takeable (tables_of config tree h tasks page_tables) target (anon_page g (Held f)) ≡ true
-  taken-page memory cursors g f turn =
-      sym (ap (λ (test : Page → Bool). test (anon_page g (Held f))) takes-alike) ∙ given-takes h memory target g tree (turn-given h memory target g tree (cursor_at cursors target) turn) f
+  pub taken-page : ListsHeld h.stored.pages h.held → AreGenerations h.held → (cursors : List (Option ℕ)) (g p : ℕ) (looked : HeldLists) (label : Label) (f : ℕ) → IsTurn h tree cursors target g → label.group ≡ g
+      → HasResidence h.stored.pages p label (Held f) → PicksOf (is_swap_left h) h.held g (Some p) looked → is_takeable (tables_of config tree h tasks page_tables) target (labelled label (Held f)) ≡ true
+  taken-page lists sound cursors g p looked label f turn own stands picked =
+      sym (ap (λ (test : Page → Bool). test (labelled label (Held f))) takes-alike)
+      ∙ given-takes h target g tree (turn-given h target g tree (cursor_at cursors target) turn) label f own (picked-usable (is_swap_left h) h.stored.pages h.held looked g p lists sound picked (labelled label (Held f)) stands)
 
-  -- and a swap block is free
-  pub taken-swap : (g f : ℕ) → is_takeable (tables_of config tree h tasks page_tables) target (anon_page g (Held f)) ≡ true → used_swap h.stored.pages < h.swap
-  taken-swap g f e =
+  -- and for memory a swap block is free
+  pub taken-swap : (page : Page) → is_takeable (tables_of config tree h tasks page_tables) target page ≡ true → is_anon page.content ≡ true → used_swap h.stored.pages < h.swap
+  taken-swap page e anon =
       let s = tables_of config tree h tasks page_tables in
-      let page = anon_page g (Held f) in
-      let free : nat_lt (used_swap h.stored.pages) config.swap ≡ true = last (is_held page) (under s.tree target page.group) (is_unprotected s target page.group) (not (is_anon page.content) || is_swap_free s) e in
+      let free : nat_lt (used_swap h.stored.pages) config.swap ≡ true = last (is_held page) (under s.tree target page.group) (is_unprotected s target page.group) (is_anon page.content) (is_swap_free s) e anon in
       let fewer : used_swap h.stored.pages < config.swap = grind (arith, nat_tests, free) in
       subst (λ n. used_swap h.stored.pages < n) (sym swap) fewer
     where
-      last : (a b c d : Bool) → (a && b && c && d) ≡ true → d ≡ true
-      last true true true d e = e
-      last true true false d e = absurd (cc)
-      last true false c d e = absurd (cc)
-      last false b c d e = absurd (cc)
+      last : (a b c m d : Bool) → (a && b && c && (not m || d)) ≡ true → m ≡ true → d ≡ true
+      last true true true true d e anon = e
+      last true true true false d e anon = absurd (cc)
+      last true true false m d e anon = absurd (cc)
+      last true false c m d e anon = absurd (cc)
+      last false b c m d e anon = absurd (cc)
 
 -- the group that the machine serves is the one whose turn it is
 pub turn-of : (s : Inside) → IsJoined s → (target g : ℕ) (now : StateOf) → joined_of s ≡ now → served now.tables now.order target ≡ Some g → IsTurn s.holdings s.tree s.cursors.cursors target g

@@ -1,6 +1,6 @@
 -- A place that comes to show nothing, in all joined parts.
 use Rattle.std.proofs.Common.{◌≡◌, ◌≢◌, inl, inr, ℕ, ◌==◌, ◌&&◌, not, Bool, true, false, cond, Option, Some, None, ne_eqb, refl, sym, ap, ◌∙◌, subst, arith}
-use Rattle.std.specs.Prelude.{IfSome, is_some}
+use Rattle.std.specs.Prelude.{IsSome, is_some}
 use Rattle.machine.specs.Slots.{there_and}
 use Rattle.machine.specs.Tree.{is_live}
 use Rattle.machine.specs.Pages.{Page, page_at, is_anon, in_transfer_at, is_in_transfer}
@@ -11,7 +11,7 @@ use Rattle.machine.specs.Step.{still}
 use Rattle.machine.proofs.TreeLemmas.{eq_cases}
 use Rattle.machine.proofs.SlotLemmas.{one_if}
 use Rattle.machine.proofs.MappingLemmas.{mappers-alike, mappers-shows, shown_once}
-use Rattle.pages.specs.PagesOf.{anon_page, is_moving_in, byte_in}
+use Rattle.pages.specs.PagesOf.{byte_in}
 use Rattle.spaces.specs.Space.{Space}
 use Rattle.page_state.specs.declared.joined.State.TheInside.{Inside}
 use Rattle.page_state.specs.Holdings.{HoldingsOf, ListsGoOn, DropsPage}
@@ -27,12 +27,29 @@ use Rattle.page_state.proofs.JoinLemmas.{joined-pages, joined-tasks}
 
 -- ---- one page
 
--- nothing maps it, and it is in no transfer
-pub dropped : (old new : HoldingsOf) (tables : PageTables) (p : ℕ) → DropsPage old new p → IfSome (page_at old.stored.pages p) (λ page. page ≡ anon_page page.group page.residence) → (mappers tables p == 0) ≡ true
-    → is_moving_in old.stored.pages p ≡ false → DropsUnmapped old new tables p
-dropped old new tables p drops memory none rests =
+-- memory in no transfer
+abbrev pub is_settled_memory : Page → Bool
+is_settled_memory page = is_anon page.content && not (is_in_transfer page)
+
+-- such a page is there, and is in no transfer
+pub settled-there : (slot : Option Page) → there_and is_settled_memory slot ≡ true → IsSome slot
+settled-there None e = absurd cc
+settled-there (Some page) e = refl
+
+pub settled-rests : (slot : Option Page) → there_and is_settled_memory slot ≡ true → there_and is_in_transfer slot ≡ false
+settled-rests None e = refl
+settled-rests (Some page) e = by_tests (is_anon page.content) (is_in_transfer page) e
+  where
+    by_tests : (a c : Bool) → (a && not c) ≡ true → c ≡ false
+    by_tests true true e = cc
+    by_tests true false e = refl
+    by_tests false c e = cc
+
+-- it is memory in no transfer, and nothing maps it
+pub dropped : (old new : HoldingsOf) (tables : PageTables) (p : ℕ) → DropsPage old new p → there_and is_settled_memory (page_at old.stored.pages p) ≡ true → (mappers tables p == 0) ≡ true → DropsUnmapped old new tables p
+dropped old new tables p drops settles none =
     record {
-      pages = record { changed = drops.gone.changed ∙ sym (goes (page_at old.stored.pages p) memory rests); others = drops.gone.others };
+      pages = record { changed = drops.gone.changed ∙ sym (goes (page_at old.stored.pages p) settles); others = drops.gone.others };
       bytes = λ q o there. elim (eq_cases q p) [ inl same ↦ absurd (let wrong : true ≡ false = sym there ∙ ap is_some (ap (page_at new.stored.pages) same ∙ drops.gone.changed) in cc) | inr other ↦ elsewhere q o other ];
       others = elsewhere;
       flights = drops.flights;
@@ -43,31 +60,24 @@ dropped old new tables p drops memory none rests =
     elsewhere : (q o : ℕ) → q ≢ p → byte_in new.stored.bytes q o ≡ byte_in old.stored.bytes q o
     elsewhere q o other = drops.bytes q o ∙ ap (λ b. cond b 0 (byte_in old.stored.bytes q o)) (ne_eqb q p other)
 
-    goes : (slot : Option Page) → IfSome slot (λ page. page ≡ anon_page page.group page.residence) → there_and is_in_transfer slot ≡ false → still tables p slot ≡ None
-    goes None memory rests = refl
-    goes (Some page) memory rests =
-        ap (λ (x : Page). cond (is_anon x.content && ((mappers tables p == 0) && not (in_transfer_at page.residence))) None (Some page)) memory
-        ∙ ap (λ b. cond (b && not (in_transfer_at page.residence)) None (Some page)) none
-        ∙ ap (λ b. cond (not b) None (Some page)) rests
+    goes : (slot : Option Page) → there_and is_settled_memory slot ≡ true → still tables p slot ≡ None
+    goes None settles = refl
+    goes (Some page) settles = by_tests (is_anon page.content) (mappers tables p == 0) (not (in_transfer_at page.residence)) settles none
+      where
+        by_tests : (a b c : Bool) → (a && c) ≡ true → b ≡ true → cond (a && (b && c)) None (Some page) ≡ None
+        by_tests true true true e z = refl
+        by_tests true true false e z = cc
+        by_tests true false c e z = cc
+        by_tests false b c e z = cc
 
 -- something maps it, or it is in transfer
 pub kept : (h : HoldingsOf) (tables : PageTables) (p : ℕ) → ListsGoOn Youngest h h → still tables p (page_at h.stored.pages p) ≡ page_at h.stored.pages p → DropsUnmapped h h tables p
 kept h tables p order stays =
     record { pages = record { changed = sym stays; others = λ q other. refl }; bytes = λ q o there. refl; others = λ q o other. refl; flights = refl; order = order; rest = refl }
 
--- one in transfer stays
-pub still-transfer : (tables : PageTables) (p : ℕ) (slot : Option Page) → there_and is_in_transfer slot ≡ true → still tables p slot ≡ slot
-still-transfer tables p None moves = refl
-still-transfer tables p (Some page) moves = ap (λ b. cond (is_anon page.content && ((mappers tables p == 0) && not b)) None (Some page)) moves ∙ by_tests (is_anon page.content) (mappers tables p == 0)
-  where
-    by_tests : (a b : Bool) → cond (a && (b && false)) None (Some page) ≡ Some page
-    by_tests true true = refl
-    by_tests true false = refl
-    by_tests false b = refl
-
 -- ---- one place
 
-module _ (s : Inside) (is : IsJoined s) (lists : ListsHeld s.holdings.stored.pages s.holdings.held) (memory : (p : ℕ) → IfSome (page_at s.holdings.stored.pages p) (λ page. page ≡ anon_page page.group page.residence))
+module _ (s : Inside) (is : IsJoined s) (lists : ListsHeld s.holdings.stored.pages s.holdings.held)
     (spaces : Space) (t v : ℕ) (shown : Shows s.spaces.page_tables spaces.page_tables t v None) (tasks : spaces.tasks ≡ s.spaces.tasks) (numbers : spaces.numbers ≡ s.spaces.numbers) where
   homes : (u : ℕ) → lives spaces.tasks u ≡ true → is_live s.tree (group_of_task spaces.tasks u) ≡ true
   homes = subst (λ (ts : Tasks). (u : ℕ) → lives ts u ≡ true → is_live s.tree (group_of_task ts u) ≡ true) (sym tasks) is.homes
@@ -83,7 +93,7 @@ module _ (s : Inside) (is : IsJoined s) (lists : ListsHeld s.holdings.stored.pag
     pub joined-unshown : IsJoined (record s { spaces = spaces })
     joined-unshown =
         joined-tasks s is spaces
-        (mapped-dropped s.holdings.stored.pages s.spaces.page_tables is.mapped s.holdings.stored.pages spaces.page_tables memory (fewer s.spaces.page_tables spaces.page_tables t v shown) stays) numbers homes
+        (mapped-dropped s.holdings.stored.pages s.spaces.page_tables is.mapped s.holdings.stored.pages spaces.page_tables (fewer s.spaces.page_tables spaces.page_tables t v shown) stays) numbers homes
 
     pub unmaps-unshown : Unmaps (joined_of s) (joined_of (record s { spaces = spaces })) t v
     unmaps-unshown =
@@ -118,7 +128,7 @@ module _ (s : Inside) (is : IsJoined s) (lists : ListsHeld s.holdings.stored.pag
     pub joined-unmapped : IsJoined (record s { holdings = now; spaces = spaces })
     joined-unmapped =
         joined-pages s is now s.cursors spaces drops.rest
-        (mapped-dropped s.holdings.stored.pages s.spaces.page_tables is.mapped now.stored.pages spaces.page_tables memory (fewer s.spaces.page_tables spaces.page_tables t v shown) all) numbers homes refl
+        (mapped-dropped s.holdings.stored.pages s.spaces.page_tables is.mapped now.stored.pages spaces.page_tables (fewer s.spaces.page_tables spaces.page_tables t v shown) all) numbers homes refl
 
     pub unmaps-unmapped : Unmaps (joined_of s) (joined_of (record s { holdings = now; spaces = spaces })) t v
     unmaps-unmapped =

@@ -1,21 +1,24 @@
 -- How the joined parts change: one record for each change, which is one of the machine's tables in all parts at once.
-use Rattle.std.specs.Prelude.{◌≡◌, ◌≢◌, ℕ, ◌+◌, ◌<◌, ◌≤◌, ◌==◌, ◌&&◌, if◌then◌else◌, false, true, List, [], ◌∷◌, ◌++◌, slice_index, slice_set, is_some, Some, None, option_map}
+use Rattle.std.specs.Prelude.{◌≡◌, ◌≢◌, ℕ, ◌+◌, ◌<◌, ◌≤◌, ◌==◌, ◌&&◌, if◌then◌else◌, Bool, false, true, List, [], ◌∷◌, ◌++◌, slice_index, slice_set, is_some, Option, Some, None, option_map}
 use Rattle.machine.specs.declared.record.Key.{Key}
 use Rattle.machine.specs.declared.record.Life.{Life}
 use Rattle.machine.specs.declared.record.Life.TheVariants.{Live}
 use Rattle.machine.specs.declared.record.Limits.{Limits}
 use Rattle.machine.specs.Slots.{Changes}
 use Rattle.machine.specs.Tree.{is_live, node_at, without_group}
-use Rattle.machine.specs.Pages.{Residence, Held, Coming, Going, page_at, is_held_in, is_ticket_taken}
+use Rattle.machine.specs.Pages.{Content, Memory, OfFile, Held, Coming, Going, Page, page_at, home_block, is_held_in, is_ticket_taken}
+use Rattle.machine.specs.declared.event.Op.TheVariants.{Write}
 use Rattle.machine.specs.Counts.{Counted, no_limits}
-use Rattle.machine.specs.Tasks.{SetsTask, group_of_task, mapped_at, mappers, Shows, Copies, ShowsNothing}
+use Rattle.machine.specs.Tasks.{PageTables, SetsTask, group_of_task, mapped_at, mappers, Shows, Copies, ShowsNothing}
 use Rattle.machine.specs.State.{State, page_numbers, over_in, is_frame_free}
 use Rattle.machine.specs.Access.{page_size}
 use Rattle.machine.specs.Reclaim.{is_takeable}
 use Rattle.machine.specs.Generations.{gens_at}
 use Rattle.machine.specs.Lists.{Generation, Youngest, entry_after, with_mark, GoesOn, TakesNext, AddsLists, RemovesLists}
-use Rattle.machine.specs.Step.{IsFreeFrame, IsFreeBlock, still, or_gone, count_of, new_node, new_page, regrouped}
-use Rattle.pages.specs.PagesOf.{byte_in, anon_page, flight, HasResidence}
+use Rattle.machine.specs.Step.{IsFreeFrame, IsFreeBlock, touched, still, in_frame, on_block, count_of, new_node, new_page, regrouped}
+use Rattle.pages.specs.declared.end.End.{End}
+use Rattle.pages.specs.declared.end.End.TheVariants.{InFrame, OnBlock}
+use Rattle.pages.specs.PagesOf.{byte_in, Label, labelled, of_file, flight, HasResidence}
 use Rattle.machine.specs.declared.record.Direction.{Direction}
 use Rattle.machine.specs.declared.record.Direction.TheVariants.{In, Out}
 use Rattle.pages.specs.Tickets.{TicketOf}
@@ -76,21 +79,22 @@ pub record MakesPage (old new : StateOf) (t v g o byte : ℕ) : Type 0 where
 abbrev pub MarksPage : StateOf → StateOf → ℕ → Type 0
 MarksPage old new p = new ≡ record old { order = record { held = with_mark (Some p) old.order.held; cursors = old.order.cursors } }
 
--- a byte of a page in a frame is written
+-- a byte of a page in a frame is written, and a page of a file is dirty then
 pub record WritesByte (old new : StateOf) (p o byte : ℕ) : Type 0 where
-  pub tables : new.tables ≡ old.tables
+  pub placed : (page : Page) → page_at old.tables.pages p ≡ Some page → Changes old.tables.pages new.tables.pages p (Some (touched page (Write byte)))
+  pub tables : new.tables ≡ record old.tables { pages = new.tables.pages }
   pub bytes : (q k : ℕ) → byte_in new.bytes q k ≡ (if (q == p) && (o == k) then byte else byte_in old.bytes q k)
   pub flights : new.flights ≡ old.flights
   pub order : new.order ≡ old.order
   pub tallies : new.tallies ≡ old.tallies
 
--- a page of g on its block is from now on being read into a frame that no page had
-pub record BeginsReadIn (old new : StateOf) (p g block worker entry : ℕ) (ticket : TicketOf) : Type 0 where
+-- a page is from now on being read from this block into a frame that no page had
+pub record BeginsReadIn (old new : StateOf) (p : ℕ) (label : Label) (block worker entry : ℕ) (ticket : TicketOf) : Type 0 where
   pub frame : ℕ
   pub frame_free : IsFreeFrame old.tables frame
   pub ticket_free : is_ticket_taken old.tables.pages ticket.number ≡ false
   pub given : ticket ≡ given_ticket ticket.number worker entry block ticket.bytes
-  pub placed : Changes old.tables.pages new.tables.pages p (Some (anon_page g (Coming frame block ticket.number)))
+  pub placed : Changes old.tables.pages new.tables.pages p (Some (labelled label (Coming frame block ticket.number)))
   pub tables : new.tables ≡ record old.tables { pages = new.tables.pages }
   pub bytes : (q k : ℕ) → q ≢ p → byte_in new.bytes q k ≡ byte_in old.bytes q k
   pub listed : Changes old.flights new.flights ticket.number (Some (flight p worker In))
@@ -98,18 +102,30 @@ pub record BeginsReadIn (old new : StateOf) (p g block worker entry : ℕ) (tick
   pub cursors : new.order.cursors ≡ old.order.cursors
   pub tallies : new.tallies ≡ old.tallies
 
--- the page that is next for the target is from now on being written to a swap block that no page had; the ticket has its bytes
+-- a page of a file, charged to g, is from now on being read from its home block under a number that no page had
+pub record BeginsRead (old new : StateOf) (file q g worker entry : ℕ) (ticket : TicketOf) : Type 0 where
+  pub page : ℕ
+  pub in_range : page < page_numbers old.tables.opening
+  pub number_free : page_at old.tables.pages page ≡ None
+  pub begins : BeginsReadIn old new page (of_file file q g false) (home_block old.tables.opening.swap old.tables.opening.files file q) worker entry ticket
+
+-- where a page that leaves its frame is written: memory to a swap block that no page has, a page of a file that was written to to its home block
+abbrev pub IsWrittenTo : State → Content → Bool → ℕ → Type 0
+IsWrittenTo s Memory dirty block = IsFreeBlock s block
+IsWrittenTo s (OfFile file q) dirty block = (dirty ≡ true) × (block ≡ home_block s.opening.swap s.opening.files file q)
+
+-- the page that is next for the target is from now on being written out; the ticket has its bytes
 pub record BeginsWriteOut (old new : StateOf) (target worker entry : ℕ) (ticket : TicketOf) : Type 0 where
   pub p : ℕ
-  pub g : ℕ
+  pub label : Label
   pub frame : ℕ
-  pub stood : HasResidence old.tables.pages p g (Held frame)
-  pub takeable : is_takeable old.tables target (anon_page g (Held frame)) ≡ true
-  pub block_free : IsFreeBlock old.tables ticket.block
+  pub stood : HasResidence old.tables.pages p label (Held frame)
+  pub takeable : is_takeable old.tables target (labelled label (Held frame)) ≡ true
+  pub block : IsWrittenTo old.tables label.content label.dirty ticket.block
   pub ticket_free : is_ticket_taken old.tables.pages ticket.number ≡ false
   pub given : ticket ≡ given_ticket ticket.number worker entry ticket.block ticket.bytes
   pub holds : (k : ℕ) → k < page_size → slice_index ticket.bytes k ≡ byte_in new.bytes p k
-  pub placed : Changes old.tables.pages new.tables.pages p (Some (anon_page g (Going frame ticket.block ticket.number)))
+  pub placed : Changes old.tables.pages new.tables.pages p (Some (labelled label (Going frame ticket.block ticket.number)))
   pub tables : new.tables ≡ record old.tables { pages = new.tables.pages }
   pub bytes : (q k : ℕ) → byte_in new.bytes q k ≡ byte_in old.bytes q k
   pub listed : Changes old.flights new.flights ticket.number (Some (flight p worker Out))
@@ -118,9 +134,37 @@ pub record BeginsWriteOut (old new : StateOf) (target worker entry : ℕ) (ticke
   pub ages : (h : ℕ) → (gens_at new.order.held.groups h).max_seq ≤ (gens_at old.order.held.groups h).max_seq + 3
   pub tallies : new.tallies ≡ old.tallies
 
--- the transfer in this direction of a page of g under ticket n ends: the page is there, or gone where nothing maps it
-pub record EndsTransfer (old new : StateOf) (direction : Direction) (p g n : ℕ) (to : Residence) : Type 0 where
-  pub placed : Changes old.tables.pages new.tables.pages p (or_gone old.tables.page_tables p (anon_page g to))
+-- the page that is next for the target, a page of a file as its home block has it, is gone
+pub record DropsClean (old new : StateOf) (target : ℕ) : Type 0 where
+  pub p : ℕ
+  pub file : ℕ
+  pub q : ℕ
+  pub g : ℕ
+  pub frame : ℕ
+  pub stood : HasResidence old.tables.pages p (of_file file q g false) (Held frame)
+  pub takeable : is_takeable old.tables target (labelled (of_file file q g false) (Held frame)) ≡ true
+  pub gone : Changes old.tables.pages new.tables.pages p None
+  pub tables : new.tables ≡ record old.tables { pages = new.tables.pages }
+  pub others : (r k : ℕ) → r ≢ p → byte_in new.bytes r k ≡ byte_in old.bytes r k
+  pub flights : new.flights ≡ old.flights
+  pub next : TakesNext old.tables old.order target new.tables new.order
+  -- three generations more are begun at most
+  pub ages : (h : ℕ) → (gens_at new.order.held.groups h).max_seq ≤ (gens_at old.order.held.groups h).max_seq + 3
+  pub tallies : new.tallies ≡ old.tallies
+
+-- the page that is next for the target begins to be written out under this ticket, or is dropped
+abbrev pub TakesPage : StateOf → StateOf → ℕ → ℕ → ℕ → Option TicketOf → Type 0
+TakesPage old new target worker entry (Some ticket) = BeginsWriteOut old new target worker entry ticket
+TakesPage old new target worker entry None = DropsClean old new target
+
+-- what becomes of a page whose transfer between a frame and a block ends so, with these page tables
+abbrev pub ended_as : End → PageTables → ℕ → Page → ℕ → ℕ → Option Page
+ended_as InFrame tables p page frame block = in_frame tables p page frame block
+ended_as OnBlock tables p page frame block = on_block tables p page frame block
+
+-- the transfer in this direction of a page under ticket n ends, and this is what becomes of the page
+pub record EndsTransfer (old new : StateOf) (direction : Direction) (p n : ℕ) (to : Option Page) : Type 0 where
+  pub placed : Changes old.tables.pages new.tables.pages p to
   pub tables : new.tables ≡ record old.tables { pages = new.tables.pages }
   pub unlisted : Changes old.flights new.flights n None
   pub others : (q k : ℕ) → q ≢ p → byte_in new.bytes q k ≡ byte_in old.bytes q k

@@ -1,7 +1,6 @@
 -- What a contract sees of the pages that are held, and how they come and go.
 use Rattle.std.specs.Prelude.{◌≡◌, ℕ, false, length, slice_set}
 use Rattle.machine.specs.declared.record.Kind.{Kind}
-use Rattle.machine.specs.declared.record.Kind.TheVariants.{Anon}
 use Rattle.machine.specs.Generations.{has_page, row_of, is_listed, added, isolated, gens_at, with_gens}
 use Rattle.machine.specs.Aging.{is_marked}
 use Rattle.machine.specs.Lists.{HeldLists, Generation, seq_in}
@@ -12,10 +11,10 @@ pub record HeldOf : Type 0 where
   pub numbers : ℕ
   pub room : ℕ
 
--- a page of memory is the last of a generation of its group
-abbrev pub entered : HeldLists → ℕ → ℕ → Generation → HeldLists
-entered lists g p generation =
-    record { groups = with_gens lists.groups g (added p Anon (seq_in generation (gens_at lists.groups g)) (gens_at lists.groups g)); marks = lists.marks }
+-- a page of this type is the last of a generation of its group
+abbrev pub entered : HeldLists → ℕ → Kind → ℕ → Generation → HeldLists
+entered lists g kind p generation =
+    record { groups = with_gens lists.groups g (added p kind (seq_in generation (gens_at lists.groups g)) (gens_at lists.groups g)); marks = lists.marks }
 
 -- a page of the group leaves its list with its mark
 abbrev pub left : HeldLists → ℕ → ℕ → HeldLists

@@ -1,9 +1,9 @@
 -- What contracts see of the holdings, and how they change.
-use Rattle.std.specs.Prelude.{◌≡◌, ◌≢◌, ℕ, ◌+◌, ◌<◌, ◌≤◌, ◌==◌, ◌&&◌, ◌||◌, not, nat_lt, Bool, false, if◌then◌else◌, List, Option, Some, None, option_map, slice_index}
+use Rattle.std.specs.Prelude.{◌≡◌, ◌≢◌, ℕ, ◌+◌, ◌<◌, ◌≤◌, ◌==◌, ◌&&◌, ◌||◌, not, nat_lt, Bool, true, false, if◌then◌else◌, List, Option, Some, None, option_map, slice_index}
 use Rattle.machine.specs.declared.record.Limits.{Limits}
 use Rattle.machine.specs.Slots.{Changes, any_there}
 use Rattle.machine.specs.Tree.{Node, under, without_group}
-use Rattle.machine.specs.Pages.{Page, Pages, Residence, Held, Coming, Going, page_at, is_anon, is_held, is_frame_taken, is_swap_taken, is_ticket_taken, charged, used_frames, used_swap}
+use Rattle.machine.specs.Pages.{Content, Memory, OfFile, Page, Pages, Held, Coming, Going, page_at, home_block, is_anon, is_held, is_frame_taken, is_swap_taken, is_ticket_taken, charged, used_frames, used_swap}
 use Rattle.machine.specs.Protection.{is_unprotected_in}
 use Rattle.machine.specs.Order.{served_by, cursor_at}
 use Rattle.machine.specs.Generations.{gens_at, handed_over}
@@ -13,7 +13,8 @@ use Rattle.machine.specs.Access.{page_size}
 use Rattle.machine.specs.Step.{new_page, regrouped}
 use Rattle.pages.specs.Tickets.{TicketOf}
 use Rattle.pages.specs.Transfers.{given_ticket}
-use Rattle.pages.specs.PagesOf.{byte_in, anon_page, flight, HasResidence}
+use Rattle.pages.specs.declared.way.WayOut.TheVariants as way
+use Rattle.pages.specs.PagesOf.{byte_in, Label, labelled, of_file, flight, HasResidence, way_of}
 use Rattle.machine.specs.declared.record.Direction.{Direction}
 use Rattle.machine.specs.declared.record.Direction.TheVariants.{In, Out}
 use Rattle.pages.specs.declared.flight.Flight.{Flight}
@@ -27,7 +28,7 @@ pub record Stored : Type 0 where
   pub flights : List (Option Flight)
 
 -- the groups without their paths, their limits, the pages, the lists of those in frames and in no transfer, how many frames and swap blocks and page numbers
--- there are, and for how many groups more there is memory
+-- there are, for how many groups more there is memory, and how many pages each file has
 pub record HoldingsOf : Type 0 where
   pub kin : List Node
   pub limits : List Limits
@@ -37,6 +38,7 @@ pub record HoldingsOf : Type 0 where
   pub swap : ℕ
   pub numbers : ℕ
   pub room : ℕ
+  pub files : List ℕ
 
 -- with other pages, and all else as it was
 abbrev pub with_stored : HoldingsOf → Stored → HoldingsOf
@@ -80,35 +82,46 @@ abbrev pub Lacks : HoldingsOf → ℕ → NoRoom → Type 0
 Lacks h g (lacks.Over a) = over_of h g ≡ Some a.0
 Lacks h g lacks.NoFrame = (over_of h g ≡ None) × (used_frames h.stored.pages ≡ h.frames)
 
--- a page of g on its block is from now on being read into a frame that no page had
-pub record BeginsIn (old new : HoldingsOf) (p g block worker entry : ℕ) (ticket : TicketOf) : Type 0 where
+-- a page is from now on being read from this block into a frame that no page had
+pub record BeginsIn (old new : HoldingsOf) (p : ℕ) (label : Label) (block worker entry : ℕ) (ticket : TicketOf) : Type 0 where
   pub frame : ℕ
   pub in_range : frame < old.frames
   pub unused : is_frame_taken old.stored.pages frame ≡ false
   pub ticket_free : is_ticket_taken old.stored.pages ticket.number ≡ false
   pub given : ticket ≡ given_ticket ticket.number worker entry block ticket.bytes
-  pub placed : Changes old.stored.pages new.stored.pages p (Some (anon_page g (Coming frame block ticket.number)))
+  pub placed : Changes old.stored.pages new.stored.pages p (Some (labelled label (Coming frame block ticket.number)))
   pub bytes : (q o : ℕ) → q ≢ p → byte_in new.stored.bytes q o ≡ byte_in old.stored.bytes q o
   pub listed : Changes old.stored.flights new.stored.flights ticket.number (Some (flight p worker In))
   pub order : ListsGoOn Youngest old new
   pub others : new ≡ with_lists old new.stored new.held
 
--- a page in a frame is from now on being written to a swap block that no page had; the ticket has its bytes
-pub record BeginsOut (old new : HoldingsOf) (p g frame worker entry : ℕ) (ticket : TicketOf) : Type 0 where
-  pub in_range : ticket.block < old.swap
-  pub unused : is_swap_taken old.stored.pages ticket.block ≡ false
+-- a page of a file, charged to g, is from now on being read from its home block under a number that no page had
+pub record BeginsInFile (old new : HoldingsOf) (file q g worker entry : ℕ) (ticket : TicketOf) : Type 0 where
+  pub page : ℕ
+  pub in_range : page < old.numbers
+  pub number_free : page_at old.stored.pages page ≡ None
+  pub begins : BeginsIn old new page (of_file file q g false) (home_block old.swap old.files file q) worker entry ticket
+
+-- where a page that leaves its frame is written: memory to a swap block that no page has, a page of a file that was written to to its home block
+abbrev pub GoesTo : HoldingsOf → Content → Bool → ℕ → Type 0
+GoesTo h Memory dirty block = (block < h.swap) × (is_swap_taken h.stored.pages block ≡ false)
+GoesTo h (OfFile file q) dirty block = (dirty ≡ true) × (block ≡ home_block h.swap h.files file q)
+
+-- a page in a frame is from now on being written out; the ticket has its bytes
+pub record BeginsOut (old new : HoldingsOf) (p : ℕ) (label : Label) (frame worker entry : ℕ) (ticket : TicketOf) : Type 0 where
+  pub block : GoesTo old label.content label.dirty ticket.block
   pub ticket_free : is_ticket_taken old.stored.pages ticket.number ≡ false
   pub given : ticket ≡ given_ticket ticket.number worker entry ticket.block ticket.bytes
   pub holds : (o : ℕ) → o < page_size → slice_index ticket.bytes o ≡ byte_in old.stored.bytes p o
-  pub placed : Changes old.stored.pages new.stored.pages p (Some (anon_page g (Going frame ticket.block ticket.number)))
+  pub placed : Changes old.stored.pages new.stored.pages p (Some (labelled label (Going frame ticket.block ticket.number)))
   pub bytes : (q o : ℕ) → byte_in new.stored.bytes q o ≡ byte_in old.stored.bytes q o
   pub listed : Changes old.stored.flights new.stored.flights ticket.number (Some (flight p worker Out))
   pub order : ListsGoOn Youngest old new
   pub others : new ≡ with_lists old new.stored new.held
 
--- the transfer in this direction of a page under a ticket has ended there
-pub record Settles (old new : HoldingsOf) (direction : Direction) (p g n : ℕ) (residence : Residence) : Type 0 where
-  pub placed : Changes old.stored.pages new.stored.pages p (Some (anon_page g residence))
+-- the transfer in this direction of a page under a ticket has ended, and this is what became of the page
+pub record Settles (old new : HoldingsOf) (direction : Direction) (p n : ℕ) (to : Option Page) : Type 0 where
+  pub placed : Changes old.stored.pages new.stored.pages p to
   pub unlisted : Changes old.stored.flights new.stored.flights n None
   pub bytes : (q o : ℕ) → q ≢ p → byte_in new.stored.bytes q o ≡ byte_in old.stored.bytes q o
   pub order : ListsGoOn (entry_after direction) old new
@@ -121,6 +134,11 @@ pub record DropsPage (old new : HoldingsOf) (p : ℕ) : Type 0 where
   pub flights : new.stored.flights ≡ old.stored.flights
   pub order : ListsGoOn Youngest old new
   pub others : new ≡ with_lists old new.stored new.held
+
+-- a page in a frame leaves it: it begins to be written out under this ticket; or it is a page of a file as its home block has it, and is gone
+abbrev pub LeavesSo : HoldingsOf → HoldingsOf → ℕ → Label → ℕ → ℕ → ℕ → Option TicketOf → Type 0
+LeavesSo old new p label frame worker entry (Some ticket) = BeginsOut old new p label frame worker entry ticket
+LeavesSo old new p label frame worker entry None = (way_of label.content label.dirty ≡ way.Dropped) × DropsPage old new p
 
 -- a group goes, and its pages are its parent's
 pub record HandsUp (old new : HoldingsOf) (g parent : ℕ) : Type 0 where
@@ -148,8 +166,10 @@ IsTurn h tree cursors target g = served_by tree (gives_of h tree target) target 
 
 -- the page that a group gives, and the lists after the search for it
 pub record PicksPage (old new : HoldingsOf) (g p : ℕ) : Type 0 where
+  pub label : Label
   pub frame : ℕ
-  pub stands : HasResidence old.stored.pages p g (Held frame)
+  pub stands : HasResidence old.stored.pages p label (Held frame)
+  pub group : label.group ≡ g
   pub picked : PicksOf (is_swap_left old) old.held g (Some p) new.held
   -- three generations more are begun at most
   pub ages : (h : ℕ) → (gens_at new.held.groups h).max_seq ≤ (gens_at old.held.groups h).max_seq + 3

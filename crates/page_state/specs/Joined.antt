@@ -2,7 +2,7 @@
 use Rattle.std.specs.Prelude.{◌≡◌, ℕ, ◌+◌, true, [], length}
 use Rattle.machine.specs.Tree.{is_live}
 use Rattle.machine.specs.Tasks.{lives, group_of_task}
-use Rattle.machine.specs.State.{opening_of, is_config}
+use Rattle.machine.specs.State.{sizes_of, opening_of, is_config}
 use Rattle.group_tree.specs.Kin.{AreKin}
 use Rattle.page_state.specs.declared.joined.State.TheInside.{Inside}
 use Rattle.page_state.specs.States.{StateOf, without_room}
@@ -30,6 +30,7 @@ pub record IsJoined (s : Inside) : Type 0 where
   pub sized : is_config s.config ≡ true
   pub frames : s.holdings.frames ≡ s.config.frames
   pub swap : s.holdings.swap ≡ s.config.swap
+  pub files : s.holdings.files ≡ sizes_of s.config.files
   pub held_kin : AreKin s.holdings.kin s.tree
   pub counted_kin : AreKin s.events.tree s.tree
   pub mapped : AreMapped s.holdings.stored.pages s.spaces.page_tables

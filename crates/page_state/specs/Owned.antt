@@ -1,5 +1,5 @@
 -- What the fields of the holdings mean, and how they agree. No public clause cites it.
-use Rattle.std.specs.Prelude.{◌≡◌, ℕ, ◌+◌, ◌<◌, ◌≤◌, ◌&&◌, Bool, true, false, if◌then◌else◌, List, length, map, min, Option, option_map, Some, None, IfSome}
+use Rattle.std.specs.Prelude.{◌≡◌, ℕ, ◌+◌, ◌<◌, ◌≤◌, ◌==◌, ◌&&◌, Bool, true, false, if◌then◌else◌, List, length, map, min, Option, option_map, Some, None, IfSome}
 use Rattle.machine.specs.Slots.{Changes, there_and, count_there}
 use Rattle.machine.specs.Tree.{is_live}
 use Rattle.machine.specs.Pages.{Residence, Going, Page, Pages, page_at, is_anon, is_number, block_at, charged, has_frame, has_this_frame, has_swap, is_in_transfer, in_transfer}
@@ -8,6 +8,8 @@ use Rattle.frames.specs.Pool.{PoolOf, free_count}
 use Rattle.block_store.specs.Slots.{SlotsOf}
 use Rattle.page_counter.specs.Counts.{Counts, usage_of}
 use Rattle.pages.specs.declared.owned_page.OwnedPage.{OwnedPage}
+use Rattle.pages.specs.declared.owned_page.Backing.{Backing}
+use Rattle.pages.specs.declared.owned_page.Backing.TheVariants as backing
 use Rattle.pages.specs.Records.{page_of}
 use Rattle.page_state.specs.Queue.{page_count}
 use Rattle.page_state.specs.Holdings.{HoldingsOf}
@@ -24,6 +26,7 @@ holdings_of h =
       swap = h.slots.blocks;
       numbers = h.pages.numbers;
       room = min h.counters.room (min h.held.room h.pages.room);
+      files = h.pages.files.sizes;
     }
 
 -- a page has this swap block
@@ -77,8 +80,20 @@ pub record IsHolding (h : Inside) : Type 0 where
   pub spares : h.pool.spares + count_there is_going h.pages.pages ≡ h.pool.frames
   -- each page has a frame or a swap block, and may have a number
   pub numbers : h.pool.frames + h.slots.blocks ≤ h.pages.numbers
+  -- home blocks stand behind the swap blocks
+  pub homes : h.pages.files.first ≡ h.slots.blocks
   -- each frame may come to be in transfer
   pub tickets : h.pool.frames ≤ h.pages.tickets + in_transfer h.pages.pages
+
+-- memory in transfer has a slot; a page of a file has none
+abbrev pub has_slot : Backing → Bool
+has_slot (backing.Swap slot) = true
+has_slot (backing.Home at block dirty) = false
+
+-- it has this slot
+abbrev pub is_slot : Backing → ℕ → Bool
+is_slot (backing.Swap slot) b = slot == b
+is_slot (backing.Home at block dirty) b = false
 
 -- the pages that own this, by number
 abbrev pub pages_of : List (Option OwnedPage) → Pages

@@ -2,6 +2,7 @@
 use Rattle.std.specs.Prelude.{◌≡◌, ℕ, ◌+◌, ◌==◌, not, length, if◌then◌else◌}
 use Rattle.std.specs.List.{filter}
 use Rattle.machine.specs.declared.record.Direction.{Direction}
+use Rattle.machine.specs.declared.record.Kind.{Kind}
 use Rattle.machine.specs.Lists.{entry_after}
 use Rattle.pages.specs.declared.end.End.{End}
 use Rattle.pages.specs.declared.end.End.TheVariants.{InFrame, OnBlock}
@@ -16,6 +17,6 @@ pub record LeavesQueue (old new : QueueOf) (p : ℕ) : Type 0 where
   pub room : new.room ≡ old.room
 
 -- a page whose transfer in this direction ends in its frame is listed in its group
-abbrev pub JoinsAtEnd : Direction → End → HeldOf → HeldOf → ℕ → ℕ → Type 0
-JoinsAtEnd direction InFrame old new g p = new ≡ record old { lists = entered old.lists g p (entry_after direction) }
-JoinsAtEnd direction OnBlock old new g p = new ≡ old
+abbrev pub JoinsAtEnd : Direction → End → HeldOf → HeldOf → ℕ → Kind → ℕ → Type 0
+JoinsAtEnd direction InFrame old new g kind p = new ≡ record old { lists = entered old.lists g kind p (entry_after direction) }
+JoinsAtEnd direction OnBlock old new g kind p = new ≡ old

@@ -1,18 +1,18 @@
 //! Pages that are made, copied, read in and written.
 
-ghost use Rattle.std.specs.Prelude.{◌≡◌, ℕ, ◌<◌, None, true, IfOk, IfErr, OnOk, OnErr};
+ghost use Rattle.std.specs.Prelude.{◌≡◌, ℕ, ◌<◌, None, true, slice_index, IfOk, IfErr, OnOk, OnErr};
 ghost use Rattle.machine.specs.Tree.{is_live};
 ghost use Rattle.machine.specs.Pages as residence;
-ghost use Rattle.machine.specs.Pages.{is_held_in};
+ghost use Rattle.machine.specs.Pages.{file_page, is_held_in};
 ghost use Rattle.machine.specs.Tasks.{lives, mapped_at};
 ghost use Rattle.machine.specs.Access.{page_size, task_pages};
-ghost use Rattle.pages.specs.PagesOf.{HasResidence};
-ghost use Rattle.page_state.specs.Changes.{HasRoom, LacksRoom, SharesPage, MakesPage, WritesByte, MarksPage, BeginsReadIn};
+ghost use Rattle.pages.specs.PagesOf.{memory_of, HasResidence};
+ghost use Rattle.page_state.specs.Changes.{HasRoom, LacksRoom, SharesPage, MakesPage, WritesByte, MarksPage, BeginsReadIn, BeginsRead};
 
 use crate::joined::State;
 use crate::room::NoRoom;
 use machine::id::{GroupId, PageId, TaskId, WorkerId};
-use pages::InTicket;
+use pages::{FilePage, InTicket};
 use std::alloc::{AllocError, Global};
 
 impl State {
@@ -67,7 +67,7 @@ impl State {
         self.spaces.map(task, at, page);
     }
 
-    /// Changes a byte of a page in a frame.
+    /// Changes a byte of a page in a frame. A page of a file is dirty from then on.
     pub fn write(&mut self, page: PageId, offset: u32, byte: u8)
         requires held { is_held_in self.old.tables.pages page.0 ≡ true }
         requires within { offset < page_size }
@@ -84,7 +84,7 @@ impl State {
         self.holdings.mark(page);
     }
 
-    /// Begins to read in a page that is on its block. It is charged to its group, which has room for it.
+    /// Begins to read in memory that is on its block. It is charged to its group, which has room for it.
     /// `entry` is the place that the trace's entry will have. `AllocError` where memory is refused, and then
     /// nothing changes.
     pub fn start_in(
@@ -94,11 +94,35 @@ impl State {
         worker: WorkerId,
         entry: u32,
     ) -> Result<InTicket, AllocError>
-        requires away { (g b : ℕ) × HasResidence self.old.tables.pages page.0 g (residence.Away b) × HasRoom self.old.tables g }
-        ensures begins { IfOk result (λ ticket. (g b : ℕ) → HasResidence self.old.tables.pages page.0 g (residence.Away b) → BeginsReadIn self.old self.new page.0 g b worker.0 entry ticket) }
+        requires away { (g b : ℕ) × HasResidence self.old.tables.pages page.0 (memory_of g) (residence.Away b) × HasRoom self.old.tables g }
+        ensures begins { IfOk result (λ ticket. (g b : ℕ) → HasResidence self.old.tables.pages page.0 (memory_of g) (residence.Away b) → BeginsReadIn self.old self.new page.0 (memory_of g) b worker.0 entry ticket) }
         ensures err { OnErr result (self.new ≡ self.old) }
     {
         let ticket = self.holdings.start_in(alloc, page, worker, entry)?;
+        Ok(ticket)
+    }
+
+    /// Begins to read a page of a file, which no page holds, from its home block. It is charged to the group,
+    /// which has room for it (kernel: filemap_add_folio). `entry` is the place that the trace's entry will
+    /// have. `AllocError` where memory is refused, and then nothing changes.
+    pub fn start_in_file(
+        &mut self,
+        alloc: Global,
+        at: FilePage,
+        group: GroupId,
+        worker: WorkerId,
+        entry: u32,
+    ) -> Result<InTicket, AllocError>
+        requires inside { at.page < slice_index self.old.tables.opening.files at.file }
+        requires none { file_page self.old.tables.pages at.file at.page ≡ None }
+        requires live { is_live self.old.tables.tree group.0 ≡ true }
+        requires room { HasRoom self.old.tables group.0 }
+        ensures begins { IfOk result (λ ticket. BeginsRead self.old self.new at.file at.page group.0 worker.0 entry ticket) }
+        ensures err { OnErr result (self.new ≡ self.old) }
+    {
+        let ticket = self
+            .holdings
+            .start_in_file(alloc, at, group, worker, entry)?;
         Ok(ticket)
     }
 }

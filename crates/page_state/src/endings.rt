@@ -1,13 +1,11 @@
 //! How transfers end: the page is in its frame or on its block, or goes where nothing maps it.
 
-ghost use Rattle.std.specs.Prelude.{◌≡◌, ℕ, Some, true, slice_index};
+ghost use Rattle.std.specs.Prelude.{◌≡◌, ℕ, Some, true, is_some, slice_index};
 ghost use Rattle.machine.specs.Pages as residence;
 ghost use Rattle.machine.specs.declared.record.Direction.TheVariants.{In, Out};
-ghost use Rattle.machine.specs.Pages.{is_in_flight};
-ghost use Rattle.machine.specs.Tasks.{mapped_at};
-ghost use Rattle.pages.specs.PagesOf.{HasResidence, moving, byte_in};
-ghost use Rattle.pages.specs.Transfers.{residence_after};
-ghost use Rattle.page_state.specs.Changes.{EndsTransfer};
+ghost use Rattle.machine.specs.Pages.{page_at, is_in_flight};
+ghost use Rattle.pages.specs.PagesOf.{Label, labelled, HasResidence, moving, byte_in};
+ghost use Rattle.page_state.specs.Changes.{ended_as, EndsTransfer};
 
 use crate::joined::State;
 use crate::unmap::drop_unmapped;
@@ -21,10 +19,11 @@ impl State {
     /// read, which are handed out. Takes no memory.
     pub fn settle_in(&mut self, ticket: InTicket, end: End) -> PageBytes
         requires { is_in_flight In self.old.tables.pages ticket.number ≡ true }
-        ensures ends { (p g f b : ℕ) → HasResidence self.old.tables.pages p g (residence.Coming f b ticket.number) → EndsTransfer self.old self.new In p g ticket.number (residence_after end f b) }
-        // What a task sees of the page.
-        ensures arrives { (p g f b : ℕ) → HasResidence self.old.tables.pages p g (residence.Coming f b ticket.number) → end ≡ End.InFrame
-            → (t v k : ℕ) → mapped_at self.old.tables.page_tables t v ≡ Some p → byte_in self.new.bytes p k ≡ slice_index ticket.bytes k }
+        ensures ends { (p : ℕ) (label : Label) (f b : ℕ) → HasResidence self.old.tables.pages p label (residence.Coming f b ticket.number)
+            → EndsTransfer self.old self.new In p ticket.number (ended_as end self.old.tables.page_tables p (labelled label (residence.Coming f b ticket.number)) f b) }
+        // What is seen of the page where it is there still.
+        ensures arrives { (p : ℕ) (label : Label) (f b : ℕ) → HasResidence self.old.tables.pages p label (residence.Coming f b ticket.number) → end ≡ End.InFrame
+            → is_some (page_at self.new.tables.pages p) ≡ true → (k : ℕ) → byte_in self.new.bytes p k ≡ slice_index ticket.bytes k }
         ensures bytes { result ≡ ticket.bytes }
     {
         self.holdings.are_counted();
@@ -37,9 +36,10 @@ impl State {
     /// The write-out of the ticket's page has ended so. In its frame the page is as it was. Takes no memory.
     pub fn settle_out(&mut self, ticket: OutTicket, end: End)
         requires { is_in_flight Out self.old.tables.pages ticket.number ≡ true }
-        ensures ends { (p g f b : ℕ) → HasResidence self.old.tables.pages p g (residence.Going f b ticket.number) → EndsTransfer self.old self.new Out p g ticket.number (residence_after end f b) }
-        ensures stays { (p g f b : ℕ) → HasResidence self.old.tables.pages p g (residence.Going f b ticket.number) → end ≡ End.InFrame
-            → (t v k : ℕ) → mapped_at self.old.tables.page_tables t v ≡ Some p → byte_in self.new.bytes p k ≡ byte_in self.old.bytes p k }
+        ensures ends { (p : ℕ) (label : Label) (f b : ℕ) → HasResidence self.old.tables.pages p label (residence.Going f b ticket.number)
+            → EndsTransfer self.old self.new Out p ticket.number (ended_as end self.old.tables.page_tables p (labelled label (residence.Going f b ticket.number)) f b) }
+        ensures stays { (p : ℕ) (label : Label) (f b : ℕ) → HasResidence self.old.tables.pages p label (residence.Going f b ticket.number) → end ≡ End.InFrame
+            → is_some (page_at self.new.tables.pages p) ≡ true → (k : ℕ) → byte_in self.new.bytes p k ≡ byte_in self.old.bytes p k }
     {
         self.holdings.are_counted();
         let page = page_in_flight(self.holdings.pages(), Direction::Out, ticket.number());
@@ -51,8 +51,8 @@ impl State {
 /// The page of the transfer in this direction that is in flight under the ticket.
 fn page_in_flight(pages: &Pages, direction: Direction, ticket: TicketId) -> PageId
     requires { is_in_flight direction pages.now.pages ticket.0 ≡ true }
-    ensures stands { (g : ℕ) × (f : ℕ) × (b : ℕ) × HasResidence pages.now.pages result.0 g (moving direction f b ticket.0) }
-    ensures alone { (p g f b : ℕ) → HasResidence pages.now.pages p g (moving direction f b ticket.0) → result.0 ≡ p }
+    ensures stands { (label : Label) × (f : ℕ) × (b : ℕ) × HasResidence pages.now.pages result.0 label (moving direction f b ticket.0) }
+    ensures alone { (p : ℕ) (label : Label) (f b : ℕ) → HasResidence pages.now.pages p label (moving direction f b ticket.0) → result.0 ≡ p }
 {
     pages.are_in_flight();
     let Some(flight) = pages.flight(ticket) else {

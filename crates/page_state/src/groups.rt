@@ -5,7 +5,7 @@ ghost use Rattle.machine.specs.declared.record.Key.{Key as Key_of};
 ghost use Rattle.machine.specs.Names.{parent_path};
 ghost use Rattle.machine.specs.Tree.{is_live, under, find_group};
 ghost use Rattle.machine.specs.Counts.{Counted, is_key, limits_at, counts_by, total, local};
-ghost use Rattle.machine.specs.State.{usage, effective_min};
+ghost use Rattle.machine.specs.State.{usage, stat_of, effective_min};
 ghost use Rattle.machine.specs.Refusals.{mkdir_refusal, rmdir_refusal, bars_children};
 ghost use Rattle.memory_events.specs.Tallies.{Tells, total_of};
 ghost use Rattle.page_state.specs.Changes.{CountsEvent, AddsGroup, RemovesGroup, sets_limits};
@@ -13,7 +13,7 @@ ghost use Rattle.page_state.specs.Changes.{CountsEvent, AddsGroup, RemovesGroup,
 use crate::joined::State;
 use machine::amount::Amount;
 use machine::id::GroupId;
-use machine::record::{EventCounts, Key};
+use machine::record::{EventCounts, Key, MemoryStat};
 use std::alloc::AllocError;
 
 impl State {
@@ -39,6 +39,16 @@ impl State {
         ensures { result ≡ usage self.now.tables group.0 }
     {
         self.holdings.usage(group)
+    }
+
+    /// Of these, how many are memory of tasks, and how many pages of files. It goes over all page numbers.
+    pub fn stat(&self, group: GroupId) -> MemoryStat
+        requires { is_live self.now.tables.tree group.0 ≡ true }
+        ensures { result ≡ stat_of self.now.tables group.0 }
+    {
+        let file = self.holdings.file_usage(&self.tree, group);
+        let anon = self.holdings.usage(group) - file;
+        MemoryStat { anon, file }
     }
 
     /// The effective `memory.min` of a group below the target, for a reclaim of the target.

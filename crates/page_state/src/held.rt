@@ -82,24 +82,24 @@ impl HeldPages {
     }
 
     /// The page, which is on no list, is the last of the group's youngest generation.
-    pub fn enter(&mut self, group: GroupId, page: PageId)
+    pub fn enter(&mut self, group: GroupId, kind: Kind, page: PageId)
         requires group { group.0 < length self.old.lists.groups }
         requires number { page.0 < self.old.numbers }
         requires unlisted { is_listed_in self.old.lists.groups page.0 ≡ false }
-        ensures { self.new ≡ record self.old { lists = entered self.old.lists group.0 page.0 Youngest } }
+        ensures { self.new ≡ record self.old { lists = entered self.old.lists group.0 kind page.0 Youngest } }
     {
         self.gens.is_sound();
         let seq = self.gens.max_seq(group);
-        self.gens.add(group, page, Kind::Anon, seq);
+        self.gens.add(group, page, kind, seq);
     }
 
     /// The page, whose transfer in this direction has ended and which is on no list, is the last of the
     /// generation that such a page enters.
-    pub fn enter_after(&mut self, group: GroupId, page: PageId, direction: Direction)
+    pub fn enter_after(&mut self, group: GroupId, kind: Kind, page: PageId, direction: Direction)
         requires group { group.0 < length self.old.lists.groups }
         requires number { page.0 < self.old.numbers }
         requires unlisted { is_listed_in self.old.lists.groups page.0 ≡ false }
-        ensures { self.new ≡ record self.old { lists = entered self.old.lists group.0 page.0 (entry_after direction) } }
+        ensures { self.new ≡ record self.old { lists = entered self.old.lists group.0 kind page.0 (entry_after direction) } }
     {
         self.gens.is_sound();
         let youngest = self.gens.max_seq(group);
@@ -107,7 +107,7 @@ impl HeldPages {
             Direction::In => youngest - 1,
             Direction::Out => youngest,
         };
-        self.gens.add(group, page, Kind::Anon, seq);
+        self.gens.add(group, page, kind, seq);
     }
 
     /// The page leaves its list with its mark, and all others keep their places.

@@ -4,37 +4,39 @@ ghost use Rattle.std.specs.Prelude.{◌≡◌, ◌≢◌, ℕ, ◌+◌, ◌<◌,
 ghost use Rattle.machine.specs.Slots.{Changes, any_there};
 ghost use Rattle.machine.specs.Tree.{Node, node_at, is_live, has_children, under};
 ghost use Rattle.machine.specs.Pages as residence;
-ghost use Rattle.machine.specs.Pages.{Page, page_at, is_in_transfer, is_held_in, in_transfer, charged, used_frames, used_swap};
+ghost use Rattle.machine.specs.Pages.{Page, page_at, file_page, is_anon, is_in_transfer, is_held_in, in_transfer, charged, charged_file, used_frames, used_swap};
+ghost use Rattle.machine.specs.declared.event.Op.TheVariants.{Write};
 ghost use Rattle.machine.specs.Counts.{no_limits, limits_at};
 ghost use Rattle.machine.specs.Protection.{effective, min_of};
 ghost use Rattle.machine.specs.Access.{page_size};
-ghost use Rattle.machine.specs.Step.{new_page};
+ghost use Rattle.machine.specs.Step.{new_page, touched};
 ghost use Rattle.group_tree.specs.Kin.{AreKin};
 ghost use Rattle.group_tree.specs.Lineages.{bare, IsLineage};
-ghost use Rattle.pages.specs.PagesOf.{pages_there, byte_in, HasResidence, is_moving_in, AreInFlight};
-ghost use Rattle.pages.specs.Transfers.{residence_after};
+ghost use Rattle.pages.specs.PagesOf.{pages_there, byte_in, Label, memory_of, of_file, HasResidence, is_moving_in, AreInFlight, AreFiled};
+ghost use Rattle.pages.specs.Transfers.{page_after};
 ghost use Rattle.machine.specs.declared.record.Direction.TheVariants.{In, Out};
 ghost use Rattle.machine.specs.Generations.{new_gens, gens_at};
 ghost use Rattle.machine.specs.Lists.{ListsHeld, AreGenerations, with_mark, with_group};
 ghost use Rattle.page_state.specs.States.{byte_shown};
-ghost use Rattle.page_state.specs.Holdings.{with_stored, IsGranted, Lacks, AddsPage, BeginsIn, BeginsOut, Settles, DropsPage, may_take, gives_of, IsTurn, PicksPage, HandsUp};
+ghost use Rattle.page_state.specs.Holdings.{with_stored, IsGranted, Lacks, AddsPage, BeginsIn, BeginsInFile, BeginsOut, LeavesSo, Settles, DropsPage, may_take, gives_of, IsTurn, PicksPage, HandsUp};
 
 use crate::held::HeldPages;
-use crate::lookup::{group_of, is_any_under};
+use crate::lookup::{file_usage, group_of, is_any_under, kind_of};
 use crate::queue::Queue;
 use crate::release::{release, release_last};
 use crate::removal::hand_up;
 use crate::room::{NoRoom, take_room, take_slot, take_spare};
 use crate::settle::{end_transfer, fill, relist};
 use block_store::Slots;
+use files::Files;
 use frames::{FRAME_BYTES, Frame, Pool};
 use group_tree::Tree;
 use machine::amount::Amount;
 use machine::bytes::PageBytes;
 use machine::id::{GroupId, PageId, WorkerId};
-use machine::record::Direction;
+use machine::record::{Direction, Kind};
 use page_counter::{Charge, Counters};
-use pages::{End, InTicket, OutTicket, Pages};
+use pages::{End, FilePage, InTicket, OutTicket, Pages, WayOut};
 use protection::effective;
 use reclaim::Cursors;
 use std::alloc::{AllocError, Global};
@@ -68,9 +70,11 @@ impl Model for Holdings {
 
 impl Holdings {
     /// No page, all frames and all swap slots free, and the root alone, without a limit. There are as many
-    /// page numbers as frames and slots.
-    pub fn open(alloc: Global, frames: u32, swap: u32) -> Result<Holdings, AllocError>
-        requires { frames + swap ≤ u32.MAX }
+    /// page numbers as frames and slots. The files are at home behind the slots.
+    pub fn open(alloc: Global, frames: u32, swap: u32, files: Files) -> Result<Holdings, AllocError>
+        requires numbered { frames + swap ≤ u32.MAX }
+        requires homes { files.first ≡ swap }
+        ensures files { IfOk result (λ h. h.files ≡ files.sizes) }
         ensures kin { IfOk result (λ h. h.kin ≡ bare None ∷ []) }
         ensures limits { IfOk result (λ h. h.limits ≡ no_limits ∷ []) }
         ensures stored { IfOk result (λ h. h.stored ≡ record { pages = []; bytes = []; flights = [] }) }
@@ -87,7 +91,7 @@ impl Holdings {
             slots.close();
             return Err(AllocError);
         };
-        let Ok(pages) = Pages::new(alloc, frames + swap, frames) else {
+        let Ok(pages) = Pages::new(alloc, frames + swap, frames, files) else {
             pool.close();
             slots.close();
             return Err(AllocError);
@@ -114,6 +118,7 @@ impl Holdings {
         ensures pages { result.now.pages ≡ self.now.stored.pages }
         ensures bytes { result.now.bytes ≡ self.now.stored.bytes }
         ensures flights { result.now.flights ≡ self.now.stored.flights }
+        ensures files { result.now.files ≡ record { first = self.now.swap; sizes = self.now.files } }
     {
         &self.pages
     }
@@ -153,6 +158,13 @@ impl Holdings {
         ensures { result ≡ charged self.now.kin self.now.stored.pages group.0 }
     {
         self.counters.usage(group)
+    }
+
+    /// How many pages of files are charged to the group or below it. It goes over all page numbers.
+    pub fn file_usage(&self, tree: &Tree, group: GroupId) -> u64
+        ensures { result ≡ charged_file tree.now self.now.stored.pages group.0 }
+    {
+        file_usage(&self.pages, tree, group)
     }
 
     /// Another max for the group. What is charged already stays.
@@ -201,7 +213,6 @@ impl Holdings {
         ensures none { is_none result ≡ not (any_there (may_take self.now tree.now target.0) self.now.stored.pages) }
     {
         tree.groups_form_a_tree();
-        self.pages.are_in_flight();
         let swap_free = self.has_swap();
         cursors.next_group(tree, &self.counters, self.held.gens(), swap_free, target)
     }
@@ -213,8 +224,6 @@ impl Holdings {
         requires young { (gens_at self.old.held.groups group.0).max_seq + 4 < 2 ^ 64 }
         ensures { PicksPage self.old self.new group.0 result.0 }
     {
-        self.pages.are_in_flight();
-        self.held.are_generations();
         let swap_free = self.has_swap();
         self.held.pick(group, swap_free)
     }
@@ -250,6 +259,7 @@ impl Holdings {
         ensures frames { self.new.frames ≡ self.old.frames }
         ensures swap { self.new.swap ≡ self.old.swap }
         ensures numbers { self.new.numbers ≡ self.old.numbers }
+        ensures files { self.new.files ≡ self.old.files }
     {
         self.counters.add_reserved(group, parent);
         self.held.add_group();
@@ -276,12 +286,14 @@ impl Holdings {
         ensures limits { length self.now.limits ≡ length self.now.kin }
         ensures groups { (p : ℕ) → IfSome (page_at self.now.stored.pages p) (λ page. is_live self.now.kin page.group ≡ true) }
         ensures flights { AreInFlight self.now.stored.pages self.now.stored.flights }
+        ensures filed { AreFiled (record { first = self.now.swap; sizes = self.now.files }) self.now.stored.pages }
         ensures held { ListsHeld self.now.stored.pages self.now.held }
         ensures generations { AreGenerations self.now.held }
         ensures groups_listed { length self.now.held.groups ≡ length self.now.kin }
     {
         self.counters.are_counted();
         self.pages.are_in_flight();
+        self.pages.are_filed();
         self.held.are_generations();
     }
 
@@ -314,15 +326,15 @@ impl Holdings {
         ensures inside { result.0 < self.old.numbers }
     {
         self.counters.are_counted();
-        self.pages.are_in_flight();
+        self.pages.are_filed();
         self.held.are_generations();
         let (frame, charge) = take_room(&mut self.counters, &mut self.pool, group);
         let page = make_page(&mut self.pages, frame, charge, from, offset, byte);
-        self.held.enter(group, page);
+        self.held.enter(group, Kind::Anon, page);
         page
     }
 
-    /// Begins to read in a page that is on its block. There is room for it. The memory of the bytes that
+    /// Begins to read in memory that is on its block. There is room for it. The memory of the bytes that
     /// will arrive is asked for; where it is wanting, nothing changes.
     pub fn start_in(
         &mut self,
@@ -331,8 +343,8 @@ impl Holdings {
         worker: WorkerId,
         entry: u32,
     ) -> Result<InTicket, AllocError>
-        requires away { (g b : ℕ) × HasResidence self.old.stored.pages page.0 g (residence.Away b) × IsGranted self.old g }
-        ensures begins { IfOk result (λ ticket. (g b : ℕ) → HasResidence self.old.stored.pages page.0 g (residence.Away b) → BeginsIn self.old self.new page.0 g b worker.0 entry ticket) }
+        requires away { (g b : ℕ) × HasResidence self.old.stored.pages page.0 (memory_of g) (residence.Away b) × IsGranted self.old g }
+        ensures begins { IfOk result (λ ticket. (g b : ℕ) → HasResidence self.old.stored.pages page.0 (memory_of g) (residence.Away b) → BeginsIn self.old self.new page.0 (memory_of g) b worker.0 entry ticket) }
         ensures err { OnErr result (self.new ≡ self.old) }
     {
         self.counters.are_counted();
@@ -347,11 +359,60 @@ impl Holdings {
         Ok(ticket)
     }
 
-    /// Begins to write out a page that is in a frame, a swap block being free. Takes no memory.
-    pub fn start_out(&mut self, page: PageId, worker: WorkerId, entry: u32) -> OutTicket
+    /// Begins to read in a page of a file that no page holds, under a page number that was free. There is room
+    /// for it in the group. The memory of the bytes that will arrive is asked for; where it is wanting,
+    /// nothing changes.
+    pub fn start_in_file(
+        &mut self,
+        alloc: Global,
+        at: FilePage,
+        group: GroupId,
+        worker: WorkerId,
+        entry: u32,
+    ) -> Result<InTicket, AllocError>
+        requires inside { at.page < slice_index self.old.files at.file }
+        requires none { file_page self.old.stored.pages at.file at.page ≡ None }
+        requires live { is_live self.old.kin group.0 ≡ true }
+        requires granted { IsGranted self.old group.0 }
+        ensures begins { IfOk result (λ ticket. BeginsInFile self.old self.new at.file at.page group.0 worker.0 entry ticket) }
+        ensures err { OnErr result (self.new ≡ self.old) }
+    {
+        self.counters.are_counted();
+        self.pages.are_in_flight();
+        self.pages.are_filed();
+        let buffer = buffer(alloc)?;
+        let (frame, charge) = take_room(&mut self.counters, &mut self.pool, group);
+        let (page, ticket) = self
+            .pages
+            .start_in_file(at, frame, charge, worker, entry, buffer);
+        self.moving.push(page);
+        Ok(ticket)
+    }
+
+    /// The page, which is in a frame, leaves it: it begins to be written out, memory to a swap block, of which
+    /// one is free then, a page of a file that was written to to its home block; or, where there is no
+    /// ticket, it is a page of a file as its home block has it, and is gone. Takes no memory.
+    pub fn take_out(&mut self, page: PageId, worker: WorkerId, entry: u32) -> Option<OutTicket>
         requires held { is_held_in self.old.stored.pages page.0 ≡ true }
+        requires swap { (x : Page) → page_at self.old.stored.pages page.0 ≡ Some x → is_anon x.content ≡ true → used_swap self.old.stored.pages < self.old.swap }
+        ensures { (label : Label) (f : ℕ) → HasResidence self.old.stored.pages page.0 label (residence.Held f) → LeavesSo self.old self.new page.0 label f worker.0 entry result }
+    {
+        self.pages.are_filed();
+        match self.pages.way_out(page) {
+            WayOut::ToSwap => Some(self.start_out(page, worker, entry)),
+            WayOut::ToHome => Some(self.start_home(page, worker, entry)),
+            WayOut::Dropped => {
+                self.drop_page(page);
+                None
+            }
+        }
+    }
+
+    /// Begins to write out memory that is in a frame, a swap block being free.
+    fn start_out(&mut self, page: PageId, worker: WorkerId, entry: u32) -> OutTicket
+        requires held { (g f : ℕ) × HasResidence self.old.stored.pages page.0 (memory_of g) (residence.Held f) }
         requires swap { used_swap self.old.stored.pages < self.old.swap }
-        ensures { (g f : ℕ) → HasResidence self.old.stored.pages page.0 g (residence.Held f) → BeginsOut self.old self.new page.0 g f worker.0 entry result }
+        ensures { (g f : ℕ) → HasResidence self.old.stored.pages page.0 (memory_of g) (residence.Held f) → BeginsOut self.old self.new page.0 (memory_of g) f worker.0 entry result }
     {
         self.pages.are_in_flight();
         self.pages.are_numbered();
@@ -364,18 +425,35 @@ impl Holdings {
         ticket
     }
 
+    /// Begins to write a page of a file, which was written to and is in a frame, to its home block.
+    fn start_home(&mut self, page: PageId, worker: WorkerId, entry: u32) -> OutTicket
+        requires held { (file q g f : ℕ) × HasResidence self.old.stored.pages page.0 (of_file file q g true) (residence.Held f) }
+        ensures { (file q g f : ℕ) → HasResidence self.old.stored.pages page.0 (of_file file q g true) (residence.Held f)
+            → BeginsOut self.old self.new page.0 (of_file file q g true) f worker.0 entry result }
+    {
+        self.pages.are_in_flight();
+        self.pages.are_numbered();
+        self.held.are_generations();
+        let spare = take_spare(&mut self.pool);
+        let ticket = self.pages.start_home(page, spare, worker, entry);
+        self.held.leave(page);
+        self.moving.push(page);
+        ticket
+    }
+
     /// The read-in of the page has ended so: it is in its frame, with the bytes that the ticket read, and
     /// in the second youngest generation; or it is on its block, and its charge is taken back.
     /// Hands out the ticket's bytes. Takes no memory.
     pub fn settle_in(&mut self, page: PageId, ticket: InTicket, end: End) -> PageBytes
-        requires { (g f b : ℕ) × HasResidence self.old.stored.pages page.0 g (residence.Coming f b ticket.number) }
-        ensures settles { (g f b : ℕ) → HasResidence self.old.stored.pages page.0 g (residence.Coming f b ticket.number) → Settles self.old self.new In page.0 g ticket.number (residence_after end f b) }
+        requires { (label : Label) × (f b : ℕ) × HasResidence self.old.stored.pages page.0 label (residence.Coming f b ticket.number) }
+        ensures settles { (label : Label) (f b : ℕ) → HasResidence self.old.stored.pages page.0 label (residence.Coming f b ticket.number) → Settles self.old self.new In page.0 ticket.number (page_after end label f b) }
         ensures arrives { end ≡ End.InFrame → (o : ℕ) → byte_in self.new.stored.bytes page.0 o ≡ slice_index ticket.bytes o }
         ensures bytes { result ≡ ticket.bytes }
     {
         self.pages.are_numbered();
         self.held.are_generations();
         let group = group_of(&self.pages, page);
+        let kind = kind_of(&self.pages, page);
         fill(&mut self.pages, page, &ticket, end);
         let buffer = end_transfer(
             ticket,
@@ -389,6 +467,7 @@ impl Holdings {
             &mut self.held,
             &mut self.moving,
             group,
+            kind,
             page,
             Direction::In,
             end,
@@ -399,13 +478,14 @@ impl Holdings {
     /// The write-out of the page has ended so: it is on its block, and its charge is taken back; or it is
     /// in its frame, as it was, and in the youngest generation. Takes no memory.
     pub fn settle_out(&mut self, page: PageId, ticket: OutTicket, end: End)
-        requires { (g f b : ℕ) × HasResidence self.old.stored.pages page.0 g (residence.Going f b ticket.number) }
-        ensures settles { (g f b : ℕ) → HasResidence self.old.stored.pages page.0 g (residence.Going f b ticket.number) → Settles self.old self.new Out page.0 g ticket.number (residence_after end f b) }
+        requires { (label : Label) × (f b : ℕ) × HasResidence self.old.stored.pages page.0 label (residence.Going f b ticket.number) }
+        ensures settles { (label : Label) (f b : ℕ) → HasResidence self.old.stored.pages page.0 label (residence.Going f b ticket.number) → Settles self.old self.new Out page.0 ticket.number (page_after end label f b) }
         ensures stays { end ≡ End.InFrame → (o : ℕ) → byte_in self.new.stored.bytes page.0 o ≡ byte_in self.old.stored.bytes page.0 o }
     {
         self.pages.are_numbered();
         self.held.are_generations();
         let group = group_of(&self.pages, page);
+        let kind = kind_of(&self.pages, page);
         let spare = end_transfer(
             ticket,
             end,
@@ -419,6 +499,7 @@ impl Holdings {
             &mut self.held,
             &mut self.moving,
             group,
+            kind,
             page,
             Direction::Out,
             end,
@@ -432,11 +513,11 @@ impl Holdings {
         is_any_under(self.moving.as_slice(), &self.pages, tree, target)
     }
 
-    /// Changes a byte of a page in a frame.
+    /// Changes a byte of a page in a frame. A page of a file is dirty from then on.
     pub fn write(&mut self, page: PageId, offset: usize, byte: u8)
         requires held { is_held_in self.old.stored.pages page.0 ≡ true }
         requires within { offset < page_size }
-        ensures pages { self.new.stored.pages ≡ self.old.stored.pages }
+        ensures placed { (x : Page) → page_at self.old.stored.pages page.0 ≡ Some x → Changes self.old.stored.pages self.new.stored.pages page.0 (Some (touched x (Write byte))) }
         ensures bytes { (q o : ℕ) → byte_in self.new.stored.bytes q o
             ≡ (if (q == page.0) && (offset == o) then byte else byte_in self.old.stored.bytes q o) }
         ensures flights { self.new.stored.flights ≡ self.old.stored.flights }
@@ -452,7 +533,6 @@ impl Holdings {
         requires settled { is_moving_in self.old.stored.pages page.0 ≡ false }
         ensures { DropsPage self.old self.new page.0 }
     {
-        self.pages.are_in_flight();
         self.pages.are_numbered();
         self.held.are_generations();
         let owned = self.pages.drop_page(page);

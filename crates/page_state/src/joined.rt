@@ -9,11 +9,12 @@ ghost use Rattle.machine.specs.Access.{task_pages};
 ghost use Rattle.machine.specs.Lists.{first_order, ListsHeld, AreGenerations};
 ghost use Rattle.group_tree.specs.Lineages.{IsLineage};
 ghost use Rattle.memory_events.specs.Tallies.{Tells};
-ghost use Rattle.pages.specs.PagesOf.{AreInFlight};
+ghost use Rattle.pages.specs.PagesOf.{AreInFlight, AreFiled};
 ghost use Rattle.page_state.specs.States.{byte_at};
 ghost use Rattle.page_state.specs.Mapped.{AreMapped};
 
 use crate::holdings::Holdings;
+use files::Files;
 use group_tree::Tree;
 use machine::config::{Config, Watermarks};
 use memory_events::Events;
@@ -60,7 +61,8 @@ impl State {
         let tree = Tree::open(alloc)?;
         let events = Events::new(alloc)?;
         let cursors = Cursors::new(alloc)?;
-        let holdings = Holdings::open(alloc, config.frames, config.swap)?;
+        let files = Files::open(alloc, &config.files, config.swap)?;
+        let holdings = Holdings::open(alloc, config.frames, config.swap, files)?;
         let Ok(spaces) = Spaces::new(alloc, holdings.numbers()) else {
             holdings.close();
             return Err(AllocError);
@@ -136,15 +138,17 @@ impl State {
         ensures pages { result.now.pages ≡ self.now.tables.pages }
         ensures bytes { result.now.bytes ≡ self.now.bytes }
         ensures flights { result.now.flights ≡ self.now.flights }
+        ensures files { result.now.files ≡ record { first = self.now.tables.opening.swap; sizes = self.now.tables.opening.files } }
     {
         self.holdings.pages()
     }
 
     /// Nothing is done: what holds of all joined parts. What the opening fixed is within its limits; the
     /// groups whose events are counted hang together; the root is there, and so is the group of each live
-    /// task and of each page; the pages that are mapped are there, live tasks map them, and the transfers in flight are those of the pages in
-    /// transfer; each held page is on the list of its group and type, once, and no other page is; and each
-    /// group has its lists, two to four generations of a type, and its cursor.
+    /// task and of each page; the pages that are mapped are there, live tasks map them, and no page of a
+    /// file is mapped; the transfers in flight are those of the pages in transfer; no page of a file is
+    /// there twice, and each is at home; each held page is on the list of its group and type, once, and no
+    /// other page is; and each group has its lists, two to four generations of a type, and its cursor.
     pub fn is_joined(&self)
         ensures limit { self.now.tables.opening.trace_limit ≤ 1048576 }
         ensures lineage { IsLineage self.now.tallies.tree }
@@ -155,6 +159,7 @@ impl State {
         ensures owners { (t v p : ℕ) → mapped_at self.now.tables.page_tables t v ≡ Some p → lives self.now.tables.tasks t ≡ true }
         ensures inside { (t v p : ℕ) → mapped_at self.now.tables.page_tables t v ≡ Some p → v < task_pages }
         ensures flights { AreInFlight self.now.tables.pages self.now.flights }
+        ensures filed { AreFiled (record { first = self.now.tables.opening.swap; sizes = self.now.tables.opening.files }) self.now.tables.pages }
         ensures listed { ListsHeld self.now.tables.pages self.now.order.held }
         ensures generations { AreGenerations self.now.order.held }
         ensures lists { length self.now.order.held.groups ≡ length self.now.tables.tree }

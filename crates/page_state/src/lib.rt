@@ -2,8 +2,9 @@
 //! once, so that between calls the parts agree.
 //!
 //! Below it stand the parts, each seen as the machine's table that it keeps: the groups, their limits and
-//! counts, the pages with their bytes, the generation lists of those in frames, the tasks with what they map, the
-//! frames and swap slots that are free, the transfers in flight, and how often events were counted.
+//! counts, the pages with their bytes, the files that some are of, the generation lists of those in frames,
+//! the tasks with what they map, the frames and swap slots that are free, the transfers in flight, and how
+//! often events were counted.
 #![tactic(auto)]
 
 pub use joined::State;

@@ -1,25 +1,62 @@
 //! Pages that are looked for among all.
 
-ghost use Rattle.std.specs.Prelude.{◌≡◌, ℕ};
+ghost use Rattle.std.specs.Prelude.{◌≡◌, ◌&&◌, not, Some, IsSome};
 ghost use Rattle.std.specs.List.{list_any};
 ghost use Rattle.machine.specs.Tree.{under};
 ghost use Rattle.machine.specs.Slots.{there_and};
-ghost use Rattle.machine.specs.Pages.{Residence, page_at};
-ghost use Rattle.pages.specs.PagesOf.{HasResidence};
+ghost use Rattle.machine.specs.Pages.{Page, page_at, is_anon, is_charged, charged_file};
+ghost use Rattle.machine.specs.Lists.{kind_at};
 
 use group_tree::Tree;
 use machine::id::{GroupId, PageId};
+use machine::record::Kind;
 use pages::Pages;
 
 /// The group of a page that is there.
 pub fn group_of(pages: &Pages, page: PageId) -> GroupId
-    requires { (g : ℕ) × (r : Residence) × HasResidence pages.now.pages page.0 g r }
-    ensures { (g : ℕ) → (r : Residence) → HasResidence pages.now.pages page.0 g r → result.0 ≡ g }
+    requires { IsSome (page_at pages.now.pages page.0) }
+    ensures { (x : Page) → page_at pages.now.pages page.0 ≡ Some x → result.0 ≡ x.group }
 {
     let Some(group) = pages.group(page) else {
         unreachable!()
     };
     group
+}
+
+/// Of which type a page is that is there.
+pub fn kind_of(pages: &Pages, page: PageId) -> Kind
+    requires { IsSome (page_at pages.now.pages page.0) }
+    ensures { (x : Page) → page_at pages.now.pages page.0 ≡ Some x → result ≡ kind_at x.content }
+{
+    let Some(kind) = pages.kind(page) else {
+        unreachable!()
+    };
+    kind
+}
+
+/// How many pages of files are charged to the group or below it.
+pub fn file_usage(pages: &Pages, tree: &Tree, group: GroupId) -> u64
+    ensures { result ≡ charged_file tree.now pages.now.pages group.0 }
+{
+    pages.are_numbered();
+    let mut many = 0;
+    for number in 0..pages.numbers() {
+        if is_file_under(PageId(number), pages, tree, group) {
+            many += 1;
+        }
+    }
+    many
+}
+
+/// Whether the page is there, holds a page of a file, has a frame, and is of a group at or under this one.
+fn is_file_under(page: PageId, pages: &Pages, tree: &Tree, group: GroupId) -> bool
+    ensures { result ≡ there_and (λ page. is_charged tree.now group.0 page && not (is_anon page.content)) (page_at pages.now.pages page.0) }
+{
+    pages.are_filed();
+    match pages.kind(page) {
+        Some(Kind::File) => is_under(page, pages, tree, group),
+        _ => false,
+    }
 }
 
 /// Whether one of the pages is of a group at or under the target.

@@ -5,7 +5,7 @@ ghost use Rattle.machine.specs.Tree.{is_live};
 ghost use Rattle.machine.specs.Reclaim.{has_takeable, has_transfer};
 ghost use Rattle.machine.specs.Lists.{served};
 ghost use Rattle.page_state.specs.States.{AreYoung};
-ghost use Rattle.page_state.specs.Changes.{BeginsWriteOut};
+ghost use Rattle.page_state.specs.Changes.{TakesPage};
 
 use crate::joined::State;
 use machine::id::{GroupId, WorkerId};
@@ -29,23 +29,25 @@ impl State {
         self.holdings.has_transfer(&self.tree, target)
     }
 
-    /// Of the group that is served the page that is evicted next begins to be written out, and the target's
-    /// cursor names the group. `entry` is the place that the trace's entry will have. Takes no memory.
-    pub fn start_out(
+    /// Of the group that is served the page that is evicted next leaves its frame, and the target's cursor
+    /// names the group: the page begins to be written out under the ticket; or, where there is none, it is a
+    /// page of a file as its home block has it, and is dropped (kernel: shrink_folio_list). `entry` is the
+    /// place that the trace's entry will have. Takes no memory.
+    pub fn take_out(
         &mut self,
         target: GroupId,
         group: GroupId,
         worker: WorkerId,
         entry: u32,
-    ) -> OutTicket
+    ) -> Option<OutTicket>
         requires live { is_live self.old.tables.tree target.0 ≡ true }
         requires next { served self.old.tables self.old.order target.0 ≡ Some group.0 }
         requires young { AreYoung self.old.order.held }
-        ensures { BeginsWriteOut self.old self.new target.0 worker.0 entry result }
+        ensures { TakesPage self.old self.new target.0 worker.0 entry result }
     {
         self.holdings.are_counted();
         let page = self.holdings.pick(group);
         self.cursors.serve(target, group);
-        self.holdings.start_out(page, worker, entry)
+        self.holdings.take_out(page, worker, entry)
     }
 }

@@ -1,15 +1,16 @@
 //! What pages owned is given back.
 
-ghost use Rattle.std.specs.Prelude.{◌≡◌, ◌<◌, true, false, vec_len};
+ghost use Rattle.std.specs.Prelude.{◌≡◌, ℕ, ◌+◌, ◌<◌, true, false, length, vec_len};
+ghost use Rattle.block_store.specs.Slots.{slot_count};
 ghost use Rattle.page_counter.specs.Counts.{SameGroups};
 ghost use Rattle.pages.specs.Records.{page_of};
-ghost use Rattle.page_state.specs.Owned.{AreKept, Leaves, Releases, pages_of};
+ghost use Rattle.page_state.specs.Owned.{AreKept, Leaves, Releases, as_number, is_slot, has_slot, pages_of};
 
 use crate::room::give_room;
 use block_store::Slots;
 use frames::Pool;
 use page_counter::Counters;
-use pages::OwnedPage;
+use pages::{Backing, OwnedPage};
 
 /// Gives back what a page owned that is gone.
 pub fn release(owned: OwnedPage, counters: &mut Counters, pool: &mut Pool, slots: &mut Slots)
@@ -22,26 +23,48 @@ pub fn release(owned: OwnedPage, counters: &mut Counters, pool: &mut Pool, slots
 {
     counters.are_counted();
     match owned {
-        OwnedPage::Held { frame, charge } => give_room(frame, charge, counters, pool),
+        OwnedPage::Held {
+            frame,
+            charge,
+            content: _,
+        } => give_room(frame, charge, counters, pool),
         OwnedPage::Coming {
             frame,
             charge,
-            slot,
+            from,
             ticket: _,
         } => {
             give_room(frame, charge, counters, pool);
-            slots.give(slot);
+            give_backing(from, slots);
         }
         OwnedPage::Going {
             frame,
             charge,
-            slot,
+            to,
             ticket: _,
         } => {
             give_room(frame, charge, counters, pool);
-            slots.give(slot);
+            give_backing(to, slots);
         }
         OwnedPage::Away { group: _, slot } => slots.give(slot),
+    }
+}
+
+/// Gives back the slot of memory that was in transfer. A home block is nobody's.
+fn give_backing(backing: Backing, slots: &mut Slots)
+    requires out { (b : ℕ) → is_slot backing b ≡ true → slot_count slots.old.free b ≡ 0 }
+    requires in_range { (b : ℕ) → is_slot backing b ≡ true → b < slots.old.blocks }
+    ensures counts { (b : ℕ) → slot_count slots.new.free b ≡ slot_count slots.old.free b + as_number (is_slot backing b) }
+    ensures more { length slots.new.free ≡ length slots.old.free + as_number (has_slot backing) }
+    ensures blocks { slots.new.blocks ≡ slots.old.blocks }
+{
+    match backing {
+        Backing::Swap(slot) => slots.give(slot),
+        Backing::Home {
+            at: _,
+            block: _,
+            dirty: _,
+        } => {}
     }
 }
 

@@ -29,5 +29,4 @@ pub fn hand_up(pages: &mut Pages, counters: &mut Counters, group: GroupId, paren
     while let Some(page) = pages.first_of(group) {
         pages.move_up(counters, page, parent);
     }
-    pages.are_in_flight();
 }

@@ -5,7 +5,7 @@ ghost use Rattle.machine.specs.Generations.{is_listed_in};
 ghost use Rattle.machine.specs.Pages as residence;
 ghost use Rattle.page_counter.specs.Counts.{SameGroups};
 ghost use Rattle.machine.specs.declared.record.Direction.{Direction as Direction_of};
-ghost use Rattle.pages.specs.PagesOf.{HasResidence, byte_in, moving};
+ghost use Rattle.pages.specs.PagesOf.{Label, HasResidence, byte_in, moving};
 ghost use Rattle.pages.specs.Transfers.{Ends};
 ghost use Rattle.page_state.specs.Owned.{AreKept};
 ghost use Rattle.page_state.specs.Relists.{JoinsAtEnd, LeavesQueue};
@@ -16,13 +16,13 @@ use crate::room::give_room;
 use block_store::Slots;
 use frames::Pool;
 use machine::id::{GroupId, PageId};
-use machine::record::Direction;
+use machine::record::{Direction, Kind};
 use page_counter::Counters;
 use pages::{Carries, End, Freed, InTicket, Pages, Ticket};
 
 /// The page has the bytes that the ticket read, where its read-in has ended in its frame.
 pub fn fill(pages: &mut Pages, page: PageId, ticket: &InTicket, end: End)
-    requires { (g f b : ℕ) × HasResidence pages.old.pages page.0 g (residence.Coming f b ticket.now.number) }
+    requires { (label : Label) × (f b : ℕ) × HasResidence pages.old.pages page.0 label (residence.Coming f b ticket.now.number) }
     ensures filled { end ≡ End.InFrame → (o : ℕ) → byte_in pages.new.bytes page.0 o ≡ slice_index ticket.now.bytes o }
     ensures bytes { (q o : ℕ) → q ≢ page.0 → byte_in pages.new.bytes q o ≡ byte_in pages.old.bytes q o }
     ensures others { pages.new ≡ record pages.old { bytes = pages.new.bytes } }
@@ -43,9 +43,9 @@ pub fn end_transfer<B: Carries>(
     pool: &mut Pool,
     slots: &mut Slots,
 ) -> B
-    requires stands { (d : Direction_of) × (p g f b : ℕ) × HasResidence pages.old.pages p g (moving d f b ticket.number) }
+    requires stands { (d : Direction_of) × (p : ℕ) × (label : Label) × (f b : ℕ) × HasResidence pages.old.pages p label (moving d f b ticket.number) }
     requires kept { AreKept counters.old pool.old slots.old pages.old.pages }
-    ensures ends { (d : Direction_of) (p g f b : ℕ) → HasResidence pages.old.pages p g (moving d f b ticket.number) → Ends pages.old pages.new p g f b ticket.number end }
+    ensures ends { (d : Direction_of) (p : ℕ) (label : Label) (f b : ℕ) → HasResidence pages.old.pages p label (moving d f b ticket.number) → Ends pages.old pages.new p label f b ticket.number end }
     ensures kept { AreKept counters.new pool.new slots.new pages.new.pages }
     ensures groups { SameGroups counters.old counters.new }
     ensures frames { pool.new.frames ≡ pool.old.frames }
@@ -58,6 +58,7 @@ pub fn end_transfer<B: Carries>(
     match freed {
         Freed::Slot(slot) => slots.give(slot),
         Freed::Room(frame, charge) => give_room(frame, charge, counters, pool),
+        Freed::Nothing => {}
     }
     carried
 }
@@ -67,6 +68,7 @@ pub fn relist(
     held: &mut HeldPages,
     moving: &mut Queue,
     group: GroupId,
+    kind: Kind,
     page: PageId,
     direction: Direction,
     end: End,
@@ -74,12 +76,12 @@ pub fn relist(
     requires group { group.0 < length held.old.lists.groups }
     requires number { page.0 < held.old.numbers }
     requires unlisted { is_listed_in held.old.lists.groups page.0 ≡ false }
-    ensures held { JoinsAtEnd direction end held.old held.new group.0 page.0 }
+    ensures held { JoinsAtEnd direction end held.old held.new group.0 kind page.0 }
     ensures moving { LeavesQueue moving.old moving.new page.0 }
 {
     moving.remove(page);
     match end {
-        End::InFrame => held.enter_after(group, page, direction),
+        End::InFrame => held.enter_after(group, kind, page, direction),
         End::OnBlock => {}
     }
 }

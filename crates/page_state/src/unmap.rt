@@ -1,9 +1,9 @@
 //! Virtual pages that show nothing any more, and the pages that go since nothing maps them any more, with
 //! what they own. A page in transfer stays until its end.
 
-ghost use Rattle.std.specs.Prelude.{◌≡◌, IsSome};
-ghost use Rattle.machine.specs.Pages.{page_at};
-ghost use Rattle.pages.specs.PagesOf.{is_moving_in};
+ghost use Rattle.std.specs.Prelude.{◌≡◌, ◌&&◌, not};
+ghost use Rattle.machine.specs.Slots.{there_and};
+ghost use Rattle.machine.specs.Pages.{page_at, is_anon, is_in_transfer};
 ghost use Rattle.page_state.specs.Changes.{Unmaps, UnmapsAll};
 ghost use Rattle.page_state.specs.Drops.{DropsUnmapped, is_transfer};
 
@@ -11,6 +11,7 @@ use crate::holdings::Holdings;
 use crate::joined::State;
 use machine::id::{PageId, TaskId};
 use machine::limit::TASK_PAGES;
+use machine::record::Kind;
 use pages::Residence;
 use spaces::Spaces;
 
@@ -37,24 +38,27 @@ impl State {
     }
 }
 
-/// Lets the page go where nothing maps it, unless it is in transfer. Takes no memory.
+/// Lets the page go where it is memory that nothing maps, unless it is in transfer or gone. Takes no memory.
 pub fn drop_unmapped(holdings: &mut Holdings, spaces: &Spaces, page: PageId)
-    requires { IsSome (page_at holdings.old.stored.pages page.0) }
     ensures { DropsUnmapped holdings.old holdings.new spaces.now.page_tables page.0 }
 {
     holdings.are_counted();
-    if spaces.mappers(page) == 0 && !is_moving(holdings, page) {
+    if spaces.mappers(page) == 0 && is_settled_memory(holdings, page) {
         holdings.drop_page(page);
     }
 }
 
-/// Whether the page is in transfer.
-fn is_moving(holdings: &Holdings, page: PageId) -> bool
-    ensures { result ≡ is_moving_in holdings.now.stored.pages page.0 }
+/// Whether the page is there, is memory, and is in no transfer.
+fn is_settled_memory(holdings: &Holdings, page: PageId) -> bool
+    ensures { result ≡ there_and (λ page. is_anon page.content && not (is_in_transfer page)) (page_at holdings.now.stored.pages page.0) }
 {
-    match holdings.pages().residence(page) {
-        Some(residence) => is_transfer(residence),
-        None => false,
+    let pages = holdings.pages();
+    match pages.kind(page) {
+        Some(Kind::Anon) => match pages.residence(page) {
+            Some(residence) => !is_transfer(residence),
+            None => false,
+        },
+        _ => false,
     }
 }
 

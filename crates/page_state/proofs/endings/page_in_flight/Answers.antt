@@ -10,4 +10,4 @@ pub returns-clause-stands : goal.returns-clause-stands
 returns-clause-stands c = flies-so c.args.pages.now.pages c.args.ticket.0 c.in-Some.flight c.args.direction c.in-Some.ensures.moves (c.in-Some.ensures.flying c.args.direction) c.requires
 
 pub returns-clause-alone : goal.returns-clause-alone
-returns-clause-alone c = λ p g f b stood. flies-alone c.args.pages.now.pages c.args.pages.now.flights c.args.ticket.0 c.in-Some.flight c.args.direction p g f b c.are_in_flight.ensures c.in-Some.ensures.flight stood
+returns-clause-alone c = λ p label f b stood. flies-alone c.args.pages.now.pages c.args.pages.now.flights c.args.ticket.0 c.in-Some.flight c.args.direction p label f b c.are_in_flight.ensures c.in-Some.ensures.flight stood

@@ -1,6 +1,6 @@
 use Rattle.std.proofs.Common.{rules, ◌≡◌, ◌≢◌, ◌∙◌, ℕ, Some, List, sym, ap, subst, arith}
 use Rattle.machine.specs.Tree.{Node, node_at, IsTree}
-use Rattle.pages.specs.PagesOf.{PagesOf}
+use Rattle.pages.specs.PagesOf.{PagesOf, labelled}
 use Rattle.group_tree.specs.Lineages.{IsLineage}
 use Rattle.group_tree.proofs.LineageLemmas.{live-within}
 use Rattle.page_state.proofs.RemovalLemmas.{framed-out, hands-none, hands-more, hands-fewer, hands-all}
@@ -16,11 +16,10 @@ pub move_up-requires-clause-there : goal.move_up-requires-clause-there
 move_up-requires-clause-there c =
     let own = c.in-Some.ensures.some in
     let tree = c.loop-page.invariant.same.tree in (
-      c.args.group.0,
-      own.0,
-      own.1,
-      ap (λ (t : List Node). (node_at t c.args.group.0).parent) tree ∙ c.requires.below,
-      λ framed. framed-out c.loop-page.counters c.loop-page.pages.pages c.in-Some.page.0 c.args.group.0 own.0 (subst IsTree (sym tree) c.are_counted.ensures.lineage.earlier_parents) c.loop-page.invariant.counted own.1 framed,
+      labelled own.0 own.1,
+      own.2,
+      ap (λ (t : List Node). (node_at t own.0.group).parent) tree ∙ ap (λ (g : ℕ). (node_at c.args.counters.now.tree g).parent) own.3 ∙ c.requires.below,
+      λ framed. framed-out c.loop-page.counters c.loop-page.pages.pages c.in-Some.page.0 (labelled own.0 own.1) (subst IsTree (sym tree) c.are_counted.ensures.lineage.earlier_parents) c.loop-page.invariant.counted own.2 framed,
     )
 
 pub move_up-requires-clause-parent : goal.move_up-requires-clause-parent
@@ -39,7 +38,7 @@ loop-page-smaller c =
     let tree = c.loop-page.invariant.same.tree in
     let live = is.parents_live c.args.group.0 c.args.parent.0 c.requires.live c.requires.below in
     hands-fewer c.args.group.0 c.args.parent.0 (apart c.args.counters.now.tree c.args.group.0 c.args.parent.0 is c.requires.below) c.args.counters.now c.loop-page.counters c.move_up.new.counters c.args.pages.now c.loop-page.pages c.move_up.new.self
-    c.in-Some.page.0 own.0 own.1 (moves.moved c.args.group.0 own.0 own.1) moves.bytes moves.others is.earlier_parents c.requires.below live moves.groups (moves.charged c.args.group.0 own.0 own.1) (moves.uncharged c.args.group.0 own.0 own.1)
+    c.in-Some.page.0 (labelled own.0 own.1) own.3 own.2 (moves.moved _ own.2) moves.bytes moves.others is.earlier_parents c.requires.below live moves.groups (moves.charged _ own.2) (moves.uncharged _ own.2)
 
 pub loop-page-preserved : goal.loop-page-preserved
 loop-page-preserved c =
@@ -48,7 +47,7 @@ loop-page-preserved c =
     let is = c.are_counted.ensures.lineage in
     let live = is.parents_live c.args.group.0 c.args.parent.0 c.requires.live c.requires.below in
     hands-more c.args.group.0 c.args.parent.0 (apart c.args.counters.now.tree c.args.group.0 c.args.parent.0 is c.requires.below) c.args.counters.now c.loop-page.counters c.move_up.new.counters c.args.pages.now c.loop-page.pages c.move_up.new.self
-    c.in-Some.page.0 own.0 own.1 (moves.moved c.args.group.0 own.0 own.1) moves.bytes moves.others is.earlier_parents c.requires.below live moves.groups (moves.charged c.args.group.0 own.0 own.1) (moves.uncharged c.args.group.0 own.0 own.1) c.loop-page.invariant
+    c.in-Some.page.0 (labelled own.0 own.1) own.3 own.2 (moves.moved _ own.2) moves.bytes moves.others is.earlier_parents c.requires.below live moves.groups (moves.charged _ own.2) (moves.uncharged _ own.2) c.loop-page.invariant
 
 pub returns-clause-pages : goal.returns-clause-pages
-returns-clause-pages c = hands-all c.args.group.0 c.args.parent.0 c.args.counters.now c.loop-page.counters c.args.pages.now c.loop-page.pages c.loop-page.invariant c.are_in_flight.ensures.memory (c.first_of.ensures.none (search rules))
+returns-clause-pages c = hands-all c.args.group.0 c.args.parent.0 c.args.counters.now c.loop-page.counters c.args.pages.now c.loop-page.pages c.loop-page.invariant (c.first_of.ensures.none (search rules))

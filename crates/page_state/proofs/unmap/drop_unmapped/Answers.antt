@@ -1,12 +1,25 @@
-use Rattle.std.proofs.Common.{◌≤◌, refl, sym, ◌∙◌, arith}
+use Rattle.std.proofs.Common.{◌≤◌, eq-eqb, refl, sym, ◌∙◌, arith}
 use Rattle.machine.specs.Pages.{page_at}
 use Rattle.machine.specs.Tasks.{mappers}
 use Rattle.page_state.proofs.MappedLemmas.{still-mapped}
 use Rattle.machine.specs.Lists.{Youngest}
 use Rattle.machine.proofs.HeldLemmas.{goes-still}
-use Rattle.page_state.proofs.UnmapLemmas.{kept, still-transfer}
-use Rattle.page_state.proofs.unmap.drop_unmapped.Goals.{else-mappers-eq0-via-then-mappers-eq0+else-not-is_moving, else-mappers-eq0-via-else-mappers-eq0}
+use Rattle.page_state.proofs.DropLemmas.{still-unsettled}
+use Rattle.page_state.proofs.UnmapLemmas.{kept, dropped, settled-there, settled-rests}
+use Rattle.page_state.proofs.unmap.drop_unmapped.Goals.{else-mappers-eq0-via-then-mappers-eq0+else-is_settled_memory, else-mappers-eq0-via-else-mappers-eq0}
 use Rattle.page_state.proofs.unmap.drop_unmapped.Goals as goal
+
+pub drop_page-requires-clause-there : goal.drop_page-requires-clause-there
+drop_page-requires-clause-there c = settled-there (page_at c.args.holdings.now.stored.pages c.args.page.0) (sym c.is_settled_memory.ensures ∙ c.if-is_settled_memory.true)
+
+pub drop_page-requires-clause-settled : goal.drop_page-requires-clause-settled
+drop_page-requires-clause-settled c = settled-rests (page_at c.args.holdings.now.stored.pages c.args.page.0) (sym c.is_settled_memory.ensures ∙ c.if-is_settled_memory.true)
+
+pub returns-then-is_settled_memory : goal.returns-then-is_settled_memory
+returns-then-is_settled_memory c =
+    let p = c.args.page.0 in
+    let none = sym c.mappers.ensures ∙ c.if-mappers-eq0.true in
+    dropped c.args.holdings.now c.drop_page.new.self c.args.spaces.now.page_tables p c.drop_page.ensures (sym c.is_settled_memory.ensures ∙ c.if-is_settled_memory.true) (eq-eqb (mappers c.args.spaces.now.page_tables p) 0 none)
 
 pub returns-else-mappers-eq0 : goal.returns-else-mappers-eq0
 returns-else-mappers-eq0 c =
@@ -16,6 +29,6 @@ returns-else-mappers-eq0 c =
     let same = c.mappers.ensures in
     kept old tables p (goes-still Youngest old.stored.pages old.stored.pages old.held c.are_counted.ensures.held refl)
     (elim c.else-mappers-eq0.branch [
-      | else-mappers-eq0-via-then-mappers-eq0+else-not-is_moving w ↦ still-transfer tables p (page_at old.stored.pages p) (sym w.is_moving.ensures ∙ w.if-not-is_moving.false)
+      | else-mappers-eq0-via-then-mappers-eq0+else-is_settled_memory w ↦ still-unsettled tables p (page_at old.stored.pages p) (sym w.is_settled_memory.ensures ∙ w.if-is_settled_memory.false)
       | else-mappers-eq0-via-else-mappers-eq0 w ↦ (let some = w.if-mappers-eq0.false in let mapped : 1 ≤ mappers tables p = omega (arith, some, same) in still-mapped tables p (page_at old.stored.pages p) mapped)
     ])

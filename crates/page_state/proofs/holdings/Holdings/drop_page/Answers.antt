@@ -12,7 +12,7 @@ use Rattle.page_state.proofs.holdings.Holdings.drop_page.Goals as goal
 goes : (c : goal.After-unlist) → GoesOn Youngest c.self.inside.pages.pages c.self.inside.held.lists c.drop_page-owned.new.self.pages c.unlist.new.self.lists × (c.unlist.new.self.numbers ≡ c.self.inside.held.numbers) × (c.unlist.new.self.room ≡ c.self.inside.held.room)
 goes c =
     let h = c.self.inside in
-    goes-dropped h.pages.pages h.pages.flights h.held c.self.invariant.held c.are_in_flight.ensures c.args.page.0 c.drop_page-owned.new.self.pages (Some (page_of c.drop_page-owned.result)) c.drop_page-owned.ensures.owned c.drop_page-owned.ensures.gone c.unlist.new.self c.unlist.ensures.listed c.unlist.ensures.unlisted
+    goes-dropped h.pages.pages h.held c.self.invariant.held c.args.page.0 c.drop_page-owned.new.self.pages (Some (page_of c.drop_page-owned.result)) c.drop_page-owned.ensures.owned c.drop_page-owned.ensures.gone c.unlist.new.self c.unlist.ensures.listed c.unlist.ensures.unlisted
 
 stays : (c : goal.After-unlist) → Stays c.self.inside (record (c.self.inside) { pages = c.drop_page-owned.new.self; counters = c.release.new.counters; pool = c.release.new.pool; slots = c.release.new.slots; held = c.unlist.new.self })
 stays c = record {
@@ -25,6 +25,7 @@ stays c = record {
   held_numbers = (goes c).1;
   held_room = (goes c).2;
   moving_room = refl;
+  files = ap (λ (t : PagesOf). t.files) c.drop_page-owned.ensures.others;
 }
 
 pub invariant_of-self : goal.invariant_of-self

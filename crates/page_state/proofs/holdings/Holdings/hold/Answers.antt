@@ -3,7 +3,8 @@ use Rattle.machine.specs.Slots.{Changes, there_and}
 use Rattle.machine.specs.Pages.{page_at, is_held, is_in_transfer}
 use Rattle.machine.specs.Lists.{HeldLists, Youngest, GoesOn}
 use Rattle.machine.specs.Step.{new_page}
-use Rattle.pages.specs.PagesOf.{PagesOf}
+use Rattle.machine.specs.declared.record.Kind.TheVariants.{Anon}
+use Rattle.pages.specs.PagesOf.{PagesOf, memory_of}
 use Rattle.page_state.specs.Holdings.{HoldingsOf, IsGranted}
 use Rattle.page_state.specs.Held.{HeldOf, entered}
 use Rattle.page_state.proofs.CountLemmas.{charge-usage}
@@ -37,7 +38,7 @@ enter-requires c =
 pub make_page-page-requires-clause-room : goal.make_page-page-requires-clause-room
 make_page-page-requires-clause-room c =
     let some = granted-some c.self.inside c.self.invariant c.args.group.0 (subst (λ (h : HoldingsOf). IsGranted h c.args.group.0) (sym c.self.view_is) c.requires.granted) in
-    number-free c.self.inside c.self.invariant c.are_in_flight.ensures some
+    number-free c.self.inside c.self.invariant c.are_filed.ensures some
 
 stays : (c : goal.After-enter) → Stays c.self.inside (record (c.self.inside) { pages = c.make_page-page.new.pages; counters = c.take_room-frame.new.counters; pool = c.take_room-frame.new.pool; held = c.enter.new.self })
 stays c = record {
@@ -50,6 +51,7 @@ stays c = record {
   held_numbers = ap (λ (held : HeldOf). held.numbers) c.enter.ensures;
   held_room = ap (λ (held : HeldOf). held.room) c.enter.ensures;
   moving_room = refl;
+  files = ap (λ (t : PagesOf). t.files) c.make_page-page.ensures.others;
 }
 
 goes : (c : goal.After-enter) (g f : ℕ) → page_at c.self.inside.pages.pages c.make_page-page.result.0 ≡ None → g ≡ c.args.group.0
@@ -57,8 +59,8 @@ goes : (c : goal.After-enter) (g f : ℕ) → page_at c.self.inside.pages.pages 
 goes c g f free own placed =
     let h = c.self.inside in
     subst (λ (held : HeldLists). GoesOn Youngest h.pages.pages h.held.lists c.make_page-page.new.pages.pages held)
-    (ap (λ (x : ℕ). entered h.held.lists x c.make_page-page.result.0 Youngest) own ∙ sym (ap (λ (held : HeldOf). held.lists) c.enter.ensures))
-    (goes-in h.pages.pages h.held.lists c.self.invariant.held c.make_page-page.result.0 Youngest c.make_page-page.new.pages.pages None g f free refl placed)
+    (ap (λ (x : ℕ). entered h.held.lists x Anon c.make_page-page.result.0 Youngest) own ∙ sym (ap (λ (held : HeldOf). held.lists) c.enter.ensures))
+    (goes-in h.pages.pages h.held.lists c.self.invariant.held c.make_page-page.result.0 Youngest c.make_page-page.new.pages.pages None (memory_of g) f free refl placed)
 
 pub invariant_of-self : goal.invariant_of-self
 invariant_of-self c =

@@ -13,7 +13,6 @@ returns c =
     let target = c.args.target.0 in
     let last = cursor_at c.args.cursors.now.cursors target in
     let order = c.groups_form_a_tree.ensures.earlier_parents in
-    let memory = c.are_in_flight.ensures.memory in
     let kin = rw (← c.self.view_is) at c.requires.kin in
     let swap = rw (← c.self.view_is) at c.has_swap-swap_free.ensures in
     let groups = c.gens.ensures.groups in
@@ -23,6 +22,6 @@ returns c =
     (subst (λ (gs : List Gens). IfNone c.next_group.result (GivesNone tree h.counters gs c.has_swap-swap_free.result target)) groups c.next_group.ensures.none) in
     rw (← c.self.view_is)
     (record {
-      turn = turn-is h c.self.invariant tree kin order target memory c.groups_form_a_tree.ensures c.requires.live last c.next_group.result serves;
-      none = none-is h c.self.invariant tree kin order target memory c.groups_form_a_tree.ensures c.requires.live last c.next_group.result serves none;
+      turn = turn-is h c.self.invariant tree kin order target c.groups_form_a_tree.ensures c.requires.live last c.next_group.result serves;
+      none = none-is h c.self.invariant tree kin order target c.groups_form_a_tree.ensures c.requires.live last c.next_group.result serves none;
     })

@@ -1,6 +1,7 @@
 use Rattle.std.proofs.Common.{◌≡◌, ◌∙◌, length, sym, ap, arith}
 use Rattle.machine.specs.Slots.{count_there}
 use Rattle.machine.specs.Pages.{has_frame, has_this_frame, has_swap, is_in_transfer}
+use Rattle.files.specs.Files.{FilesOf}
 use Rattle.page_state.specs.Owned.{has_this_block, is_going}
 use Rattle.page_state.proofs.BalanceLemmas.{balanced-open}
 use Rattle.page_state.proofs.CountLemmas.{counted-open}
@@ -37,6 +38,7 @@ invariant_of-result c =
       held_numbers = c.in_ok-held.ensures.numbers ∙ sym numbers;
       page_groups = c.in-Ok-new.ensures.groups ∙ sym (ap length c.in_ok-counters.ensures.tree);
       numbers = omega (arith, frames, blocks, numbers);
+      homes = ap (λ (files : FilesOf). files.first) c.in-Ok-new.ensures.files ∙ c.requires.homes ∙ sym blocks;
       spares = omega (arith, frames, spares, going);
       tickets = omega (arith, frames, tickets);
     }

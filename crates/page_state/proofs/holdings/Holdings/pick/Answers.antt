@@ -14,20 +14,20 @@ pub pick-requires-clause-group : goal.pick-requires-clause-group
 pick-requires-clause-group c =
     let gives = rw (← c.self.view_is) at c.requires.gives in
     usable-within (is_swap_left (holdings_of c.self.inside)) c.self.inside.held.lists.groups c.args.group.0
-    (given-usable (holdings_of c.self.inside) c.are_in_flight.ensures.memory gives.1 c.args.group.0 gives.0 gives.2 c.self.invariant.held)
+    (given-usable (holdings_of c.self.inside) gives.1 c.args.group.0 gives.0 gives.2 c.self.invariant.held)
 
 pub pick-requires-clause-usable : goal.pick-requires-clause-usable
 pick-requires-clause-usable c =
     let gives = rw (← c.self.view_is) at c.requires.gives in
     let swap = rw (← c.self.view_is) at c.has_swap-swap_free.ensures in
     subst (λ (b : Bool). has_usable b (gens_at c.self.inside.held.lists.groups c.args.group.0) ≡ true) (sym swap)
-    (given-usable (holdings_of c.self.inside) c.are_in_flight.ensures.memory gives.1 c.args.group.0 gives.0 gives.2 c.self.invariant.held)
+    (given-usable (holdings_of c.self.inside) gives.1 c.args.group.0 gives.0 gives.2 c.self.invariant.held)
 
 pub invariant_of-self : goal.invariant_of-self
 invariant_of-self c =
     let h = c.self.inside in
     let picked = c.pick.ensures in
-    holding-counted h h.counters c.pick.new.self h.pages.groups h.pages.room c.self.invariant.kept.counted (held-searched h.pages.pages h.held.lists c.self.invariant.held c.are_in_flight.ensures.memory c.pick.new.self.lists picked.rows)
+    holding-counted h h.counters c.pick.new.self h.pages.groups h.pages.room c.self.invariant.kept.counted (held-searched h.pages.pages h.held.lists c.self.invariant.held c.pick.new.self.lists picked.rows)
     (picked.rows.groups ∙ c.self.invariant.held_groups) c.self.invariant.page_groups (ap (λ (held : HeldOf). held.numbers) picked.others) c.self.invariant
 
 pub returns : goal.returns
@@ -35,11 +35,13 @@ returns c =
     let h = c.self.inside in
     let picked = c.pick.ensures in
     let swap = rw (← c.self.view_is) at c.has_swap-swap_free.ensures in
-    let stands = listed-stands h.pages.pages h.held.lists c.self.invariant.held c.are_in_flight.ensures.memory c.args.group.0 c.pick.result.0 picked.listed in
+    let stands = listed-stands h.pages.pages h.held.lists c.self.invariant.held c.args.group.0 c.pick.result.0 picked.listed in
     rw (← c.self.view_is)
     (record {
-      frame = stands.0;
-      stands = stands.1;
+      label = stands.0;
+      frame = stands.1;
+      stands = stands.2;
+      group = stands.3;
       picked = subst (λ (b : Bool). PicksOf b h.held.lists c.args.group.0 (Some c.pick.result.0) c.pick.new.self.lists) swap picked.picked;
       ages = picked.ages;
       others = ap (λ (held : HeldOf). let x : HoldingsOf = holdings_of (record h { held = held }) in x) picked.others;

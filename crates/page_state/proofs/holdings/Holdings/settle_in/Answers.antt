@@ -2,8 +2,9 @@ use Rattle.std.proofs.Common.{◌<◌, ◌∙◌, ℕ, Option, refl, ap, subst, 
 use Rattle.std.specs.Prelude.{IfSome}
 use Rattle.machine.specs.Pages.{Coming, Page, page_at}
 use Rattle.machine.specs.declared.record.Direction.TheVariants.{In}
-use Rattle.pages.specs.PagesOf.{PagesOf, HasResidence}
+use Rattle.pages.specs.PagesOf.{Label, PagesOf, HasResidence}
 use Rattle.pages.specs.Transfers.{Ends}
+use Rattle.machine.specs.declared.record.Kind.{Kind}
 use Rattle.page_state.specs.Relists.{JoinsAtEnd}
 use Rattle.page_state.proofs.SettleLemmas.{Lands, relist-fits, holding-lands, lands-settles}
 use Rattle.page_state.proofs.holdings.Holdings.settle_in.Goals as goal
@@ -16,36 +17,37 @@ end_transfer-buffer-requires-clause-stands c =
 pub relist-requires : goal.relist-requires
 relist-requires c =
     let w = rw (← c.self.view_is) at c.requires in
-    let fits = relist-fits c.self.inside c.self.invariant In c.args.page.0 w.0 w.1 w.2 c.args.ticket.number c.group_of-group.result.0 w.3 (c.group_of-group.ensures w.0 (Coming w.1 w.2 c.args.ticket.number) w.3) in
+    let fits = relist-fits c.self.inside c.self.invariant In c.args.page.0 w.0 w.1 w.2 c.args.ticket.number c.group_of-group.result.0 w.3 (c.group_of-group.ensures _ w.3) in
     let numbers = c.self.invariant.held_numbers in
     let within = subst (λ (slot : Option Page). IfSome slot (λ page. c.args.page.0 < c.self.inside.pages.numbers)) w.3 (c.are_numbered.ensures c.args.page.0) in
     record { group = fits.1; number = omega (arith, numbers, within); unlisted = fits.0 }
 
-ends : (c : goal.After-new) (g f b : ℕ) → HasResidence c.self.inside.pages.pages c.args.page.0 g (Coming f b c.args.ticket.number)
-    → Ends (record (c.self.inside.pages) { bytes = c.fill.new.pages.bytes }) c.end_transfer-buffer.new.pages c.args.page.0 g f b c.args.ticket.number c.args.end
-ends c g f b stood =
+ends : (c : goal.After-new) (label : Label) (f b : ℕ) → HasResidence c.self.inside.pages.pages c.args.page.0 label (Coming f b c.args.ticket.number)
+    → Ends (record (c.self.inside.pages) { bytes = c.fill.new.pages.bytes }) c.end_transfer-buffer.new.pages c.args.page.0 label f b c.args.ticket.number c.args.end
+ends c label f b stood =
     let p = c.args.page.0 in
-    subst (λ (t : PagesOf). Ends t c.end_transfer-buffer.new.pages p g f b c.args.ticket.number c.args.end) c.fill.ensures.others
-    (c.end_transfer-buffer.ensures.ends In p g f b (ap (λ (t : PagesOf). page_at t.pages p) c.fill.ensures.others ∙ stood))
+    subst (λ (t : PagesOf). Ends t c.end_transfer-buffer.new.pages p label f b c.args.ticket.number c.args.end) c.fill.ensures.others
+    (c.end_transfer-buffer.ensures.ends In p label f b (ap (λ (t : PagesOf). page_at t.pages p) c.fill.ensures.others ∙ stood))
 
-lands : (c : goal.After-new) (g f b : ℕ) → HasResidence c.self.inside.pages.pages c.args.page.0 g (Coming f b c.args.ticket.number)
-    → Lands c.self.inside (record { pages = c.end_transfer-buffer.new.pages; pool = c.end_transfer-buffer.new.pool; slots = c.end_transfer-buffer.new.slots; counters = c.end_transfer-buffer.new.counters; held = c.relist.new.held; moving = c.relist.new.moving }) c.args.page.0 g f b c.args.ticket.number In c.args.end (c.group_of-group.result, c.args.page)
-lands c g f b stood =
+lands : (c : goal.After-new) (label : Label) (f b : ℕ) → HasResidence c.self.inside.pages.pages c.args.page.0 label (Coming f b c.args.ticket.number)
+    → Lands c.self.inside (record { pages = c.end_transfer-buffer.new.pages; pool = c.end_transfer-buffer.new.pool; slots = c.end_transfer-buffer.new.slots; counters = c.end_transfer-buffer.new.counters; held = c.relist.new.held; moving = c.relist.new.moving }) c.args.page.0 label f b c.args.ticket.number In c.args.end (c.group_of-group.result, c.args.page)
+lands c label f b stood =
     let settled = c.end_transfer-buffer.ensures in
     let spares = settled.spares in
     record {
       stood = stood;
       same = refl;
-      owned = c.group_of-group.ensures g (Coming f b c.args.ticket.number) stood;
+      owned = c.group_of-group.ensures _ stood;
       filled = c.fill.new.pages.bytes;
       others = c.fill.ensures.bytes;
-      ended = ends c g f b stood;
+      ended = ends c label f b stood;
       kept = settled.kept;
       groups = settled.groups;
       frames = settled.frames;
       spares = omega (arith, spares);
       blocks = settled.blocks;
-      held = subst (λ (x : ℕ). JoinsAtEnd In c.args.end c.self.inside.held c.relist.new.held x c.args.page.0) (c.group_of-group.ensures g (Coming f b c.args.ticket.number) stood) c.relist.ensures.held;
+      held = subst (λ (kind : Kind). JoinsAtEnd In c.args.end c.self.inside.held c.relist.new.held label.group kind c.args.page.0) (c.kind_of-kind.ensures _ stood)
+          (subst (λ (x : ℕ). JoinsAtEnd In c.args.end c.self.inside.held c.relist.new.held x c.kind_of-kind.result c.args.page.0) (c.group_of-group.ensures _ stood) c.relist.ensures.held);
       moving = c.relist.ensures.moving;
     }
 
@@ -56,7 +58,7 @@ invariant_of-self c =
 
 pub returns-clause-settles : goal.returns-clause-settles
 returns-clause-settles c =
-    rw (← c.self.view_is) (λ g f b stood. lands-settles c.self.inside _ c.self.invariant c.args.page.0 g f b c.args.ticket.number In (c.group_of-group.result, c.args.page) c.args.end (lands c g f b stood))
+    rw (← c.self.view_is) (λ label f b stood. lands-settles c.self.inside _ c.self.invariant c.args.page.0 label f b c.args.ticket.number In (c.group_of-group.result, c.args.page) c.args.end (lands c label f b stood))
 
 pub returns-clause-arrives : goal.returns-clause-arrives
 returns-clause-arrives c =

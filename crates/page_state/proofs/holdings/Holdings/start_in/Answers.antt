@@ -2,7 +2,7 @@ use Rattle.std.proofs.Common.{◌≡◌, ◌∙◌, Some, refl, sym, ap, subst, 
 use Rattle.machine.specs.Pages.{Coming, Away, is_in_transfer}
 use Rattle.machine.specs.Lists.{Youngest}
 use Rattle.page_counter.specs.Counts.{Charges, over_in}
-use Rattle.pages.specs.PagesOf.{HasResidence, anon_page}
+use Rattle.pages.specs.PagesOf.{HasResidence, memory_of, labelled}
 use Rattle.pages.specs.Transfers.{StartsIn}
 use Rattle.page_state.proofs.CountLemmas.{charge-usage}
 use Rattle.page_state.proofs.HoldingLemmas.{Stays, kept-step, holding-step, relists-in, same-view, ticket-free, goes-at}
@@ -16,8 +16,8 @@ pub take_room-frame-requires-clause-under : goal.take_room-frame-requires-clause
 take_room-frame-requires-clause-under c =
     let h = c.self.inside in
     let away = rw (← c.self.view_is) at c.requires.away in
-    let live = stands-live h.counters h.pages.pages c.args.page.0 away.0 (Away away.1) away.2 c.self.invariant.kept.counted in
-    ap (over_in h.counters) (c.group_of-group.ensures away.0 (Away away.1) away.2) ∙ granted-over h c.self.invariant away.0 c.are_counted.ensures.lineage live away.3
+    let live = stands-live h.counters h.pages.pages c.args.page.0 (memory_of away.0) (Away away.1) away.2 c.self.invariant.kept.counted in
+    ap (over_in h.counters) (c.group_of-group.ensures _ away.2) ∙ granted-over h c.self.invariant away.0 c.are_counted.ensures.lineage live away.3
 
 pub take_room-frame-requires-clause-free : goal.take_room-frame-requires-clause-free
 take_room-frame-requires-clause-free c =
@@ -34,8 +34,8 @@ push-requires c =
     let away = rw (← c.self.view_is) at c.requires.away in
     record { room = (room-free c.self.inside c.self.invariant (granted-some c.self.inside c.self.invariant away.0 away.3)).0 }
 
-stays : (c : goal.After-push) → c.start_in-ticket.new.self.numbers ≡ c.self.inside.pages.numbers → c.start_in-ticket.new.self.groups ≡ c.self.inside.pages.groups → c.start_in-ticket.new.self.room ≡ c.self.inside.pages.room → Stays c.self.inside (record (c.self.inside) { pages = c.start_in-ticket.new.self; counters = c.take_room-frame.new.counters; pool = c.take_room-frame.new.pool; moving = c.push.new.self })
-stays c numbers groups room = record {
+stays : (c : goal.After-push) → c.start_in-ticket.new.self.numbers ≡ c.self.inside.pages.numbers → c.start_in-ticket.new.self.groups ≡ c.self.inside.pages.groups → c.start_in-ticket.new.self.room ≡ c.self.inside.pages.room → c.start_in-ticket.new.self.files ≡ c.self.inside.pages.files → Stays c.self.inside (record (c.self.inside) { pages = c.start_in-ticket.new.self; counters = c.take_room-frame.new.counters; pool = c.take_room-frame.new.pool; moving = c.push.new.self })
+stays c numbers groups room files = record {
   groups = c.take_room-frame.ensures.charged.groups;
   frames = c.take_room-frame.ensures.frame.frames;
   blocks = refl;
@@ -45,6 +45,7 @@ stays c numbers groups room = record {
   held_numbers = refl;
   held_room = refl;
   moving_room = c.push.ensures.room;
+  files = files;
 }
 
 pub invariant_of-self : goal.invariant_of-self
@@ -56,12 +57,12 @@ invariant_of-self c =
     let g = c.take_room-frame.result.1 in
     let f = c.take_room-frame.result.0.number in
     let room = c.take_room-frame.ensures in
-    let same : g ≡ away.0 = room.group ∙ c.group_of-group.ensures away.0 (Away b) away.2 in
-    let stood : HasResidence h.pages.pages p g (Away b) = subst (λ x. HasResidence h.pages.pages p x (Away b)) (sym same) away.2 in
+    let same : g ≡ away.0 = room.group ∙ c.group_of-group.ensures _ away.2 in
+    let stood : HasResidence h.pages.pages p (memory_of g) (Away b) = subst (λ x. HasResidence h.pages.pages p (memory_of x) (Away b)) (sym same) away.2 in
     let starts = (c.start_in-ticket.ensures b stood).starts in
     let n = c.start_in-ticket.result.number in
-    let from = Some (anon_page g (Away b)) in
-    let to = Some (anon_page g (Coming f b n)) in
+    let from = Some (labelled (memory_of g) (Away b)) in
+    let to = Some (labelled (memory_of g) (Coming f b n)) in
     let pages = c.start_in-ticket.new.self.pages in
     let spares = room.frame.spares in
     let tickets = starts.fewer in
@@ -75,10 +76,10 @@ invariant_of-self c =
           (record {
             tree = room.charged.groups.tree;
             usage = λ a lt. (let u = charge-usage h.counters c.take_room-frame.new.counters g a (subst (λ x. Charges h.counters c.take_room-frame.new.counters x) (sym room.group) room.charged) lt in omega (arith, u));
-            live = stands-live h.counters h.pages.pages p g (Away b) stood c.self.invariant.kept.counted;
+            live = stands-live h.counters h.pages.pages p (memory_of g) (Away b) stood c.self.invariant.kept.counted;
           })
           c.self.invariant.kept;
-      stays = stays c starts.numbers starts.groups starts.room;
+      stays = stays c starts.numbers starts.groups starts.room starts.files;
       generation = Youngest;
       goes = goes-at h.pages.pages h.held.lists c.self.invariant.held p Youngest pages from to stood starts.placed refl;
       apart = λ was now. absurd cc;
@@ -96,10 +97,10 @@ returns-clause-begins c =
     let room = c.take_room-frame.ensures in
     let frame = granted-frame h c.self.invariant c.take_room-frame.new.counters c.take_room-frame.new.pool _ _ _ room in
     rw (← c.self.view_is) (λ g b stood.
-    let owned = c.group_of-group.ensures g (Away b) stood in
+    let owned = c.group_of-group.ensures _ stood in
     let same : c.take_room-frame.result.1 ≡ g = room.group ∙ owned in
-    let begins = subst (λ x. StartsIn h.pages c.start_in-ticket.new.self p x f b c.args.worker.0 c.args.entry c.start_in-ticket.result) same
-    (c.start_in-ticket.ensures b (subst (λ x. HasResidence h.pages.pages p x (Away b)) (sym same) stood)) in
+    let begins = subst (λ x. StartsIn h.pages c.start_in-ticket.new.self p (memory_of x) f b c.args.worker.0 c.args.entry c.start_in-ticket.result) same
+    (c.start_in-ticket.ensures b (subst (λ x. HasResidence h.pages.pages p (memory_of x) (Away b)) (sym same) stood)) in
     record {
       frame = f;
       in_range = frame.0;
@@ -110,5 +111,5 @@ returns-clause-begins c =
       bytes = begins.bytes;
       listed = begins.starts.listed;
       order = goes-at h.pages.pages h.held.lists c.self.invariant.held p Youngest c.start_in-ticket.new.self.pages _ _ stood begins.starts.placed refl;
-      others = same-view h _ (stays c begins.starts.numbers begins.starts.groups begins.starts.room);
+      others = same-view h _ (stays c begins.starts.numbers begins.starts.groups begins.starts.room begins.starts.files);
     })

@@ -5,40 +5,37 @@ use Rattle.machine.specs.Pages.{Held, Going, Page, is_held, is_in_transfer, has_
 use Rattle.machine.specs.Lists.{HeldLists, Youngest, GoesOn}
 use Rattle.aging.proofs.GroupLemmas.{listed-in}
 use Rattle.frames.specs.Pool.{PoolOf, free_count}
-use Rattle.pages.specs.PagesOf.{anon_page, HasResidence}
+use Rattle.pages.specs.PagesOf.{memory_of, labelled, HasResidence}
 use Rattle.pages.specs.Transfers.{given_ticket}
 use Rattle.pages.specs.Tickets.{TicketOf}
 use Rattle.page_state.specs.Owned.{has_this_block}
 use Rattle.page_state.specs.Held.{HeldOf, left}
 use Rattle.page_state.proofs.BalanceLemmas.{taken-in}
-use Rattle.page_state.proofs.HoldingLemmas.{Stays, kept-step, holding-step, relists-in, same-view, ticket-free, held-stands, stands-listed, goes-out}
+use Rattle.page_state.proofs.HoldingLemmas.{Stays, kept-step, holding-step, relists-in, same-view, ticket-free, stands-listed, goes-out}
 use Rattle.page_state.proofs.GrantLemmas.{stands-live, room-held}
 use Rattle.page_state.proofs.holdings.Holdings.start_out.Goals as goal
 
 pub take_spare-spare-requires : goal.take_spare-spare-requires
 take_spare-spare-requires c =
     let h = c.self.inside in
-    let held = rw (← c.self.view_is) at c.requires.held in
-    let w = held-stands h.pages.pages h.pages.flights c.args.page.0 c.are_in_flight.ensures held in
-    (room-held h c.self.invariant c.args.page.0 w.0 w.1 w.2).2
+    let w = rw (← c.self.view_is) at c.requires.held in
+    (room-held h c.self.invariant c.args.page.0 (memory_of w.0) w.1 w.2).2
 
 pub start_out-ticket-requires-clause-room : goal.start_out-ticket-requires-clause-room
 start_out-ticket-requires-clause-room c =
     let h = c.self.inside in
-    let held = rw (← c.self.view_is) at c.requires.held in
-    let w = held-stands h.pages.pages h.pages.flights c.args.page.0 c.are_in_flight.ensures held in
-    (room-held h c.self.invariant c.args.page.0 w.0 w.1 w.2).1
+    let w = rw (← c.self.view_is) at c.requires.held in
+    (room-held h c.self.invariant c.args.page.0 (memory_of w.0) w.1 w.2).1
 
 pub push-requires : goal.push-requires
 push-requires c =
     let h = c.self.inside in
-    let held = rw (← c.self.view_is) at c.requires.held in
-    let w = held-stands h.pages.pages h.pages.flights c.args.page.0 c.are_in_flight.ensures held in
-    record { room = (room-held h c.self.invariant c.args.page.0 w.0 w.1 w.2).0 }
+    let w = rw (← c.self.view_is) at c.requires.held in
+    record { room = (room-held h c.self.invariant c.args.page.0 (memory_of w.0) w.1 w.2).0 }
 
 -- where the page stands
-stood : (c : goal.After-push) → (g f : ℕ) × HasResidence c.self.inside.pages.pages c.args.page.0 g (Held f)
-stood c = let held = rw (← c.self.view_is) at c.requires.held in held-stands c.self.inside.pages.pages c.self.inside.pages.flights c.args.page.0 c.are_in_flight.ensures held
+stood : (c : goal.After-push) → (g f : ℕ) × HasResidence c.self.inside.pages.pages c.args.page.0 (memory_of g) (Held f)
+stood c = rw (← c.self.view_is) at c.requires.held
 
 owner : goal.After-push → ℕ
 owner c = (stood c).0
@@ -46,18 +43,18 @@ owner c = (stood c).0
 -- the page left the list of its group
 leaves : (c : goal.After-push) → c.leave.new.self ≡ record (c.self.inside.held) { lists = left c.self.inside.held.lists (owner c) c.args.page.0 }
 unfolding owner stood
-leaves c = c.leave.ensures (owner c) (stands-listed c.self.inside.pages.pages c.self.inside.held.lists c.self.invariant.held c.args.page.0 (owner c) (stood c).1 (stood c).2)
+leaves c = c.leave.ensures (owner c) (stands-listed c.self.inside.pages.pages c.self.inside.held.lists c.self.invariant.held c.args.page.0 (memory_of (owner c)) (stood c).1 (stood c).2)
 
-goes : (c : goal.After-push) (g f : ℕ) (to : Page) → HasResidence c.self.inside.pages.pages c.args.page.0 g (Held f) → is_held to ≡ false → Changes c.self.inside.pages.pages c.start_out-ticket.new.self.pages c.args.page.0 (Some to)
+goes : (c : goal.After-push) (g f : ℕ) (to : Page) → HasResidence c.self.inside.pages.pages c.args.page.0 (memory_of g) (Held f) → is_held to ≡ false → Changes c.self.inside.pages.pages c.start_out-ticket.new.self.pages c.args.page.0 (Some to)
     → GoesOn Youngest c.self.inside.pages.pages c.self.inside.held.lists c.start_out-ticket.new.self.pages c.leave.new.self.lists
 goes c g f to stood gone changes =
     let h = c.self.inside in
     subst (λ (held : HeldLists). GoesOn Youngest h.pages.pages h.held.lists c.start_out-ticket.new.self.pages held)
-    (sym (ap (λ (held : HeldOf). held.lists) (c.leave.ensures g (stands-listed h.pages.pages h.held.lists c.self.invariant.held c.args.page.0 g f stood))))
-    (goes-out h.pages.pages h.held.lists c.self.invariant.held c.args.page.0 Youngest c.start_out-ticket.new.self.pages (Some to) g f stood changes gone)
+    (sym (ap (λ (held : HeldOf). held.lists) (c.leave.ensures g (stands-listed h.pages.pages h.held.lists c.self.invariant.held c.args.page.0 (memory_of g) f stood))))
+    (goes-out h.pages.pages h.held.lists c.self.invariant.held c.args.page.0 Youngest c.start_out-ticket.new.self.pages (Some to) (memory_of g) f stood changes gone)
 
-stays : (c : goal.After-push) → c.start_out-ticket.new.self.numbers ≡ c.self.inside.pages.numbers → c.start_out-ticket.new.self.groups ≡ c.self.inside.pages.groups → c.start_out-ticket.new.self.room ≡ c.self.inside.pages.room → Stays c.self.inside (record (c.self.inside) { pages = c.start_out-ticket.new.self; pool = c.take_spare-spare.new.pool; slots = c.take_slot-slot.new.slots; held = c.leave.new.self; moving = c.push.new.self })
-stays c numbers groups room = record {
+stays : (c : goal.After-push) → c.start_out-ticket.new.self.numbers ≡ c.self.inside.pages.numbers → c.start_out-ticket.new.self.groups ≡ c.self.inside.pages.groups → c.start_out-ticket.new.self.room ≡ c.self.inside.pages.room → c.start_out-ticket.new.self.files ≡ c.self.inside.pages.files → Stays c.self.inside (record (c.self.inside) { pages = c.start_out-ticket.new.self; pool = c.take_spare-spare.new.pool; slots = c.take_slot-slot.new.slots; held = c.leave.new.self; moving = c.push.new.self })
+stays c numbers groups room files = record {
   groups = record { tree = refl; limits = refl; room = refl };
   frames = sym (ap (λ (q : PoolOf). q.frames) c.take_spare-spare.ensures);
   blocks = c.take_slot-slot.ensures.blocks;
@@ -67,22 +64,22 @@ stays c numbers groups room = record {
   held_numbers = ap (λ (held : HeldOf). held.numbers) (leaves c);
   held_room = ap (λ (held : HeldOf). held.room) (leaves c);
   moving_room = c.push.ensures.room;
+  files = files;
 }
 
 pub invariant_of-self : goal.invariant_of-self
 invariant_of-self c =
     let h = c.self.inside in
-    let held = rw (← c.self.view_is) at c.requires.held in
     let p = c.args.page.0 in
-    let w = held-stands h.pages.pages h.pages.flights p c.are_in_flight.ensures held in
+    let w = rw (← c.self.view_is) at c.requires.held in
     let g = w.0 in
     let f = w.1 in
     let starts = (c.start_out-ticket.ensures g f w.2).starts in
     let b = c.take_slot-slot.result in
     let slots = c.take_slot-slot.ensures in
     let pool = c.take_spare-spare.ensures in
-    let from = Some (anon_page g (Held f)) in
-    let to = Some (anon_page g (Going f b c.start_out-ticket.result.number)) in
+    let from = Some (labelled (memory_of g) (Held f)) in
+    let to = Some (labelled (memory_of g) (Going f b c.start_out-ticket.result.number)) in
     let spares = ap (λ (q : PoolOf). q.spares) pool in
     let frames = ap (λ (q : PoolOf). q.frames) pool in
     let tickets = starts.fewer in
@@ -97,11 +94,11 @@ invariant_of-self c =
           })
           slots.blocks
           (record { counts = λ m. (let k = slots.counts m in omega (arith, k)); len = (let k = slots.fewer in omega (arith, k)) })
-          (record { tree = refl; usage = λ a lt. refl; live = stands-live h.counters h.pages.pages p g (Held f) w.2 c.self.invariant.kept.counted })
+          (record { tree = refl; usage = λ a lt. refl; live = stands-live h.counters h.pages.pages p (memory_of g) (Held f) w.2 c.self.invariant.kept.counted })
           c.self.invariant.kept;
-      stays = stays c starts.numbers starts.groups starts.room;
+      stays = stays c starts.numbers starts.groups starts.room starts.files;
       generation = Youngest;
-      goes = goes c g f (anon_page g (Going f b c.start_out-ticket.result.number)) w.2 refl starts.placed;
+      goes = goes c g f (labelled (memory_of g) (Going f b c.start_out-ticket.result.number)) w.2 refl starts.placed;
       apart = λ was now. absurd cc;
       moving = relists-in is_in_transfer h.moving.numbers c.push.new.self.numbers p p from to refl refl refl c.push.ensures.counts c.push.ensures.more;
       spares = omega (arith, spares);
@@ -120,24 +117,22 @@ returns c =
     let begins = c.start_out-ticket.ensures g f stood in
     let block : c.take_slot-slot.result ≡ ticket.block = sym (ap (λ (t : TicketOf). t.block) begins.starts.given) in
     record {
-      in_range = subst (λ x. x < h.slots.blocks) block taken.0;
-      unused = subst (λ x. is_swap_taken h.pages.pages x ≡ false) block taken.1;
+      block = (subst (λ x. x < h.slots.blocks) block taken.0, subst (λ x. is_swap_taken h.pages.pages x ≡ false) block taken.1);
       ticket_free = ticket-free h.pages.pages h.pages.flights ticket.number c.are_in_flight.ensures begins.starts.free;
       given = subst (λ x. ticket ≡ given_ticket ticket.number c.args.worker.0 c.args.entry x ticket.bytes) block begins.starts.given;
       holds = begins.holds;
-      placed = subst (λ x. Changes h.pages.pages c.start_out-ticket.new.self.pages p (Some (anon_page g (Going f x ticket.number)))) block begins.starts.placed;
+      placed = subst (λ x. Changes h.pages.pages c.start_out-ticket.new.self.pages p (Some (labelled (memory_of g) (Going f x ticket.number)))) block begins.starts.placed;
       bytes = begins.bytes;
       listed = begins.starts.listed;
       order = goes c g f _ stood refl begins.starts.placed;
-      others = same-view h _ (stays c begins.starts.numbers begins.starts.groups begins.starts.room);
+      others = same-view h _ (stays c begins.starts.numbers begins.starts.groups begins.starts.room begins.starts.files);
     })
 
 pub leave-requires : goal.leave-requires
 leave-requires c =
     let h = c.self.inside in
-    let held = rw (← c.self.view_is) at c.requires.held in
     let p = c.args.page.0 in
-    let w = held-stands h.pages.pages h.pages.flights p c.are_in_flight.ensures held in
+    let w = rw (← c.self.view_is) at c.requires.held in
     let numbers = c.self.invariant.held_numbers in
     let within = subst (λ (slot : Option Page). IfSome slot (λ page. p < h.pages.numbers)) w.2 (c.are_numbered.ensures p) in
-    record { listed = listed-in h.held.lists.groups w.0 p (stands-listed h.pages.pages h.held.lists c.self.invariant.held p w.0 w.1 w.2); number = omega (arith, numbers, within) }
+    record { listed = listed-in h.held.lists.groups w.0 p (stands-listed h.pages.pages h.held.lists c.self.invariant.held p (memory_of w.0) w.1 w.2); number = omega (arith, numbers, within) }

@@ -26,6 +26,7 @@ invariant_of-self-2 c =
     (c.add_group.ensures.frames ∙ ap (λ (h : HoldingsOf). h.frames) same)
     (c.add_group.ensures.swap ∙ ap (λ (h : HoldingsOf). h.swap) same)
     (c.add_group.ensures.numbers ∙ ap (λ (h : HoldingsOf). h.numbers) same)
+    (c.add_group.ensures.files ∙ ap (λ (h : HoldingsOf). h.files) same)
     (search rules)
 
 pub returns-clause-adds : goal.returns-clause-adds

@@ -1,4 +1,5 @@
 use Rattle.std.proofs.Common.{◌∙◌, refl, ap}
+use Rattle.files.specs.Files.{FilesOf}
 use Rattle.page_state.specs.Holdings.{Stored}
 use Rattle.page_state.proofs.KinLemmas.{kin-root}
 use Rattle.page_state.proofs.MappedLemmas.{mapped-open, homes-open}
@@ -11,6 +12,7 @@ invariant_of-result c =
       sized = c.requires;
       frames = c.in_ok-holdings.ensures.frames;
       swap = c.in_ok-holdings.ensures.swap;
+      files = c.in_ok-holdings.ensures.files ∙ ap (λ (f : FilesOf). f.sizes) c.in_ok-files.ensures;
       page_numbers = c.in_ok-holdings.ensures.numbers;
       held_kin = rw (c.in_ok-holdings.ensures.kin, tree) kin-root;
       counted_kin = rw (c.in_ok-events.ensures.tree, tree) kin-root;

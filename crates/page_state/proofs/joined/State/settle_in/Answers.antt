@@ -1,13 +1,7 @@
 use Rattle.std.proofs.Common.{◌∙◌}
 use Rattle.machine.specs.declared.record.Direction.TheVariants.{In}
-use Rattle.page_state.proofs.EndingLemmas.{settled-there, joined-settled, any-ended, any-shows}
+use Rattle.page_state.proofs.EndingLemmas.{joined-settled, any-ended, any-bytes}
 use Rattle.page_state.proofs.joined.State.settle_in.Goals as goal
-
-pub drop_unmapped-requires : goal.drop_unmapped-requires
-drop_unmapped-requires c =
-    let s = c.self.inside in
-    let stood = rw (c.pages.ensures.pages, c.number.ensures) at c.page_in_flight-page.ensures.stands in
-    settled-there s.holdings c.settle_in-bytes.new.self In c.page_in_flight-page.result.0 stood.0 c.args.ticket.number _ (c.settle_in-bytes.ensures.settles stood.0 stood.1 stood.2 stood.3)
 
 pub invariant_of-self : goal.invariant_of-self
 invariant_of-self c =
@@ -25,6 +19,6 @@ returns-clause-ends c =
 pub returns-clause-arrives : goal.returns-clause-arrives
 returns-clause-arrives c =
     let alone = rw (c.pages.ensures.pages, c.number.ensures) at c.page_in_flight-page.ensures.alone in
-    rw (← c.self.view_is) (λ p g f b stood in_frame t v k shown.
-    any-shows c.self.inside c.self.invariant c.are_counted.ensures.generations c.settle_in-bytes.new.self c.drop_unmapped.new.holdings c.page_in_flight-page.result.0 c.args.ticket.number In c.args.end alone c.settle_in-bytes.ensures.settles c.drop_unmapped.ensures p g f b stood t v k shown
+    rw (← c.self.view_is) (λ p label f b stood in_frame there k.
+    any-bytes c.self.inside c.self.invariant c.are_counted.ensures.generations c.settle_in-bytes.new.self c.drop_unmapped.new.holdings c.page_in_flight-page.result.0 c.args.ticket.number In c.args.end alone c.settle_in-bytes.ensures.settles c.drop_unmapped.ensures p label f b stood there k
     ∙ c.settle_in-bytes.ensures.arrives in_frame k)

@@ -1,14 +1,8 @@
 use Rattle.std.proofs.Common.{◌∙◌, ap}
 use Rattle.machine.specs.declared.record.Direction.TheVariants.{Out}
 use Rattle.pages.specs.PagesOf.{byte_in}
-use Rattle.page_state.proofs.EndingLemmas.{settled-there, joined-settled, any-ended, any-shows}
+use Rattle.page_state.proofs.EndingLemmas.{joined-settled, any-ended, any-bytes}
 use Rattle.page_state.proofs.joined.State.settle_out.Goals as goal
-
-pub drop_unmapped-requires : goal.drop_unmapped-requires
-drop_unmapped-requires c =
-    let s = c.self.inside in
-    let stood = rw (c.pages.ensures.pages, c.number.ensures) at c.page_in_flight-page.ensures.stands in
-    settled-there s.holdings c.settle_out.new.self Out c.page_in_flight-page.result.0 stood.0 c.args.ticket.number _ (c.settle_out.ensures.settles stood.0 stood.1 stood.2 stood.3)
 
 pub invariant_of-self : goal.invariant_of-self
 invariant_of-self c =
@@ -27,6 +21,6 @@ pub returns-clause-stays : goal.returns-clause-stays
 returns-clause-stays c =
     let s = c.self.inside in
     let alone = rw (c.pages.ensures.pages, c.number.ensures) at c.page_in_flight-page.ensures.alone in
-    rw (← c.self.view_is) (λ p g f b stood in_frame t v k shown.
-    any-shows s c.self.invariant c.are_counted.ensures.generations c.settle_out.new.self c.drop_unmapped.new.holdings c.page_in_flight-page.result.0 c.args.ticket.number Out c.args.end alone c.settle_out.ensures.settles c.drop_unmapped.ensures p g f b stood t v k shown
-    ∙ c.settle_out.ensures.stays in_frame k ∙ ap (λ q. byte_in s.holdings.stored.bytes q k) (alone p g f b stood))
+    rw (← c.self.view_is) (λ p label f b stood in_frame there k.
+    any-bytes s c.self.invariant c.are_counted.ensures.generations c.settle_out.new.self c.drop_unmapped.new.holdings c.page_in_flight-page.result.0 c.args.ticket.number Out c.args.end alone c.settle_out.ensures.settles c.drop_unmapped.ensures p label f b stood there k
+    ∙ c.settle_out.ensures.stays in_frame k ∙ ap (λ q. byte_in s.holdings.stored.bytes q k) (alone p label f b stood))

@@ -1,11 +1,8 @@
-use Rattle.std.proofs.Common.{◌<◌, refl, ap, subst}
-use Rattle.machine.specs.Pages.{Away, Coming}
-use Rattle.pages.specs.PagesOf.{anon_page}
-use Rattle.page_state.specs.Holdings.{HoldingsOf}
-use Rattle.page_state.specs.States.{StateOf}
-use Rattle.page_state.specs.Joined.{joined_of}
-use Rattle.page_state.proofs.MappedLemmas.{mapped-begun}
-use Rattle.page_state.proofs.JoinLemmas.{joined-pages, granted-room}
+use Rattle.std.proofs.Common.{refl}
+use Rattle.machine.specs.Pages.{Away}
+use Rattle.pages.specs.PagesOf.{memory_of, labelled}
+use Rattle.page_state.proofs.JoinLemmas.{granted-room}
+use Rattle.page_state.proofs.AccessLemmas.{joined-begun, begins-read_in}
 use Rattle.page_state.proofs.joined.State.start_in.Goals as goal
 
 pub start_in-requires : goal.start_in-requires
@@ -15,29 +12,10 @@ start_in-requires c =
 
 pub invariant_of-self-2 : goal.invariant_of-self-2
 invariant_of-self-2 c =
-    let s = c.self.inside in
     let away = rw (← c.self.view_is) at c.requires.away in
-    let begins = c.in_ok-ticket.ensures.begins away.0 away.1 away.2 in
-    joined-pages s c.self.invariant c.start_in.new.self s.cursors s.spaces begins.others
-    (mapped-begun s.holdings.stored.pages s.spaces.page_tables c.self.invariant.mapped c.start_in.new.self.stored.pages c.args.page.0 (anon_page away.0 (Away away.1)) (anon_page away.0 (Coming begins.frame away.1 c.in_ok-ticket.ticket.number)) away.2 begins.placed refl)
-    refl c.self.invariant.homes refl
+    joined-begun c.self.inside c.self.invariant c.start_in.new.self c.args.page.0 (memory_of away.0) away.1 c.args.worker.0 c.args.entry c.in_ok-ticket.ticket (c.in_ok-ticket.ensures.begins away.0 away.1 away.2) (labelled (memory_of away.0) (Away away.1)) away.2 refl
 
 pub returns-clause-begins : goal.returns-clause-begins
 returns-clause-begins c =
-    let s = c.self.inside in
-    let old : StateOf = joined_of s in
-    rw (← c.self.view_is) (λ g b stood.
-    let begins = c.in_ok-ticket.ensures.begins g b stood in
-    record {
-      frame = begins.frame;
-      frame_free = record { in_range = subst (λ n. begins.frame < n) c.self.invariant.frames begins.in_range; unused = begins.unused };
-      ticket_free = begins.ticket_free;
-      given = begins.given;
-      placed = begins.placed;
-      tables = ap (λ (h : HoldingsOf). record (old.tables) { limits = h.limits; pages = c.start_in.new.self.stored.pages }) begins.others;
-      bytes = begins.bytes;
-      listed = begins.listed;
-      held = begins.order;
-      cursors = refl;
-      tallies = refl;
-    })
+    rw (← c.self.view_is)
+    (λ g b stood. begins-read_in c.self.inside c.self.invariant c.start_in.new.self c.args.page.0 (memory_of g) b c.args.worker.0 c.args.entry c.in_ok-ticket.ticket (c.in_ok-ticket.ensures.begins g b stood))
