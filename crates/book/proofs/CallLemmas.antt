@@ -62,6 +62,7 @@ refusal-counting s c (event.Show (query.Max g)) = refl
 refusal-counting s c (event.Show (query.Min g)) = refl
 refusal-counting s c (event.Show (query.Events g)) = refl
 refusal-counting s c (event.Show (query.EventsLocal g)) = refl
+refusal-counting s c (event.Show (query.Stat g)) = refl
 refusal-counting s c (event.Show (query.Protection target g)) = refl
 
 -- and so with what is needed

@@ -6,7 +6,7 @@ use Rattle.machine.specs.declared.id.PageId.{PageId}
 use Rattle.machine.specs.declared.id.FrameId.{FrameId}
 use Rattle.machine.specs.declared.record.Key.TheVariants as key
 use Rattle.machine.specs.declared.record.Life.TheVariants.{Exited, Killed}
-use Rattle.machine.specs.declared.event.Place.TheVariants.{Virtual}
+use Rattle.machine.specs.declared.event.Place.TheVariants.{Virtual, File}
 use Rattle.machine.specs.declared.event.Op.{Op}
 use Rattle.machine.specs.declared.event.Op.TheVariants.{Read, Write}
 use Rattle.machine.specs.declared.event.Query.{Query}
@@ -14,7 +14,7 @@ use Rattle.machine.specs.declared.event.Setting.{Setting}
 use Rattle.machine.specs.declared.event.Event.{Event}
 use Rattle.machine.specs.declared.event.Event.TheVariants as event
 use Rattle.machine.specs.declared.reply.Shown.{Shown}
-use Rattle.machine.specs.Pages.{Coming, Page}
+use Rattle.machine.specs.Pages.{Coming, Page, home_block}
 use Rattle.machine.specs.Slots.{there_and}
 use Rattle.machine.specs.Access.{is_shared_write}
 use Rattle.machine.specs.Counts.{Counted, limits_at}
@@ -24,29 +24,34 @@ use Rattle.machine.specs.Reclaim.{has_takeable, has_transfer}
 use Rattle.machine.specs.Victim.{IsVictim}
 use Rattle.machine.specs.Lists.{with_mark}
 use Rattle.machine.specs.Step.{count_of, shown_of, with_setting}
-use Rattle.pages.specs.PagesOf.{byte_in, HasResidence}
+use Rattle.machine.specs.History.{InTask}
+use Rattle.files.specs.Files.{FilesOf}
+use Rattle.pages.specs.PagesOf.{Label, memory_of, of_file, byte_in, HasResidence, AreFiled}
 use Rattle.pages.specs.Tickets.{TicketOf}
 use Rattle.pages.specs.Transfers.{given_ticket}
 use Rattle.memory_events.specs.Tallies.{Tallies, Tells}
 use Rattle.page_state.specs.declared.room.NoRoom.TheVariants as lacks
 use Rattle.page_state.specs.States.{StateOf}
 use Rattle.page_state.specs.Mapped.{AreMapped}
-use Rattle.page_state.specs.Changes.{CountsEvent, MakesPage, MarksPage, WritesByte, BeginsReadIn, BeginsWriteOut, StartsTask, ForksTask, MovesTask, Unmaps, EndsTask, AddsGroup, RemovesGroup, sets_limits}
+use Rattle.page_state.specs.Changes.{CountsEvent, MakesPage, MarksPage, WritesByte, BeginsReadIn, BeginsRead, BeginsWriteOut, DropsClean, StartsTask, ForksTask, MovesTask, Unmaps, EndsTask, AddsGroup, RemovesGroup, sets_limits}
 use Rattle.page_state.proofs.TallyLemmas.{tells-two}
 use Rattle.book.specs.declared.event.Reply.{Reply as Given}
 use Rattle.book.specs.declared.event.Reply.TheVariants as given
 use Rattle.book.specs.declared.decision.Touch.{Touch}
+use Rattle.book.specs.declared.decision.FileTouch.{FileTouch}
+use Rattle.book.specs.declared.decision.CacheMeeting.{CacheMeeting}
+use Rattle.book.specs.declared.decision.CacheMeeting.TheVariants as cache
 use Rattle.book.specs.declared.decision.Meeting.{Meeting}
 use Rattle.book.specs.declared.decision.Meeting.TheVariants as meeting
 use Rattle.book.specs.declared.decision.Decision.TheVariants as decision
 use Rattle.book.specs.Events.{reply_of}
 use Rattle.book.specs.Replies.{IsAccessReply}
-use Rattle.book.specs.Effects.{counting, is_in_memory, is_known}
+use Rattle.book.specs.Effects.{counting, is_in_memory, knows}
 use Rattle.book.specs.MakesStep.{MakesStep, GivesTicket}
-use Rattle.book.specs.Decisions.{IsTouch, IsShared, NeedsCharge, ForNew, ForCopy, ForAway, MeetsSo, IsIdleFor, IsOfKilled, AsksPage, WantsRoom, HasItsRoom, FindsNothing, AnswersTo, Carries}
-use Rattle.book.proofs.StepLemmas.{InOrder, makes_step-mkdir, makes_step-set, makes_step-show, makes_step-killed, makes_step-unmapped, makes_step-hit_read, makes_step-busy, makes_step-over, makes_step-no_frame, unmapped-over, unmapped-no_frame, shared-over, shared-no_frame, away-over, away-no_frame, makes_step-room, makes_step-wait, makes_step-no_victim, makes_step-reclaim_wait, makes_step-nothing, makes_step-fork_killed, makes_step-free_killed, makes_step-exit_killed}
-use Rattle.book.proofs.MoveLemmas.{makes_step-fetch, makes_step-taken, replies-out}
-use Rattle.book.proofs.TouchLemmas.{makes_step-hit_write, makes_step-made, meets-unmapped, meets-shared, makes_step-spawn, makes_step-fork, makes_step-attach, makes_step-free}
+use Rattle.book.specs.Decisions.{IsTouch, IsShared, NeedsCharge, ForNew, ForCopy, ForAway, MeetsSo, IsFileTouch, MeetsInCache, IsIdleFor, IsOfKilled, AsksPage, WantsRoom, HasItsRoom, FindsNothing, AnswersTo, Carries}
+use Rattle.book.proofs.StepLemmas.{InOrder, makes_step-mkdir, makes_step-set, makes_step-show, makes_step-killed, makes_step-unmapped, meets-hit, meets-cached, makes_step-hit_read, meets-transfer, meets-cached_transfer, makes_step-busy, makes_step-over, makes_step-no_frame, unmapped-over, unmapped-no_frame, shared-over, shared-no_frame, away-over, away-no_frame, uncached-over, uncached-no_frame, makes_step-room, makes_step-wait, makes_step-no_victim, makes_step-reclaim_wait, makes_step-nothing, makes_step-fork_killed, makes_step-free_killed, makes_step-exit_killed}
+use Rattle.book.proofs.MoveLemmas.{filed-single, makes_step-swap_in, makes_step-read_in, makes_step-out, makes_step-dropped, replies-out, replies-dropped}
+use Rattle.book.proofs.TouchLemmas.{own-mapped, own-cached, makes_step-hit_write, makes_step-made, meets-unmapped, meets-shared, makes_step-spawn, makes_step-fork, makes_step-attach, makes_step-free}
 use Rattle.book.proofs.EndLemmas.{makes_step-kill, makes_step-exit}
 use Rattle.book.proofs.RemoveLemmas.{makes_step-rmdir}
 
@@ -92,27 +97,33 @@ carries-hit_read old new worker entry touch page frame byte listed is meets mark
     carries-access old new worker entry touch (meeting.Hits page frame) (given.Done byte (Some frame))
     (subst (λ (op : Op). MakesStep old worker (event.Access touch.task (Virtual touch.at touch.offset) op) (reply_of (given.Done byte (Some frame))) new) (sym read)
     (subst (λ (b : ℕ). MakesStep old worker (event.Access touch.task (Virtual touch.at touch.offset) Read) (reply_of (given.Done b (Some frame))) new) (sym (same ∙ ap (λ (s : StateOf). byte_in s.bytes page.0 touch.offset) marks))
-    (makes_step-hit_read old new worker touch.task.0 touch.at touch.offset page.0 meets.0 frame.0 is.task is.known is.live meets.1 meets.2 is.within listed marks)))
+    (makes_step-hit_read old new worker touch.task.0 page.0 frame.0 (Virtual touch.at touch.offset) meets.0 is.task is.known is.live meets.1 meets.2
+    (meets-hit old.tables touch.task.0 touch.at touch.offset page.0 frame.0 meets.0 Read meets.1 meets.2 refl) is.within listed marks)))
     tt tt
 
 -- the page is marked, and then written
-pub carries-hit_write : (old marked new : StateOf) (worker entry : ℕ) (touch : Touch) (page : PageId) (frame : FrameId) (byte : ℕ) → InOrder old → IsTouch old.tables touch
+pub carries-hit_write : (old marked new : StateOf) (worker entry : ℕ) (touch : Touch) (page : PageId) (frame : FrameId) (byte : ℕ) → InOrder old → AreMapped old.tables.pages old.tables.page_tables → IsTouch old.tables touch
     → MeetsSo old.tables touch (meeting.Hits page frame) → MarksPage old marked page.0 → touch.op ≡ Write byte → WritesByte marked new page.0 touch.offset byte
     → Carries old worker entry (decision.Access touch (meeting.Hits page frame)) (given.Done byte (Some frame)) new
-carries-hit_write old marked new worker entry touch page frame byte listed is meets marks write writes =
+carries-hit_write old marked new worker entry touch page frame byte listed mapped is meets marks write writes =
     carries-access old new worker entry touch (meeting.Hits page frame) (given.Done byte (Some frame))
     (subst (λ (op : Op). MakesStep old worker (event.Access touch.task (Virtual touch.at touch.offset) op) (reply_of (given.Done byte (Some frame))) new) (sym write)
-    (makes_step-hit_write old new worker touch.task.0 touch.at touch.offset byte page.0 meets.0 frame.0 is.task (sym (ap (is_shared_write old.tables.page_tables page.0) write) ∙ meets.3) is.known is.live meets.1 meets.2
-    written.tables written.bytes written.flights listed written.order (tallies-kept old.tallies new.tallies written.tallies)))
+    (makes_step-hit_write old new worker touch.task.0 page.0 byte frame.0 (Virtual touch.at touch.offset) meets.0 is.task is.known is.live meets.1 meets.2
+    (meets-hit old.tables touch.task.0 touch.at touch.offset page.0 frame.0 meets.0 (Write byte) meets.1 meets.2 alone) (own-mapped old touch.task.0 touch.at touch.offset page.0 mapped meets.1 alone)
+    (written.placed _ meets.2) written.tables written.bytes written.flights listed written.order (tallies-kept old.tallies new.tallies written.tallies)))
     tt tt
   where
+    alone : is_shared_write old.tables.page_tables page.0 (Write byte) ≡ false
+    alone = sym (ap (is_shared_write old.tables.page_tables page.0) write) ∙ meets.3
+
     written : WritesByte (record old { order = record { held = with_mark (Some page.0) old.order.held; cursors = old.order.cursors } }) new page.0 touch.offset byte
     written = subst (λ (s : StateOf). WritesByte s new page.0 touch.offset byte) marks writes
 
 pub carries-busy : (s : StateOf) (worker entry : ℕ) (touch : Touch) → InOrder s → IsTouch s.tables touch → MeetsSo s.tables touch meeting.Transferring
     → Carries s worker entry (decision.Access touch meeting.Transferring) given.Busy s
-carries-busy s worker entry touch listed is (direction, p, g, f, b, n, shown, stands) =
-    carries-access s s worker entry touch meeting.Transferring given.Busy (makes_step-busy s worker touch.task.0 touch.at touch.offset p g f b n direction touch.op is.task is.known is.live shown stands listed) tt tt
+carries-busy s worker entry touch listed is (direction, p, label, f, b, n, shown, stands) =
+    carries-access s s worker entry touch meeting.Transferring given.Busy
+    (makes_step-busy s worker touch.task.0 (Virtual touch.at touch.offset) touch.op is.task is.known is.live (meets-transfer s.tables touch.task.0 touch.at touch.offset p f b n label direction touch.op shown stands) listed) tt tt
 
 pub carries-made : (old new : StateOf) (worker entry : ℕ) (touch : Touch) (byte : ℕ) → AreMapped old.tables.pages old.tables.page_tables → IsTouch old.tables touch
     → MeetsSo old.tables touch (meeting.NeedsPage byte) → MakesPage old new touch.task.0 touch.at touch.group.0 touch.offset byte → Carries old worker entry (decision.Access touch (meeting.NeedsPage byte)) (given.Done byte None) new
@@ -120,7 +131,7 @@ carries-made old new worker entry touch byte mapped is meets makes =
     carries-access old new worker entry touch (meeting.NeedsPage byte) (given.Done byte None)
     (subst (λ (op : Op). MakesStep old worker (event.Access touch.task (Virtual touch.at touch.offset) op) (reply_of (given.Done byte None)) new) (sym meets.0)
     (makes_step-made old new worker touch.task.0 touch.at touch.offset byte own.page own.frame is.task mapped is.known is.live
-    (ap (is_known old.tables.pages) meets.1)
+    (λ u w k. ap (knows old (InTask u w k)) meets.1)
     (meets-unmapped old.tables touch.task.0 touch.at touch.offset byte is.task.group.0 meets.1 (ap (λ (g : GroupId). over_in old.tables g.0) is.group ∙ meets.2.under) meets.2.free) own.frame_free own.in_range own.number_free own.placed own.shown own.tables own.bytes own.flights own.held own.cursors (tallies-kept old.tallies new.tallies own.tallies)))
     tt tt
   where
@@ -134,8 +145,8 @@ carries-copied old new worker entry touch page byte mapped is meets makes =
     carries-access old new worker entry touch (meeting.NeedsCopy page byte) (given.Done byte None)
     (subst (λ (op : Op). MakesStep old worker (event.Access touch.task (Virtual touch.at touch.offset) op) (reply_of (given.Done byte None)) new) (sym meets.0)
     (makes_step-made old new worker touch.task.0 touch.at touch.offset byte own.page own.frame is.task mapped is.known is.live
-    (ap (is_known old.tables.pages) shared.shown ∙ ap (there_and (λ (page : Page). is_in_memory page.residence)) shared.held)
-    (meets-shared old.tables touch.task.0 touch.at touch.offset byte page.0 shared.g shared.frame is.task.group.0 shared.shown shared.held shared.shared (ap (λ (g : GroupId). over_in old.tables g.0) is.group ∙ meets.2.under) meets.2.free)
+    (λ u w k. ap (knows old (InTask u w k)) shared.shown ∙ ap (there_and (λ (page : Page). is_in_memory page.residence)) shared.held)
+    (meets-shared old.tables touch.task.0 touch.at touch.offset byte page.0 shared.frame is.task.group.0 shared.label shared.shown shared.held shared.shared (ap (λ (g : GroupId). over_in old.tables g.0) is.group ∙ meets.2.under) meets.2.free)
     own.frame_free own.in_range own.number_free own.placed own.shown own.tables own.bytes own.flights own.held own.cursors (tallies-kept old.tallies new.tallies own.tallies)))
     tt tt
   where
@@ -145,18 +156,22 @@ carries-copied old new worker entry touch page byte mapped is meets makes =
     own : MakesPage old new touch.task.0 touch.at is.task.group.0 touch.offset byte
     own = subst (λ (g : GroupId). MakesPage old new touch.task.0 touch.at g.0 touch.offset byte) (sym is.group) makes
 
+-- the ticket of a page that begins to be read in
+gives-in : (old new : StateOf) (worker entry p block : ℕ) (label : Label) (ticket : TicketOf) → BeginsReadIn old new p label block worker entry ticket → GivesTicket new worker entry (given.Fetch ticket)
+gives-in old new worker entry p block label ticket begins = (
+  p,
+  label,
+  begins.frame,
+  subst (λ (b : ℕ). HasResidence new.tables.pages p label (Coming begins.frame b ticket.number)) (sym (ap (λ (t : TicketOf). t.block) begins.given)) begins.placed.changed,
+  subst (λ (b : ℕ). ticket ≡ given_ticket ticket.number worker entry b ticket.bytes) (sym (ap (λ (t : TicketOf). t.block) begins.given)) begins.given,
+)
+
 pub carries-fetch : (old new : StateOf) (worker entry : ℕ) (touch : Touch) (page : PageId) (ticket : TicketOf) → IsTouch old.tables touch
-    → (meets : MeetsSo old.tables touch (meeting.NeedsSwapIn page)) → BeginsReadIn old new page.0 meets.0 meets.1 worker entry ticket → Carries old worker entry (decision.Access touch (meeting.NeedsSwapIn page)) (given.Fetch ticket) new
+    → (meets : MeetsSo old.tables touch (meeting.NeedsSwapIn page)) → BeginsReadIn old new page.0 (memory_of meets.0) meets.1 worker entry ticket → Carries old worker entry (decision.Access touch (meeting.NeedsSwapIn page)) (given.Fetch ticket) new
 carries-fetch old new worker entry touch page ticket is meets begins =
     carries-access old new worker entry touch (meeting.NeedsSwapIn page) (given.Fetch ticket)
-    (makes_step-fetch old new worker touch.task.0 touch.at touch.offset page.0 meets.0 begins.frame meets.1 ticket.number touch.op is.task is.known is.live meets.2 meets.3 meets.4.under meets.4.free begins.frame_free
-    begins.ticket_free begins.placed begins.tables begins.bytes begins.listed begins.held begins.cursors (tallies-kept old.tallies new.tallies begins.tallies)) (
-      page.0,
-      meets.0,
-      begins.frame,
-      subst (λ (b : ℕ). HasResidence new.tables.pages page.0 meets.0 (Coming begins.frame b ticket.number)) (sym (ap (λ (t : TicketOf). t.block) begins.given)) begins.placed.changed,
-      subst (λ (b : ℕ). ticket ≡ given_ticket ticket.number worker entry b ticket.bytes) (sym (ap (λ (t : TicketOf). t.block) begins.given)) begins.given,
-    )
+    (makes_step-swap_in old new worker entry touch.task.0 touch.at touch.offset page.0 meets.0 meets.1 touch.op is.task ticket is.known is.live meets.2 meets.3 meets.4.under meets.4.free begins)
+    (gives-in old new worker entry page.0 meets.1 (memory_of meets.0) ticket begins)
     tt
 
 pub carries-over : (old new : StateOf) (worker entry : ℕ) (touch : Touch) (a : GroupId) → InOrder old → IsTouch old.tables touch → MeetsSo old.tables touch (meeting.Lacks (lacks.Over a))
@@ -170,16 +185,16 @@ carries-over old new worker entry touch a listed is (g, needs, full) counts =
     by_need : NeedsCharge old.tables touch g → MakesStep old worker (event.Access touch.task (Virtual touch.at touch.offset) touch.op) (reply_of (given.Over a)) new
     by_need (ForNew byte write none own) =
         subst (λ (op : Op). MakesStep old worker (event.Access touch.task (Virtual touch.at touch.offset) op) (reply_of (given.Over a)) new) (sym write)
-        (makes_step-over old new worker touch.task.0 touch.at touch.offset a.0 (Write byte) is.task is.known is.live
+        (makes_step-over old new worker touch.task.0 a.0 (Virtual touch.at touch.offset) (Write byte) is.task is.known is.live
         (unmapped-over old.tables touch.task.0 touch.at touch.offset byte is.task.group.0 a.0 none (ap (λ (h : GroupId). over_in old.tables h.0) is.group ∙ ap (over_in old.tables) (sym own) ∙ full.0))
         tables (ap (λ (s : StateOf). s.bytes) counts.others) (ap (λ (s : StateOf). s.flights) counts.others) listed (ap (λ (s : StateOf). s.order) counts.others) counts.tallied)
     by_need (ForCopy byte p write shared own) =
         subst (λ (op : Op). MakesStep old worker (event.Access touch.task (Virtual touch.at touch.offset) op) (reply_of (given.Over a)) new) (sym write)
-        (makes_step-over old new worker touch.task.0 touch.at touch.offset a.0 (Write byte) is.task is.known is.live
-        (shared-over old.tables touch.task.0 touch.at touch.offset byte p shared.g shared.frame is.task.group.0 a.0 shared.shown shared.held shared.shared (ap (λ (h : GroupId). over_in old.tables h.0) is.group ∙ ap (over_in old.tables) (sym own) ∙ full.0))
+        (makes_step-over old new worker touch.task.0 a.0 (Virtual touch.at touch.offset) (Write byte) is.task is.known is.live
+        (shared-over old.tables touch.task.0 touch.at touch.offset byte p shared.frame is.task.group.0 a.0 shared.label shared.shown shared.held shared.shared (ap (λ (h : GroupId). over_in old.tables h.0) is.group ∙ ap (over_in old.tables) (sym own) ∙ full.0))
         tables (ap (λ (s : StateOf). s.bytes) counts.others) (ap (λ (s : StateOf). s.flights) counts.others) listed (ap (λ (s : StateOf). s.order) counts.others) counts.tallied)
     by_need (ForAway p block shown away) =
-        makes_step-over old new worker touch.task.0 touch.at touch.offset a.0 touch.op is.task is.known is.live
+        makes_step-over old new worker touch.task.0 a.0 (Virtual touch.at touch.offset) touch.op is.task is.known is.live
         (away-over old.tables touch.task.0 touch.at touch.offset p g is.task.group.0 block a.0 touch.op shown away full.0)
         tables (ap (λ (s : StateOf). s.bytes) counts.others) (ap (λ (s : StateOf). s.flights) counts.others) listed (ap (λ (s : StateOf). s.order) counts.others) counts.tallied
 
@@ -191,18 +206,86 @@ carries-no_frame s worker entry touch listed is (g, needs, full) =
     by_need : NeedsCharge s.tables touch g → MakesStep s worker (event.Access touch.task (Virtual touch.at touch.offset) touch.op) (reply_of given.NoFrame) s
     by_need (ForNew byte write none own) =
         subst (λ (op : Op). MakesStep s worker (event.Access touch.task (Virtual touch.at touch.offset) op) (reply_of given.NoFrame) s) (sym write)
-        (makes_step-no_frame s s worker touch.task.0 touch.at touch.offset (Write byte) is.task is.known is.live
+        (makes_step-no_frame s s worker touch.task.0 (Virtual touch.at touch.offset) (Write byte) is.task is.known is.live
         (unmapped-no_frame s.tables touch.task.0 touch.at touch.offset byte is.task.group.0 none (ap (λ (h : GroupId). over_in s.tables h.0) is.group ∙ ap (over_in s.tables) (sym own) ∙ full.0) full.1)
         refl refl refl listed refl (λ counted told. told))
     by_need (ForCopy byte p write shared own) =
         subst (λ (op : Op). MakesStep s worker (event.Access touch.task (Virtual touch.at touch.offset) op) (reply_of given.NoFrame) s) (sym write)
-        (makes_step-no_frame s s worker touch.task.0 touch.at touch.offset (Write byte) is.task is.known is.live
-        (shared-no_frame s.tables touch.task.0 touch.at touch.offset byte p shared.g shared.frame is.task.group.0 shared.shown shared.held shared.shared (ap (λ (h : GroupId). over_in s.tables h.0) is.group ∙ ap (over_in s.tables) (sym own) ∙ full.0) full.1)
+        (makes_step-no_frame s s worker touch.task.0 (Virtual touch.at touch.offset) (Write byte) is.task is.known is.live
+        (shared-no_frame s.tables touch.task.0 touch.at touch.offset byte p shared.frame is.task.group.0 shared.label shared.shown shared.held shared.shared (ap (λ (h : GroupId). over_in s.tables h.0) is.group ∙ ap (over_in s.tables) (sym own) ∙ full.0) full.1)
         refl refl refl listed refl (λ counted told. told))
     by_need (ForAway p block shown away) =
-        makes_step-no_frame s s worker touch.task.0 touch.at touch.offset touch.op is.task is.known is.live
+        makes_step-no_frame s s worker touch.task.0 (Virtual touch.at touch.offset) touch.op is.task is.known is.live
         (away-no_frame s.tables touch.task.0 touch.at touch.offset p g is.task.group.0 block touch.op shown away full.0 full.1)
         refl refl refl listed refl (λ counted told. told)
+
+-- ---- accesses to files
+
+module _ (old new : StateOf) (worker entry : ℕ) (touch : FileTouch) where
+  abbrev accessed_file : Event
+  accessed_file = event.Access touch.task (File touch.at.file touch.at.page touch.offset) touch.op
+
+  carries-file_access : (met : CacheMeeting) (said : Given) → MakesStep old worker accessed_file (reply_of said) new → GivesTicket new worker entry said → IsAccessReply said → Carries old worker entry (decision.FileAccess touch met) said new
+  carries-file_access met said makes_step gives replies what is = answers-to old new worker entry what accessed_file said is.fits (record { makes_step = makes_step; gives = gives; replies = replies })
+
+pub carries-file_read : (old new : StateOf) (worker entry : ℕ) (touch : FileTouch) (page : PageId) (frame : FrameId) (byte : ℕ) → InOrder old → IsFileTouch old.tables touch → MeetsInCache old.tables touch (cache.Hits page frame)
+    → MarksPage old new page.0 → touch.op ≡ Read → byte ≡ byte_in new.bytes page.0 touch.offset → Carries old worker entry (decision.FileAccess touch (cache.Hits page frame)) (given.Done byte (Some frame)) new
+carries-file_read old new worker entry touch page frame byte listed is meets marks read same =
+    carries-file_access old new worker entry touch (cache.Hits page frame) (given.Done byte (Some frame))
+    (subst (λ (op : Op). MakesStep old worker (event.Access touch.task (File touch.at.file touch.at.page touch.offset) op) (reply_of (given.Done byte (Some frame))) new) (sym read)
+    (subst (λ (b : ℕ). MakesStep old worker (event.Access touch.task (File touch.at.file touch.at.page touch.offset) Read) (reply_of (given.Done b (Some frame))) new) (sym (same ∙ ap (λ (s : StateOf). byte_in s.bytes page.0 touch.offset) marks))
+    (makes_step-hit_read old new worker touch.task.0 page.0 frame.0 (File touch.at.file touch.at.page touch.offset) meets.0 is.task is.known is.live meets.1 meets.2
+    (meets-cached old.tables touch.task.0 touch.at.file touch.at.page touch.offset page.0 frame.0 meets.0 Read meets.1 meets.2) is.within listed marks)))
+    tt tt
+
+pub carries-file_write : (old marked new : StateOf) (worker entry : ℕ) (touch : FileTouch) (page : PageId) (frame : FrameId) (byte : ℕ) → InOrder old → AreMapped old.tables.pages old.tables.page_tables → IsFileTouch old.tables touch
+    → MeetsInCache old.tables touch (cache.Hits page frame) → MarksPage old marked page.0 → touch.op ≡ Write byte → WritesByte marked new page.0 touch.offset byte
+    → Carries old worker entry (decision.FileAccess touch (cache.Hits page frame)) (given.Done byte (Some frame)) new
+carries-file_write old marked new worker entry touch page frame byte listed mapped is meets marks write writes =
+    carries-file_access old new worker entry touch (cache.Hits page frame) (given.Done byte (Some frame))
+    (subst (λ (op : Op). MakesStep old worker (event.Access touch.task (File touch.at.file touch.at.page touch.offset) op) (reply_of (given.Done byte (Some frame))) new) (sym write)
+    (makes_step-hit_write old new worker touch.task.0 page.0 byte frame.0 (File touch.at.file touch.at.page touch.offset) meets.0 is.task is.known is.live meets.1 meets.2
+    (meets-cached old.tables touch.task.0 touch.at.file touch.at.page touch.offset page.0 frame.0 meets.0 (Write byte) meets.1 meets.2) (own-cached old touch.at.file touch.at.page touch.offset page.0 mapped meets.1)
+    (written.placed _ meets.2) written.tables written.bytes written.flights listed written.order (tallies-kept old.tallies new.tallies written.tallies)))
+    tt tt
+  where
+    written : WritesByte (record old { order = record { held = with_mark (Some page.0) old.order.held; cursors = old.order.cursors } }) new page.0 touch.offset byte
+    written = subst (λ (s : StateOf). WritesByte s new page.0 touch.offset byte) marks writes
+
+pub carries-file_busy : (s : StateOf) (worker entry : ℕ) (touch : FileTouch) → InOrder s → IsFileTouch s.tables touch → MeetsInCache s.tables touch cache.Transferring
+    → Carries s worker entry (decision.FileAccess touch cache.Transferring) given.Busy s
+carries-file_busy s worker entry touch listed is (direction, p, label, f, b, n, cached, stands) =
+    carries-file_access s s worker entry touch cache.Transferring given.Busy
+    (makes_step-busy s worker touch.task.0 (File touch.at.file touch.at.page touch.offset) touch.op is.task is.known is.live
+    (meets-cached_transfer s.tables touch.task.0 touch.at.file touch.at.page touch.offset p f b n label direction touch.op cached stands) listed)
+    tt tt
+
+pub carries-read_in : (old new : StateOf) (worker entry : ℕ) (touch : FileTouch) (ticket : TicketOf) → IsFileTouch old.tables touch → MeetsInCache old.tables touch cache.NeedsRead
+    → BeginsRead old new touch.at.file touch.at.page touch.group.0 worker entry ticket → Carries old worker entry (decision.FileAccess touch cache.NeedsRead) (given.Fetch ticket) new
+carries-read_in old new worker entry touch ticket is meets begins =
+    carries-file_access old new worker entry touch cache.NeedsRead (given.Fetch ticket)
+    (makes_step-read_in old new worker entry touch.task.0 touch.at.file touch.at.page touch.offset touch.op is.task ticket is.known is.live meets.0 (ap (λ (g : GroupId). over_in old.tables g.0) is.group ∙ meets.1.under) meets.1.free
+    (subst (λ (g : GroupId). BeginsRead old new touch.at.file touch.at.page g.0 worker entry ticket) (sym is.group) begins))
+    (gives-in old new worker entry begins.page (home_block old.tables.opening.swap old.tables.opening.files touch.at.file touch.at.page) (of_file touch.at.file touch.at.page touch.group.0 false) ticket begins.begins)
+    tt
+
+pub carries-file_over : (old new : StateOf) (worker entry : ℕ) (touch : FileTouch) (a : GroupId) → InOrder old → IsFileTouch old.tables touch → MeetsInCache old.tables touch (cache.Lacks (lacks.Over a))
+    → CountsEvent old new a.0 key.Max → Carries old worker entry (decision.FileAccess touch (cache.Lacks (lacks.Over a))) (given.Over a) new
+carries-file_over old new worker entry touch a listed is (none, full) counts =
+    carries-file_access old new worker entry touch (cache.Lacks (lacks.Over a)) (given.Over a)
+    (makes_step-over old new worker touch.task.0 a.0 (File touch.at.file touch.at.page touch.offset) touch.op is.task is.known is.live
+    (uncached-over old.tables touch.task.0 touch.at.file touch.at.page touch.offset is.task.group.0 a.0 touch.op none (ap (λ (h : GroupId). over_in old.tables h.0) is.group ∙ full.0))
+    (ap (λ (s : StateOf). s.tables) counts.others) (ap (λ (s : StateOf). s.bytes) counts.others) (ap (λ (s : StateOf). s.flights) counts.others) listed (ap (λ (s : StateOf). s.order) counts.others) counts.tallied)
+    tt tt
+
+pub carries-file_no_frame : (s : StateOf) (worker entry : ℕ) (touch : FileTouch) → InOrder s → IsFileTouch s.tables touch → MeetsInCache s.tables touch (cache.Lacks lacks.NoFrame)
+    → Carries s worker entry (decision.FileAccess touch (cache.Lacks lacks.NoFrame)) given.NoFrame s
+carries-file_no_frame s worker entry touch listed is (none, full) =
+    carries-file_access s s worker entry touch (cache.Lacks lacks.NoFrame) given.NoFrame
+    (makes_step-no_frame s s worker touch.task.0 (File touch.at.file touch.at.page touch.offset) touch.op is.task is.known is.live
+    (uncached-no_frame s.tables touch.task.0 touch.at.file touch.at.page touch.offset is.task.group.0 touch.op none (ap (λ (h : GroupId). over_in s.tables h.0) is.group ∙ full.0) full.1)
+    refl refl refl listed refl (λ counted told. told))
+    tt tt
 
 -- ---- reclaim
 
@@ -216,9 +299,17 @@ carries-room s worker entry listed what is = by_event what is.fits
 pub carries-out : (old new : StateOf) (worker entry : ℕ) (target g : GroupId) (ticket : TicketOf) → BeginsWriteOut old new target.0 worker entry ticket → Carries old worker entry (decision.Take target g) (given.Out ticket) new
 carries-out old new worker entry target g ticket begins what is =
     record {
-      makes_step = makes_step-taken old new target.0 worker entry ticket begins what is.fits;
-      gives = (begins.p, begins.g, begins.frame, begins.placed.changed, begins.given, begins.holds);
+      makes_step = makes_step-out old new target.0 worker entry ticket begins what is.fits;
+      gives = (begins.p, begins.label, begins.frame, begins.placed.changed, begins.given, begins.holds);
       replies = replies-out old.tables what target.0 ticket is.fits;
+    }
+
+pub carries-dropped : (old new : StateOf) (files : FilesOf) (worker entry : ℕ) (target g : GroupId) → AreFiled files old.tables.pages → DropsClean old new target.0 → Carries old worker entry (decision.Take target g) given.Dropped new
+carries-dropped old new files worker entry target g filed drops what is =
+    record {
+      makes_step = makes_step-dropped old new target.0 worker (filed-single files old.tables.pages filed) drops what is.fits;
+      gives = tt;
+      replies = replies-dropped old.tables what target.0 is.fits;
     }
 
 pub carries-wait : (s : StateOf) (worker entry : ℕ) → InOrder s → Carries s worker entry decision.Wait given.Wait s
@@ -261,9 +352,9 @@ carries-no_victim old new worker entry limit listed counts what is = by_event wh
     by_event other wants = absurd wants
 
 -- a task is killed: two events are counted, and then it ends
-pub carries-kill : (old first second new : StateOf) (worker entry : ℕ) (limit : GroupId) (t : TaskId) (g : ℕ) → AreMapped old.tables.pages old.tables.page_tables → CountsEvent old first limit.0 key.Oom → CountsEvent first second g key.OomKill → group_of_task old.tables.tasks t.0 ≡ g
+pub carries-kill : (old first second new : StateOf) (worker entry : ℕ) (limit : GroupId) (t : TaskId) (g : ℕ) → CountsEvent old first limit.0 key.Oom → CountsEvent first second g key.OomKill → group_of_task old.tables.tasks t.0 ≡ g
     → EndsTask second new t.0 Killed → Carries old worker entry (decision.Kill limit t) (given.KilledTask t) new
-carries-kill old first second new worker entry limit t g mapped oom kills home ends what is = by_event what is.fits
+carries-kill old first second new worker entry limit t g oom kills home ends what is = by_event what is.fits
   where
     idle : IsIdleFor old.tables limit.0
     idle = is.sound.1
@@ -284,7 +375,7 @@ carries-kill old first second new worker entry limit t g mapped oom kills home e
         record {
           makes_step = makes_step-kill old new second.tallies worker why t.0 wants.0 (ap (has_takeable old.tables) wants.1 ∙ idle.untakeable) (ap (has_transfer old.tables) wants.1 ∙ idle.settled)
               (subst (λ (l : ℕ). IsVictim old.tables.tree old.tables.tasks old.tables.page_tables l (Some t.0)) (sym wants.1) is.sound.2)
-              mapped ended
+              ended
               (subst (λ (l : ℕ). (counted : List Counted) → Tells old.tallies counted → Tells new.tallies (counted ++ (count_of l key.Oom ∷ count_of (group_of_task old.tables.tasks t.0) key.OomKill ∷ []))) (sym wants.1) tallied);
           gives = tt;
           replies = tt;
@@ -308,20 +399,20 @@ carries-fork old new worker entry t child listed forks what is =
     answers-to old new worker entry what (event.Fork t child) given.Ok is.fits
     (record { makes_step = makes_step-fork old new worker t.0 child.0 is.sound.0 is.sound.1 is.sound.2 forks listed (tallies-kept old.tallies new.tallies forks.tallies); gives = tt; replies = tt })
 
-pub carries-free : (old new : StateOf) (worker entry : ℕ) (t : TaskId) (at : ℕ) → AreMapped old.tables.pages old.tables.page_tables → Unmaps old new t.0 at → Carries old worker entry (decision.Free t at) given.Ok new
-carries-free old new worker entry t at mapped frees what is =
+pub carries-free : (old new : StateOf) (worker entry : ℕ) (t : TaskId) (at : ℕ) → Unmaps old new t.0 at → Carries old worker entry (decision.Free t at) given.Ok new
+carries-free old new worker entry t at frees what is =
     answers-to old new worker entry what (event.Free t at) given.Ok is.fits
-    (record { makes_step = makes_step-free old new worker t.0 at is.sound.0 is.sound.1 is.sound.2 mapped frees (tallies-kept old.tallies new.tallies frees.drops.tallies); gives = tt; replies = tt })
+    (record { makes_step = makes_step-free old new worker t.0 at is.sound.0 is.sound.1 is.sound.2 frees (tallies-kept old.tallies new.tallies frees.drops.tallies); gives = tt; replies = tt })
 
 pub carries-attach : (old new : StateOf) (worker entry : ℕ) (t : TaskId) (g : GroupId) → InOrder old → MovesTask old new t.0 g.0 → Carries old worker entry (decision.Attach t g) given.Ok new
 carries-attach old new worker entry t g listed moves what is =
     answers-to old new worker entry what (event.Attach t g) given.Ok is.fits
     (record { makes_step = makes_step-attach old new worker t.0 g.0 is.sound.0 moves listed (tallies-kept old.tallies new.tallies moves.tallies); gives = tt; replies = tt })
 
-pub carries-exit : (old new : StateOf) (worker entry : ℕ) (t : TaskId) → AreMapped old.tables.pages old.tables.page_tables → EndsTask old new t.0 Exited → Carries old worker entry (decision.Exit t) given.Ok new
-carries-exit old new worker entry t mapped ends what is =
+pub carries-exit : (old new : StateOf) (worker entry : ℕ) (t : TaskId) → EndsTask old new t.0 Exited → Carries old worker entry (decision.Exit t) given.Ok new
+carries-exit old new worker entry t ends what is =
     answers-to old new worker entry what (event.Exit t) given.Ok is.fits
-    (record { makes_step = makes_step-exit old new worker t.0 is.sound.0 is.sound.1 is.sound.2 mapped ends (tallies-kept old.tallies new.tallies ends.drops.tallies); gives = tt; replies = tt })
+    (record { makes_step = makes_step-exit old new worker t.0 is.sound.0 is.sound.1 is.sound.2 ends (tallies-kept old.tallies new.tallies ends.drops.tallies); gives = tt; replies = tt })
 
 pub carries-mkdir : (old new : StateOf) (worker entry : ℕ) (parent : GroupId) (path : List ℕ) (what : Event) → AddsGroup old new path → what ≡ event.Mkdir path → AnswersTo old worker entry what given.Ok new
 carries-mkdir old new worker entry parent path what adds same =

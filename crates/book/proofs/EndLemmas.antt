@@ -1,5 +1,5 @@
 -- What a task's end is to the plain machine.
-use Rattle.std.proofs.Common.{◌≡◌, ◌≢◌, inl, inr, ℕ, ◌≤◌, true, false, List, [], ◌∷◌, ◌++◌, Option, Some, None, refl, sym, ap, ◌∙◌, arith}
+use Rattle.std.proofs.Common.{◌≡◌, ◌≢◌, inl, inr, ℕ, ◌≤◌, true, false, List, [], ◌∷◌, ◌++◌, Some, refl, sym, ap, ◌∙◌, arith}
 use Rattle.machine.specs.declared.record.Key.TheVariants as key
 use Rattle.machine.specs.declared.record.Life.{Life}
 use Rattle.machine.specs.declared.record.Life.TheVariants.{Live, Exited, Killed}
@@ -10,29 +10,30 @@ use Rattle.machine.specs.declared.event.Event.TheVariants as event
 use Rattle.machine.specs.declared.reply.Reply.{Reply}
 use Rattle.machine.specs.declared.reply.Reply.TheVariants as reply
 use Rattle.machine.specs.Slots.{at, there_and}
-use Rattle.machine.specs.Pages.{Page, page_at, is_number, in_transfer}
+use Rattle.machine.specs.Pages.{in_transfer}
 use Rattle.machine.specs.Counts.{Counted}
-use Rattle.machine.specs.Tasks.{task_at, is_live_life, is_live_task, lives, group_of, group_of_task, mapped_at}
+use Rattle.machine.specs.Tasks.{task_at, is_live_life, is_live_task, lives, group_of, group_of_task}
 use Rattle.machine.specs.State.{State}
 use Rattle.machine.specs.Call.{need}
 use Rattle.machine.specs.Reclaim.{stands, target_of, has_takeable, has_transfer}
 use Rattle.machine.specs.Lists.{Youngest, Orders}
 use Rattle.machine.specs.Victim.{IsVictim}
 use Rattle.machine.specs.Step.{EndsTask as EndsTask_of, count_of}
-use Rattle.machine.specs.History.{InTask}
+use Rattle.machine.specs.History.{Spot, InTask, InFile}
 use Rattle.machine.proofs.Values.{unlike}
 use Rattle.machine.proofs.TreeLemmas.{eq_cases}
 use Rattle.memory_events.specs.Tallies.{Tallies, Tells}
-use Rattle.page_state.specs.States.{StateOf, byte_shown, byte_at}
-use Rattle.book.specs.Effects.{counting, Steps, Tallied, is_in_memory, is_known, ReadsByte}
-use Rattle.page_state.specs.Mapped.{AreMapped}
+use Rattle.page_state.specs.States.{StateOf}
+use Rattle.book.specs.Spots.{IsThere}
+use Rattle.book.specs.Effects.{counting, Steps, Tallied, byte_at_spot, KnowsSpot, WasByte, ReadsByte}
 use Rattle.page_state.specs.Changes.{EndsTask}
-use Rattle.page_state.proofs.DropLemmas.{mapped_stays, bytes_stay, moving_alike}
+use Rattle.page_state.proofs.DropLemmas.{moving_alike}
 use Rattle.book.specs.MakesStep.{AgesByThree, MakesStep}
+use Rattle.book.proofs.TouchLemmas.{drops-shown, drops-filed}
 use Rattle.book.proofs.StepLemmas.{IsQuiet, was, order-on, flights-kept, live_step, relieve_step, stands_counting, relief-needs}
 
 -- the events counted for the end, if any, are counted before it
-module _ (old new : StateOf) (counts : Tallies) (t : ℕ) (life : Life) (dead : is_live_life life ≡ false) (mapped : AreMapped old.tables.pages old.tables.page_tables) (ends : EndsTask (record old { tallies = counts }) new t life) where
+module _ (old new : StateOf) (counts : Tallies) (t : ℕ) (life : Life) (dead : is_live_life life ≡ false) (ends : EndsTask (record old { tallies = counts }) new t life) where
   -- the task itself is no live one
   ended : (u : ℕ) → u ≡ t → lives new.tables.tasks u ≡ false
   ended u same = ap (λ (x : ℕ). lives new.tables.tasks x) same ∙ ap (there_and is_live_task) ends.ends.changed ∙ dead
@@ -49,17 +50,10 @@ module _ (old new : StateOf) (counts : Tallies) (t : ℕ) (life : Life) (dead : 
   lived_before : (u : ℕ) → lives new.tables.tasks u ≡ true → lives old.tables.tasks u ≡ true
   lived_before u h = sym (ap (there_and is_live_task) (ends.ends.others u (other_of u h))) ∙ h
 
-  -- what another task shows stays
-  stays : (u v q : ℕ) → u ≢ t → mapped_at old.tables.page_tables u v ≡ Some q → page_at new.tables.pages q ≡ page_at old.tables.pages q
-  stays u v q other e = mapped_stays (record old { tallies = counts }) new ends.drops u v q (ends.shown.others u v other ∙ e)
-
-  known_before : (u v : ℕ) (m : Option ℕ) → u ≢ t → mapped_at old.tables.page_tables u v ≡ m → is_known new.tables.pages m ≡ true → is_known old.tables.pages m ≡ true
-  known_before u v None other e known = refl
-  known_before u v (Some q) other e known = sym (ap (there_and (λ (page : Page). is_in_memory page.residence)) (stays u v q other e)) ∙ known
-
-  same_byte : (u v o : ℕ) → u ≢ t → byte_at new u v o ≡ byte_at old u v o
-  same_byte u v o other =
-      ap (λ (m : Option ℕ). byte_shown new.bytes m o) (ends.shown.others u v other) ∙ bytes_stay (record old { tallies = counts }) new ends.drops mapped u v o (ends.shown.others u v other)
+  -- what another task shows stays, and so does what files have
+  bytes_kept : (spot : Spot) → IsThere new.tables spot → KnowsSpot new spot → WasByte old spot (byte_at_spot new spot)
+  bytes_kept (InTask u v o) alive known = drops-shown (record old { tallies = counts }) new ends.drops u v o (ends.shown.others u v (other_of u alive)) (lived_before u alive) known
+  bytes_kept (InFile f q o) there known = drops-filed (record old { tallies = counts }) new ends.drops f q o known
 
   -- an end of a task, whatever it was for
   pub makes_step-ended : (worker : ℕ) (what : Event) (answer : Reply) → IsQuiet what answer → Steps old what answer new → Orders old.tables old.order what answer new.tables new.order × AgesByThree old new → Tallied old what answer new → ReadsByte old what answer
@@ -72,15 +66,7 @@ module _ (old new : StateOf) (counts : Tallies) (t : ℕ) (life : Life) (dead : 
         tallied = tallied;
         groups = λ u. groups_kept u ∙ sym (quiet.groups (group_of_task old.tables.tasks) u);
         reads = reads;
-        bytes = λ u v o alive within known.
-            (let other = other_of u alive in
-            inr
-            (was old what answer u v o (byte_at new u v o) (quiet.says (InTask u v o)) (
-              lived_before u alive,
-              within,
-              known_before u v (mapped_at old.tables.page_tables u v) other refl (sym (ap (is_known new.tables.pages) (ends.shown.others u v other)) ∙ known),
-              same_byte u v o other,
-            )));
+        bytes = λ spot there known. inr (was old what answer spot (byte_at_spot new spot) (quiet.says spot) (bytes_kept spot there known));
         flights = flights-kept old new worker answer quiet.ticket ends.drops.flights;
         kept = (let same : in_transfer new.tables.pages ≡ in_transfer old.tables.pages = moving_alike (record old { tallies = counts }) new ends.drops in omega (arith, same, needs));
         given = quiet.given;
@@ -93,20 +79,19 @@ module _ (old new : StateOf) (counts : Tallies) (t : ℕ) (life : Life) (dead : 
 
 pub makes_step-kill : (old new : StateOf) (counts : Tallies) (worker : ℕ) (why : Cause) (t : ℕ) → stands old.tables why ≡ true → has_takeable old.tables (target_of why) ≡ false → has_transfer old.tables (target_of why) ≡ false
     → IsVictim old.tables.tree old.tables.tasks old.tables.page_tables (target_of why) (Some t)
-    → AreMapped old.tables.pages old.tables.page_tables
     → EndsTask (record old { tallies = counts }) new t Killed
     → ((c : List Counted) → Tells old.tallies c → Tells new.tallies (c ++ (count_of (target_of why) key.Oom ∷ count_of (group_of_task old.tables.tasks t) key.OomKill ∷ [])))
     → MakesStep old worker (event.Relieve why) (reply.KilledTask (record { 0 = t })) new
-makes_step-kill old new counts worker why t wants untakeable settled victim mapped ends tells =
-    makes_step-ended old new counts t Killed refl mapped ends worker (event.Relieve why) (reply.KilledTask (record { 0 = t })) (record { says = λ spot. refl; ticket = refl; groups = λ u g. refl; given = refl })
+makes_step-kill old new counts worker why t wants untakeable settled victim ends tells =
+    makes_step-ended old new counts t Killed refl ends worker (event.Relieve why) (reply.KilledTask (record { 0 = t })) (record { says = λ spot. refl; ticket = refl; groups = λ u g. refl; given = refl })
     (λ c told. relieve_step (counting old.tables c) why _ _ (stands_counting old.tables c why ∙ wants) untakeable settled
-    (victim, machine-ended old new counts t Killed refl mapped ends c (c ++ (count_of (target_of why) key.Oom ∷ count_of (group_of_task old.tables.tasks t) key.OomKill ∷ []))))
+    (victim, machine-ended old new counts t Killed refl ends c (c ++ (count_of (target_of why) key.Oom ∷ count_of (group_of_task old.tables.tasks t) key.OomKill ∷ []))))
     (order-on Youngest old old.order.held new refl ends.drops.held ends.drops.cursors) tells tt (relief-needs old.tables why)
 
 pub makes_step-exit : (old new : StateOf) (worker t : ℕ) (task : Task) → task_at old.tables.tasks t ≡ Some task → task.life ≡ Live
-    → AreMapped old.tables.pages old.tables.page_tables → EndsTask old new t Exited → ((c : List Counted) → Tells old.tallies c → Tells new.tallies c)
+    → EndsTask old new t Exited → ((c : List Counted) → Tells old.tallies c → Tells new.tallies c)
     → MakesStep old worker (event.Exit (record { 0 = t })) reply.Ok new
-makes_step-exit old new worker t task is living mapped exits tells =
-    makes_step-ended old new old.tallies t Exited refl mapped exits worker (event.Exit (record { 0 = t })) reply.Ok (record { says = λ spot. refl; ticket = refl; groups = λ u g. refl; given = refl })
-    (λ c told. live_step (counting old.tables c) _ task _ _ _ is living (refl, machine-ended old new old.tallies t Exited refl mapped exits c c))
+makes_step-exit old new worker t task is living exits tells =
+    makes_step-ended old new old.tallies t Exited refl exits worker (event.Exit (record { 0 = t })) reply.Ok (record { says = λ spot. refl; ticket = refl; groups = λ u g. refl; given = refl })
+    (λ c told. live_step (counting old.tables c) _ task _ _ _ is living (refl, machine-ended old new old.tallies t Exited refl exits c c))
     (order-on Youngest old old.order.held new refl exits.drops.held exits.drops.cursors) tells tt (omega arith)

@@ -1,5 +1,5 @@
 -- One entry more: what a history tells goes on to hold.
-use Rattle.std.proofs.Common.{◌≡◌, inl, inr, ℕ, zero, suc, ◌+◌, ◌*◌, ◌<◌, ◌≤◌, ◌==◌, ◌||◌, Bool, true, false, cond, List, [], ◌∷◌, Option, Some, None, eq-eqb, ne_eqb, refl, sym, ap, ◌∙◌, subst, length, add-one, arith}
+use Rattle.std.proofs.Common.{◌≡◌, inl, inr, ℕ, zero, suc, ◌+◌, ◌*◌, ◌<◌, ◌≤◌, ◌==◌, Bool, true, false, cond, List, [], ◌∷◌, Option, Some, None, eq-eqb, ne_eqb, refl, sym, ap, ◌∙◌, subst, length, add-one, arith}
 use Rattle.std.specs.Prelude.{slice_index, slice_set, IfSome}
 use Rattle.std.proofs.lemmas.List.{get_or-set_same, get_or-set_other}
 use Rattle.machine.specs.declared.entry.Entry.{Entry}
@@ -8,15 +8,15 @@ use Rattle.machine.specs.declared.record.Life.TheVariants.{Live, Exited, Killed}
 use Rattle.machine.specs.declared.record.Task.{Task}
 use Rattle.machine.specs.declared.id.FrameId.{FrameId}
 use Rattle.machine.specs.declared.event.Place.{Place}
-use Rattle.machine.specs.declared.event.Place.TheVariants.{Virtual}
+use Rattle.machine.specs.declared.event.Place.TheVariants.{Virtual, File}
 use Rattle.machine.specs.declared.event.Op.{Op}
-use Rattle.machine.specs.declared.event.Op.TheVariants.{Read, Write}
+use Rattle.machine.specs.declared.event.Op.TheVariants.{Read}
 use Rattle.machine.specs.declared.event.Event.{Event}
 use Rattle.machine.specs.declared.event.Event.TheVariants as event
 use Rattle.machine.specs.declared.reply.Reply.{Reply}
 use Rattle.machine.specs.declared.reply.Reply.TheVariants as reply
 use Rattle.machine.specs.Slots.{at, there_and}
-use Rattle.machine.specs.Pages.{Coming, Pages, page_at}
+use Rattle.machine.specs.Pages.{Coming, Pages, page_at, file_page}
 use Rattle.machine.specs.Counts.{Counted}
 use Rattle.machine.specs.Tasks.{PageTables, is_live_task, is_live_life, lives, task_at, group_of_task, mapped_at}
 use Rattle.machine.specs.State.{Opening, State, first_state}
@@ -26,17 +26,21 @@ use Rattle.machine.specs.Access.{page_size}
 use Rattle.machine.specs.Refusals.{refusal}
 use Rattle.machine.specs.Step.{Step, TaskStep, LifeStep}
 use Rattle.machine.specs.Legal.{Legal}
-use Rattle.machine.specs.History.{IsRight, Spot, InTask, Says, Byte, As, Nothing, says, follow, at_first, last, Fetched, fetched_by, fetch_of, HoldsLast, IsHonest, Honest, ticket_given, taker_or, taker, entries_by}
+use Rattle.machine.specs.History.{IsRight, Spot, InTask, InFile, spot_of, at_offset, Says, Byte, As, Nothing, says, follow, at_first, last, Fetched, HoldsLast, IsHonest, Honest, ticket_given, taker_or, taker, entries_by}
 use Rattle.machine.specs.Call.{is_full_for, knows_pass, entry_of}
 use Rattle.machine.proofs.TreeLemmas.{eq_cases}
-use Rattle.machine.proofs.SharedLemmas.{legal-fetched}
-use Rattle.pages.specs.PagesOf.{anon_page}
+use Rattle.machine.proofs.Values.{unlike}
+use Rattle.machine.proofs.FileLemmas.{file_page-there}
+use Rattle.machine.proofs.SharedLemmas.{FetchedSo, legal-fetched}
+use Rattle.pages.specs.PagesOf.{labelled}
 use Rattle.pages.specs.declared.flight.Flight.{Flight}
 use Rattle.memory_events.specs.Tallies.{Tells}
 use Rattle.page_state.specs.States.{StateOf, byte_at}
-use Rattle.book.specs.Effects.{counting, counted_after, group_after, byte_at_spot, knows, ReadsByte, Arrives, IsSaid, worker_of}
+use Rattle.book.specs.Spots.{offset_of, holder, IsThere}
+use Rattle.book.specs.Effects.{counting, counted_after, group_after, byte_at_spot, knows, KnowsSpot, ReadsByte, Arrives, IsSaid, worker_of}
 use Rattle.book.specs.MakesStep.{MakesStep}
 use Rattle.book.specs.Told.{group_in, counted_in, state_of, IsHistory}
+use Rattle.book.proofs.StepLemmas.{holder-same}
 
 -- ---- groups and events counted
 
@@ -62,32 +66,45 @@ done_lives s t place op byte hit new step = by_slot (task_at s.tasks t) _ step
     by_slot None F h = absurd h
     by_slot (Some task) F h = by_life task.life (F task) h
 
+-- each byte that is in memory is the one last written there
+abbrev pub AreLast : (Spot → ℕ) → StateOf → List Entry → Type 0
+AreLast first c history = (spot : Spot) → IsThere c.tables spot → KnowsSpot c spot → byte_at_spot c spot ≡ last first history spot
+
+-- an access that is done reaches for a byte that is there
+done_there : (s : State) (t : ℕ) (place : Place) (op : Op) (byte : ℕ) (hit : Option FrameId) (new : State) (c : List Counted) → Step (counting s c) (event.Access (record { 0 = t }) place op) (reply.Done byte hit) new → IsThere s (spot_of t place)
+done_there s t (Virtual v o) op byte hit new c step = done_lives (counting s c) t (Virtual v o) op byte hit new step
+done_there s t (File f q o) op byte hit new c step = tt
+
 -- a read that is done gave the last write
-pub read_right : (c : StateOf) (history : List Entry) (what : Event) (answer : Reply) (new : State) (counted : List Counted)
-    → ((t v o : ℕ) → lives c.tables.tasks t ≡ true → o < page_size → knows c t v ≡ true → byte_at c t v o ≡ last at_first history (InTask t v o)) → Step (counting c.tables counted) what answer new → ReadsByte c what answer
-    → IsRight at_first history what answer
-read_right c history (event.Access t (Virtual v o) Read) (reply.Done byte hit) new counted bytes step reads =
-    reads.0 ∙ bytes t.0 v o (done_lives (counting c.tables counted) t.0 (Virtual v o) Read byte hit new step) reads.1.1 reads.1.0
-read_right c history what answer new counted bytes step reads = tt
+pub read_right : (first : Spot → ℕ) (c : StateOf) (history : List Entry) (what : Event) (answer : Reply) (new : State) (counted : List Counted)
+    → AreLast first c history → Step (counting c.tables counted) what answer new → ReadsByte c what answer → IsRight first history what answer
+read_right first c history (event.Access t place Read) (reply.Done byte hit) new counted bytes step reads =
+    reads.0 ∙ bytes (spot_of t.0 place) (done_there c.tables t.0 place Read byte hit new counted step) reads.1
+read_right first c history what answer new counted bytes step reads = tt
 
 -- ---- bytes
 
 -- a byte that is what an entry says of it is the last write, where the bytes in memory were
-said_last : (old : StateOf) (history : List Entry) → ((t v o : ℕ) → lives old.tables.tasks t ≡ true → o < page_size → knows old t v ≡ true → byte_at old t v o ≡ last at_first history (InTask t v o))
-    → (said : Says) (spot : Spot) (byte : ℕ) → IsSaid old said spot byte → byte ≡ follow said (last at_first history) spot
-said_last old history bytes (Byte b) spot byte is = is
-said_last old history bytes (As (InTask t v o)) spot byte is = is.3 ∙ bytes t v o is.0 is.1 is.2
-said_last old history bytes Nothing (InTask t v o) byte is = is.3 ∙ bytes t v o is.0 is.1 is.2
+said_last : (first : Spot → ℕ) (old : StateOf) (history : List Entry) → AreLast first old history → (said : Says) (spot : Spot) (byte : ℕ) → IsSaid old said spot byte → byte ≡ follow said (last first history) spot
+said_last first old history bytes (Byte b) spot byte is = is
+said_last first old history bytes (As other) spot byte is = is.2 ∙ bytes other is.0 is.1
+said_last first old history bytes Nothing spot byte is = is.2 ∙ bytes spot is.0 is.1
+
+-- the bytes last written to a page that is being read in are those that were when that began, whoever has them
+fetched_last : (first : Spot → ℕ) (history : List Entry) (s : State) (p ticket : ℕ) (fetched : FetchedSo first history s p ticket) (spot : Spot) → holder s spot ≡ Some p
+    → last first history spot ≡ last first fetched.fetch.earlier (at_offset (offset_of spot) fetched.fetch.spot)
+fetched_last first history s p ticket fetched (InTask t v o) is = fetched.same t v o is
+fetched_last first history s p ticket fetched (InFile f q o) is = let there = file_page-there s.pages f q p is in fetched.of_file f q o there.0 there.1 there.2
 
 -- what an honest arrival brought is the last write
-arrived_last : (old : StateOf) (history : List Entry) (s : State) → s.pages ≡ old.tables.pages → s.page_tables ≡ old.tables.page_tables → (opening : Opening) → Legal opening history s → (what : Event) (answer : Reply) (t v o byte : ℕ)
-    → IsHonest at_first history what → o < page_size → Arrives old what t v o byte → byte ≡ follow (says what answer (InTask t v o)) (last at_first history) (InTask t v o)
-arrived_last old history s pages tables opening legal (event.Arrived ticket bytes) answer t v o byte honest lt arrives =
-    let there : page_at s.pages arrives.0 ≡ Some (anon_page arrives.1 (Coming arrives.2 arrives.3 ticket.0)) = ap (λ (ps : Pages). page_at ps arrives.0) pages ∙ arrives.5 in
-    let shown : mapped_at s.page_tables t v ≡ Some arrives.0 = ap (λ (ts : PageTables). mapped_at ts t v) tables ∙ arrives.4 in
-    let fetched = legal-fetched opening at_first history s legal arrives.0 arrives.2 arrives.3 ticket.0 _ there refl in
-    arrives.6 ∙ subst (λ (f : Option Fetched). HoldsLast at_first bytes f) fetched.is honest o lt ∙ sym (fetched.same t v o shown)
-arrived_last old history s pages tables opening legal what answer t v o byte honest lt arrives = absurd arrives
+arrived_last : (first : Spot → ℕ) (old : StateOf) (history : List Entry) (s : State) → s.pages ≡ old.tables.pages → s.page_tables ≡ old.tables.page_tables → (opening : Opening) → Legal opening history s → (what : Event) (answer : Reply) (spot : Spot) (byte : ℕ)
+    → IsHonest first history what → offset_of spot < page_size → Arrives old what spot byte → byte ≡ follow (says what answer spot) (last first history) spot
+arrived_last first old history s pages tables opening legal (event.Arrived ticket bytes) answer spot byte honest lt (p, label, f, b, had, stands, is) =
+    let there : page_at s.pages p ≡ Some (labelled label (Coming f b ticket.0)) = ap (λ (ps : Pages). page_at ps p) pages ∙ stands in
+    let now : holder s spot ≡ Some p = holder-same old.tables s spot (λ t v. ap (λ (ts : PageTables). mapped_at ts t v) tables) (λ g q. ap (λ (ps : Pages). file_page ps g q) pages) ∙ had in
+    let fetched = legal-fetched opening first history s legal p f b ticket.0 _ there refl in
+    is ∙ subst (λ (fetch : Option Fetched). HoldsLast first bytes fetch) fetched.is honest (offset_of spot) lt ∙ sym (fetched_last first history s p ticket.0 fetched spot now)
+arrived_last first old history s pages tables opening legal what answer spot byte honest lt arrives = absurd arrives
 
 -- who took a ticket, where the flights before were their takers'
 taker_on : (flight : Option Flight) (n worker taken : ℕ) (given before : Option ℕ) → IfSome flight (λ f. before ≡ Some f.worker.0) → Some taken ≡ taker_or n given worker (worker_of flight) → taker_or n given worker before ≡ Some taken
@@ -126,14 +143,15 @@ module _ (old new : StateOf) (history : List Entry) (counts : List ℕ) (worker 
       subst (λ (c : List Counted). Step (state_of old history) what answer (counting new.tables c)) (counted-same (group_of_task old.tables.tasks) (group_in history) h.told.groups (counted_in history) what answer)
       (h.makes_step.steps (counted_in history) h.told.tallied)
 
-  pub read_on : Honest at_first history → IsRight at_first history what answer
-  read_on honest = read_right old history what answer _ (counted_in history) (h.told.bytes honest) (h.makes_step.steps (counted_in history) h.told.tallied) h.makes_step.reads
+  pub read_on : (files : ℕ → ℕ → ℕ → ℕ) → Honest (at_first files) history → IsRight (at_first files) history what answer
+  read_on files honest =
+      read_right (at_first files) old history what answer _ (counted_in history) (h.told.bytes files honest) (h.makes_step.steps (counted_in history) h.told.tallied) h.makes_step.reads
 
-  bytes_on : Honest at_first more → (t v o : ℕ) → lives new.tables.tasks t ≡ true → o < page_size → knows new t v ≡ true → byte_at new t v o ≡ last at_first more (InTask t v o)
-  bytes_on honest t v o alive lt known =
-      elim (h.makes_step.bytes t v o alive lt known) [
-        | inl arrives ↦ arrived_last old history (state_of old history) refl refl old.tables.opening h.told.legal what answer t v o (byte_at new t v o) honest.1 lt arrives
-        | inr follows ↦ said_last old history (h.told.bytes honest.0) (says what answer (InTask t v o)) (InTask t v o) (byte_at new t v o) follows
+  bytes_on : (files : ℕ → ℕ → ℕ → ℕ) → Honest (at_first files) more → AreLast (at_first files) new more
+  bytes_on files honest spot there known =
+      elim (h.makes_step.bytes spot there known) [
+        | inl arrives ↦ arrived_last (at_first files) old history (state_of old history) refl refl old.tables.opening h.told.legal what answer spot (byte_at_spot new spot) honest.1 known.1 arrives
+        | inr follows ↦ said_last (at_first files) old history (h.told.bytes files honest.0) (says what answer spot) spot (byte_at_spot new spot) follows
       ]
 
   takers_on : (n : ℕ) → IfSome (at new.flights n) (λ f. taker n more ≡ Some f.worker.0)
@@ -169,7 +187,7 @@ module _ (old new : StateOf) (history : List Entry) (counts : List ℕ) (worker 
   extends =
       record {
         legal = (state_of old history, subst (λ opening. Legal opening history (state_of old history)) (sym h.makes_step.opening) h.told.legal, record { known = h.known; unrefused = h.none; room = h.room; steps = steps_on });
-        right = λ honest. (h.told.right honest.0, read_on honest.0);
+        right = λ files honest. (h.told.right files honest.0, read_on files honest.0);
         numbered = (h.told.numbered, refl);
         bytes = bytes_on;
         takers = takers_on;
@@ -186,9 +204,9 @@ pub told-first : (c : StateOf) (opening : Opening) → c.tables ≡ first_state 
 told-first c opening tables order flights tells zeros =
     record {
       legal = subst (λ (s : State). let empty : State = record s { counted = [] } in empty ≡ first_state s.opening) (sym tables) refl;
-      right = λ honest. tt;
+      right = λ files honest. tt;
       numbered = tt;
-      bytes = λ honest t v o alive within known. zeros t v o;
+      bytes = λ files honest spot there known. first_byte files spot known;
       takers = λ n. subst (λ (fs : List (Option Flight)). IfSome (at fs n) (λ f. taker n [] ≡ Some f.worker.0)) (sym flights) tt;
       groups = λ t. ap (λ (s : State). group_of_task s.tasks t) tables;
       tallied = tells;
@@ -196,6 +214,12 @@ told-first c opening tables order flights tells zeros =
       young = λ g. subst (λ (o : Order). (gens_at o.held.groups g).max_seq ≤ 3 + 3 * 0) (sym order) (first g);
     }
   where
+    -- tasks begin with zeros, and no page of a file is in memory
+    first_byte : (files : ℕ → ℕ → ℕ → ℕ) (spot : Spot) → KnowsSpot c spot → byte_at_spot c spot ≡ at_first files spot
+    first_byte files (InTask t v o) known = zeros t v o
+    first_byte files (InFile f q o) known =
+        unlike (knows c (InFile f q o) (file_page c.tables.pages f q)) known.0 (ap (knows c (InFile f q o)) (ap (λ (s : State). file_page s.pages f q) tables))
+
     first : (g : ℕ) → (gens_at (new_gens ∷ []) g).max_seq ≤ 3 + 3 * 0
     first zero = omega arith
     first (suc g) = omega arith

@@ -1,3 +1,4 @@
+pub mod FlightLemmas
 pub mod StepLemmas
 pub mod JudgeLemmas
 pub mod MoveLemmas

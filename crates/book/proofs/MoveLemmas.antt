@@ -1,11 +1,11 @@
--- What a page that comes to stand elsewhere is to the plain machine: transfers that begin and end.
-use Rattle.std.proofs.Common.{◌≡◌, ◌≢◌, ◌⊎◌, inl, inr, ℕ, ◌+◌, ◌≤◌, ◌==◌, Bool, true, false, cond, List, Option, Some, None, eqb-true, eq-eqb, ne_eqb, refl, sym, ap, subst, ◌∙◌, arith}
-use Rattle.std.specs.Prelude.{IfSome, slice_index}
-use Rattle.std.proofs.lemmas.Bool.{and_parts, or_right}
+-- What a page that comes to stand elsewhere is to the plain machine: transfers that begin and end, and pages that are dropped.
+use Rattle.std.proofs.Common.{◌≡◌, ◌≢◌, ◌⊎◌, inl, inr, ℕ, ◌+◌, ◌≤◌, ◌==◌, ◌&&◌, Bool, true, false, MatchBool, cond, List, Option, Some, None, eq-eqb, ne_eqb, refl, sym, ap, subst, ◌∙◌, arith}
+use Rattle.std.specs.Prelude.{IfSome, is_some, slice_index}
+use Rattle.machine.specs.declared.id.GroupId.{GroupId}
 use Rattle.machine.specs.declared.record.Life.TheVariants.{Live}
 use Rattle.machine.specs.declared.record.Task.{Task}
 use Rattle.machine.specs.declared.event.Place.{Place}
-use Rattle.machine.specs.declared.event.Place.TheVariants.{Virtual}
+use Rattle.machine.specs.declared.event.Place.TheVariants.{Virtual, File}
 use Rattle.machine.specs.declared.event.Op.{Op}
 use Rattle.machine.specs.declared.event.Op.TheVariants.{Read, Write}
 use Rattle.machine.specs.declared.event.Cause.{Cause}
@@ -14,39 +14,94 @@ use Rattle.machine.specs.declared.event.Event.TheVariants as event
 use Rattle.machine.specs.declared.reply.Reply.{Reply}
 use Rattle.machine.specs.declared.reply.Reply.TheVariants as reply
 use Rattle.machine.specs.Slots.{at, Changes, there_and}
-use Rattle.machine.specs.Pages.{Memory, Residence, Held, Coming, Going, Away, Page, Pages, page_at, is_number, is_in_transfer, in_transfer, is_ticket_taken}
+use Rattle.machine.specs.Pages.{Content, Memory, OfFile, Residence, Held, Coming, Going, Away, Page, Pages, page_at, file_page, home_block, is_anon, is_page_of, is_in_transfer, in_transfer, in_transfer_at}
 use Rattle.machine.specs.Counts.{Counted}
-use Rattle.machine.specs.Tasks.{task_at, lives, group_of_task, mapped_at, mappers}
+use Rattle.machine.specs.Tasks.{PageTables, task_at, group_of_task, mapped_at, mappers}
 use Rattle.machine.specs.State.{State, over_in, is_frame_free}
 use Rattle.machine.specs.Access.{meets}
 use Rattle.machine.specs.Call.{fetches, need}
 use Rattle.machine.specs.Reclaim.{stands, target_of, is_takeable, has_takeable}
 use Rattle.machine.specs.Lists.{Youngest, entry_after, TakesNext, Orders}
-use Rattle.machine.specs.Step.{MeetStep, StartsFetch, Takes, RelieveStep, ReclaimOneStep, EndsTransfer, or_gone, in_frame, on_block, IsFreeFrame}
-use Rattle.machine.specs.History.{Spot, InTask, Nothing, says, ticket_given, taker_or}
-use Rattle.machine.proofs.Values.{unlike}
+use Rattle.machine.specs.Step.{Step, MeetStep, StartsFetch, ReadsFile, StartsLeave, Drops, LeavesBy, Takes, RelieveStep, ReclaimOneStep, EndsTransfer, or_gone, in_frame, on_block, on_block_of}
+use Rattle.machine.specs.History.{Spot, InTask, InFile, Nothing, says, ticket_given, taker_or}
+use Rattle.machine.proofs.Values.{some_inj, unlike}
 use Rattle.machine.proofs.TreeLemmas.{eq_cases}
 use Rattle.machine.proofs.SlotLemmas.{one_if}
-use Rattle.machine.proofs.MappingLemmas.{mapped_at-one}
-use Rattle.pages.specs.PagesOf.{byte_in, HasResidence, anon_page, flight}
+use Rattle.machine.proofs.FileLemmas.{IsSingle, holds_page, file_page-beside, file_page-gone, file_page-gone_other, file_page-new, file_page-new_other}
+use Rattle.files.specs.Files.{FilesOf}
+use Rattle.pages.specs.PagesOf.{Label, labelled, memory_of, of_file, byte_in, HasResidence, flight, AreFiled}
 use Rattle.pages.specs.declared.flight.Flight.{Flight}
 use Rattle.machine.specs.declared.record.Direction.{Direction}
 use Rattle.machine.specs.declared.record.Direction.TheVariants.{In, Out}
 use Rattle.memory_events.specs.Tallies.{Tallies, Tells}
 use Rattle.page_state.specs.States.{StateOf, byte_shown}
-use Rattle.page_state.specs.Mapped.{AreMapped}
-use Rattle.book.specs.Effects.{counting, Steps, Tallied, group_after, is_in_memory, is_known, ReadsByte, Arrives, Follows, ChangesBytes, ChangesFlights, worker_of}
+use Rattle.book.specs.Spots.{offset_of, holder}
+use Rattle.book.specs.Effects.{counting, counted_after, Steps, Tallied, group_after, byte_at_spot, is_in_memory, is_known, knows, KnowsSpot, ReadsByte, Arrives, Follows, ChangesBytes, ChangesFlights, worker_of}
 use Rattle.book.specs.MakesStep.{AgesByThree, MakesStep, RepliesTo, is_refused}
 use Rattle.book.specs.declared.event.Reply.TheVariants as given
 use Rattle.pages.specs.Tickets.{TicketOf}
 use Rattle.pages.specs.declared.end.End.{End}
 use Rattle.pages.specs.declared.end.End.TheVariants.{InFrame, OnBlock}
-use Rattle.pages.specs.Transfers.{residence_after}
-use Rattle.page_state.specs.Changes.{KeepsLists, BeginsWriteOut, EndsTransfer as Settles}
+use Rattle.page_state.specs.Changes.{BeginsReadIn, BeginsRead, IsWrittenTo, BeginsWriteOut, DropsClean, ended_as, EndsTransfer as Settles}
 use Rattle.book.specs.Events.{ended}
 use Rattle.book.specs.Decisions.{AsksPage}
-use Rattle.page_state.proofs.TransferLemmas.{free-other, any-some, under-taken, coming-under, in_transfer-changes}
-use Rattle.book.proofs.StepLemmas.{order-on, was, flight-kept, live_step, granted_step, stands_counting}
+use Rattle.pages.proofs.TableLemmas.{any-some}
+use Rattle.book.proofs.FlightLemmas.{in_transfer-changes}
+use Rattle.book.proofs.StepLemmas.{order-on, was, there-same, holder-same, stays-was, flight-kept, flights-kept, live_step, granted_step, stands_counting}
+
+-- ---- which page has a byte, as one page changes
+
+-- a page of a file is found wherever it stands
+pub filed-single : (files : FilesOf) (pages : Pages) → AreFiled files pages → IsSingle pages
+filed-single files pages filed = record { single = λ f q p p' page page' there there' holds holds'. some_inj (sym (found f q p page there holds) ∙ found f q p' page' there' holds') }
+  where
+    found : (f q p : ℕ) (page : Page) → page_at pages p ≡ Some page → page.content ≡ OfFile f q → file_page pages f q ≡ Some p
+    found f q p page there holds = subst (λ (slot : Option Page). IfSome slot (λ page. page.content ≡ OfFile f q → file_page pages f q ≡ Some p)) there (filed.single p f q) holds
+
+module _ (old new : StateOf) (tables : new.tables ≡ record old.tables { pages = new.tables.pages }) where
+  same_place : (t v : ℕ) → mapped_at new.tables.page_tables t v ≡ mapped_at old.tables.page_tables t v
+  same_place t v = ap (λ (s : State). mapped_at s.page_tables t v) tables
+
+  -- what changes holds what it held
+  pub holders-beside : (p : ℕ) (to : Option Page) → Changes old.tables.pages new.tables.pages p to → ((f q : ℕ) → holds_page f q to ≡ holds_page f q (page_at old.tables.pages p)) → (spot : Spot) → KnowsSpot new spot → holder new.tables spot ≡ holder old.tables spot
+  holders-beside p to changes same spot known = holder-same old.tables new.tables spot same_place (λ f q. file_page-beside old.tables.pages new.tables.pages p to changes f q (same f q))
+
+  -- a page of a file is gone: what it had is on the device alone
+  pub holders-gone : (p f q : ℕ) (page : Page) → IsSingle old.tables.pages → Changes old.tables.pages new.tables.pages p None → page_at old.tables.pages p ≡ Some page → page.content ≡ OfFile f q
+      → (spot : Spot) → KnowsSpot new spot → holder new.tables spot ≡ holder old.tables spot
+  holders-gone p f q page single changes there holds (InTask t v o) known = same_place t v
+  holders-gone p f q page single changes there holds (InFile f' q' o) known = by_file (eq_cases f f') (eq_cases q q')
+    where
+      elsewhere : ((f ≡ f') × (q ≡ q') → ⊥) → file_page new.tables.pages f' q' ≡ file_page old.tables.pages f' q'
+      elsewhere differ = file_page-gone_other old.tables.pages new.tables.pages p f q page changes there holds f' q' differ
+
+      none : f ≡ f' → q ≡ q' → file_page new.tables.pages f' q' ≡ None
+      none fs qs = ap (λ (x : ℕ). file_page new.tables.pages x q') (sym fs) ∙ ap (file_page new.tables.pages f) (sym qs) ∙ file_page-gone old.tables.pages new.tables.pages p f q page single changes there holds
+
+      by_file : (f ≡ f') ⊎ (f ≢ f') → (q ≡ q') ⊎ (q ≢ q') → file_page new.tables.pages f' q' ≡ file_page old.tables.pages f' q'
+      by_file (inl fs) (inl qs) = unlike (knows new (InFile f' q' o) (file_page new.tables.pages f' q')) known.0 (ap (knows new (InFile f' q' o)) (none fs qs))
+      by_file (inl fs) (inr other) = elsewhere (λ same. other same.1)
+      by_file (inr other) qs = elsewhere (λ same. other same.0)
+
+  -- a page of a file comes that none held, and is not in memory yet
+  pub holders-new : (p f q : ℕ) (page : Page) → Changes old.tables.pages new.tables.pages p (Some page) → page_at old.tables.pages p ≡ None → page.content ≡ OfFile f q → file_page old.tables.pages f q ≡ None → is_in_memory page.residence ≡ false
+      → (spot : Spot) → KnowsSpot new spot → holder new.tables spot ≡ holder old.tables spot
+  holders-new p f q page changes free holds uncached absent (InTask t v o) known = same_place t v
+  holders-new p f q page changes free holds uncached absent (InFile f' q' o) known = by_file (eq_cases f f') (eq_cases q q')
+    where
+      elsewhere : ((f ≡ f') × (q ≡ q') → ⊥) → file_page new.tables.pages f' q' ≡ file_page old.tables.pages f' q'
+      elsewhere differ = file_page-new_other old.tables.pages new.tables.pages p f q page changes free holds f' q' differ
+
+      found : f ≡ f' → q ≡ q' → file_page new.tables.pages f' q' ≡ Some p
+      found fs qs = ap (λ (x : ℕ). file_page new.tables.pages x q') (sym fs) ∙ ap (file_page new.tables.pages f) (sym qs) ∙ file_page-new old.tables.pages new.tables.pages p f q page changes holds uncached
+
+      by_file : (f ≡ f') ⊎ (f ≢ f') → (q ≡ q') ⊎ (q ≢ q') → file_page new.tables.pages f' q' ≡ file_page old.tables.pages f' q'
+      by_file (inl fs) (inl qs) =
+          unlike (knows new (InFile f' q' o) (file_page new.tables.pages f' q')) known.0 (ap (knows new (InFile f' q' o)) (found fs qs) ∙ ap (there_and (λ (page : Page). is_in_memory page.residence)) changes.changed ∙ absent)
+      by_file (inl fs) (inr other) = elsewhere (λ same. other same.1)
+      by_file (inr other) qs = elsewhere (λ same. other same.0)
+
+-- ---- one page changes
 
 -- one page comes to stand elsewhere, or goes; the event says nothing of any byte
 pub record IsMove (old new : StateOf) (what : Event) (answer : Reply) (p : ℕ) (to : Option Page) : Type 0 where
@@ -56,43 +111,47 @@ pub record IsMove (old new : StateOf) (what : Event) (answer : Reply) (p : ℕ) 
   pub silent : (spot : Spot) → says what answer spot ≡ Nothing
   pub groups : (before : ℕ → ℕ) (u : ℕ) → group_after before what answer u ≡ before u
   pub given : is_refused answer ≡ false
+  -- a byte that is in memory is had by the page that had it
+  pub holders : (spot : Spot) → KnowsSpot new spot → holder new.tables spot ≡ holder old.tables spot
   -- the bytes of the page itself, where it is in memory: they arrive, or are as they were
-  pub own : (t v o : ℕ) → mapped_at old.tables.page_tables t v ≡ Some p → there_and (λ page. is_in_memory page.residence) to ≡ true
-      → Arrives old what t v o (byte_in new.bytes p o) ⊎ ((there_and (λ page. is_in_memory page.residence) (page_at old.tables.pages p) ≡ true) × (byte_in new.bytes p o ≡ byte_in old.bytes p o))
+  pub own : (spot : Spot) → holder old.tables spot ≡ Some p → there_and (λ page. is_in_memory page.residence) to ≡ true
+      → Arrives old what spot (byte_in new.bytes p (offset_of spot)) ⊎ ((is_known old.tables.pages p ≡ true) × (byte_in new.bytes p (offset_of spot) ≡ byte_in old.bytes p (offset_of spot)))
 
 module _ (old new : StateOf) (what : Event) (answer : Reply) (p : ℕ) (to : Option Page) (move : IsMove old new what answer p to) where
-  same_place : (t v : ℕ) → mapped_at new.tables.page_tables t v ≡ mapped_at old.tables.page_tables t v
-  same_place t v = ap (λ (s : State). mapped_at s.page_tables t v) move.tables
-
   moved-bytes : ChangesBytes old what answer new
-  moved-bytes t v o alive within known =
-      subst (λ (m : Option ℕ). Arrives old what t v o (byte_shown new.bytes m o) ⊎ Follows old what answer t v o (byte_shown new.bytes m o)) (sym (same_place t v))
-      (by_place (mapped_at old.tables.page_tables t v) refl (sym (ap (is_known new.tables.pages) (same_place t v)) ∙ known))
+  moved-bytes spot there known = by_holder (holder old.tables spot) refl
     where
-      follows : (m : Option ℕ) (byte : ℕ) → mapped_at old.tables.page_tables t v ≡ m → is_known old.tables.pages m ≡ true → byte ≡ byte_shown old.bytes m o → Follows old what answer t v o byte
-      follows m byte is there e =
-          was old what answer t v o byte (move.silent (InTask t v o))
-          (sym (ap (λ (s : State). lives s.tasks t) move.tables) ∙ alive, within, ap (is_known old.tables.pages) is ∙ there, e ∙ ap (λ (m : Option ℕ). byte_shown old.bytes m o) (sym is))
+      same : holder new.tables spot ≡ holder old.tables spot
+      same = move.holders spot known
 
-      at_page : (q : ℕ) → mapped_at old.tables.page_tables t v ≡ Some q → q ≡ p → is_known new.tables.pages (Some p) ≡ true
-          → Arrives old what t v o (byte_in new.bytes p o) ⊎ Follows old what answer t v o (byte_in new.bytes p o)
-      at_page q is same there =
-          let shown : mapped_at old.tables.page_tables t v ≡ Some p = is ∙ ap Some same in
-          elim (move.own t v o shown (sym (ap (there_and (λ (page : Page). is_in_memory page.residence)) move.placed.changed) ∙ there)) [
-            | inl arrives ↦ inl arrives
-            | inr kept ↦ inr (follows (Some p) (byte_in new.bytes p o) shown kept.0 kept.1)
+      -- what no other page has that is not as it was
+      follows : ((q : ℕ) → holder old.tables spot ≡ Some q → is_known new.tables.pages q ≡ true → (is_known old.tables.pages q ≡ true) × (byte_in new.bytes q (offset_of spot) ≡ byte_in old.bytes q (offset_of spot)))
+          → Follows old what answer spot (byte_at_spot new spot)
+      follows kept = was old what answer spot (byte_at_spot new spot) (move.silent spot) (stays-was old new spot (there-same old.tables new.tables spot (ap (λ (s : State). s.tasks) move.tables) there) same kept known)
+
+      now : (q : ℕ) → holder old.tables spot ≡ Some q → byte_at_spot new spot ≡ byte_in new.bytes q (offset_of spot)
+      now q is = ap (λ (m : Option ℕ). byte_shown new.bytes m (offset_of spot)) (same ∙ is)
+
+      at_page : holder old.tables spot ≡ Some p → Arrives old what spot (byte_at_spot new spot) ⊎ Follows old what answer spot (byte_at_spot new spot)
+      at_page is =
+          let there_now : is_known new.tables.pages p ≡ true = sym (ap (knows new spot) (same ∙ is)) ∙ known.0 in
+          elim (move.own spot is (sym (ap (there_and (λ (page : Page). is_in_memory page.residence)) move.placed.changed) ∙ there_now)) [
+            | inl arrives ↦ inl (subst (λ (byte : ℕ). Arrives old what spot byte) (sym (now p is)) arrives)
+            | inr kept ↦ inr (follows (λ q at in_memory. let one : p ≡ q = some_inj (sym is ∙ at) in subst (λ (x : ℕ). (is_known old.tables.pages x ≡ true) × (byte_in new.bytes x (offset_of spot) ≡ byte_in old.bytes x (offset_of spot))) one kept))
           ]
 
-      by_place : (m : Option ℕ) → mapped_at old.tables.page_tables t v ≡ m → is_known new.tables.pages m ≡ true
-          → Arrives old what t v o (byte_shown new.bytes m o) ⊎ Follows old what answer t v o (byte_shown new.bytes m o)
-      by_place None is there = inr (follows None 0 is refl refl)
-      by_place (Some q) is there =
+      by_holder : (m : Option ℕ) → holder old.tables spot ≡ m → Arrives old what spot (byte_at_spot new spot) ⊎ Follows old what answer spot (byte_at_spot new spot)
+      by_holder None is = inr (follows (λ q at in_memory. let wrong : Some q ≡ None = sym at ∙ is in absurd cc))
+      by_holder (Some q) is =
           elim (eq_cases q p) [
-            | inl same ↦
-                subst (λ (x : ℕ). Arrives old what t v o (byte_in new.bytes x o) ⊎ Follows old what answer t v o (byte_in new.bytes x o)) (sym same)
-                (at_page q is same (ap (λ (x : ℕ). is_known new.tables.pages (Some x)) (sym same) ∙ there))
+            | inl same ↦ at_page (is ∙ ap (λ (x : ℕ). Some x) same)
             | inr other ↦
-                inr (follows (Some q) (byte_in new.bytes q o) is (sym (ap (there_and (λ (page : Page). is_in_memory page.residence)) (move.placed.others q other)) ∙ there) (move.others q o other))
+                inr
+                (follows
+                (λ r at in_memory.
+                let one : q ≡ r = some_inj (sym is ∙ at) in
+                let elsewhere : r ≢ p = λ e. other (one ∙ e) in
+                (sym (ap (there_and (λ (page : Page). is_in_memory page.residence)) (move.placed.others r elsewhere)) ∙ in_memory, move.others r (offset_of spot) elsewhere)))
           ]
 
   pub makes_step-move : (worker : ℕ) → Steps old what answer new → Orders old.tables old.order what answer new.tables new.order × AgesByThree old new → Tallied old what answer new → ReadsByte old what answer → ChangesFlights old worker answer new
@@ -157,46 +216,98 @@ reads-fetch s t n place Read = tt
 reads-fetch s t n place (Write b) = tt
 
 -- an access to a page on its block begins to read it in, where its charge is granted: it needs an entry for the end too, and may want memory
-pub away-fetches : (s : State) (t v o p g b : ℕ) (op : Op) (task : Task) → task_at s.tasks t ≡ Some task → task.life ≡ Live → mapped_at s.page_tables t v ≡ Some p → HasResidence s.pages p g (Away b)
+pub away-fetches : (s : State) (t v o p g b : ℕ) (op : Op) (task : Task) → task_at s.tasks t ≡ Some task → task.life ≡ Live → mapped_at s.page_tables t v ≡ Some p → HasResidence s.pages p (memory_of g) (Away b)
     → over_in s g ≡ None → is_frame_free s ≡ true → fetches s t (Virtual v o) op ≡ true
 away-fetches s t v o p g b op task known live shown away under free = rw known (rw live (rw shown (rw away (rw under (rw free refl)))))
+
+-- and so one to a page of a file that no page holds
+pub uncached-fetches : (s : State) (t file q o : ℕ) (op : Op) (task : Task) → task_at s.tasks t ≡ Some task → task.life ≡ Live → file_page s.pages file q ≡ None
+    → over_in s task.group.0 ≡ None → is_frame_free s ≡ true → fetches s t (File file q o) op ≡ true
+uncached-fetches s t file q o op task known live none under free = rw known (rw live (rw none (rw under (rw free refl))))
 
 pub fetch-needs : (s : State) (t : ℕ) (place : Place) (op : Op) → fetches s t place op ≡ true → need s (event.Access (record { 0 = t }) place op) ≡ 2
 fetch-needs s t place op fetch = ap (λ b. cond b 2 1) fetch
 
-pub makes_step-fetch : (old new : StateOf) (worker t v o p g f b n : ℕ) (op : Op) (task : Task)
-    → task_at old.tables.tasks t ≡ Some task → task.life ≡ Live → mapped_at old.tables.page_tables t v ≡ Some p → HasResidence old.tables.pages p g (Away b)
-    → over_in old.tables g ≡ None → is_frame_free old.tables ≡ true → IsFreeFrame old.tables f → is_ticket_taken old.tables.pages n ≡ false
-    → Changes old.tables.pages new.tables.pages p (Some (anon_page g (Coming f b n)))
-    → new.tables ≡ record old.tables { pages = new.tables.pages }
-    → ((q k : ℕ) → q ≢ p → byte_in new.bytes q k ≡ byte_in old.bytes q k) → Changes old.flights new.flights n (Some (flight p worker In))
-    → KeepsLists Youngest old new → new.order.cursors ≡ old.order.cursors → ((c : List Counted) → Tells old.tallies c → Tells new.tallies c)
-    → MakesStep old worker (event.Access (record { 0 = t }) (Virtual v o) op) (reply.Fetch (record { 0 = n })) new
-makes_step-fetch old new worker t v o p g f b n op task known live shown away under free frame fresh placed tables bytes listed goes cursors tells =
-    makes_step-move old new (event.Access (record { 0 = t }) (Virtual v o) op) (reply.Fetch (record { 0 = n })) p (Some (anon_page g (Coming f b n)))
-    (record {
-      tables = tables;
-      placed = placed;
-      others = bytes;
-      silent = silent-fetch t n (Virtual v o) op;
-      groups = λ u g. refl;
-      given = refl;
-      own = λ u w k is there. unlike false there refl;
-    })
-    worker
-    (λ c told. live_step (counting old.tables c) _ task _ _ _ known live (fetches c))
-    (order-on Youngest old old.order.held new refl goes cursors) tells (reads-fetch old t n (Virtual v o) op)
-    (flights-begun old new worker p n In (reply.Fetch (record { 0 = n })) refl listed)
-    (let more = in_transfer-changes old.tables.pages new.tables.pages p (Some (anon_page g (Coming f b n))) placed in
-    let was : one_if (there_and is_in_transfer (page_at old.tables.pages p)) ≡ 0 = ap (λ (slot : Option Page). one_if (there_and is_in_transfer slot)) away in
-    let two = fetch-needs old.tables t (Virtual v o) op (away-fetches old.tables t v o p g b op task known live shown away under free) in
-    omega (arith, more, was, two))
-  where
-    starts_fetch : (c : List Counted) → StartsFetch (counting old.tables c) p g Memory b (reply.Fetch (record { 0 = n })) (counting new.tables c)
-    starts_fetch c = record { frame = f; ticket = n; frame_free = record { in_range = frame.in_range; unused = frame.unused }; ticket_free = fresh; placed = placed; answers = refl; state = ap (λ (s : State). counting s c) tables }
+-- a page begins to be read in, whichever it is
+module _ (old new : StateOf) (worker t p b : ℕ) (entry : ℕ) (label : Label) (place : Place) (op : Op) (task : Task) (ticket : TicketOf) (begins : BeginsReadIn old new p label b worker entry ticket) where
+  same_tallies_in : (c : List Counted) → Tells old.tallies c → Tells new.tallies c
+  same_tallies_in c told = subst (λ (t : Tallies). Tells t c) (sym begins.tallies) told
 
-    fetches : (c : List Counted) → MeetStep (counting old.tables c) t task.group.0 op (meets (counting old.tables c) t (Virtual v o) op) (reply.Fetch (record { 0 = n })) (counting new.tables c)
-    fetches c = rw shown (rw away (granted_step (counting old.tables c) _ _ _ _ _ under free (starts_fetch c)))
+  pub makes_step-fetch : task_at old.tables.tasks t ≡ Some task → task.life ≡ Live → fetches old.tables t place op ≡ true → there_and is_in_transfer (page_at old.tables.pages p) ≡ false
+      → ((c : List Counted) → MeetStep (counting old.tables c) t task.group.0 op (meets (counting old.tables c) t place op) (reply.Fetch (record { 0 = ticket.number })) (counting new.tables c))
+      → ((spot : Spot) → KnowsSpot new spot → holder new.tables spot ≡ holder old.tables spot)
+      → MakesStep old worker (event.Access (record { 0 = t }) place op) (reply.Fetch (record { 0 = ticket.number })) new
+  makes_step-fetch known live fetch rested meeting holders =
+      makes_step-move old new (event.Access (record { 0 = t }) place op) (reply.Fetch (record { 0 = ticket.number })) p (Some (labelled label (Coming begins.frame b ticket.number)))
+      (record {
+        tables = begins.tables;
+        placed = begins.placed;
+        others = begins.bytes;
+        silent = silent-fetch t ticket.number place op;
+        groups = λ u g. refl;
+        given = refl;
+        holders = holders;
+        own = λ spot is there. unlike false there refl;
+      })
+      worker
+      (λ c told. live_step (counting old.tables c) _ task _ _ _ known live (meeting c))
+      (order-on Youngest old old.order.held new refl begins.held begins.cursors) same_tallies_in (reads-fetch old t ticket.number place op)
+      (flights-begun old new worker p ticket.number In (reply.Fetch (record { 0 = ticket.number })) refl begins.listed)
+      (let more = in_transfer-changes old.tables.pages new.tables.pages p (Some (labelled label (Coming begins.frame b ticket.number))) begins.placed in
+      let was : one_if (there_and is_in_transfer (page_at old.tables.pages p)) ≡ 0 = ap one_if rested in
+      let two = fetch-needs old.tables t place op fetch in
+      omega (arith, more, was, two))
+
+-- memory on its block
+pub makes_step-swap_in : (old new : StateOf) (worker entry t v o p g b : ℕ) (op : Op) (task : Task) (ticket : TicketOf) → task_at old.tables.tasks t ≡ Some task → task.life ≡ Live → mapped_at old.tables.page_tables t v ≡ Some p
+    → HasResidence old.tables.pages p (memory_of g) (Away b) → over_in old.tables g ≡ None → is_frame_free old.tables ≡ true → BeginsReadIn old new p (memory_of g) b worker entry ticket
+    → MakesStep old worker (event.Access (record { 0 = t }) (Virtual v o) op) (reply.Fetch (record { 0 = ticket.number })) new
+makes_step-swap_in old new worker entry t v o p g b op task ticket known live shown away under free begins =
+    makes_step-fetch old new worker t p b entry (memory_of g) (Virtual v o) op task ticket begins known live (away-fetches old.tables t v o p g b op task known live shown away under free) (ap (there_and is_in_transfer) away)
+    (λ c. rw shown (rw away (granted_step (counting old.tables c) _ _ _ _ _ under free (starts_fetch c))))
+    (holders-beside old new begins.tables p (Some (labelled (memory_of g) (Coming begins.frame b ticket.number))) begins.placed (λ f q. sym (ap (holds_page f q) away)))
+  where
+    starts_fetch : (c : List Counted) → StartsFetch (counting old.tables c) p g Memory b (reply.Fetch (record { 0 = ticket.number })) (counting new.tables c)
+    starts_fetch c =
+        record {
+          frame = begins.frame;
+          ticket = ticket.number;
+          frame_free = record { in_range = begins.frame_free.in_range; unused = begins.frame_free.unused };
+          ticket_free = begins.ticket_free;
+          placed = begins.placed;
+          answers = refl;
+          state = ap (λ (s : State). counting s c) begins.tables;
+        }
+
+-- a page of a file
+pub makes_step-read_in : (old new : StateOf) (worker entry t file q o : ℕ) (op : Op) (task : Task) (ticket : TicketOf) → task_at old.tables.tasks t ≡ Some task → task.life ≡ Live → file_page old.tables.pages file q ≡ None
+    → over_in old.tables task.group.0 ≡ None → is_frame_free old.tables ≡ true → BeginsRead old new file q task.group.0 worker entry ticket
+    → MakesStep old worker (event.Access (record { 0 = t }) (File file q o) op) (reply.Fetch (record { 0 = ticket.number })) new
+makes_step-read_in old new worker entry t file q o op task ticket known live none under free reads =
+    makes_step-fetch old new worker t reads.page (home_block old.tables.opening.swap old.tables.opening.files file q) entry (of_file file q task.group.0 false) (File file q o) op task ticket begins known live
+    (uncached-fetches old.tables t file q o op task known live none under free) (ap (there_and is_in_transfer) reads.number_free)
+    (λ c. rw none (granted_step (counting old.tables c) _ _ _ _ _ under free (reads_file c)))
+    (holders-new old new begins.tables reads.page file q (labelled (of_file file q task.group.0 false) (Coming begins.frame (home_block old.tables.opening.swap old.tables.opening.files file q) ticket.number)) begins.placed reads.number_free refl none refl)
+  where
+    begins : BeginsReadIn old new reads.page (of_file file q task.group.0 false) (home_block old.tables.opening.swap old.tables.opening.files file q) worker entry ticket
+    begins = reads.begins
+
+    reads_file : (c : List Counted) → ReadsFile (counting old.tables c) file q task.group.0 (reply.Fetch (record { 0 = ticket.number })) (counting new.tables c)
+    reads_file c =
+        record {
+          page = reads.page;
+          in_range = reads.in_range;
+          slot_free = reads.number_free;
+          fetch = record {
+            frame = begins.frame;
+            ticket = ticket.number;
+            frame_free = record { in_range = begins.frame_free.in_range; unused = begins.frame_free.unused };
+            ticket_free = begins.ticket_free;
+            placed = begins.placed;
+            answers = refl;
+            state = ap (λ (s : State). counting s c) begins.tables;
+          };
+        }
 
 -- ---- a write-out begins
 
@@ -206,179 +317,253 @@ relief-two s why wants some = rw wants (rw some refl)
 pub reclaim-two : (s : State) (g : ℕ) → has_takeable s g ≡ true → need s (event.ReclaimOne (record { 0 = g })) ≡ 2
 reclaim-two s g some = rw some refl
 
--- a page that may be taken for the target begins to be written out: the one in order
-module _ (old new : StateOf) (target worker entry : ℕ) (ticket : TicketOf) (taken : BeginsWriteOut old new target worker entry ticket) where
+-- a page is taken for the target, whatever asks for it, and whether it is written out or dropped
+module _ (old new : StateOf) (target worker : ℕ) (answer : Reply) (p : ℕ) (to : Option Page) (some : has_takeable old.tables target ≡ true) (uncounted : (group_of : ℕ → ℕ) (c : List Counted) (why : Cause) → counted_after group_of c (event.Relieve why) answer ≡ c)
+    (takes : (c : List Counted) → Takes (counting old.tables c) target answer (counting new.tables c))
+    (relief_order : (why : Cause) → target_of why ≡ target → Orders old.tables old.order (event.Relieve why) answer new.tables new.order)
+    (reclaim_order : (h : GroupId) → h.0 ≡ target → Orders old.tables old.order (event.ReclaimOne h) answer new.tables new.order) (ages : AgesByThree old new) (tallies : new.tallies ≡ old.tallies) (tables : new.tables ≡ record old.tables { pages = new.tables.pages })
+    (placed : Changes old.tables.pages new.tables.pages p to) (others : (q o : ℕ) → q ≢ p → byte_in new.bytes q o ≡ byte_in old.bytes q o) (given : is_refused answer ≡ false) (flights : ChangesFlights old worker answer new)
+    (holders : (spot : Spot) → KnowsSpot new spot → holder new.tables spot ≡ holder old.tables spot)
+    (own : (spot : Spot) → holder old.tables spot ≡ Some p → there_and (λ page. is_in_memory page.residence) to ≡ true → (is_known old.tables.pages p ≡ true) × (byte_in new.bytes p (offset_of spot) ≡ byte_in old.bytes p (offset_of spot)))
+    (rested : there_and is_in_transfer (page_at old.tables.pages p) ≡ false) where
   same_tallies : (c : List Counted) → Tells old.tallies c → Tells new.tallies c
-  same_tallies c told = subst (λ (t : Tallies). Tells t c) (sym taken.tallies) told
+  same_tallies c told = subst (λ (t : Tallies). Tells t c) (sym tallies) told
 
-  pub taken-some : has_takeable old.tables target ≡ true
-  taken-some = any-some (is_takeable old.tables target) old.tables.pages taken.p (ap (there_and (is_takeable old.tables target)) taken.stood ∙ taken.takeable)
-
-  takes_it : (c : List Counted) → Takes (counting old.tables c) target (reply.Out (record { 0 = ticket.number })) (counting new.tables c)
-  takes_it c =
-      record {
-        p = taken.p;
-        page = anon_page taken.g (Held taken.frame);
-        there = taken.stood;
-        takeable = taken.takeable;
-        leaves = record {
-          block = ticket.block;
-          block_free = record { in_range = taken.block_free.in_range; unused = taken.block_free.unused };
-          leave = record { ticket = ticket.number; ticket_free = taken.ticket_free; placed = taken.placed; answers = refl; state = ap (λ (s : State). counting s c) taken.tables };
-        };
-      }
+  at_most_one : (slot : Option Page) → one_if (there_and is_in_transfer slot) ≤ 1
+  at_most_one slot = by_test (there_and is_in_transfer slot)
+    where
+      by_test : (b : Bool) → one_if b ≤ 1
+      by_test true = omega arith
+      by_test false = omega arith
 
   -- whatever asks for it
-  makes_step-out : (what : Event) → Steps old what (reply.Out (record { 0 = ticket.number })) new → Orders old.tables old.order what (reply.Out (record { 0 = ticket.number })) new.tables new.order
-      → Tallied old what (reply.Out (record { 0 = ticket.number })) new → ReadsByte old what (reply.Out (record { 0 = ticket.number }))
-      → ((spot : Spot) → says what (reply.Out (record { 0 = ticket.number })) spot ≡ Nothing) → ((before : ℕ → ℕ) (u : ℕ) → group_after before what (reply.Out (record { 0 = ticket.number })) u ≡ before u) → need old.tables what ≡ 2
-      → MakesStep old worker what (reply.Out (record { 0 = ticket.number })) new
-  makes_step-out what steps orders tallied reads silent groups two =
-      makes_step-move old new what (reply.Out (record { 0 = ticket.number })) taken.p (Some (anon_page taken.g (Going taken.frame ticket.block ticket.number)))
-      (record {
-        tables = taken.tables;
-        placed = taken.placed;
-        others = λ q k other. taken.bytes q k;
-        silent = silent;
-        groups = groups;
-        given = refl;
-        own = λ u w k is there. inr (ap (there_and (λ (page : Page). is_in_memory page.residence)) taken.stood, taken.bytes taken.p k);
-      })
-      worker steps (orders, taken.ages) tallied reads
-      (flights-begun old new worker taken.p ticket.number Out (reply.Out (record { 0 = ticket.number })) refl taken.listed)
-      (let more = in_transfer-changes old.tables.pages new.tables.pages taken.p (Some (anon_page taken.g (Going taken.frame ticket.block ticket.number))) taken.placed in
-      let was : one_if (there_and is_in_transfer (page_at old.tables.pages taken.p)) ≡ 0 = ap (λ (slot : Option Page). one_if (there_and is_in_transfer slot)) taken.stood in
-      omega (arith, more, was, two))
+  makes_step-asked : (what : Event) → Steps old what answer new → Orders old.tables old.order what answer new.tables new.order → Tallied old what answer new → ReadsByte old what answer → ((spot : Spot) → says what answer spot ≡ Nothing)
+      → ((before : ℕ → ℕ) (u : ℕ) → group_after before what answer u ≡ before u) → need old.tables what ≡ 2 → MakesStep old worker what answer new
+  makes_step-asked what steps orders tallied reads silent groups two =
+      makes_step-move old new what answer p to
+      (record { tables = tables; placed = placed; others = others; silent = silent; groups = groups; given = given; holders = holders; own = λ spot is there. inr (own spot is there) })
+      worker steps (orders, ages) tallied reads flights
+      (let more = in_transfer-changes old.tables.pages new.tables.pages p to placed in
+      let was : one_if (there_and is_in_transfer (page_at old.tables.pages p)) ≡ 0 = ap one_if rested in
+      let now = at_most_one to in
+      omega (arith, more, was, now, two))
 
-  relieves : (why : Cause) → stands old.tables why ≡ true → target_of why ≡ target → (c : List Counted) → RelieveStep (counting old.tables c) why (reply.Out (record { 0 = ticket.number })) (counting new.tables c)
+  relieves : (why : Cause) → stands old.tables why ≡ true → target_of why ≡ target → (c : List Counted) → RelieveStep (counting old.tables c) why answer (counting new.tables c)
   relieves why wants same c =
       let here = stands_counting old.tables c why ∙ wants in
-      let found : has_takeable (counting old.tables c) (target_of why) ≡ true = ap (has_takeable (counting old.tables c)) same ∙ taken-some in
-      rw here (rw found (subst (λ (t : ℕ). Takes (counting old.tables c) t (reply.Out (record { 0 = ticket.number })) (counting new.tables c)) (sym same) (takes_it c)))
+      let found : has_takeable (counting old.tables c) (target_of why) ≡ true = ap (has_takeable (counting old.tables c)) same ∙ some in
+      rw here (rw found (subst (λ (t : ℕ). Takes (counting old.tables c) t answer (counting new.tables c)) (sym same) (takes c)))
 
-  reclaims : (h : ℕ) → h ≡ target → (c : List Counted) → ReclaimOneStep (counting old.tables c) h (reply.Out (record { 0 = ticket.number })) (counting new.tables c)
+  reclaims : (h : ℕ) → h ≡ target → (c : List Counted) → ReclaimOneStep (counting old.tables c) h answer (counting new.tables c)
   reclaims h same c =
-      let found : has_takeable (counting old.tables c) h ≡ true = ap (has_takeable (counting old.tables c)) same ∙ taken-some in
-      rw found (subst (λ (t : ℕ). Takes (counting old.tables c) t (reply.Out (record { 0 = ticket.number })) (counting new.tables c)) (sym same) (takes_it c))
+      let found : has_takeable (counting old.tables c) h ≡ true = ap (has_takeable (counting old.tables c)) same ∙ some in
+      rw found (subst (λ (t : ℕ). Takes (counting old.tables c) t answer (counting new.tables c)) (sym same) (takes c))
 
-  pub makes_step-taken : (what : Event) → AsksPage old.tables what target → MakesStep old worker what (reply.Out (record { 0 = ticket.number })) new
+  pub makes_step-taken : (what : Event) → AsksPage old.tables what target → MakesStep old worker what answer new
   makes_step-taken (event.Relieve why) asks =
-      makes_step-out (event.Relieve why) (λ c told. relieves why asks.0 asks.1 c) (subst (λ (t : ℕ). TakesNext old.tables old.order t new.tables new.order) (sym asks.1) taken.next) (λ c told. same_tallies c told) tt (λ spot. refl) (λ u h. refl)
-      (relief-two old.tables why asks.0 (ap (has_takeable old.tables) asks.1 ∙ taken-some))
+      makes_step-asked (event.Relieve why) (λ c told. subst (λ (d : List Counted). Step (counting old.tables c) (event.Relieve why) answer (counting new.tables d)) (sym (uncounted (group_of_task old.tables.tasks) c why)) (relieves why asks.0 asks.1 c)) (relief_order why asks.1)
+      (λ c told. subst (λ (d : List Counted). Tells new.tallies d) (sym (uncounted (group_of_task old.tables.tasks) c why)) (same_tallies c told)) tt (λ spot. refl) (λ u h. refl)
+      (relief-two old.tables why asks.0 (ap (has_takeable old.tables) asks.1 ∙ some))
   makes_step-taken (event.ReclaimOne h) asks =
-      makes_step-out (event.ReclaimOne h) (λ c told. reclaims h.0 asks c) (subst (λ (t : ℕ). TakesNext old.tables old.order t new.tables new.order) (sym asks) taken.next) (λ c told. same_tallies c told) tt (λ spot. refl) (λ u h. refl)
-      (reclaim-two old.tables h.0 (ap (has_takeable old.tables) asks ∙ taken-some))
-  makes_step-taken (event.Access t place op) asks = absurd asks
-  makes_step-taken (event.Arrived ticket bytes) asks = absurd asks
-  makes_step-taken (event.FetchFailed ticket) asks = absurd asks
-  makes_step-taken (event.Left ticket) asks = absurd asks
-  makes_step-taken (event.LeaveFailed ticket) asks = absurd asks
-  makes_step-taken (event.Spawn t h) asks = absurd asks
-  makes_step-taken (event.Fork t child) asks = absurd asks
-  makes_step-taken (event.Exit t) asks = absurd asks
-  makes_step-taken (event.Free t v) asks = absurd asks
-  makes_step-taken (event.Attach t h) asks = absurd asks
-  makes_step-taken (event.Mkdir path) asks = absurd asks
-  makes_step-taken (event.Rmdir h) asks = absurd asks
-  makes_step-taken (event.Set h setting) asks = absurd asks
-  makes_step-taken (event.Show query) asks = absurd asks
+      makes_step-asked (event.ReclaimOne h) (λ c told. reclaims h.0 asks c) (reclaim_order h asks) (λ c told. same_tallies c told) tt (λ spot. refl) (λ u h. refl)
+      (reclaim-two old.tables h.0 (ap (has_takeable old.tables) asks ∙ some))
+  makes_step-taken other asks = absurd asks
 
--- the ticket is a reply to it
+-- it begins to be written out
+module _ (old new : StateOf) (target worker entry : ℕ) (ticket : TicketOf) (taken : BeginsWriteOut old new target worker entry ticket) where
+  out-some : has_takeable old.tables target ≡ true
+  out-some = any-some (is_takeable old.tables target) old.tables.pages taken.p (ap (there_and (is_takeable old.tables target)) taken.stood ∙ taken.takeable)
+
+  starts_leave : (c : List Counted) (block : ℕ) → ticket.block ≡ block → StartsLeave (counting old.tables c) taken.p (labelled taken.label (Held taken.frame)) taken.frame block c (reply.Out (record { 0 = ticket.number })) (counting new.tables c)
+  starts_leave c block same =
+      record {
+        ticket = ticket.number;
+        ticket_free = taken.ticket_free;
+        placed = subst (λ (b : ℕ). Changes old.tables.pages new.tables.pages taken.p (Some (labelled taken.label (Going taken.frame b ticket.number)))) same taken.placed;
+        answers = refl;
+        state = ap (λ (s : State). counting s c) taken.tables;
+      }
+
+  leaves_by : (c : List Counted) (content : Content) → IsWrittenTo old.tables content taken.label.dirty ticket.block
+      → LeavesBy (counting old.tables c) taken.p (labelled taken.label (Held taken.frame)) content taken.frame c (reply.Out (record { 0 = ticket.number })) (counting new.tables c)
+  leaves_by c Memory free = record { block = ticket.block; block_free = record { in_range = free.in_range; unused = free.unused }; leave = starts_leave c ticket.block refl }
+  leaves_by c (OfFile file q) home =
+      subst
+      (λ (dirty : Bool). MatchBool dirty
+      (StartsLeave (counting old.tables c) taken.p (labelled taken.label (Held taken.frame)) taken.frame (home_block old.tables.opening.swap old.tables.opening.files file q) c (reply.Out (record { 0 = ticket.number })) (counting new.tables c))
+      (Drops (counting old.tables c) taken.p c (reply.Out (record { 0 = ticket.number })) (counting new.tables c)))
+      (sym home.0) (starts_leave c (home_block old.tables.opening.swap old.tables.opening.files file q) home.1)
+
+  takes_out : (c : List Counted) → Takes (counting old.tables c) target (reply.Out (record { 0 = ticket.number })) (counting new.tables c)
+  takes_out c = record { p = taken.p; page = labelled taken.label (Held taken.frame); there = taken.stood; takeable = taken.takeable; leaves = leaves_by c taken.label.content taken.block }
+
+  pub makes_step-out : (what : Event) → AsksPage old.tables what target → MakesStep old worker what (reply.Out (record { 0 = ticket.number })) new
+  makes_step-out what asks =
+      makes_step-taken old new target worker (reply.Out (record { 0 = ticket.number })) taken.p (Some (labelled taken.label (Going taken.frame ticket.block ticket.number))) out-some (λ group_of c why. refl) takes_out
+      (λ why same. subst (λ (t : ℕ). TakesNext old.tables old.order t new.tables new.order) (sym same) taken.next) (λ h same. subst (λ (t : ℕ). TakesNext old.tables old.order t new.tables new.order) (sym same) taken.next)
+      taken.ages taken.tallies taken.tables taken.placed (λ q k other. taken.bytes q k) refl
+      (flights-begun old new worker taken.p ticket.number Out (reply.Out (record { 0 = ticket.number })) refl taken.listed)
+      (holders-beside old new taken.tables taken.p (Some (labelled taken.label (Going taken.frame ticket.block ticket.number))) taken.placed (λ f q. sym (ap (holds_page f q) taken.stood)))
+      (λ spot is there. (ap (there_and (λ (page : Page). is_in_memory page.residence)) taken.stood, taken.bytes taken.p (offset_of spot)))
+      (ap (there_and is_in_transfer) taken.stood)
+      what asks
+
+-- it is dropped
+module _ (old new : StateOf) (target worker : ℕ) (single : IsSingle old.tables.pages) (taken : DropsClean old new target) where
+  dropped-some : has_takeable old.tables target ≡ true
+  dropped-some = any-some (is_takeable old.tables target) old.tables.pages taken.p (ap (there_and (is_takeable old.tables target)) taken.stood ∙ taken.takeable)
+
+  takes_away : (c : List Counted) → Takes (counting old.tables c) target reply.Dropped (counting new.tables c)
+  takes_away c =
+      record {
+        p = taken.p;
+        page = labelled (of_file taken.file taken.q taken.g false) (Held taken.frame);
+        there = taken.stood;
+        takeable = taken.takeable;
+        leaves = record { answers = refl; gone = taken.gone; state = ap (λ (s : State). counting s c) taken.tables };
+      }
+
+  pub makes_step-dropped : (what : Event) → AsksPage old.tables what target → MakesStep old worker what reply.Dropped new
+  makes_step-dropped what asks =
+      makes_step-taken old new target worker reply.Dropped taken.p None dropped-some (λ group_of c why. refl) takes_away
+      (λ why same. subst (λ (t : ℕ). TakesNext old.tables old.order t new.tables new.order) (sym same) taken.next) (λ h same. subst (λ (t : ℕ). TakesNext old.tables old.order t new.tables new.order) (sym same) taken.next)
+      taken.ages taken.tallies taken.tables taken.gone taken.others refl
+      (flights-kept old new worker reply.Dropped refl taken.flights)
+      (holders-gone old new taken.tables taken.p taken.file taken.q (labelled (of_file taken.file taken.q taken.g false) (Held taken.frame)) single taken.gone taken.stood refl)
+      (λ spot is there. unlike false there refl)
+      (ap (there_and is_in_transfer) taken.stood)
+      what asks
+
+-- the ticket is a reply to it, and that the page was dropped
 pub replies-out : (s : State) (what : Event) (target : ℕ) (ticket : TicketOf) → AsksPage s what target → RepliesTo what (given.Out ticket)
 replies-out s (event.Relieve why) target ticket asks = tt
 replies-out s (event.ReclaimOne h) target ticket asks = tt
-replies-out s (event.Access t place op) target ticket asks = absurd asks
-replies-out s (event.Arrived number bytes) target ticket asks = absurd asks
-replies-out s (event.FetchFailed number) target ticket asks = absurd asks
-replies-out s (event.Left number) target ticket asks = absurd asks
-replies-out s (event.LeaveFailed number) target ticket asks = absurd asks
-replies-out s (event.Spawn t h) target ticket asks = absurd asks
-replies-out s (event.Fork t child) target ticket asks = absurd asks
-replies-out s (event.Exit t) target ticket asks = absurd asks
-replies-out s (event.Free t v) target ticket asks = absurd asks
-replies-out s (event.Attach t h) target ticket asks = absurd asks
-replies-out s (event.Mkdir path) target ticket asks = absurd asks
-replies-out s (event.Rmdir h) target ticket asks = absurd asks
-replies-out s (event.Set h setting) target ticket asks = absurd asks
-replies-out s (event.Show query) target ticket asks = absurd asks
+replies-out s other target ticket asks = absurd asks
+
+pub replies-dropped : (s : State) (what : Event) (target : ℕ) → AsksPage s what target → RepliesTo what given.Dropped
+replies-dropped s (event.Relieve why) target asks = tt
+replies-dropped s (event.ReclaimOne h) target asks = tt
+replies-dropped s other target asks = absurd asks
 
 -- ---- transfers end
 
-settled_after : (b : Bool) (g : ℕ) (r : Residence) → is_in_transfer (anon_page g r) ≡ false → one_if (there_and is_in_transfer (cond b None (Some (anon_page g r)))) ≡ 0
-settled_after true g r rests = refl
-settled_after false g r rests = ap one_if rests
+-- what is left of a page that nothing maps: as it is, or nothing
+left-test : (test : Page → Bool) (tables : PageTables) (p : ℕ) (page : Page) → test page ≡ false → there_and test (or_gone tables p page) ≡ false
+left-test test tables p page fails = by_test (is_anon page.content && (mappers tables p == 0))
+  where
+    by_test : (b : Bool) → there_and test (cond b None (Some page)) ≡ false
+    by_test true = refl
+    by_test false = fails
 
-memory_after : (b : Bool) (g : ℕ) (r : Residence) → there_and (λ (page : Page). is_in_memory page.residence) (cond b None (Some (anon_page g r))) ≡ true → is_in_memory r ≡ true
-memory_after true g r there = cc
-memory_after false g r there = there
+left-holds : (tables : PageTables) (p f q : ℕ) (page : Page) → holds_page f q (or_gone tables p page) ≡ is_page_of f q page.content
+left-holds tables p f q page = by_content page.content (mappers tables p == 0)
+  where
+    by_content : (content : Content) (unmapped : Bool) → holds_page f q (cond (is_anon content && unmapped) None (Some (record page { content = content }))) ≡ is_page_of f q content
+    by_content Memory true = refl
+    by_content Memory false = refl
+    by_content (OfFile f' q') unmapped = refl
 
 -- the end of a transfer, whatever it comes to
-module _ (old new : StateOf) (worker p g n : ℕ) (from to : Residence) (what : Event) (stood : HasResidence old.tables.pages p g from) (moves : is_in_transfer (anon_page g from) ≡ true)
-    (rests : is_in_transfer (anon_page g to) ≡ false) (tables : new.tables ≡ record old.tables { pages = new.tables.pages }) (placed : Changes old.tables.pages new.tables.pages p (or_gone old.tables.page_tables p (anon_page g to)))
-    (unlisted : Changes old.flights new.flights n None) (bytes : (q k : ℕ) → q ≢ p → byte_in new.bytes q k ≡ byte_in old.bytes q k) where
-  pub makes_step-end : Steps old what reply.Ok new → Orders old.tables old.order what reply.Ok new.tables new.order × AgesByThree old new → Tallied old what reply.Ok new → ReadsByte old what reply.Ok → ((spot : Spot) → says what reply.Ok spot ≡ Nothing) → ((before : ℕ → ℕ) (u : ℕ) → group_after before what reply.Ok u ≡ before u)
-      → ((t v o : ℕ) → mapped_at old.tables.page_tables t v ≡ Some p → is_in_memory to ≡ true
-      → Arrives old what t v o (byte_in new.bytes p o) ⊎ ((there_and (λ (page : Page). is_in_memory page.residence) (page_at old.tables.pages p) ≡ true) × (byte_in new.bytes p o ≡ byte_in old.bytes p o)))
+module _ (old new : StateOf) (worker p n : ℕ) (direction : Direction) (label : Label) (from : Residence) (to : Option Page) (what : Event) (stood : HasResidence old.tables.pages p label from) (moves : in_transfer_at from ≡ true)
+    (rests : there_and is_in_transfer to ≡ false) (ends : Settles old new direction p n to) where
+  pub makes_step-end : Steps old what reply.Ok new → Orders old.tables old.order what reply.Ok new.tables new.order × AgesByThree old new → Tallied old what reply.Ok new → ReadsByte old what reply.Ok → ((spot : Spot) → says what reply.Ok spot ≡ Nothing)
+      → ((before : ℕ → ℕ) (u : ℕ) → group_after before what reply.Ok u ≡ before u) → ((spot : Spot) → KnowsSpot new spot → holder new.tables spot ≡ holder old.tables spot)
+      → ((spot : Spot) → holder old.tables spot ≡ Some p → there_and (λ (page : Page). is_in_memory page.residence) to ≡ true
+      → Arrives old what spot (byte_in new.bytes p (offset_of spot)) ⊎ ((is_known old.tables.pages p ≡ true) × (byte_in new.bytes p (offset_of spot) ≡ byte_in old.bytes p (offset_of spot))))
       → MakesStep old worker what reply.Ok new
-  makes_step-end steps orders tallied reads silent groups own =
-      makes_step-move old new what reply.Ok p (or_gone old.tables.page_tables p (anon_page g to))
-      (record {
-        tables = tables;
-        placed = placed;
-        others = bytes;
-        silent = silent;
-        groups = groups;
-        given = refl;
-        own = λ t v o is there. own t v o is (memory_after (mappers old.tables.page_tables p == 0) g to there);
-      })
+  makes_step-end steps orders tallied reads silent groups holders own =
+      makes_step-move old new what reply.Ok p to
+      (record { tables = ends.tables; placed = ends.placed; others = ends.others; silent = silent; groups = groups; given = refl; holders = holders; own = own })
       worker steps orders tallied reads
-      (flights-ended old new worker n reply.Ok refl unlisted)
-      (let less = in_transfer-changes old.tables.pages new.tables.pages p (or_gone old.tables.page_tables p (anon_page g to)) placed in
+      (flights-ended old new worker n reply.Ok refl ends.unlisted)
+      (let less = in_transfer-changes old.tables.pages new.tables.pages p to ends.placed in
       let was : one_if (there_and is_in_transfer (page_at old.tables.pages p)) ≡ 1 = ap (λ (slot : Option Page). one_if (there_and is_in_transfer slot)) stood ∙ ap one_if moves in
-      let now = settled_after (mappers old.tables.page_tables p == 0) g to rests in
+      let now : one_if (there_and is_in_transfer to) ≡ 0 = ap one_if rests in
       omega (arith, less, was, now))
 
+-- what a page on its block alone comes to
+module _ (old new : StateOf) (p f b n : ℕ) (direction : Direction) (label : Label) (from : Residence) (stood : HasResidence old.tables.pages p label from) (single : IsSingle old.tables.pages)
+    (ends : Settles old new direction p n (on_block old.tables.page_tables p (labelled label from) f b)) where
+  block-test : (test : Page → Bool) → test (labelled label (Away b)) ≡ false → there_and test (on_block old.tables.page_tables p (labelled label from) f b) ≡ false
+  block-test test fails = by_content label.content
+    where
+      by_content : (content : Content) → there_and test (on_block_of content old.tables.page_tables p (labelled label from) b) ≡ false
+      by_content Memory = left-test test old.tables.page_tables p (labelled label (Away b)) fails
+      by_content (OfFile file q) = refl
+
+  block-holders : (spot : Spot) → KnowsSpot new spot → holder new.tables spot ≡ holder old.tables spot
+  block-holders = by_content label.content refl ends.placed
+    where
+      by_content : (content : Content) → label.content ≡ content → Changes old.tables.pages new.tables.pages p (on_block_of content old.tables.page_tables p (labelled label from) b)
+          → (spot : Spot) → KnowsSpot new spot → holder new.tables spot ≡ holder old.tables spot
+      by_content Memory is placed =
+          holders-beside old new ends.tables p (or_gone old.tables.page_tables p (labelled label (Away b))) placed
+          (λ g q. left-holds old.tables.page_tables p g q (labelled label (Away b)) ∙ sym (ap (holds_page g q) stood))
+      by_content (OfFile file q) is placed = holders-gone old new ends.tables p file q (labelled label from) single placed stood is
+
+-- and one in its frame
+module _ (old new : StateOf) (p f b n : ℕ) (direction : Direction) (label : Label) (from : Residence) (stood : HasResidence old.tables.pages p label from)
+    (ends : Settles old new direction p n (in_frame old.tables.page_tables p (labelled label from) f b)) where
+  frame-holders : (spot : Spot) → KnowsSpot new spot → holder new.tables spot ≡ holder old.tables spot
+  frame-holders =
+      holders-beside old new ends.tables p (in_frame old.tables.page_tables p (labelled label from) f b) ends.placed
+      (λ g q. left-holds old.tables.page_tables p g q (labelled label (Held f)) ∙ sym (ap (holds_page g q) stood))
+
+  -- where it is in memory it is there
+  frame-there : there_and (λ (page : Page). is_in_memory page.residence) (in_frame old.tables.page_tables p (labelled label from) f b) ≡ true → is_some (page_at new.tables.pages p) ≡ true
+  frame-there there = by_slot (in_frame old.tables.page_tables p (labelled label from) f b) ends.placed.changed there
+    where
+      by_slot : (slot : Option Page) → page_at new.tables.pages p ≡ slot → there_and (λ (page : Page). is_in_memory page.residence) slot ≡ true → is_some (page_at new.tables.pages p) ≡ true
+      by_slot None is e = cc
+      by_slot (Some page) is e = ap is_some is
+
 -- a page that is being written out is in memory
-pub going-known : (pages : Pages) (p g f b n : ℕ) → HasResidence pages p g (Going f b n) → there_and (λ page. is_in_memory page.residence) (page_at pages p) ≡ true
-going-known pages p g f b n stands = ap (there_and (λ (page : Page). is_in_memory page.residence)) stands
+pub going-known : (pages : Pages) (p f b n : ℕ) (label : Label) → HasResidence pages p label (Going f b n) → is_known pages p ≡ true
+going-known pages p f b n label stands = ap (there_and (λ (page : Page). is_in_memory page.residence)) stands
 
--- the page is in its frame, or on its block: what the machine's step says of it
-pub ends-in_frame : (old new : State) (p g f b : ℕ) (from : ℕ → ℕ → Residence) → HasResidence old.pages p g (from f b) → Changes old.pages new.pages p (or_gone old.page_tables p (anon_page g (Held f))) → new ≡ record old { pages = new.pages }
-    → EndsTransfer old from in_frame reply.Ok new
-ends-in_frame old new p g f b from stood placed same = record { p = p; page = anon_page g (from f b); frame = f; block = b; there = stood; moves = refl; placed = placed; answers = refl; state = same }
-
-pub ends-on_block : (old new : State) (p g f b : ℕ) (from : ℕ → ℕ → Residence) → HasResidence old.pages p g (from f b) → Changes old.pages new.pages p (or_gone old.page_tables p (anon_page g (Away b))) → new ≡ record old { pages = new.pages }
-    → EndsTransfer old from on_block reply.Ok new
-ends-on_block old new p g f b from stood placed same = record { p = p; page = anon_page g (from f b); frame = f; block = b; there = stood; moves = refl; placed = placed; answers = refl; state = same }
+-- what the machine's step says of it
+ends-as : (old new : StateOf) (p f b n : ℕ) (direction : Direction) (label : Label) (from : ℕ → ℕ → Residence) (end : PageTables → ℕ → Page → ℕ → ℕ → Option Page) → HasResidence old.tables.pages p label (from f b)
+    → Settles old new direction p n (end old.tables.page_tables p (labelled label (from f b)) f b) → (c : List Counted) → EndsTransfer (counting old.tables c) from end reply.Ok (counting new.tables c)
+ends-as old new p f b n direction label from end stood ends c =
+    record { p = p; page = labelled label (from f b); frame = f; block = b; there = stood; moves = refl; placed = ends.placed; answers = refl; state = ap (λ (s : State). counting s c) ends.tables }
 
 -- ---- the ends of transfers, as the parts make them
 
--- what was in transfer is in memory no more where it is on its block alone
-not_away : {P : Type 0} (b : ℕ) → is_in_memory (Away b) ≡ true → P
-not_away b e = absurd (cc)
+tallies_end : (old new : StateOf) → new.tallies ≡ old.tallies → (c : List Counted) → Tells old.tallies c → Tells new.tallies c
+tallies_end old new same c told = subst (λ (t : Tallies). Tells t c) (sym same) told
 
-pub makes_step-settled_in : (old new : StateOf) (worker p g f b : ℕ) (ticket : TicketOf) (end : End) → HasResidence old.tables.pages p g (Coming f b ticket.number) → Settles old new In p g ticket.number (residence_after end f b)
-    → (end ≡ InFrame → (t v k : ℕ) → mapped_at old.tables.page_tables t v ≡ Some p → byte_in new.bytes p k ≡ slice_index ticket.bytes k) → MakesStep old worker (ended In end ticket) reply.Ok new
-makes_step-settled_in old new worker p g f b ticket InFrame stood ends own =
-    makes_step-end old new worker p g ticket.number (Coming f b ticket.number) (Held f) (event.Arrived (record { 0 = ticket.number }) ticket.bytes) stood refl refl ends.tables ends.placed ends.unlisted ends.others
-    (λ c told. ends-in_frame (counting old.tables c) _ p g f b (λ f b. Coming f b ticket.number) stood ends.placed (ap (λ (s : State). counting s c) ends.tables))
-    (order-on (entry_after In) old old.order.held new refl ends.held ends.cursors) (λ c told. subst (λ (t : Tallies). Tells t c) (sym ends.tallies) told) tt (λ spot. refl) (λ u g. refl)
-    (λ t v k shown there. inl (p, g, f, b, shown, stood, own refl t v k shown))
-makes_step-settled_in old new worker p g f b ticket OnBlock stood ends own =
-    makes_step-end old new worker p g ticket.number (Coming f b ticket.number) (Away b) (event.FetchFailed (record { 0 = ticket.number })) stood refl refl ends.tables ends.placed ends.unlisted ends.others
-    (λ c told. ends-on_block (counting old.tables c) _ p g f b (λ f b. Coming f b ticket.number) stood ends.placed (ap (λ (s : State). counting s c) ends.tables))
-    (order-on (entry_after In) old old.order.held new refl ends.held ends.cursors) (λ c told. subst (λ (t : Tallies). Tells t c) (sym ends.tallies) told) tt (λ spot. refl) (λ u g. refl)
-    (λ t v k shown there. not_away b there)
+pub makes_step-settled_in : (old new : StateOf) (worker p f b : ℕ) (label : Label) (ticket : TicketOf) (end : End) → IsSingle old.tables.pages → HasResidence old.tables.pages p label (Coming f b ticket.number)
+    → Settles old new In p ticket.number (ended_as end old.tables.page_tables p (labelled label (Coming f b ticket.number)) f b)
+    → (end ≡ InFrame → is_some (page_at new.tables.pages p) ≡ true → (k : ℕ) → byte_in new.bytes p k ≡ slice_index ticket.bytes k) → MakesStep old worker (ended In end ticket) reply.Ok new
+makes_step-settled_in old new worker p f b label ticket InFrame single stood ends own =
+    makes_step-end old new worker p ticket.number In label (Coming f b ticket.number) (in_frame old.tables.page_tables p (labelled label (Coming f b ticket.number)) f b) (event.Arrived (record { 0 = ticket.number }) ticket.bytes) stood refl
+    (left-test is_in_transfer old.tables.page_tables p (labelled label (Held f)) refl) ends
+    (λ c told. ends-as old new p f b ticket.number In label (λ f b. Coming f b ticket.number) in_frame stood ends c)
+    (order-on (entry_after In) old old.order.held new refl ends.held ends.cursors) (tallies_end old new ends.tallies) tt (λ spot. refl) (λ u g. refl)
+    (frame-holders old new p f b ticket.number In label (Coming f b ticket.number) stood ends)
+    (λ spot is there. inl (p, label, f, b, is, stood, own refl (frame-there old new p f b ticket.number In label (Coming f b ticket.number) stood ends there) (offset_of spot)))
+makes_step-settled_in old new worker p f b label ticket OnBlock single stood ends own =
+    makes_step-end old new worker p ticket.number In label (Coming f b ticket.number) (on_block old.tables.page_tables p (labelled label (Coming f b ticket.number)) f b) (event.FetchFailed (record { 0 = ticket.number })) stood refl
+    (block-test old new p f b ticket.number In label (Coming f b ticket.number) stood single ends is_in_transfer refl) ends
+    (λ c told. ends-as old new p f b ticket.number In label (λ f b. Coming f b ticket.number) on_block stood ends c)
+    (order-on (entry_after In) old old.order.held new refl ends.held ends.cursors) (tallies_end old new ends.tallies) tt (λ spot. refl) (λ u g. refl)
+    (block-holders old new p f b ticket.number In label (Coming f b ticket.number) stood single ends)
+    (λ spot is there. unlike _ there (block-test old new p f b ticket.number In label (Coming f b ticket.number) stood single ends (λ (page : Page). is_in_memory page.residence) refl))
 
-pub makes_step-settled_out : (old new : StateOf) (worker p g f b : ℕ) (ticket : TicketOf) (end : End) → HasResidence old.tables.pages p g (Going f b ticket.number) → Settles old new Out p g ticket.number (residence_after end f b)
-    → (end ≡ InFrame → (t v k : ℕ) → mapped_at old.tables.page_tables t v ≡ Some p → byte_in new.bytes p k ≡ byte_in old.bytes p k) → MakesStep old worker (ended Out end ticket) reply.Ok new
-makes_step-settled_out old new worker p g f b ticket InFrame stood ends own =
-    makes_step-end old new worker p g ticket.number (Going f b ticket.number) (Held f) (event.LeaveFailed (record { 0 = ticket.number })) stood refl refl ends.tables ends.placed ends.unlisted ends.others
-    (λ c told. ends-in_frame (counting old.tables c) _ p g f b (λ f b. Going f b ticket.number) stood ends.placed (ap (λ (s : State). counting s c) ends.tables))
-    (order-on (entry_after Out) old old.order.held new refl ends.held ends.cursors) (λ c told. subst (λ (t : Tallies). Tells t c) (sym ends.tallies) told) tt (λ spot. refl) (λ u g. refl)
-    (λ t v k shown there. inr (going-known old.tables.pages p g f b ticket.number stood, own refl t v k shown))
-makes_step-settled_out old new worker p g f b ticket OnBlock stood ends own =
-    makes_step-end old new worker p g ticket.number (Going f b ticket.number) (Away b) (event.Left (record { 0 = ticket.number })) stood refl refl ends.tables ends.placed ends.unlisted ends.others
-    (λ c told. ends-on_block (counting old.tables c) _ p g f b (λ f b. Going f b ticket.number) stood ends.placed (ap (λ (s : State). counting s c) ends.tables))
-    (order-on (entry_after Out) old old.order.held new refl ends.held ends.cursors) (λ c told. subst (λ (t : Tallies). Tells t c) (sym ends.tallies) told) tt (λ spot. refl) (λ u g. refl)
-    (λ t v k shown there. not_away b there)
+pub makes_step-settled_out : (old new : StateOf) (worker p f b : ℕ) (label : Label) (ticket : TicketOf) (end : End) → IsSingle old.tables.pages → HasResidence old.tables.pages p label (Going f b ticket.number)
+    → Settles old new Out p ticket.number (ended_as end old.tables.page_tables p (labelled label (Going f b ticket.number)) f b)
+    → (end ≡ InFrame → is_some (page_at new.tables.pages p) ≡ true → (k : ℕ) → byte_in new.bytes p k ≡ byte_in old.bytes p k) → MakesStep old worker (ended Out end ticket) reply.Ok new
+makes_step-settled_out old new worker p f b label ticket InFrame single stood ends own =
+    makes_step-end old new worker p ticket.number Out label (Going f b ticket.number) (in_frame old.tables.page_tables p (labelled label (Going f b ticket.number)) f b) (event.LeaveFailed (record { 0 = ticket.number })) stood refl
+    (left-test is_in_transfer old.tables.page_tables p (labelled label (Held f)) refl) ends
+    (λ c told. ends-as old new p f b ticket.number Out label (λ f b. Going f b ticket.number) in_frame stood ends c)
+    (order-on (entry_after Out) old old.order.held new refl ends.held ends.cursors) (tallies_end old new ends.tallies) tt (λ spot. refl) (λ u g. refl)
+    (frame-holders old new p f b ticket.number Out label (Going f b ticket.number) stood ends)
+    (λ spot is there. inr (going-known old.tables.pages p f b ticket.number label stood, own refl (frame-there old new p f b ticket.number Out label (Going f b ticket.number) stood ends there) (offset_of spot)))
+makes_step-settled_out old new worker p f b label ticket OnBlock single stood ends own =
+    makes_step-end old new worker p ticket.number Out label (Going f b ticket.number) (on_block old.tables.page_tables p (labelled label (Going f b ticket.number)) f b) (event.Left (record { 0 = ticket.number })) stood refl
+    (block-test old new p f b ticket.number Out label (Going f b ticket.number) stood single ends is_in_transfer refl) ends
+    (λ c told. ends-as old new p f b ticket.number Out label (λ f b. Going f b ticket.number) on_block stood ends c)
+    (order-on (entry_after Out) old old.order.held new refl ends.held ends.cursors) (tallies_end old new ends.tallies) tt (λ spot. refl) (λ u g. refl)
+    (block-holders old new p f b ticket.number Out label (Going f b ticket.number) stood single ends)
+    (λ spot is there. unlike _ there (block-test old new p f b ticket.number Out label (Going f b ticket.number) stood single ends (λ (page : Page). is_in_memory page.residence) refl))

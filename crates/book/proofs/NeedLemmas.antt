@@ -1,11 +1,12 @@
 -- How many entries a decision needs, and whether it may want memory: what the machine says of its event.
-use Rattle.std.proofs.Common.{◌≡◌, ◌∙◌, ℕ, Bool, true, false, if◌then◌else◌, refl, sym, ap}
+use Rattle.std.proofs.Common.{◌≡◌, ◌∙◌, ℕ, Bool, true, false, if◌then◌else◌, Option, Some, None, refl, sym, ap}
 use Rattle.machine.specs.declared.record.Direction.TheVariants.{In, Out}
-use Rattle.machine.specs.declared.event.Place.TheVariants.{Virtual}
+use Rattle.machine.specs.declared.id.GroupId.{GroupId}
+use Rattle.machine.specs.declared.event.Place.TheVariants.{Virtual, File}
 use Rattle.machine.specs.declared.event.Event.{Event}
 use Rattle.machine.specs.declared.event.Event.TheVariants as event
 use Rattle.machine.specs.Pages.{Page}
-use Rattle.machine.specs.State.{State}
+use Rattle.machine.specs.State.{State, over_in}
 use Rattle.machine.specs.Access.{Hits, NeedsCopy, is_shared_write}
 use Rattle.machine.specs.Call.{meeting_fetches, need}
 use Rattle.machine.specs.Reclaim.{has_takeable, target_of}
@@ -14,12 +15,15 @@ use Rattle.page_state.specs.declared.room.NoRoom.TheVariants as lacks
 use Rattle.page_state.specs.Changes.{LacksRoom}
 use Rattle.page_state.specs.States.{StateOf}
 use Rattle.book.specs.declared.decision.Touch.{Touch}
+use Rattle.book.specs.declared.decision.FileTouch.{FileTouch}
+use Rattle.book.specs.declared.decision.CacheMeeting.{CacheMeeting}
+use Rattle.book.specs.declared.decision.CacheMeeting.TheVariants as cache
 use Rattle.book.specs.declared.decision.Meeting.{Meeting}
 use Rattle.book.specs.declared.decision.Meeting.TheVariants as meeting
 use Rattle.book.specs.declared.decision.Decision.{Decision}
 use Rattle.book.specs.declared.decision.Decision.TheVariants as decision
-use Rattle.book.specs.Decisions.{IsTouch, NeedsCharge, ForNew, ForCopy, ForAway, MeetsSo, IsDecided, IsOfKilled, AsksPage, WantsRoom, HasItsRoom, FindsNothing, entries_for}
-use Rattle.book.proofs.MoveLemmas.{away-fetches, fetch-needs, relief-two, reclaim-two}
+use Rattle.book.specs.Decisions.{IsTouch, NeedsCharge, ForNew, ForCopy, ForAway, MeetsSo, IsFileTouch, MeetsInCache, IsDecided, IsOfKilled, AsksPage, WantsRoom, HasItsRoom, FindsNothing, entries_for}
+use Rattle.book.proofs.MoveLemmas.{away-fetches, uncached-fetches, fetch-needs, relief-two, reclaim-two}
 
 -- ---- accesses
 
@@ -41,12 +45,30 @@ module _ (s : State) (touch : Touch) (is : IsTouch s touch) where
   pub access-entries : (met : Meeting) → MeetsSo s touch met → entries_for (decision.Access touch met) ≡ need s accessed
   access-entries meeting.Unmapped meets = rw is.known (rw is.live (rw meets.1 (rw meets.0 refl)))
   access-entries (meeting.Hits p f) meets = rw is.known (rw is.live (rw meets.1 (rw meets.2 (one_either s is.task.group.0 touch.at p.0 f.0 _ (is_shared_write s.page_tables p.0 touch.op)))))
-  access-entries meeting.Transferring (In, p, g, f, b, n, shown, coming) = rw is.known (rw is.live (rw shown (rw coming refl)))
-  access-entries meeting.Transferring (Out, p, g, f, b, n, shown, going) = rw is.known (rw is.live (rw shown (rw going refl)))
+  access-entries meeting.Transferring (In, p, label, f, b, n, shown, coming) = rw is.known (rw is.live (rw shown (rw coming refl)))
+  access-entries meeting.Transferring (Out, p, label, f, b, n, shown, going) = rw is.known (rw is.live (rw shown (rw going refl)))
   access-entries (meeting.NeedsPage byte) meets = rw is.known (rw is.live (rw meets.1 (rw meets.0 refl)))
   access-entries (meeting.NeedsCopy p byte) (write, shared, room) = rw is.known (rw is.live (rw shared.shown (rw shared.held (rw write (rw shared.shared refl)))))
   access-entries (meeting.NeedsSwapIn p) meets = sym (fetch-needs s touch.task.0 (Virtual touch.at touch.offset) touch.op (away-fetches s touch.task.0 touch.at touch.offset p.0 meets.0 meets.1 touch.op is.task is.known is.live meets.2 meets.3 meets.4.under meets.4.free))
   access-entries (meeting.Lacks why) meets = lacking meets.0 meets.1 why meets.2
+
+-- ---- accesses to files
+
+module _ (s : State) (touch : FileTouch) (is : IsFileTouch s touch) where
+  -- what is over, or not, for the task's group
+  own_over : (over : Option ℕ) → over_in s touch.group.0 ≡ over → over_in s is.task.group.0 ≡ over
+  own_over over e = ap (λ (g : GroupId). over_in s g.0) is.group ∙ e
+
+  pub file-entries : (met : CacheMeeting) → MeetsInCache s touch met → entries_for (decision.FileAccess touch met) ≡ need s (event.Access touch.task (File touch.at.file touch.at.page touch.offset) touch.op)
+  file-entries (cache.Hits p f) meets = rw is.known (rw is.live (rw meets.1 (rw meets.2 refl)))
+  file-entries cache.Transferring (In, p, label, f, b, n, cached, coming) = rw is.known (rw is.live (rw cached (rw coming refl)))
+  file-entries cache.Transferring (Out, p, label, f, b, n, cached, going) = rw is.known (rw is.live (rw cached (rw going refl)))
+  file-entries cache.NeedsRead meets =
+      sym
+      (fetch-needs s touch.task.0 (File touch.at.file touch.at.page touch.offset) touch.op
+      (uncached-fetches s touch.task.0 touch.at.file touch.at.page touch.offset touch.op is.task is.known is.live meets.0 (own_over None meets.1.under) meets.1.free))
+  file-entries (cache.Lacks (lacks.Over a)) meets = let full = own_over (Some a.0) meets.1.0 in rw is.known (rw is.live (rw meets.0 (rw full refl)))
+  file-entries (cache.Lacks lacks.NoFrame) meets = let under = own_over None meets.1.0 in rw is.known (rw is.live (rw meets.0 (rw under (rw meets.1.1 refl))))
 
 -- ---- other events
 
@@ -82,6 +104,7 @@ nothing_found s other idle = absurd idle
 pub entries-needed : (s : StateOf) (what : Event) (decided : Decision) → IsDecided s what decided → entries_for decided ≡ need s.tables what
 entries-needed s what decision.Killed is = of_killed s.tables what is.fits
 entries-needed s what (decision.Access touch met) is = access-entries s.tables touch is.sound.0 met is.sound.1 ∙ sym (ap (need s.tables) is.fits)
+entries-needed s what (decision.FileAccess touch met) is = file-entries s.tables touch is.sound.0 met is.sound.1 ∙ sym (ap (need s.tables) is.fits)
 entries-needed s what decision.Room is = has_its_room s.tables what is.fits
 entries-needed s what (decision.Take target g) is = taken s.tables what target.0 is.fits is.sound.2
 entries-needed s what decision.Wait is = untaken s.tables what is.fits.0 is.fits.1 is.fits.2

@@ -1,21 +1,24 @@
 -- What a group's removal is to the plain machine.
 use Rattle.std.proofs.Common.{◌≡◌, inr, ℕ, zero, suc, List, [], ◌∷◌, Option, Some, None, refl, sym, ap, ◌∙◌, subst, arith}
+use Rattle.std.specs.Prelude.{option_map}
 use Rattle.machine.specs.declared.event.Event.TheVariants as event
 use Rattle.machine.specs.declared.reply.Reply.TheVariants as reply
 use Rattle.machine.specs.Slots.{there_and}
-use Rattle.machine.specs.Pages.{Page, page_at, is_in_transfer, in_transfer}
+use Rattle.machine.specs.Pages.{Page, page_at, file_page, is_in_transfer, in_transfer}
 use Rattle.machine.specs.Counts.{Counted}
-use Rattle.machine.specs.Tasks.{lives, group_of_task, mapped_at}
+use Rattle.machine.specs.Tasks.{group_of_task, mapped_at}
 use Rattle.machine.specs.State.{State}
 use Rattle.machine.specs.Generations.{Gens, taken_over, emptied, gens_at, with_gens, handed_over}
 use Rattle.machine.specs.Lists.{Order, RemovesLists}
-use Rattle.machine.specs.Step.{Removes}
+use Rattle.machine.specs.Step.{Removes, regrouped}
 use Rattle.machine.proofs.RemovedLemmas.{regrouped-test, count-alike}
-use Rattle.page_state.specs.States.{StateOf, byte_shown}
+use Rattle.machine.proofs.FileLemmas.{file_page-same}
+use Rattle.page_state.specs.States.{StateOf}
 use Rattle.page_state.specs.Changes.{RemovesGroup}
-use Rattle.book.specs.Effects.{counting, is_in_memory, is_known}
+use Rattle.book.specs.Spots.{offset_of}
+use Rattle.book.specs.Effects.{counting, is_in_memory}
 use Rattle.book.specs.MakesStep.{AgesByThree, MakesStep}
-use Rattle.book.proofs.StepLemmas.{flights-kept}
+use Rattle.book.proofs.StepLemmas.{there-same, holder-same, stays-was, flights-kept}
 
 -- ---- the lists
 
@@ -53,13 +56,13 @@ module _ (old new : StateOf) (g : ℕ) (removes : RemovesGroup old new g) where
   same_place : (t v : ℕ) → mapped_at new.tables.page_tables t v ≡ mapped_at old.tables.page_tables t v
   same_place t v = ap (λ (s : State). mapped_at s.page_tables t v) removes.tables
 
-  same_known : (m : Option ℕ) → is_known new.tables.pages m ≡ is_known old.tables.pages m
-  same_known None = refl
-  same_known (Some p) = memory_kept p
-
-  same_byte : (m : Option ℕ) (o : ℕ) → byte_shown new.bytes m o ≡ byte_shown old.bytes m o
-  same_byte None o = refl
-  same_byte (Some p) o = removes.bytes p o
+  -- and each page of a file is where it was
+  same_found : (f q : ℕ) → file_page new.tables.pages f q ≡ file_page old.tables.pages f q
+  same_found f q = file_page-same old.tables.pages new.tables.pages (λ p. ap (option_map (λ (page : Page). page.content)) (removes.pages p) ∙ same_content (page_at old.tables.pages p)) f q
+    where
+      same_content : (slot : Option Page) → option_map (λ (page : Page). page.content) (option_map (regrouped g removes.parent) slot) ≡ option_map (λ (page : Page). page.content) slot
+      same_content None = refl
+      same_content (Some page) = refl
 
   pub makes_step-rmdir : (worker : ℕ) → MakesStep old worker (event.Rmdir (record { 0 = g })) reply.Ok new
   makes_step-rmdir worker =
@@ -70,12 +73,9 @@ module _ (old new : StateOf) (g : ℕ) (removes : RemovesGroup old new g) where
         tallied = removes.tallied;
         groups = λ t. ap (λ (s : State). group_of_task s.tasks t) removes.tables;
         reads = tt;
-        bytes = λ t v o alive within known. inr (
-          sym (ap (λ (s : State). lives s.tasks t) removes.tables) ∙ alive,
-          within,
-          sym (ap (is_known new.tables.pages) (same_place t v) ∙ same_known (mapped_at old.tables.page_tables t v)) ∙ known,
-          ap (λ m. byte_shown new.bytes m o) (same_place t v) ∙ same_byte (mapped_at old.tables.page_tables t v) o,
-        );
+        bytes = λ spot there known. inr
+            (stays-was old new spot (there-same old.tables new.tables spot (ap (λ (s : State). s.tasks) removes.tables) there) (holder-same old.tables new.tables spot same_place same_found)
+            (λ p at now. (sym (memory_kept p) ∙ now, removes.bytes p (offset_of spot))) known);
         flights = flights-kept old new worker reply.Ok refl removes.flights;
         kept = (let same = moving_kept in omega (arith, same));
         given = refl;

@@ -8,7 +8,7 @@ use Rattle.machine.specs.declared.record.Task.{Task}
 use Rattle.machine.specs.declared.id.TaskId.{TaskId}
 use Rattle.machine.specs.declared.id.FrameId.{FrameId}
 use Rattle.machine.specs.declared.event.Place.{Place}
-use Rattle.machine.specs.declared.event.Place.TheVariants.{Virtual}
+use Rattle.machine.specs.declared.event.Place.TheVariants.{Virtual, File}
 use Rattle.machine.specs.declared.event.Op.{Op}
 use Rattle.machine.specs.declared.event.Op.TheVariants.{Read, Write}
 use Rattle.machine.specs.declared.event.Cause.{Cause}
@@ -21,27 +21,29 @@ use Rattle.machine.specs.declared.reply.Shown.{Shown}
 use Rattle.machine.specs.declared.reply.Reply.{Reply}
 use Rattle.machine.specs.declared.reply.Reply.TheVariants as reply
 use Rattle.machine.specs.Slots.{at, there_and}
-use Rattle.machine.specs.Pages.{Held, Away, Page, Pages, page_at, is_number, is_held, is_held_in, in_transfer}
+use Rattle.machine.specs.Pages.{Held, Away, Page, Pages, file_page, is_held, is_held_in, in_transfer}
 use Rattle.machine.specs.Counts.{no_limits, limits_at, Counted}
 use Rattle.machine.specs.Tasks.{Tasks, PageTables, task_at, lives, group_of_task, mapped_at, mappers}
 use Rattle.machine.specs.State.{State, over_in, is_frame_free}
-use Rattle.machine.specs.Access.{page_size, meets}
+use Rattle.machine.specs.Access.{Meeting, Hits, Transferring, page_size, is_shared_write, meets}
 use Rattle.machine.specs.Call.{fetches, need}
 use Rattle.machine.specs.Reclaim.{stands, target_of, has_takeable, has_transfer}
 use Rattle.machine.specs.Generations.{Gens, new_gens, gens_at}
-use Rattle.machine.specs.Lists.{HeldLists, Order, ListsHeld, Generation, Youngest, GoesOn, with_mark, AddsLists, Orders}
+use Rattle.machine.specs.Lists.{HeldLists, Order, ListsHeld, Generation, Youngest, GoesOn, shown_at, with_mark, AddsLists, Orders}
 use Rattle.machine.specs.Victim.{IsVictim}
 use Rattle.machine.specs.Step.{Step, ChargeStep, MeetStep, TaskStep, LifeStep, RelieveStep, ReclaimOneStep, KillStep, count_of, new_node, with_setting, shown_of}
-use Rattle.machine.specs.History.{Spot, InTask, Says, Nothing, says, ticket_given, taker_or}
+use Rattle.machine.specs.History.{Spot, InTask, InFile, spot_of, Says, Nothing, says, ticket_given, taker_or}
 use Rattle.machine.specs.declared.record.Direction.{Direction}
 use Rattle.machine.specs.declared.record.Direction.TheVariants.{In, Out}
-use Rattle.pages.specs.PagesOf.{byte_in, moving, HasResidence}
+use Rattle.pages.specs.PagesOf.{Label, labelled, memory_of, byte_in, moving, HasResidence}
 use Rattle.pages.specs.declared.flight.Flight.{Flight}
 use Rattle.memory_events.specs.Tallies.{Tells}
-use Rattle.page_state.specs.States.{StateOf, byte_shown, byte_at}
+use Rattle.page_state.specs.States.{StateOf, byte_shown}
 use Rattle.page_state.specs.Changes.{MarksPage}
-use Rattle.book.specs.Effects.{counting, Steps, Tallied, group_after, is_in_memory, is_known, knows, ReadsByte, WasByte, IsSaid, Follows, ChangesFlights, worker_of}
+use Rattle.book.specs.Spots.{offset_of, holder, IsThere}
+use Rattle.book.specs.Effects.{counting, Steps, Tallied, group_after, byte_at_spot, is_in_memory, is_known, knows, KnowsSpot, ReadsByte, WasByte, IsSaid, Follows, ChangesFlights, worker_of}
 use Rattle.book.specs.MakesStep.{AgesByThree, MakesStep, is_refused}
+use Rattle.machine.proofs.HeldChanges.{goes-on-same}
 use Rattle.machine.proofs.HeldLemmas.{goes-still, goes-max, held-marked}
 
 -- ---- where nothing changes that an event may tell of
@@ -94,19 +96,24 @@ order-still old new listed pages order =
     (ap (λ (o : Order). o.cursors) order)
 
 -- where a page in a frame is marked
-pub order-marked : (old new : StateOf) (p : ℕ) → InOrder old → is_held_in old.tables.pages p ≡ true → new.tables.pages ≡ old.tables.pages → new.order ≡ record { held = with_mark (Some p) old.order.held; cursors = old.order.cursors }
-    → GoesOnIn Youngest old (with_mark (Some p) old.order.held) new
-order-marked old new p listed held pages order =
+pub order-marked : (old new : StateOf) (p : ℕ) → InOrder old → is_held_in old.tables.pages p ≡ true → ((q : ℕ) → is_held_in new.tables.pages q ≡ is_held_in old.tables.pages q)
+    → new.order ≡ record { held = with_mark (Some p) old.order.held; cursors = old.order.cursors } → GoesOnIn Youngest old (with_mark (Some p) old.order.held) new
+order-marked old new p listed held same order =
     order-on Youngest old (with_mark (Some p) old.order.held) new refl
     (subst (λ (lists : HeldLists). GoesOn Youngest old.tables.pages (with_mark (Some p) old.order.held) new.tables.pages lists) (sym (ap (λ (o : Order). o.held) order))
-    (goes-still Youngest old.tables.pages new.tables.pages (with_mark (Some p) old.order.held) (held-marked old.tables.pages old.order.held p held listed) pages))
+    (goes-on-same Youngest old.tables.pages new.tables.pages (with_mark (Some p) old.order.held) (held-marked old.tables.pages old.order.held p held listed) same))
     (ap (λ (o : Order). o.cursors) order)
 
+-- the page that an access uses is the one that has its byte
+holder-shown : (s : State) (t : ℕ) (place : Place) → shown_at s t place ≡ holder s (spot_of t place)
+holder-shown s t (Virtual v o) = refl
+holder-shown s t (File f q o) = refl
+
 -- an access that finds its page in a frame marks it
-pub hit-marked : (old new : StateOf) (t v o p byte : ℕ) (frame : FrameId) (op : Op) → mapped_at old.tables.page_tables t v ≡ Some p → GoesOnIn Youngest old (with_mark (Some p) old.order.held) new
-    → Orders old.tables old.order (event.Access (record { 0 = t }) (Virtual v o) op) (reply.Done byte (Some frame)) new.tables new.order × AgesByThree old new
-hit-marked old new t v o p byte frame op shown on =
-    ((subst (λ (m : Option ℕ). GoesOn Youngest old.tables.pages (with_mark m old.order.held) new.tables.pages new.order.held) (sym shown) on.0.0, on.0.1), on.1)
+pub hit-marked : (old new : StateOf) (t p byte : ℕ) (place : Place) (frame : FrameId) (op : Op) → holder old.tables (spot_of t place) ≡ Some p → GoesOnIn Youngest old (with_mark (Some p) old.order.held) new
+    → Orders old.tables old.order (event.Access (record { 0 = t }) place op) (reply.Done byte (Some frame)) new.tables new.order × AgesByThree old new
+hit-marked old new t p byte place frame op shown on =
+    ((subst (λ (m : Option ℕ). GoesOn Youngest old.tables.pages (with_mark m old.order.held) new.tables.pages new.order.held) (sym (holder-shown old.tables t place ∙ shown)) on.0.0, on.0.1), on.1)
 
 -- a group that comes begins as what is no group's
 begins-new : (groups : List Gens) (g : ℕ) → gens_at (groups ++ new_gens ∷ []) g ≡ gens_at groups g
@@ -128,8 +135,60 @@ order-more old new adds = (
 -- ---- bytes
 
 -- a byte of which nothing is said, and which was in memory
-pub was : (old : StateOf) (what : Event) (answer : Reply) (t v o byte : ℕ) → says what answer (InTask t v o) ≡ Nothing → WasByte old (InTask t v o) byte → Follows old what answer t v o byte
-was old what answer t v o byte quiet h = subst (λ (said : Says). IsSaid old said (InTask t v o) byte) (sym quiet) h
+pub was : (old : StateOf) (what : Event) (answer : Reply) (spot : Spot) (byte : ℕ) → says what answer spot ≡ Nothing → WasByte old spot byte → Follows old what answer spot byte
+was old what answer spot byte quiet h = subst (λ (said : Says). IsSaid old said spot byte) (sym quiet) h
+
+-- with the same tasks the same bytes are there
+pub there-same : (old new : State) (spot : Spot) → new.tasks ≡ old.tasks → IsThere new spot → IsThere old spot
+there-same old new (InTask t v o) same there = sym (ap (λ (ts : Tasks). lives ts t) same) ∙ there
+there-same old new (InFile f q o) same there = tt
+
+-- a byte is had by the same page where each place shows what it did, and each page of a file is found where it was
+pub holder-same : (old new : State) (spot : Spot) → ((t v : ℕ) → mapped_at new.page_tables t v ≡ mapped_at old.page_tables t v) → ((f q : ℕ) → file_page new.pages f q ≡ file_page old.pages f q) → holder new spot ≡ holder old spot
+holder-same old new (InTask t v o) places files = places t v
+holder-same old new (InFile f q o) places files = files f q
+
+-- what no page has is known by its place alone
+knows-none : (c d : StateOf) (spot : Spot) → knows c spot None ≡ true → knows d spot None ≡ true
+knows-none c d (InTask t v o) known = refl
+knows-none c d (InFile f q o) known = cc
+
+-- a byte that a page has is known where the page is in memory
+pub knows-some : (c : StateOf) (spot : Spot) (p : ℕ) → holder c.tables spot ≡ Some p → is_known c.tables.pages p ≡ true → knows c spot (holder c.tables spot) ≡ true
+knows-some c spot p is known = ap (knows c spot) is ∙ known
+
+-- a byte of the same page, which was in memory too, with the same bytes
+pub spot-was : (old new : StateOf) (spot from : Spot) → IsThere old.tables from → offset_of from ≡ offset_of spot → ((c : StateOf) → knows c spot None ≡ true → knows c from None ≡ true) → holder new.tables spot ≡ holder old.tables from
+    → ((p : ℕ) → holder old.tables from ≡ Some p → is_known new.tables.pages p ≡ true → (is_known old.tables.pages p ≡ true) × (byte_in new.bytes p (offset_of spot) ≡ byte_in old.bytes p (offset_of spot)))
+    → KnowsSpot new spot → WasByte old from (byte_at_spot new spot)
+spot-was old new spot from there offset none same kept known = by_holder (holder old.tables from) refl
+  where
+    by_holder : (m : Option ℕ) → holder old.tables from ≡ m → WasByte old from (byte_at_spot new spot)
+    by_holder None is = (
+      there,
+      (ap (knows old from) is ∙ knows-none new old from (none new (sym (ap (knows new spot) (same ∙ is)) ∙ known.0)), subst (λ (o : ℕ). o < page_size) (sym offset) known.1),
+      ap (λ (m : Option ℕ). byte_shown new.bytes m (offset_of spot)) (same ∙ is) ∙ sym (ap (λ (m : Option ℕ). byte_shown old.bytes m (offset_of from)) is),
+    )
+    by_holder (Some p) is =
+        let ok = kept p is (sym (ap (knows new spot) (same ∙ is)) ∙ known.0) in (
+          there,
+          (knows-some old from p is ok.0, subst (λ (o : ℕ). o < page_size) (sym offset) known.1),
+          ap (λ (m : Option ℕ). byte_shown new.bytes m (offset_of spot)) (same ∙ is) ∙ ok.1 ∙ ap (λ (o : ℕ). byte_in old.bytes p o) (sym offset) ∙ sym (ap (λ (m : Option ℕ). byte_shown old.bytes m (offset_of from)) is),
+        )
+
+-- the same byte, of the same page
+pub stays-was : (old new : StateOf) (spot : Spot) → IsThere old.tables spot → holder new.tables spot ≡ holder old.tables spot
+    → ((p : ℕ) → holder old.tables spot ≡ Some p → is_known new.tables.pages p ≡ true → (is_known old.tables.pages p ≡ true) × (byte_in new.bytes p (offset_of spot) ≡ byte_in old.bytes p (offset_of spot)))
+    → KnowsSpot new spot → WasByte old spot (byte_at_spot new spot)
+stays-was old new spot there same kept known = spot-was old new spot spot there refl (λ c is. is) same kept known
+
+-- a byte where all pages, places and bytes are what they were
+pub still-was : (old new : StateOf) (spot : Spot) → IsThere old.tables spot → new.tables.pages ≡ old.tables.pages → new.tables.page_tables ≡ old.tables.page_tables → new.bytes ≡ old.bytes → KnowsSpot new spot → WasByte old spot (byte_at_spot new spot)
+still-was old new spot there pages tables bytes known =
+    stays-was old new spot there
+    (holder-same old.tables new.tables spot (λ t v. ap (λ (ts : PageTables). mapped_at ts t v) tables) (λ f q. ap (λ (ps : Pages). file_page ps f q) pages))
+    (λ p is now. (sym (ap (λ (ps : Pages). is_known ps p) pages) ∙ now, ap (λ (bs : List (Option (List ℕ))). byte_in bs p (offset_of spot)) bytes))
+    known
 
 -- ---- an event after which all is still
 
@@ -152,22 +211,12 @@ makes_step-still old new worker what answer still quiet steps orders tallied rea
       tallied = tallied;
       groups = λ u. ap (λ (ts : Tasks). group_of_task ts u) still.tasks ∙ sym (quiet.groups (group_of_task old.tables.tasks) u);
       reads = reads;
-      bytes = λ t v o alive within known.
-          inr (was old what answer t v o (byte_at new t v o) (quiet.says (InTask t v o)) (sym (ap (λ (ts : Tasks). lives ts t) still.tasks) ∙ alive, within, sym (same_known t v) ∙ known, same_byte t v o));
+      bytes = λ spot there known. inr (was old what answer spot (byte_at_spot new spot) (quiet.says spot) (still-was old new spot (there-same old.tables new.tables spot still.tasks there) still.pages still.page_tables still.bytes known));
       flights = flights-kept old new worker answer quiet.ticket still.flights;
       kept = (let same = ap in_transfer still.pages in omega (arith, same, needs));
       given = quiet.given;
       opening = still.opening;
     }
-  where
-    same_place : (t v : ℕ) → mapped_at new.tables.page_tables t v ≡ mapped_at old.tables.page_tables t v
-    same_place t v = ap (λ (ts : PageTables). mapped_at ts t v) still.page_tables
-
-    same_known : (t v : ℕ) → knows new t v ≡ knows old t v
-    same_known t v = ap (is_known new.tables.pages) (same_place t v) ∙ ap (λ (ps : Pages). is_known ps (mapped_at old.tables.page_tables t v)) still.pages
-
-    same_byte : (t v o : ℕ) → byte_at new t v o ≡ byte_at old t v o
-    same_byte t v o = ap (λ (m : Option ℕ). byte_shown new.bytes m o) (same_place t v) ∙ ap (λ (bs : List (Option (List ℕ))). byte_shown bs (mapped_at old.tables.page_tables t v) o) still.bytes
 
 -- ---- how many entries an event needs
 
@@ -264,13 +313,21 @@ pub makes_step-unmapped : (s : StateOf) (worker t v o : ℕ) (task : Task) → t
 makes_step-unmapped s worker t v o task is living none within listed =
     makes_step-still s s worker (event.Access (record { 0 = t }) (Virtual v o) Read) (reply.Done 0 None) (still-self s) (record { says = λ spot. refl; ticket = refl; groups = λ u g. refl; given = refl })
     (λ c told. live_step (counting s.tables c) _ task _ _ _ is living (rw none (refl, refl))) (order-still s s listed refl refl) (λ c told. told)
-    (sym (ap (λ m. byte_shown s.bytes m o) none), (ap (is_known s.tables.pages) none, within)) (access-needs s.tables t (Virtual v o) Read)
+    (sym (ap (λ m. byte_shown s.bytes m o) none), (ap (knows s (InTask t v o)) none, within)) (access-needs s.tables t (Virtual v o) Read)
 
-pub makes_step-hit_read : (old new : StateOf) (worker t v o p g f : ℕ) (task : Task) → task_at old.tables.tasks t ≡ Some task → task.life ≡ Live → mapped_at old.tables.page_tables t v ≡ Some p
-    → HasResidence old.tables.pages p g (Held f) → o < page_size → InOrder old → MarksPage old new p
-    → MakesStep old worker (event.Access (record { 0 = t }) (Virtual v o) Read) (reply.Done (byte_in old.bytes p o) (Some (record { 0 = f }))) new
-makes_step-hit_read old new worker t v o p g f task is living shown page within listed marks =
-    makes_step-still old new worker (event.Access (record { 0 = t }) (Virtual v o) Read) (reply.Done (byte_in old.bytes p o) (Some (record { 0 = f })))
+-- what an access meets that finds its page in a frame
+pub meets-hit : (s : State) (t v o p f : ℕ) (label : Label) (op : Op) → mapped_at s.page_tables t v ≡ Some p → HasResidence s.pages p label (Held f) → is_shared_write s.page_tables p op ≡ false
+    → (c : List Counted) → meets (counting s c) t (Virtual v o) op ≡ Hits p (labelled label (Held f)) f
+meets-hit s t v o p f label op shown page alone c = rw shown (rw page (rw alone refl))
+
+pub meets-cached : (s : State) (t file q o p f : ℕ) (label : Label) (op : Op) → file_page s.pages file q ≡ Some p → HasResidence s.pages p label (Held f) → (c : List Counted) → meets (counting s c) t (File file q o) op ≡ Hits p (labelled label (Held f)) f
+meets-cached s t file q o p f label op cached page c = rw cached (rw page refl)
+
+pub makes_step-hit_read : (old new : StateOf) (worker t p f : ℕ) (place : Place) (label : Label) (task : Task) → task_at old.tables.tasks t ≡ Some task → task.life ≡ Live → holder old.tables (spot_of t place) ≡ Some p
+    → HasResidence old.tables.pages p label (Held f) → ((c : List Counted) → meets (counting old.tables c) t place Read ≡ Hits p (labelled label (Held f)) f) → offset_of (spot_of t place) < page_size → InOrder old → MarksPage old new p
+    → MakesStep old worker (event.Access (record { 0 = t }) place Read) (reply.Done (byte_in old.bytes p (offset_of (spot_of t place))) (Some (record { 0 = f }))) new
+makes_step-hit_read old new worker t p f place label task is living shown page meeting within listed marks =
+    makes_step-still old new worker (event.Access (record { 0 = t }) place Read) (reply.Done (byte_in old.bytes p (offset_of (spot_of t place))) (Some (record { 0 = f })))
     (record {
       pages = ap (λ (s : StateOf). s.tables.pages) marks;
       tasks = ap (λ (s : StateOf). s.tables.tasks) marks;
@@ -280,11 +337,16 @@ makes_step-hit_read old new worker t v o p g f task is living shown page within 
       opening = ap (λ (s : StateOf). s.tables.opening) marks;
     })
     (record { says = λ spot. refl; ticket = refl; groups = λ u g. refl; given = refl })
-    (λ c told. live_step (counting old.tables c) _ task _ _ _ is living (rw shown (rw page (refl, ap (λ (s : StateOf). counting s.tables c) marks))))
-    (hit-marked old new t v o p (byte_in old.bytes p o) (record { 0 = f }) Read shown
-    (order-marked old new p listed (ap (there_and is_held) page) (ap (λ (s : StateOf). s.tables.pages) marks) (ap (λ (s : StateOf). s.order) marks)))
+    (λ c told. live_step (counting old.tables c) _ task _ _ _ is living (hits c))
+    (hit-marked old new t p (byte_in old.bytes p (offset_of (spot_of t place))) place (record { 0 = f }) Read shown
+    (order-marked old new p listed (ap (there_and is_held) page) (λ q. ap (λ (s : StateOf). is_held_in s.tables.pages q) marks) (ap (λ (s : StateOf). s.order) marks)))
     (λ c told. subst (λ (s : StateOf). Tells s.tallies c) (sym marks) told)
-    (sym (ap (λ m. byte_shown old.bytes m o) shown), (ap (is_known old.tables.pages) shown ∙ ap (there_and (λ (page : Page). is_in_memory page.residence)) page, within)) (access-needs old.tables t (Virtual v o) Read)
+    (sym (ap (λ m. byte_shown old.bytes m (offset_of (spot_of t place))) shown), (knows-some old (spot_of t place) p shown (ap (there_and (λ (page : Page). is_in_memory page.residence)) page), within)) (access-needs old.tables t place Read)
+  where
+    hits : (c : List Counted) → MeetStep (counting old.tables c) t task.group.0 Read (meets (counting old.tables c) t place Read) (reply.Done (byte_in old.bytes p (offset_of (spot_of t place))) (Some (record { 0 = f }))) (counting new.tables c)
+    hits c =
+        subst (λ (m : Meeting). MeetStep (counting old.tables c) t task.group.0 Read m (reply.Done (byte_in old.bytes p (offset_of (spot_of t place))) (Some (record { 0 = f }))) (counting new.tables c)) (sym (meeting c))
+        (refl, ap (λ (s : StateOf). counting s.tables c) marks)
 
 -- replies to any access that neither reads nor writes
 pub quiet-busy : (t : ℕ) (place : Place) (op : Op) → IsQuiet (event.Access (record { 0 = t }) place op) reply.Busy
@@ -311,26 +373,35 @@ reads-no_frame : (s : StateOf) (t : ℕ) (place : Place) (op : Op) → ReadsByte
 reads-no_frame s t place Read = tt
 reads-no_frame s t place (Write b) = tt
 
-pub makes_step-busy : (s : StateOf) (worker t v o p g f b n : ℕ) (direction : Direction) (op : Op) (task : Task) → task_at s.tables.tasks t ≡ Some task → task.life ≡ Live → mapped_at s.tables.page_tables t v ≡ Some p
-    → HasResidence s.tables.pages p g (moving direction f b n) → InOrder s → MakesStep s worker (event.Access (record { 0 = t }) (Virtual v o) op) reply.Busy s
-makes_step-busy s worker t v o p g f b n direction op task is living shown page listed =
-    makes_step-still s s worker (event.Access (record { 0 = t }) (Virtual v o) op) reply.Busy (still-self s) (quiet-busy t (Virtual v o) op)
-    (λ c told. live_step (counting s.tables c) _ task _ _ _ is living (meets_transfer c direction page)) (order-still s s listed refl refl) (λ c told. told) (reads-busy s t (Virtual v o) op) (access-needs s.tables t (Virtual v o) op)
+pub makes_step-busy : (s : StateOf) (worker t : ℕ) (place : Place) (op : Op) (task : Task) → task_at s.tables.tasks t ≡ Some task → task.life ≡ Live → ((c : List Counted) → meets (counting s.tables c) t place op ≡ Transferring)
+    → InOrder s → MakesStep s worker (event.Access (record { 0 = t }) place op) reply.Busy s
+makes_step-busy s worker t place op task is living meeting listed =
+    makes_step-still s s worker (event.Access (record { 0 = t }) place op) reply.Busy (still-self s) (quiet-busy t place op)
+    (λ c told. live_step (counting s.tables c) _ task _ _ _ is living (waits c)) (order-still s s listed refl refl) (λ c told. told) (reads-busy s t place op) (access-needs s.tables t place op)
   where
-    meets_transfer : (c : List Counted) (direction : Direction) → HasResidence s.tables.pages p g (moving direction f b n)
-        → MeetStep (counting s.tables c) t task.group.0 op (meets (counting s.tables c) t (Virtual v o) op) reply.Busy (counting s.tables c)
-    meets_transfer c In page = rw shown (rw page (refl, refl))
-    meets_transfer c Out page = rw shown (rw page (refl, refl))
+    waits : (c : List Counted) → MeetStep (counting s.tables c) t task.group.0 op (meets (counting s.tables c) t place op) reply.Busy (counting s.tables c)
+    waits c = subst (λ (m : Meeting). MeetStep (counting s.tables c) t task.group.0 op m reply.Busy (counting s.tables c)) (sym (meeting c)) (refl, refl)
+
+-- what an access meets whose page is in transfer
+pub meets-transfer : (s : State) (t v o p f b n : ℕ) (label : Label) (direction : Direction) (op : Op) → mapped_at s.page_tables t v ≡ Some p → HasResidence s.pages p label (moving direction f b n)
+    → (c : List Counted) → meets (counting s c) t (Virtual v o) op ≡ Transferring
+meets-transfer s t v o p f b n label In op shown page c = rw shown (rw page refl)
+meets-transfer s t v o p f b n label Out op shown page c = rw shown (rw page refl)
+
+pub meets-cached_transfer : (s : State) (t file q o p f b n : ℕ) (label : Label) (direction : Direction) (op : Op) → file_page s.pages file q ≡ Some p → HasResidence s.pages p label (moving direction f b n)
+    → (c : List Counted) → meets (counting s c) t (File file q o) op ≡ Transferring
+meets-cached_transfer s t file q o p f b n label In op cached page c = rw cached (rw page refl)
+meets-cached_transfer s t file q o p f b n label Out op cached page c = rw cached (rw page refl)
 
 -- ---- charges that are refused
 
-pub makes_step-over : (old new : StateOf) (worker t v o a : ℕ) (op : Op) (task : Task) → task_at old.tables.tasks t ≡ Some task → task.life ≡ Live
-    → ((c : List Counted) → MeetStep (counting old.tables c) t task.group.0 op (meets (counting old.tables c) t (Virtual v o) op) (reply.Over (record { 0 = a })) (counting old.tables (c ++ count_of a key.Max ∷ [])))
+pub makes_step-over : (old new : StateOf) (worker t a : ℕ) (place : Place) (op : Op) (task : Task) → task_at old.tables.tasks t ≡ Some task → task.life ≡ Live
+    → ((c : List Counted) → MeetStep (counting old.tables c) t task.group.0 op (meets (counting old.tables c) t place op) (reply.Over (record { 0 = a })) (counting old.tables (c ++ count_of a key.Max ∷ [])))
     → new.tables ≡ old.tables → new.bytes ≡ old.bytes → new.flights ≡ old.flights → InOrder old → new.order ≡ old.order
     → ((c : List Counted) → Tells old.tallies c → Tells new.tallies (c ++ count_of a key.Max ∷ []))
-    → MakesStep old worker (event.Access (record { 0 = t }) (Virtual v o) op) (reply.Over (record { 0 = a })) new
-makes_step-over old new worker t v o a op task is living meet tables bytes flights listed order tells =
-    makes_step-still old new worker (event.Access (record { 0 = t }) (Virtual v o) op) (reply.Over (record { 0 = a }))
+    → MakesStep old worker (event.Access (record { 0 = t }) place op) (reply.Over (record { 0 = a })) new
+makes_step-over old new worker t a place op task is living meet tables bytes flights listed order tells =
+    makes_step-still old new worker (event.Access (record { 0 = t }) place op) (reply.Over (record { 0 = a }))
     (record {
       pages = ap (λ (s : State). s.pages) tables;
       tasks = ap (λ (s : State). s.tasks) tables;
@@ -339,17 +410,17 @@ makes_step-over old new worker t v o a op task is living meet tables bytes fligh
       flights = flights;
       opening = ap (λ (s : State). s.opening) tables;
     })
-    (quiet-over t a (Virtual v o) op)
-    (λ c told. subst (λ (s : State). Step (counting old.tables c) (event.Access (record { 0 = t }) (Virtual v o) op) (reply.Over (record { 0 = a })) (counting s (c ++ count_of a key.Max ∷ []))) (sym tables)
+    (quiet-over t a place op)
+    (λ c told. subst (λ (s : State). Step (counting old.tables c) (event.Access (record { 0 = t }) place op) (reply.Over (record { 0 = a })) (counting s (c ++ count_of a key.Max ∷ []))) (sym tables)
     (live_step (counting old.tables c) _ task _ _ _ is living (meet c)))
-    (order-still old new listed (ap (λ (s : State). s.pages) tables) order) tells (reads-over old t a (Virtual v o) op) (access-needs old.tables t (Virtual v o) op)
+    (order-still old new listed (ap (λ (s : State). s.pages) tables) order) tells (reads-over old t a place op) (access-needs old.tables t place op)
 
-pub makes_step-no_frame : (old new : StateOf) (worker t v o : ℕ) (op : Op) (task : Task) → task_at old.tables.tasks t ≡ Some task → task.life ≡ Live
-    → ((c : List Counted) → MeetStep (counting old.tables c) t task.group.0 op (meets (counting old.tables c) t (Virtual v o) op) reply.NoFrame (counting old.tables c))
+pub makes_step-no_frame : (old new : StateOf) (worker t : ℕ) (place : Place) (op : Op) (task : Task) → task_at old.tables.tasks t ≡ Some task → task.life ≡ Live
+    → ((c : List Counted) → MeetStep (counting old.tables c) t task.group.0 op (meets (counting old.tables c) t place op) reply.NoFrame (counting old.tables c))
     → new.tables ≡ old.tables → new.bytes ≡ old.bytes → new.flights ≡ old.flights → InOrder old → new.order ≡ old.order
-    → ((c : List Counted) → Tells old.tallies c → Tells new.tallies c) → MakesStep old worker (event.Access (record { 0 = t }) (Virtual v o) op) reply.NoFrame new
-makes_step-no_frame old new worker t v o op task is living meet tables bytes flights listed order tells =
-    makes_step-still old new worker (event.Access (record { 0 = t }) (Virtual v o) op) reply.NoFrame
+    → ((c : List Counted) → Tells old.tallies c → Tells new.tallies c) → MakesStep old worker (event.Access (record { 0 = t }) place op) reply.NoFrame new
+makes_step-no_frame old new worker t place op task is living meet tables bytes flights listed order tells =
+    makes_step-still old new worker (event.Access (record { 0 = t }) place op) reply.NoFrame
     (record {
       pages = ap (λ (s : State). s.pages) tables;
       tasks = ap (λ (s : State). s.tasks) tables;
@@ -358,10 +429,10 @@ makes_step-no_frame old new worker t v o op task is living meet tables bytes fli
       flights = flights;
       opening = ap (λ (s : State). s.opening) tables;
     })
-    (quiet-no_frame t (Virtual v o) op)
-    (λ c told. subst (λ (s : State). Step (counting old.tables c) (event.Access (record { 0 = t }) (Virtual v o) op) reply.NoFrame (counting s c)) (sym tables)
+    (quiet-no_frame t place op)
+    (λ c told. subst (λ (s : State). Step (counting old.tables c) (event.Access (record { 0 = t }) place op) reply.NoFrame (counting s c)) (sym tables)
     (live_step (counting old.tables c) _ task _ _ _ is living (meet c)))
-    (order-still old new listed (ap (λ (s : State). s.pages) tables) order) tells (reads-no_frame old t (Virtual v o) op) (access-needs old.tables t (Virtual v o) op)
+    (order-still old new listed (ap (λ (s : State). s.pages) tables) order) tells (reads-no_frame old t place op) (access-needs old.tables t place op)
 
 -- a write where nothing is mapped
 pub unmapped-over : (s : State) (t v o b g a : ℕ) → mapped_at s.page_tables t v ≡ None → over_in s g ≡ Some a
@@ -373,22 +444,31 @@ pub unmapped-no_frame : (s : State) (t v o b g : ℕ) → mapped_at s.page_table
 unmapped-no_frame s t v o b g none under taken c = rw none (frameless_step (counting s c) _ _ _ under taken)
 
 -- a write to a page in a frame that others show too
-pub shared-over : (s : State) (t v o b p h f g a : ℕ) → mapped_at s.page_tables t v ≡ Some p → HasResidence s.pages p h (Held f) → nat_lt 1 (mappers s.page_tables p) ≡ true → over_in s g ≡ Some a
+pub shared-over : (s : State) (t v o b p f g a : ℕ) (label : Label) → mapped_at s.page_tables t v ≡ Some p → HasResidence s.pages p label (Held f) → nat_lt 1 (mappers s.page_tables p) ≡ true → over_in s g ≡ Some a
     → (c : List Counted) → MeetStep (counting s c) t g (Write b) (meets (counting s c) t (Virtual v o) (Write b)) (reply.Over (record { 0 = a })) (counting s (c ++ count_of a key.Max ∷ []))
-shared-over s t v o b p h f g a shown held shared full c = rw shown (rw held (rw shared (over_step (counting s c) _ _ _ a full)))
+shared-over s t v o b p f g a label shown held shared full c = rw shown (rw held (rw shared (over_step (counting s c) _ _ _ a full)))
 
-pub shared-no_frame : (s : State) (t v o b p h f g : ℕ) → mapped_at s.page_tables t v ≡ Some p → HasResidence s.pages p h (Held f) → nat_lt 1 (mappers s.page_tables p) ≡ true → over_in s g ≡ None → is_frame_free s ≡ false
+pub shared-no_frame : (s : State) (t v o b p f g : ℕ) (label : Label) → mapped_at s.page_tables t v ≡ Some p → HasResidence s.pages p label (Held f) → nat_lt 1 (mappers s.page_tables p) ≡ true → over_in s g ≡ None → is_frame_free s ≡ false
     → (c : List Counted) → MeetStep (counting s c) t g (Write b) (meets (counting s c) t (Virtual v o) (Write b)) reply.NoFrame (counting s c)
-shared-no_frame s t v o b p h f g shown held shared under taken c = rw shown (rw held (rw shared (frameless_step (counting s c) _ _ _ under taken)))
+shared-no_frame s t v o b p f g label shown held shared under taken c = rw shown (rw held (rw shared (frameless_step (counting s c) _ _ _ under taken)))
 
 -- an access to a page on its block
-pub away-over : (s : State) (t v o p g own b a : ℕ) (op : Op) → mapped_at s.page_tables t v ≡ Some p → HasResidence s.pages p g (Away b) → over_in s g ≡ Some a
+pub away-over : (s : State) (t v o p g own b a : ℕ) (op : Op) → mapped_at s.page_tables t v ≡ Some p → HasResidence s.pages p (memory_of g) (Away b) → over_in s g ≡ Some a
     → (c : List Counted) → MeetStep (counting s c) t own op (meets (counting s c) t (Virtual v o) op) (reply.Over (record { 0 = a })) (counting s (c ++ count_of a key.Max ∷ []))
 away-over s t v o p g own b a op shown away full c = rw shown (rw away (over_step (counting s c) _ _ _ a full))
 
-pub away-no_frame : (s : State) (t v o p g own b : ℕ) (op : Op) → mapped_at s.page_tables t v ≡ Some p → HasResidence s.pages p g (Away b) → over_in s g ≡ None → is_frame_free s ≡ false
+pub away-no_frame : (s : State) (t v o p g own b : ℕ) (op : Op) → mapped_at s.page_tables t v ≡ Some p → HasResidence s.pages p (memory_of g) (Away b) → over_in s g ≡ None → is_frame_free s ≡ false
     → (c : List Counted) → MeetStep (counting s c) t own op (meets (counting s c) t (Virtual v o) op) reply.NoFrame (counting s c)
 away-no_frame s t v o p g own b op shown away under taken c = rw shown (rw away (frameless_step (counting s c) _ _ _ under taken))
+
+-- an access to a page of a file that no page holds
+pub uncached-over : (s : State) (t file q o g a : ℕ) (op : Op) → file_page s.pages file q ≡ None → over_in s g ≡ Some a
+    → (c : List Counted) → MeetStep (counting s c) t g op (meets (counting s c) t (File file q o) op) (reply.Over (record { 0 = a })) (counting s (c ++ count_of a key.Max ∷ []))
+uncached-over s t file q o g a op none full c = rw none (over_step (counting s c) _ _ _ a full)
+
+pub uncached-no_frame : (s : State) (t file q o g : ℕ) (op : Op) → file_page s.pages file q ≡ None → over_in s g ≡ None → is_frame_free s ≡ false
+    → (c : List Counted) → MeetStep (counting s c) t g op (meets (counting s c) t (File file q o) op) reply.NoFrame (counting s c)
+uncached-no_frame s t file q o g op none under taken c = rw none (frameless_step (counting s c) _ _ _ under taken)
 
 -- ---- relief
 

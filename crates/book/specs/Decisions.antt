@@ -1,15 +1,15 @@
 -- What an event without a ticket will do, as it is decided before anything changes.
-use Rattle.std.specs.Prelude.{◌≡◌, ℕ, ◌<◌, nat_lt, Bool, true, false, Some, None}
+use Rattle.std.specs.Prelude.{◌≡◌, ℕ, ◌<◌, nat_lt, Bool, true, false, slice_index, Some, None}
 use Rattle.machine.specs.declared.record.Life.TheVariants.{Live, Killed}
 use Rattle.machine.specs.declared.record.Task.{Task}
 use Rattle.machine.specs.declared.record.Direction.{Direction}
-use Rattle.machine.specs.declared.event.Place.TheVariants.{Virtual}
+use Rattle.machine.specs.declared.event.Place.TheVariants.{Virtual, File}
 use Rattle.machine.specs.declared.event.Op.TheVariants.{Read, Write}
 use Rattle.machine.specs.declared.event.Event.{Event}
 use Rattle.machine.specs.declared.event.Event.TheVariants as event
 use Rattle.machine.specs.Names.{parent_path}
 use Rattle.machine.specs.Tree.{is_live, find_group}
-use Rattle.machine.specs.Pages.{Held, Away}
+use Rattle.machine.specs.Pages.{Held, Away, file_page}
 use Rattle.machine.specs.Tasks.{task_at, lives, mapped_at, mappers}
 use Rattle.machine.specs.State.{State}
 use Rattle.machine.specs.Access.{page_size, task_pages, is_shared_write}
@@ -17,11 +17,14 @@ use Rattle.machine.specs.Refusals.{refusal, number_refusal, rmdir_refusal}
 use Rattle.machine.specs.Reclaim.{stands, target_of, has_takeable, has_transfer}
 use Rattle.machine.specs.Victim.{IsVictim}
 use Rattle.machine.specs.Lists.{Order, served}
-use Rattle.pages.specs.PagesOf.{moving, HasResidence}
+use Rattle.pages.specs.PagesOf.{Label, memory_of, moving, HasResidence}
 use Rattle.page_state.specs.States.{StateOf}
 use Rattle.page_state.specs.Changes.{HasRoom, LacksRoom}
 use Rattle.book.specs.declared.event.Reply.{Reply as Given}
 use Rattle.book.specs.declared.decision.Touch.{Touch}
+use Rattle.book.specs.declared.decision.FileTouch.{FileTouch}
+use Rattle.book.specs.declared.decision.CacheMeeting.{CacheMeeting}
+use Rattle.book.specs.declared.decision.CacheMeeting.TheVariants as cache
 use Rattle.book.specs.declared.decision.Meeting.{Meeting}
 use Rattle.book.specs.declared.decision.Meeting.TheVariants as meeting
 use Rattle.book.specs.declared.decision.Decision.{Decision}
@@ -42,28 +45,47 @@ pub record IsTouch (s : State) (touch : Touch) : Type 0 where
 
 -- the page at the place is in a frame, and others show it too
 pub record IsShared (s : State) (touch : Touch) (p : ℕ) : Type 0 where
-  pub g : ℕ
+  pub label : Label
   pub frame : ℕ
   pub shown : mapped_at s.page_tables touch.task.0 touch.at ≡ Some p
-  pub held : HasResidence s.pages p g (Held frame)
+  pub held : HasResidence s.pages p label (Held frame)
   pub shared : nat_lt 1 (mappers s.page_tables p) ≡ true
 
 -- it needs a charge to g: a write where nothing is mapped, or a shared page is, to the task's own group; a page on its block to the page's
 pub data NeedsCharge (s : State) (touch : Touch) (g : ℕ) : Type 0 where
   ForNew : (byte : ℕ) → touch.op ≡ Write byte → mapped_at s.page_tables touch.task.0 touch.at ≡ None → g ≡ touch.group.0 → NeedsCharge s touch g
   ForCopy : (byte p : ℕ) → touch.op ≡ Write byte → IsShared s touch p → g ≡ touch.group.0 → NeedsCharge s touch g
-  ForAway : (p block : ℕ) → mapped_at s.page_tables touch.task.0 touch.at ≡ Some p → HasResidence s.pages p g (Away block) → NeedsCharge s touch g
+  ForAway : (p block : ℕ) → mapped_at s.page_tables touch.task.0 touch.at ≡ Some p → HasResidence s.pages p (memory_of g) (Away block) → NeedsCharge s touch g
 
 -- what it meets, and whether the charge that it needs is granted
 abbrev pub MeetsSo : State → Touch → Meeting → Type 0
 MeetsSo s touch meeting.Unmapped = (touch.op ≡ Read) × (mapped_at s.page_tables touch.task.0 touch.at ≡ None)
-MeetsSo s touch (meeting.Hits p frame) = (g : ℕ) × (mapped_at s.page_tables touch.task.0 touch.at ≡ Some p.0) × HasResidence s.pages p.0 g (Held frame.0) × (is_shared_write s.page_tables p.0 touch.op ≡ false)
+MeetsSo s touch (meeting.Hits p frame) = (label : Label) × (mapped_at s.page_tables touch.task.0 touch.at ≡ Some p.0) × HasResidence s.pages p.0 label (Held frame.0) × (is_shared_write s.page_tables p.0 touch.op ≡ false)
 MeetsSo s touch meeting.Transferring =
-    (direction : Direction) × (p : ℕ) × (g : ℕ) × (f : ℕ) × (b : ℕ) × (n : ℕ) × (mapped_at s.page_tables touch.task.0 touch.at ≡ Some p) × HasResidence s.pages p g (moving direction f b n)
+    (direction : Direction) × (p : ℕ) × (label : Label) × (f : ℕ) × (b : ℕ) × (n : ℕ) × (mapped_at s.page_tables touch.task.0 touch.at ≡ Some p) × HasResidence s.pages p label (moving direction f b n)
 MeetsSo s touch (meeting.NeedsPage byte) = (touch.op ≡ Write byte) × (mapped_at s.page_tables touch.task.0 touch.at ≡ None) × HasRoom s touch.group.0
 MeetsSo s touch (meeting.NeedsCopy p byte) = (touch.op ≡ Write byte) × IsShared s touch p.0 × HasRoom s touch.group.0
-MeetsSo s touch (meeting.NeedsSwapIn p) = (g : ℕ) × (b : ℕ) × (mapped_at s.page_tables touch.task.0 touch.at ≡ Some p.0) × HasResidence s.pages p.0 g (Away b) × HasRoom s g
+MeetsSo s touch (meeting.NeedsSwapIn p) = (g : ℕ) × (b : ℕ) × (mapped_at s.page_tables touch.task.0 touch.at ≡ Some p.0) × HasResidence s.pages p.0 (memory_of g) (Away b) × HasRoom s g
 MeetsSo s touch (meeting.Lacks why) = (g : ℕ) × NeedsCharge s touch g × LacksRoom s g why
+
+-- ---- accesses to files
+
+-- a live task of the group reaches for a byte of a file
+pub record IsFileTouch (s : State) (touch : FileTouch) : Type 0 where
+  pub task : Task
+  pub known : task_at s.tasks touch.task.0 ≡ Some task
+  pub live : task.life ≡ Live
+  pub group : task.group ≡ touch.group
+  pub inside : touch.at.page < slice_index s.opening.files touch.at.file
+  pub within : touch.offset < page_size
+
+-- what it meets, and whether the charge that it needs, to the task's own group, is granted
+abbrev pub MeetsInCache : State → FileTouch → CacheMeeting → Type 0
+MeetsInCache s touch (cache.Hits p frame) = (label : Label) × (file_page s.pages touch.at.file touch.at.page ≡ Some p.0) × HasResidence s.pages p.0 label (Held frame.0)
+MeetsInCache s touch cache.Transferring =
+    (direction : Direction) × (p : ℕ) × (label : Label) × (f : ℕ) × (b : ℕ) × (n : ℕ) × (file_page s.pages touch.at.file touch.at.page ≡ Some p) × HasResidence s.pages p label (moving direction f b n)
+MeetsInCache s touch cache.NeedsRead = (file_page s.pages touch.at.file touch.at.page ≡ None) × HasRoom s touch.group.0
+MeetsInCache s touch (cache.Lacks why) = (file_page s.pages touch.at.file touch.at.page ≡ None) × LacksRoom s touch.group.0 why
 
 -- ---- decisions
 
@@ -75,6 +97,7 @@ pub record IsIdleFor (s : State) (target : ℕ) : Type 0 where
 -- what is known of a decision, whatever event it is for
 abbrev pub IsSound : State → Order → Decision → Type 0
 IsSound s order (decision.Access touch met) = IsTouch s touch × MeetsSo s touch met
+IsSound s order (decision.FileAccess touch met) = IsFileTouch s touch × MeetsInCache s touch met
 IsSound s order (decision.Take target g) = (is_live s.tree target.0 ≡ true) × (served s order target.0 ≡ Some g.0) × (has_takeable s target.0 ≡ true)
 IsSound s order (decision.Kill limit t) = (is_live s.tree limit.0 ≡ true) × IsIdleFor s limit.0 × IsVictim s.tree s.tasks s.page_tables limit.0 (Some t.0)
 IsSound s order (decision.NoVictim limit) = (is_live s.tree limit.0 ≡ true) × IsIdleFor s limit.0 × IsVictim s.tree s.tasks s.page_tables limit.0 None
@@ -119,6 +142,7 @@ FindsNothing s what = ⊥
 abbrev pub Fits : State → Event → Decision → Type 0
 Fits s what decision.Killed = IsOfKilled s what
 Fits s what (decision.Access touch met) = what ≡ event.Access touch.task (Virtual touch.at touch.offset) touch.op
+Fits s what (decision.FileAccess touch met) = what ≡ event.Access touch.task (File touch.at.file touch.at.page touch.offset) touch.op
 Fits s what decision.Room = HasItsRoom s what
 Fits s what (decision.Take target g) = AsksPage s what target.0
 Fits s what decision.Wait = (target : ℕ) × AsksPage s what target × (has_takeable s target ≡ false) × (has_transfer s target ≡ true)
@@ -143,15 +167,17 @@ pub record IsDecided (s : StateOf) (what : Event) (decided : Decision) : Type 0 
 
 -- ---- what it needs
 
--- how many entries of the trace: two where a transfer begins, one of them for its end
+-- how many entries of the trace: two where a transfer begins, one of them for its end, or a page is dropped
 abbrev pub entries_for : Decision → ℕ
 entries_for (decision.Access touch (meeting.NeedsSwapIn p)) = 2
+entries_for (decision.FileAccess touch cache.NeedsRead) = 2
 entries_for (decision.Take target g) = 2
 entries_for other = 1
 
 -- whether it makes something, and so may want memory: a group, a task, or what the bytes of a read-in arrive in
 abbrev pub makes : Decision → Bool
 makes (decision.Access touch (meeting.NeedsSwapIn p)) = true
+makes (decision.FileAccess touch cache.NeedsRead) = true
 makes (decision.Spawn t g) = true
 makes (decision.Fork t child) = true
 makes (decision.Mkdir parent path) = true

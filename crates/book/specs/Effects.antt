@@ -7,18 +7,19 @@ use Rattle.machine.specs.declared.event.Event.TheVariants as event
 use Rattle.machine.specs.declared.reply.Reply.{Reply}
 use Rattle.machine.specs.declared.reply.Reply.TheVariants as reply
 use Rattle.machine.specs.Slots.{at, there_and}
-use Rattle.machine.specs.Pages.{Residence, Held, Coming, Going, Pages, page_at, is_number}
+use Rattle.machine.specs.Pages.{Residence, Held, Coming, Going, Pages, page_at}
 use Rattle.machine.specs.Counts.{Counted}
-use Rattle.machine.specs.Tasks.{lives, group_of_task, mapped_at}
+use Rattle.machine.specs.Tasks.{group_of_task}
 use Rattle.machine.specs.State.{State}
 use Rattle.machine.specs.Reclaim.{target_of}
 use Rattle.machine.specs.Step.{Step, count_of}
 use Rattle.machine.specs.Access.{page_size}
-use Rattle.machine.specs.History.{Spot, InTask, spot_of, Says, Byte, As, Nothing, says, ticket_given, taker_or}
-use Rattle.pages.specs.PagesOf.{HasResidence}
+use Rattle.machine.specs.History.{Spot, InTask, InFile, spot_of, Says, Byte, As, Nothing, says, ticket_given, taker_or}
+use Rattle.pages.specs.PagesOf.{Label, HasResidence}
 use Rattle.pages.specs.declared.flight.Flight.{Flight}
 use Rattle.memory_events.specs.Tallies.{Tells}
-use Rattle.page_state.specs.States.{StateOf, byte_at}
+use Rattle.page_state.specs.States.{StateOf, byte_shown}
+use Rattle.book.specs.Spots.{offset_of, holder, IsThere}
 
 -- ---- events counted
 
@@ -57,8 +58,9 @@ ChangesGroups old what answer new = (t : ℕ) → group_of_task new.tables.tasks
 
 -- ---- bytes
 
+-- a byte of what a task's place shows, or of a file's page that is in the cache; zero where there is none
 abbrev pub byte_at_spot : StateOf → Spot → ℕ
-byte_at_spot c (InTask t v o) = byte_at c t v o
+byte_at_spot c spot = byte_shown c.bytes (holder c.tables spot) (offset_of spot)
 
 -- a page whose bytes are in memory: it has a frame, and is not being read in
 abbrev pub is_in_memory : Residence → Bool
@@ -66,31 +68,32 @@ is_in_memory (Held frame) = true
 is_in_memory (Going frame block ticket) = true
 is_in_memory residence = false
 
-abbrev pub is_known : Pages → Option ℕ → Bool
-is_known pages None = true
-is_known pages (Some p) = there_and (λ page. is_in_memory page.residence) (page_at pages p)
+abbrev pub is_known : Pages → ℕ → Bool
+is_known pages p = there_and (λ page. is_in_memory page.residence) (page_at pages p)
 
--- the bytes of a task's virtual page are in memory
-abbrev pub knows : StateOf → ℕ → ℕ → Bool
-knows c t v = is_known c.tables.pages (mapped_at c.tables.page_tables t v)
+-- the byte is in memory: a task's place that shows nothing is zeros, and a page of a file that is not in the cache is on the device alone
+abbrev pub knows : StateOf → Spot → Option ℕ → Bool
+knows c spot (Some p) = is_known c.tables.pages p
+knows c (InTask t v o) None = true
+knows c (InFile file q o) None = false
 
 abbrev pub KnowsSpot : StateOf → Spot → Type 0
-KnowsSpot c (InTask t v o) = (knows c t v ≡ true) × (o < page_size)
+KnowsSpot c spot = (knows c spot (holder c.tables spot) ≡ true) × (offset_of spot < page_size)
 
 -- a read answers the byte at its place, which is in memory
 abbrev pub ReadsByte : StateOf → Event → Reply → Type 0
 ReadsByte old (event.Access t place Read) (reply.Done byte hit) = (byte ≡ byte_at_spot old (spot_of t.0 place)) × KnowsSpot old (spot_of t.0 place)
 ReadsByte old what answer = Unit {0}
 
--- the page at the place was being read in under the ticket that arrived, and this is its byte
-abbrev pub Arrives : StateOf → Event → ℕ → ℕ → ℕ → ℕ → Type 0
-Arrives old (event.Arrived ticket arrived) t v o byte =
-    (p : ℕ) × (g : ℕ) × (f : ℕ) × (b : ℕ) × (mapped_at old.tables.page_tables t v ≡ Some p) × HasResidence old.tables.pages p g (Coming f b ticket.0) × (byte ≡ slice_index arrived o)
-Arrives old what t v o byte = ⊥
+-- the page that has the byte was being read in under the ticket that arrived, and this is the byte
+abbrev pub Arrives : StateOf → Event → Spot → ℕ → Type 0
+Arrives old (event.Arrived ticket arrived) spot byte =
+    (p : ℕ) × (label : Label) × (f : ℕ) × (b : ℕ) × (holder old.tables spot ≡ Some p) × HasResidence old.tables.pages p label (Coming f b ticket.0) × (byte ≡ slice_index arrived (offset_of spot))
+Arrives old what spot byte = ⊥
 
--- this byte of a live task was in memory
+-- this byte of a live task, or of a file, was in memory
 abbrev pub WasByte : StateOf → Spot → ℕ → Type 0
-WasByte old (InTask t v o) byte = (lives old.tables.tasks t ≡ true) × (o < page_size) × (knows old t v ≡ true) × (byte ≡ byte_at old t v o)
+WasByte old spot byte = IsThere old.tables spot × KnowsSpot old spot × (byte ≡ byte_at_spot old spot)
 
 -- a byte is what is said of it: written; what another byte was; or what it was
 abbrev pub IsSaid : StateOf → Says → Spot → ℕ → Type 0
@@ -99,14 +102,13 @@ IsSaid old (As other) spot byte = WasByte old other byte
 IsSaid old Nothing spot byte = WasByte old spot byte
 
 -- the byte is what the event says of it
-abbrev pub Follows : StateOf → Event → Reply → ℕ → ℕ → ℕ → ℕ → Type 0
-Follows old what answer t v o byte = IsSaid old (says what answer (InTask t v o)) (InTask t v o) byte
+abbrev pub Follows : StateOf → Event → Reply → Spot → ℕ → Type 0
+Follows old what answer spot byte = IsSaid old (says what answer spot) spot byte
 
--- each byte of a live task that is in memory
+-- each byte of a live task or of a file that is in memory
 abbrev pub ChangesBytes : StateOf → Event → Reply → StateOf → Type 0
 ChangesBytes old what answer new =
-    (t v o : ℕ) → lives new.tables.tasks t ≡ true → o < page_size → knows new t v ≡ true
-    → Arrives old what t v o (byte_at new t v o) ⊎ Follows old what answer t v o (byte_at new t v o)
+    (spot : Spot) → IsThere new.tables spot → KnowsSpot new spot → Arrives old what spot (byte_at_spot new spot) ⊎ Follows old what answer spot (byte_at_spot new spot)
 
 -- ---- transfers
 

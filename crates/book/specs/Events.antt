@@ -43,6 +43,7 @@ reply_of reply.Busy = said.Busy
 reply_of reply.Killed = said.Killed
 reply_of reply.Ok = said.Ok
 reply_of reply.Room = said.Room
+reply_of reply.Dropped = said.Dropped
 reply_of (reply.Out ticket) = said.Out (record { 0 = ticket.number })
 reply_of reply.Wait = said.Wait
 reply_of reply.Nothing = said.Nothing

@@ -1,3 +1,4 @@
+pub mod Spots
 pub mod Events
 pub mod Replies
 pub mod Effects

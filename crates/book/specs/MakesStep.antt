@@ -1,16 +1,15 @@
 -- What the parts answer to one event, and how they change.
-use Rattle.std.specs.Prelude.{◌≡◌, ℕ, ◌+◌, ◌<◌, ◌≤◌, ◌==◌, ◌||◌, Bool, true, false, slice_index}
+use Rattle.std.specs.Prelude.{◌≡◌, ℕ, ◌+◌, ◌<◌, ◌≤◌, Bool, true, false, slice_index}
 use Rattle.machine.specs.declared.event.Event.{Event}
 use Rattle.machine.specs.declared.event.Event.TheVariants as event
 use Rattle.machine.specs.declared.reply.Reply.{Reply}
 use Rattle.machine.specs.declared.reply.Reply.TheVariants as reply
 use Rattle.machine.specs.Pages.{Coming, Going, in_transfer}
-use Rattle.machine.specs.Tasks.{lives}
 use Rattle.machine.specs.Access.{page_size}
 use Rattle.machine.specs.Generations.{gens_at}
 use Rattle.machine.specs.Lists.{Orders}
 use Rattle.machine.specs.Call.{need}
-use Rattle.pages.specs.PagesOf.{byte_in, HasResidence}
+use Rattle.pages.specs.PagesOf.{byte_in, Label, HasResidence}
 use Rattle.pages.specs.Transfers.{given_ticket}
 use Rattle.book.specs.declared.event.Reply.{Reply as Given}
 use Rattle.book.specs.declared.event.Reply.TheVariants as given
@@ -69,8 +68,8 @@ RepliesTo what said = ⊥
 -- the ticket that is given out is that of a page in transfer; and a write-out has the page's bytes
 abbrev pub GivesTicket : StateOf → ℕ → ℕ → Given → Type 0
 GivesTicket new worker entry (given.Fetch ticket) =
-    (p : ℕ) × (g : ℕ) × (f : ℕ) × HasResidence new.tables.pages p g (Coming f ticket.block ticket.number) × (ticket ≡ given_ticket ticket.number worker entry ticket.block ticket.bytes)
+    (p : ℕ) × (label : Label) × (f : ℕ) × HasResidence new.tables.pages p label (Coming f ticket.block ticket.number) × (ticket ≡ given_ticket ticket.number worker entry ticket.block ticket.bytes)
 GivesTicket new worker entry (given.Out ticket) =
-    (p : ℕ) × (g : ℕ) × (f : ℕ) × HasResidence new.tables.pages p g (Going f ticket.block ticket.number) × (ticket ≡ given_ticket ticket.number worker entry ticket.block ticket.bytes)
+    (p : ℕ) × (label : Label) × (f : ℕ) × HasResidence new.tables.pages p label (Going f ticket.block ticket.number) × (ticket ≡ given_ticket ticket.number worker entry ticket.block ticket.bytes)
     × ((o : ℕ) → o < page_size → slice_index ticket.bytes o ≡ byte_in new.bytes p o)
 GivesTicket new worker entry said = Unit {0}

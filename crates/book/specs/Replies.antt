@@ -1,11 +1,11 @@
 -- The replies that an event can have at all, so that no caller writes an arm for any other; and what is known of the tickets in them.
-use Rattle.std.specs.Prelude.{◌≡◌, ℕ, ◌<◌, ◌==◌, ◌||◌, true, false, length, slice_index, Some}
+use Rattle.std.specs.Prelude.{◌≡◌, ℕ, ◌<◌, ◌==◌, ◌||◌, false, length, slice_index, Some}
 use Rattle.machine.specs.Pages.{Coming, Going, Page, page_at}
-use Rattle.machine.specs.Tasks.{lives, mapped_at}
 use Rattle.machine.specs.Access.{page_size}
-use Rattle.machine.specs.History.{InTask, at_first, last, Honest}
+use Rattle.machine.specs.History.{Spot, at_first, last, Honest}
 use Rattle.machine.specs.Call.{Past}
 use Rattle.pages.specs.Tickets.{TicketOf}
+use Rattle.book.specs.Spots.{offset_of, holder, IsThere}
 use Rattle.book.specs.declared.event.Event.{Event}
 use Rattle.book.specs.declared.event.Event.TheVariants as event
 use Rattle.book.specs.declared.event.Reply.{Reply}
@@ -25,6 +25,7 @@ IsAccessReply said = ⊥
 
 abbrev pub IsReliefReply : Reply → Type 0
 IsReliefReply reply.Room = Unit {0}
+IsReliefReply reply.Dropped = Unit {0}
 IsReliefReply (reply.Out ticket) = Unit {0}
 IsReliefReply reply.Wait = Unit {0}
 IsReliefReply (reply.KilledTask task) = Unit {0}
@@ -33,6 +34,7 @@ IsReliefReply (reply.Refused why) = Unit {0}
 IsReliefReply said = ⊥
 
 abbrev pub IsReclaimReply : Reply → Type 0
+IsReclaimReply reply.Dropped = Unit {0}
 IsReclaimReply (reply.Out ticket) = Unit {0}
 IsReclaimReply reply.Wait = Unit {0}
 IsReclaimReply reply.Nothing = Unit {0}
@@ -118,7 +120,7 @@ pub record GivesIn (past : Past) (worker : ℕ) (ticket : TicketOf) : Type 0 whe
   pub entry : ticket.entry ≡ length past.history
   pub fresh : ticket.handed ≡ false
 
--- the same of a write-out; where the history is honest, the ticket's bytes are those last written at each place of the page
+-- the same of a write-out; where the history is honest, whatever the files had at first, the ticket's bytes are those last written at each place of the page
 pub record GivesOut (past : Past) (worker : ℕ) (ticket : TicketOf) : Type 0 where
   pub p : ℕ
   pub page : Page
@@ -128,8 +130,8 @@ pub record GivesOut (past : Past) (worker : ℕ) (ticket : TicketOf) : Type 0 wh
   pub own : ticket.worker ≡ worker
   pub entry : ticket.entry ≡ length past.history
   pub fresh : ticket.handed ≡ false
-  pub bytes : Honest at_first past.history → (t v o : ℕ) → o < page_size → lives past.state.tasks t ≡ true → mapped_at past.state.page_tables t v ≡ Some p
-      → slice_index ticket.bytes o ≡ last at_first past.history (InTask t v o)
+  pub bytes : (files : ℕ → ℕ → ℕ → ℕ) → Honest (at_first files) past.history → (spot : Spot) → offset_of spot < page_size → IsThere past.state spot → holder past.state spot ≡ Some p
+      → slice_index ticket.bytes (offset_of spot) ≡ last (at_first files) past.history spot
 
 -- what a reply gives out, after the call
 abbrev pub HandsOut : Past → ℕ → Reply → Type 0

@@ -1,19 +1,17 @@
 -- What a history tells of the tasks' groups and of the events counted, and what always holds of it.
-use Rattle.std.specs.Prelude.{◌≡◌, ℕ, ◌+◌, ◌*◌, ◌<◌, ◌≤◌, true, List, [], ◌∷◌, length, slice_index, IfSome, Some}
+use Rattle.std.specs.Prelude.{◌≡◌, ℕ, ◌+◌, ◌*◌, ◌≤◌, List, [], ◌∷◌, length, slice_index, IfSome, Some}
 use Rattle.machine.specs.declared.entry.Entry.{Entry}
 use Rattle.machine.specs.Counts.{Counted}
 use Rattle.machine.specs.Slots.{at}
-use Rattle.machine.specs.Pages.{Coming}
-use Rattle.machine.specs.Tasks.{lives, group_of_task, mapped_at}
-use Rattle.machine.specs.Access.{page_size}
+use Rattle.machine.specs.Tasks.{group_of_task}
 use Rattle.machine.specs.State.{State}
 use Rattle.machine.specs.Generations.{gens_at}
 use Rattle.machine.specs.Legal.{Legal}
-use Rattle.machine.specs.History.{Right, InTask, at_offset, at_first, last, Fetched, fetch_of, Honest, taker, entries_by, Numbered}
-use Rattle.pages.specs.PagesOf.{HasResidence}
+use Rattle.machine.specs.History.{Spot, Right, at_first, last, Honest, taker, entries_by, Numbered}
 use Rattle.memory_events.specs.Tallies.{Tells}
-use Rattle.page_state.specs.States.{StateOf, byte_at}
-use Rattle.book.specs.Effects.{counting, counted_after, group_after, knows}
+use Rattle.page_state.specs.States.{StateOf}
+use Rattle.book.specs.Spots.{IsThere}
+use Rattle.book.specs.Effects.{counting, counted_after, group_after, byte_at_spot, KnowsSpot}
 
 -- the group that a task was last put in
 abbrev pub group_in : List Entry → ℕ → ℕ
@@ -29,13 +27,13 @@ counted_in (entry ∷ earlier) = counted_after (group_in earlier) (counted_in ea
 abbrev pub state_of : StateOf → List Entry → State
 state_of c history = counting c.tables (counted_in history)
 
--- the history leads to the tables, gave each read the last write where every arrival brought it, and is numbered by worker
+-- the history leads to the tables; whatever the files had at first, it gave each read the last write where every arrival brought it; and it is numbered by worker
 pub record IsHistory (c : StateOf) (history : List Entry) (counts : List ℕ) : Type 0 where
   pub legal : Legal c.tables.opening history (state_of c history)
-  pub right : Honest at_first history → Right at_first history
+  pub right : (files : ℕ → ℕ → ℕ → ℕ) → Honest (at_first files) history → Right (at_first files) history
   pub numbered : Numbered history
-  -- the byte at each live task's place that is in memory is the one last written there
-  pub bytes : Honest at_first history → (t v o : ℕ) → lives c.tables.tasks t ≡ true → o < page_size → knows c t v ≡ true → byte_at c t v o ≡ last at_first history (InTask t v o)
+  -- each byte of a live task or of a file that is in memory is the one last written there
+  pub bytes : (files : ℕ → ℕ → ℕ → ℕ) → Honest (at_first files) history → (spot : Spot) → IsThere c.tables spot → KnowsSpot c spot → byte_at_spot c spot ≡ last (at_first files) history spot
   pub takers : (n : ℕ) → IfSome (at c.flights n) (λ f. taker n history ≡ Some f.worker.0)
   pub groups : (t : ℕ) → group_of_task c.tables.tasks t ≡ group_in history t
   pub tallied : Tells c.tallies (counted_in history)

@@ -9,11 +9,12 @@ ghost use Rattle.machine.specs.declared.event.Event.{Event as Event_of};
 ghost use Rattle.memory_events.specs.Tallies.{Tells};
 ghost use Rattle.page_state.specs.States.{AreFew, AreYoung};
 ghost use Rattle.book.specs.Effects.{counting};
-ghost use Rattle.book.specs.Decisions.{IsSound, IsTouch, MeetsSo, IsDecided, makes, Carries};
+ghost use Rattle.book.specs.Decisions.{IsSound, IsTouch, MeetsSo, IsFileTouch, MeetsInCache, IsDecided, makes, Carries};
 ghost use Rattle.book.specs.declared.decision.Decision.TheVariants as decision;
 ghost use Rattle.book.specs.declared.decision.Meeting.TheVariants as meeting;
+ghost use Rattle.book.specs.declared.decision.CacheMeeting.TheVariants as cache;
 
-use crate::decision::{Decision, Meeting, Touch};
+use crate::decision::{CacheMeeting, Decision, FileTouch, Meeting, Touch};
 use crate::event::Reply;
 use machine::event::{Op, Query, Setting};
 use machine::id::{FrameId, GroupId, PageId, TaskId, WorkerId};
@@ -45,10 +46,12 @@ pub fn apply(
             let reply = access(state, alloc, touch, meeting, worker, entry)?;
             Ok(reply)
         }
-        Decision::Room => Ok(Reply::Room),
-        Decision::Take { target, group } => {
-            Ok(Reply::Out(state.start_out(target, group, worker, entry)))
+        Decision::FileAccess(touch, meeting) => {
+            let reply = file_access(state, alloc, touch, meeting, worker, entry)?;
+            Ok(reply)
         }
+        Decision::Room => Ok(Reply::Room),
+        Decision::Take { target, group } => Ok(take(state, target, group, worker, entry)),
         Decision::Wait => Ok(Reply::Wait),
         Decision::Nothing => Ok(Reply::Nothing),
         Decision::Kill { limit, task } => Ok(kill(state, limit, task)),
@@ -123,6 +126,87 @@ fn access(
             Ok(Reply::Fetch(ticket))
         }
         Meeting::Lacks(why) => Ok(refuse_charge(state, touch, why)),
+    }
+}
+
+/// An access to a file by a live task.
+fn file_access(
+    state: &mut State,
+    alloc: Global,
+    touch: FileTouch,
+    meeting: CacheMeeting,
+    worker: WorkerId,
+    entry: u32,
+) -> Result<Reply, AllocError>
+    requires few { AreFew state.old.tallies }
+    requires touch { IsFileTouch state.old.tables touch }
+    requires meets { MeetsInCache state.old.tables touch meeting }
+    ensures carries { IfOk result (λ said. Carries state.old worker.0 entry (decision.FileAccess touch meeting) said state.new) }
+    ensures err { OnErr result (state.new ≡ state.old) }
+    ensures makes { OnErr result (makes (decision.FileAccess touch meeting) ≡ true) }
+{
+    state.is_joined();
+    match meeting {
+        CacheMeeting::Hits(page, frame) => Ok(file_hit(state, touch, page, frame)),
+        CacheMeeting::Transferring => Ok(Reply::Busy),
+        CacheMeeting::NeedsRead => {
+            let ticket = state.start_in_file(alloc, touch.at, touch.group, worker, entry)?;
+            Ok(Reply::Fetch(ticket))
+        }
+        CacheMeeting::Lacks(why) => Ok(refuse_file(state, touch, why)),
+    }
+}
+
+/// An access to a page of a file that is in a frame, which is marked as accessed.
+fn file_hit(state: &mut State, touch: FileTouch, cached: PageId, frame: FrameId) -> Reply
+    requires touch { IsFileTouch state.old.tables touch }
+    requires meets { MeetsInCache state.old.tables touch (cache.Hits cached frame) }
+    ensures { (worker entry : ℕ) → Carries state.old worker entry (decision.FileAccess touch (cache.Hits cached frame)) result state.new }
+{
+    state.is_joined();
+    state.mark(cached);
+    match touch.op {
+        Op::Read => Reply::Done {
+            byte: state.pages().read(cached, touch.offset as usize),
+            hit: Some(frame),
+        },
+        Op::Write(byte) => {
+            state.write(cached, touch.offset, byte);
+            Reply::Done {
+                byte,
+                hit: Some(frame),
+            }
+        }
+    }
+}
+
+/// The charge of a page of a file is refused. Where a max is in its way, that is counted at the max's group.
+fn refuse_file(state: &mut State, touch: FileTouch, why: NoRoom) -> Reply
+    requires few { AreFew state.old.tallies }
+    requires touch { IsFileTouch state.old.tables touch }
+    requires meets { MeetsInCache state.old.tables touch (cache.Lacks why) }
+    ensures { (worker entry : ℕ) → Carries state.old worker entry (decision.FileAccess touch (cache.Lacks why)) result state.new }
+{
+    state.is_joined();
+    match why {
+        NoRoom::Over(full) => {
+            state.count(full, Key::Max);
+            Reply::Over(full)
+        }
+        NoRoom::NoFrame => Reply::NoFrame,
+    }
+}
+
+/// The page that is next for the target leaves its frame: it begins to be written out, or is dropped.
+fn take(state: &mut State, target: GroupId, group: GroupId, worker: WorkerId, entry: u32) -> Reply
+    requires young { AreYoung state.old.order.held }
+    requires sound { IsSound state.old.tables state.old.order (decision.Take target group) }
+    ensures { Carries state.old worker.0 entry (decision.Take target group) result state.new }
+{
+    state.is_joined();
+    match state.take_out(target, group, worker, entry) {
+        Some(ticket) => Reply::Out(ticket),
+        None => Reply::Dropped,
     }
 }
 
@@ -211,6 +295,7 @@ fn shown(state: &State, query: Query) -> Shown
         Query::Min(group) => Shown::Amount(state.min(group)),
         Query::Events(group) => Shown::Events(state.events(group)),
         Query::EventsLocal(group) => Shown::Events(state.local_events(group)),
+        Query::Stat(group) => Shown::Stat(state.stat(group)),
         Query::Protection { target, group } => Shown::Amount(state.protection(target, group)),
     }
 }

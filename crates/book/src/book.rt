@@ -16,6 +16,7 @@ use crate::apply::apply;
 use crate::decide::decide;
 use crate::event::{Event, Reply};
 use crate::pass::Pass;
+use files::blocks_for;
 use machine::bytes::PageBytes;
 use machine::config::{Config, Watermarks};
 use machine::entry::Entry;
@@ -37,7 +38,8 @@ const MOST_PASSES: usize = 131_072;
 /// A contract sees it as its past: the machine's state, the history with the newest entry first, the
 /// order in which pages are taken, and how many passes were given out. The history is always legal, so it
 /// leads from the opening to that state by steps of the plain machine; and where each page that arrived
-/// brought what was last written, it is right, so each read in it gave the last write.
+/// brought what was last written, whatever the files had at first, it is right, so each read in it gave the
+/// last write.
 ///
 /// A book must be spent, by [`Book::close`].
 pub struct Book {
@@ -77,7 +79,7 @@ impl Book {
         ensures sized { IfOk result (λ b. is_config config ≡ true) }
         ensures err { IfErr result (λ cause. (cause ≡ Refusal.Invalid) × (is_config config ≡ false) ⊎ (cause ≡ Refusal.NoMemory) × (is_config config ≡ true)) }
     {
-        if !config.is_valid() {
+        if blocks_for(&config).is_none() {
             return Err(Refusal::Invalid);
         }
         match Book::make(alloc, config) {
@@ -126,7 +128,7 @@ impl Book {
     pub fn call(&mut self, pass: &mut Pass, event: Event) -> Reply
         requires { pass.old.worker < self.old.passes }
         ensures called { Called self.old pass.old (event_of event) (reply_of result) self.new }
-        ensures reads { Honest at_first self.old.history → IsRight at_first self.old.history (event_of event) (reply_of result) }
+        ensures reads { (files : ℕ → ℕ → ℕ → ℕ) → Honest (at_first files) self.old.history → IsRight (at_first files) self.old.history (event_of event) (reply_of result) }
         ensures replies { Replies event result }
         ensures gives { HandsOut self.new pass.old.worker result }
         ensures keeps { KeepsTicket pass.old.worker event result }
@@ -166,7 +168,7 @@ impl Book {
         requires known { worker.0 < self.old.passes }
         requires asked { IsAsked event }
         ensures called { Called self.old (record { worker = worker.0 }) event (reply_of result) self.new }
-        ensures reads { Honest at_first self.old.history → IsRight at_first self.old.history event (reply_of result) }
+        ensures reads { (files : ℕ → ℕ → ℕ → ℕ) → Honest (at_first files) self.old.history → IsRight (at_first files) self.old.history event (reply_of result) }
         ensures replies { RepliesTo event result }
         ensures gives { HandsOut self.new worker.0 result }
         ensures passes { self.new.passes ≡ self.old.passes }
@@ -288,7 +290,7 @@ impl Book {
     /// its lists, two to four generations of a type, and a cursor.
     pub fn history_is_right(&self)
         ensures legal { Legal self.now.state.opening self.now.history self.now.state }
-        ensures right { Honest at_first self.now.history → Right at_first self.now.history }
+        ensures right { (files : ℕ → ℕ → ℕ → ℕ) → Honest (at_first files) self.now.history → Right (at_first files) self.now.history }
         ensures numbered { Numbered self.now.history }
         ensures listed { ListsHeld self.now.state.pages self.now.order.held }
         ensures generations { AreGenerations self.now.order.held }
@@ -354,6 +356,7 @@ fn plain(reply: &Reply) -> PlainReply
         Reply::Killed => PlainReply::Killed,
         Reply::Ok => PlainReply::Ok,
         Reply::Room => PlainReply::Room,
+        Reply::Dropped => PlainReply::Dropped,
         Reply::Out(ticket) => PlainReply::Out(ticket.number()),
         Reply::Wait => PlainReply::Wait,
         Reply::Nothing => PlainReply::Nothing,

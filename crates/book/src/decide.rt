@@ -5,14 +5,15 @@ ghost use Rattle.std.specs.Prelude.{◌≡◌, ℕ, true, None, Some, MatchResul
 ghost use Rattle.machine.specs.declared.event.Event.TheVariants as event;
 ghost use Rattle.machine.specs.Tree.{is_live};
 ghost use Rattle.machine.specs.Pages as residence;
-ghost use Rattle.pages.specs.PagesOf.{HasResidence};
+ghost use Rattle.machine.specs.Pages.{file_page};
+ghost use Rattle.pages.specs.PagesOf.{Label, memory_of, HasResidence};
 ghost use Rattle.machine.specs.Tasks.{task_at, lives, mapped_at};
 ghost use Rattle.machine.specs.Reclaim.{stands, target_of};
 ghost use Rattle.machine.specs.Refusals.{refusal, below_target, bars_children, bars_tasks, file_refusal, show_refusal, spawn_refusal, attach_refusal, rmdir_refusal};
 ghost use Rattle.book.specs.MakesStep.{IsAsked};
-ghost use Rattle.book.specs.Decisions.{IsTouch, IsShared, MeetsSo, IsDecided};
+ghost use Rattle.book.specs.Decisions.{IsTouch, IsShared, MeetsSo, IsFileTouch, MeetsInCache, IsDecided};
 
-use crate::decision::{Decision, Meeting, Touch};
+use crate::decision::{CacheMeeting, Decision, FileTouch, Meeting, Touch};
 use machine::bytes::PAGE_BYTES;
 use machine::event::{Cause, Event, Op, Place, Query, Setting};
 use machine::id::{FrameId, GroupId, PageId, TaskId};
@@ -21,7 +22,7 @@ use machine::record::Life;
 use machine::refusal::Refusal;
 use oom::victim;
 use page_state::State;
-use pages::Residence;
+use pages::{FilePage, Residence};
 
 /// The first cause to refuse an event that has no ticket, room in the trace and memory aside; or what the
 /// event will do.
@@ -83,18 +84,66 @@ fn decide_touch<'e>(
     requires { task_at state.now.tables.tasks task.0 ≡ Some (record { group = group; life = Life.Live }) }
     ensures { MatchResult result (λ decided. IsDecided state.now (event.Access task place op) decided) (λ why. refusal state.now.tables (event.Access task place op) ≡ Some why) }
 {
-    let Place::Virtual { page: at, offset } = place;
-    if at >= TASK_PAGES || offset as usize >= PAGE_BYTES {
-        return Err(Refusal::BadPlace);
+    match place {
+        Place::Virtual { page: at, offset } => {
+            if at >= TASK_PAGES || offset as usize >= PAGE_BYTES {
+                return Err(Refusal::BadPlace);
+            }
+            let touch = Touch {
+                task,
+                group,
+                at,
+                offset,
+                op,
+            };
+            Ok(Decision::Access(touch, meet(state, touch)))
+        }
+        Place::File { file, page, offset } => {
+            if state.pages().files().home(file, page).is_none() || offset as usize >= PAGE_BYTES {
+                return Err(Refusal::BadPlace);
+            }
+            let touch = FileTouch {
+                task,
+                group,
+                at: FilePage { file, page },
+                offset,
+                op,
+            };
+            Ok(Decision::FileAccess(touch, meet_in_cache(state, touch)))
+        }
     }
-    let touch = Touch {
-        task,
-        group,
-        at,
-        offset,
-        op,
+}
+
+/// What an access to a file meets.
+fn meet_in_cache(state: &State, touch: FileTouch) -> CacheMeeting
+    requires { IsFileTouch state.now.tables touch }
+    ensures { MeetsInCache state.now.tables touch result }
+{
+    state.is_joined();
+    match state.pages().cached(touch.at.file, touch.at.page) {
+        None => match state.room_for(touch.group) {
+            Ok(()) => CacheMeeting::NeedsRead,
+            Err(why) => CacheMeeting::Lacks(why),
+        },
+        Some(page) => meet_cached(state, touch, page),
+    }
+}
+
+/// An access to a page of a file that is in the cache. Whoever writes to it writes in place.
+fn meet_cached(state: &State, touch: FileTouch, page: PageId) -> CacheMeeting
+    requires touch { IsFileTouch state.now.tables touch }
+    requires cached { file_page state.now.tables.pages touch.at.file touch.at.page ≡ Some page.0 }
+    ensures { MeetsInCache state.now.tables touch result }
+{
+    state.is_joined();
+    let Some(residence) = state.pages().residence(page) else {
+        unreachable!()
     };
-    Ok(Decision::Access(touch, meet(state, touch)))
+    match residence {
+        Residence::Held(frame) => CacheMeeting::Hits(page, frame),
+        Residence::Coming | Residence::Going => CacheMeeting::Transferring,
+        Residence::Away(_) => unreachable!(),
+    }
 }
 
 /// What an access meets.
@@ -145,7 +194,7 @@ fn meet_page(state: &State, touch: Touch, page: PageId) -> Meeting
 fn meet_held(state: &State, touch: Touch, page: PageId, frame: FrameId) -> Meeting
     requires touch { IsTouch state.now.tables touch }
     requires shown { mapped_at state.now.tables.page_tables touch.task.0 touch.at ≡ Some page.0 }
-    requires held { (g : ℕ) × HasResidence state.now.tables.pages page.0 g (residence.Held frame.0) }
+    requires held { (label : Label) × HasResidence state.now.tables.pages page.0 label (residence.Held frame.0) }
     ensures { MeetsSo state.now.tables touch result }
 {
     match touch.op {
@@ -177,7 +226,7 @@ fn meet_shared(state: &State, touch: Touch, page: PageId, byte: u8) -> Meeting
 /// An access to a page on its block.
 fn meet_away(state: &State, touch: Touch, page: PageId) -> Meeting
     requires shown { mapped_at state.now.tables.page_tables touch.task.0 touch.at ≡ Some page.0 }
-    requires away { (g b : ℕ) × HasResidence state.now.tables.pages page.0 g (residence.Away b) }
+    requires away { (g b : ℕ) × HasResidence state.now.tables.pages page.0 (memory_of g) (residence.Away b) }
     ensures { MeetsSo state.now.tables touch result }
 {
     state.is_joined();
@@ -441,7 +490,8 @@ fn show_refusal(state: &State, query: Query) -> Option<Refusal>
         | Query::Max(group)
         | Query::Min(group)
         | Query::Events(group)
-        | Query::EventsLocal(group) => file_refusal(state, group),
+        | Query::EventsLocal(group)
+        | Query::Stat(group) => file_refusal(state, group),
         Query::Protection { target, group } => {
             if is_below(state, target, group) {
                 None

@@ -6,6 +6,7 @@ ghost use Rattle.book.specs.Decisions.{entries_for};
 use machine::event::{Op, Query, Setting};
 use machine::id::{FrameId, GroupId, PageId, TaskId};
 use page_state::NoRoom;
+use pages::FilePage;
 
 /// A live task's access to a byte of one of its virtual pages.
 #[derive(Clone, Copy)]
@@ -39,6 +40,31 @@ pub enum Meeting {
     Lacks(NoRoom),
 }
 
+/// A live task's access to a byte of a file.
+#[derive(Clone, Copy)]
+pub struct FileTouch {
+    pub task: TaskId,
+    /// The task's group.
+    pub group: GroupId,
+    pub at: FilePage,
+    /// In bytes.
+    pub offset: u32,
+    pub op: Op,
+}
+
+/// What an access to a file meets, and whether the charge that it needs is granted.
+#[derive(Clone, Copy)]
+pub enum CacheMeeting {
+    /// A page in this frame.
+    Hits(PageId, FrameId),
+    /// A page in transfer.
+    Transferring,
+    /// No page: it is read in.
+    NeedsRead,
+    /// A page would be read in, and there is no room for it.
+    Lacks(NoRoom),
+}
+
 /// What an event will do.
 #[derive(Clone, Copy)]
 pub enum Decision<'e> {
@@ -46,6 +72,8 @@ pub enum Decision<'e> {
     Killed,
     /// An access by a live task.
     Access(Touch, Meeting),
+    /// An access to a file by a live task.
+    FileAccess(FileTouch, CacheMeeting),
     /// Room is not wanted any more.
     Room,
     /// This group gives the next page to a reclaim of the target.
@@ -79,12 +107,14 @@ pub enum Decision<'e> {
 }
 
 impl Decision<'_> {
-    /// How many entries of the trace it needs: two where a transfer begins, one of them for its end.
+    /// How many entries of the trace it needs: two where a transfer begins, one of them for its end, or a
+    /// page is dropped.
     pub fn entries(&self) -> usize
         ensures { result ≡ entries_for self.now }
     {
         match self {
             Decision::Access(_, Meeting::NeedsSwapIn(_)) => 2,
+            Decision::FileAccess(_, CacheMeeting::NeedsRead) => 2,
             Decision::Take {
                 target: _,
                 group: _,

@@ -64,6 +64,8 @@ pub enum Reply {
     Ok,
     /// There is room.
     Room,
+    /// A page of a file, as its home block has it, was let go.
+    Dropped,
     /// A page is being written out: whoever asked writes the ticket's block, and ends the transfer.
     Out(OutTicket),
     /// A page is in transfer, and may come free.

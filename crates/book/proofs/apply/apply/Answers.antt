@@ -1,4 +1,4 @@
-use Rattle.book.proofs.CarryLemmas.{carries-killed, carries-room, carries-out, carries-wait, carries-nothing, carries-no_victim, carries-spawn, carries-fork, carries-free, carries-attach, carries-exit, carries-mkdir, carries-rmdir, carries-show}
+use Rattle.book.proofs.CarryLemmas.{carries-killed, carries-room, carries-wait, carries-nothing, carries-no_victim, carries-spawn, carries-fork, carries-free, carries-attach, carries-exit, carries-mkdir, carries-rmdir, carries-show}
 use Rattle.book.proofs.apply.apply.Goals as goal
 
 pub returns-in-Killed-clause-carries : goal.returns-in-Killed-clause-carries
@@ -8,7 +8,7 @@ pub returns-in-Room-clause-carries : goal.returns-in-Room-clause-carries
 returns-in-Room-clause-carries c = rw c.in-Room.is (carries-room c.args.state.now c.args.worker.0 c.args.entry c.is_joined.ensures.listed)
 
 pub returns-in-Take-clause-carries : goal.returns-in-Take-clause-carries
-returns-in-Take-clause-carries c = rw c.in-Take.is (carries-out c.args.state.now c.start_out.new.self c.args.worker.0 c.args.entry c.in-Take.target c.in-Take.group c.start_out.result c.start_out.ensures)
+returns-in-Take-clause-carries c = rw c.in-Take.is c.take.ensures
 
 pub returns-in-Wait-clause-carries : goal.returns-in-Wait-clause-carries
 returns-in-Wait-clause-carries c = rw c.in-Wait.is (carries-wait c.args.state.now c.args.worker.0 c.args.entry c.is_joined.ensures.listed)
@@ -29,13 +29,13 @@ pub returns-in_ok-fork-in-Fork-clause-carries : goal.returns-in_ok-fork-in-Fork-
 returns-in_ok-fork-in-Fork-clause-carries c = rw c.in-Fork.is (carries-fork c.args.state.now c.fork.new.self c.args.worker.0 c.args.entry c.in-Fork.task c.in-Fork.child c.is_joined.ensures.listed c.in_ok-fork-in-Fork.ensures.forks)
 
 pub returns-in-Free-clause-carries : goal.returns-in-Free-clause-carries
-returns-in-Free-clause-carries c = rw c.in-Free.is (carries-free c.args.state.now c.unmap.new.self c.args.worker.0 c.args.entry c.in-Free.task c.in-Free.at c.is_joined.ensures.mapped c.unmap.ensures)
+returns-in-Free-clause-carries c = rw c.in-Free.is (carries-free c.args.state.now c.unmap.new.self c.args.worker.0 c.args.entry c.in-Free.task c.in-Free.at c.unmap.ensures)
 
 pub returns-in-Attach-clause-carries : goal.returns-in-Attach-clause-carries
 returns-in-Attach-clause-carries c = rw c.in-Attach.is (carries-attach c.args.state.now c.attach.new.self c.args.worker.0 c.args.entry c.in-Attach.task c.in-Attach.group c.is_joined.ensures.listed c.attach.ensures)
 
 pub returns-in-Exit-clause-carries : goal.returns-in-Exit-clause-carries
-returns-in-Exit-clause-carries c = rw c.in-Exit.is (carries-exit c.args.state.now c.end_task.new.self c.args.worker.0 c.args.entry c.in-Exit.task c.is_joined.ensures.mapped c.end_task.ensures)
+returns-in-Exit-clause-carries c = rw c.in-Exit.is (carries-exit c.args.state.now c.end_task.new.self c.args.worker.0 c.args.entry c.in-Exit.task c.end_task.ensures)
 
 pub returns-in_ok-mkdir-in-Mkdir-clause-carries : goal.returns-in_ok-mkdir-in-Mkdir-clause-carries
 returns-in_ok-mkdir-in-Mkdir-clause-carries c = rw c.in-Mkdir.is (λ what is. carries-mkdir c.args.state.now c.mkdir.new.self c.args.worker.0 c.args.entry c.in-Mkdir.parent c.in-Mkdir.path.now what c.in_ok-mkdir-in-Mkdir.ensures.adds is.fits)

@@ -10,5 +10,5 @@ returns-in-Read c =
 
 pub returns-in-Write : goal.returns-in-Write
 returns-in-Write c =
-    λ worker entry. carries-hit_write c.args.state.now c.mark.new.self c.write.new.self worker entry c.args.touch c.args.page c.args.frame c.in-Write.byte c.is_joined.ensures.listed c.requires.touch c.requires.meets c.mark.ensures
+    λ worker entry. carries-hit_write c.args.state.now c.mark.new.self c.write.new.self worker entry c.args.touch c.args.page c.args.frame c.in-Write.byte c.is_joined.ensures.listed c.is_joined.ensures.mapped c.requires.touch c.requires.meets c.mark.ensures
     c.in-Write.is c.write.ensures

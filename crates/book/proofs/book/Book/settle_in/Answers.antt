@@ -8,8 +8,8 @@ use Rattle.machine.specs.declared.reply.Reply.TheVariants as reply
 use Rattle.book.specs.declared.book.Book.TheInside.{Inside}
 use Rattle.book.specs.Events.{ended, ended_with}
 use Rattle.book.specs.Told.{state_of}
-use Rattle.page_state.proofs.TransferLemmas.{flying-stands}
-use Rattle.book.proofs.MoveLemmas.{makes_step-settled_in}
+use Rattle.book.proofs.FlightLemmas.{flying-stands}
+use Rattle.book.proofs.MoveLemmas.{filed-single, makes_step-settled_in}
 use Rattle.book.proofs.CallLemmas.{history_of, called-stranger, ended-known, ended-none, ended-free, ends, has_room, few_of, Appends, called_more, book_more}
 use Rattle.book.proofs.book.Book.settle_in.Goals as goal
 
@@ -21,8 +21,9 @@ pub append-requires-clause-room : goal.append-requires-clause-room
 append-requires-clause-room c =
     let b = c.self.inside in
     let known = ended-known c.args.self.now (record { worker = c.args.worker.0 }) In c.args.end c.args.ticket ∙ rw (← c.number-number.ensures) (sym c.if-not-is_own.ensures) in
-    let stood = flying-stands b.state.tables.pages b.state.flights c.is_joined.ensures.flights In c.args.ticket.number (ap (λ (p : Past). is_in_flight In p.state.pages c.args.ticket.number) c.self.view_is ∙ (and_parts _ _ (sym (ended-known c.args.self.now (record { worker = c.args.worker.0 }) In c.args.end c.args.ticket) ∙ known)).0) in
-    let makes_step = makes_step-settled_in b.state c.settle_in-bytes.new.self c.args.worker.0 stood.0 stood.1 stood.2 stood.3 c.args.ticket c.args.end stood.4 (c.settle_in-bytes.ensures.ends stood.0 stood.1 stood.2 stood.3 stood.4) (c.settle_in-bytes.ensures.arrives stood.0 stood.1 stood.2 stood.3 stood.4) in
+    let stood = flying-stands b.state.tables.pages In c.args.ticket.number (ap (λ (p : Past). is_in_flight In p.state.pages c.args.ticket.number) c.self.view_is ∙ (and_parts _ _ (sym (ended-known c.args.self.now (record { worker = c.args.worker.0 }) In c.args.end c.args.ticket) ∙ known)).0) in
+    let single = filed-single (record { first = b.state.tables.opening.swap; sizes = b.state.tables.opening.files }) b.state.tables.pages c.is_joined.ensures.filed in
+    let makes_step = makes_step-settled_in b.state c.settle_in-bytes.new.self c.args.worker.0 stood.0 stood.2 stood.3 stood.1 c.args.ticket c.args.end single stood.4 (c.settle_in-bytes.ensures.ends stood.0 stood.1 stood.2 stood.3 stood.4) (c.settle_in-bytes.ensures.arrives stood.0 stood.1 stood.2 stood.3 stood.4) in
     let extending = ends b c.args.self.now c.self.invariant c.self.view_is c.settle_in-bytes.new.self c.args.worker.0 c.requires (ended In c.args.end c.args.ticket) known (ended-none (state_of b.state (history_of b)) In c.args.end c.args.ticket) (ended-free (state_of b.state (history_of b)) In c.args.end c.args.ticket) makes_step in
     has_room b c.settle_in-bytes.new.self c.args.worker.0 (ended In c.args.end c.args.ticket) reply.Ok extending c.self.invariant
 
@@ -33,8 +34,9 @@ pub invariant_of-self : goal.invariant_of-self
 invariant_of-self c =
     let b = c.self.inside in
     let known = ended-known c.args.self.now (record { worker = c.args.worker.0 }) In c.args.end c.args.ticket ∙ rw (← c.number-number.ensures) (sym c.if-not-is_own.ensures) in
-    let stood = flying-stands b.state.tables.pages b.state.flights c.is_joined.ensures.flights In c.args.ticket.number (ap (λ (p : Past). is_in_flight In p.state.pages c.args.ticket.number) c.self.view_is ∙ (and_parts _ _ (sym (ended-known c.args.self.now (record { worker = c.args.worker.0 }) In c.args.end c.args.ticket) ∙ known)).0) in
-    let makes_step = makes_step-settled_in b.state c.settle_in-bytes.new.self c.args.worker.0 stood.0 stood.1 stood.2 stood.3 c.args.ticket c.args.end stood.4 (c.settle_in-bytes.ensures.ends stood.0 stood.1 stood.2 stood.3 stood.4) (c.settle_in-bytes.ensures.arrives stood.0 stood.1 stood.2 stood.3 stood.4) in
+    let stood = flying-stands b.state.tables.pages In c.args.ticket.number (ap (λ (p : Past). is_in_flight In p.state.pages c.args.ticket.number) c.self.view_is ∙ (and_parts _ _ (sym (ended-known c.args.self.now (record { worker = c.args.worker.0 }) In c.args.end c.args.ticket) ∙ known)).0) in
+    let single = filed-single (record { first = b.state.tables.opening.swap; sizes = b.state.tables.opening.files }) b.state.tables.pages c.is_joined.ensures.filed in
+    let makes_step = makes_step-settled_in b.state c.settle_in-bytes.new.self c.args.worker.0 stood.0 stood.2 stood.3 stood.1 c.args.ticket c.args.end single stood.4 (c.settle_in-bytes.ensures.ends stood.0 stood.1 stood.2 stood.3 stood.4) (c.settle_in-bytes.ensures.arrives stood.0 stood.1 stood.2 stood.3 stood.4) in
     let extending = ends b c.args.self.now c.self.invariant c.self.view_is c.settle_in-bytes.new.self c.args.worker.0 c.requires (ended In c.args.end c.args.ticket) known (ended-none (state_of b.state (history_of b)) In c.args.end c.args.ticket) (ended-free (state_of b.state (history_of b)) In c.args.end c.args.ticket) makes_step in
     let after : Inside = record { alloc = b.alloc; state = c.settle_in-bytes.new.self; entries = c.append.new.entries; counts = c.append.new.counts } in
     let appends = subst (λ (what : Event). Appends b after c.args.worker what reply.Ok)
@@ -46,8 +48,9 @@ pub returns-clause-called : goal.returns-clause-called
 returns-clause-called c =
     let b = c.self.inside in
     let known = ended-known c.args.self.now (record { worker = c.args.worker.0 }) In c.args.end c.args.ticket ∙ rw (← c.number-number.ensures) (sym c.if-not-is_own.ensures) in
-    let stood = flying-stands b.state.tables.pages b.state.flights c.is_joined.ensures.flights In c.args.ticket.number (ap (λ (p : Past). is_in_flight In p.state.pages c.args.ticket.number) c.self.view_is ∙ (and_parts _ _ (sym (ended-known c.args.self.now (record { worker = c.args.worker.0 }) In c.args.end c.args.ticket) ∙ known)).0) in
-    let makes_step = makes_step-settled_in b.state c.settle_in-bytes.new.self c.args.worker.0 stood.0 stood.1 stood.2 stood.3 c.args.ticket c.args.end stood.4 (c.settle_in-bytes.ensures.ends stood.0 stood.1 stood.2 stood.3 stood.4) (c.settle_in-bytes.ensures.arrives stood.0 stood.1 stood.2 stood.3 stood.4) in
+    let stood = flying-stands b.state.tables.pages In c.args.ticket.number (ap (λ (p : Past). is_in_flight In p.state.pages c.args.ticket.number) c.self.view_is ∙ (and_parts _ _ (sym (ended-known c.args.self.now (record { worker = c.args.worker.0 }) In c.args.end c.args.ticket) ∙ known)).0) in
+    let single = filed-single (record { first = b.state.tables.opening.swap; sizes = b.state.tables.opening.files }) b.state.tables.pages c.is_joined.ensures.filed in
+    let makes_step = makes_step-settled_in b.state c.settle_in-bytes.new.self c.args.worker.0 stood.0 stood.2 stood.3 stood.1 c.args.ticket c.args.end single stood.4 (c.settle_in-bytes.ensures.ends stood.0 stood.1 stood.2 stood.3 stood.4) (c.settle_in-bytes.ensures.arrives stood.0 stood.1 stood.2 stood.3 stood.4) in
     let extending = ends b c.args.self.now c.self.invariant c.self.view_is c.settle_in-bytes.new.self c.args.worker.0 c.requires (ended In c.args.end c.args.ticket) known (ended-none (state_of b.state (history_of b)) In c.args.end c.args.ticket) (ended-free (state_of b.state (history_of b)) In c.args.end c.args.ticket) makes_step in
     let after : Inside = record { alloc = b.alloc; state = c.settle_in-bytes.new.self; entries = c.append.new.entries; counts = c.append.new.counts } in
     let appends = subst (λ (what : Event). Appends b after c.args.worker what reply.Ok)
