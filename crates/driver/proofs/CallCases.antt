@@ -60,6 +60,7 @@ show_causes s (query.Max g) = file_causes s.tree g.0
 show_causes s (query.Min g) = file_causes s.tree g.0
 show_causes s (query.Events g) = file_causes s.tree g.0
 show_causes s (query.EventsLocal g) = file_causes s.tree g.0
+show_causes s (query.Stat g) = file_causes s.tree g.0
 show_causes s (query.Protection target g) = causes (not (below_target s.tree target.0 g.0)) NoEntry None (λ e. cc) no_cause
 
 life_causes : (life : Life) (others : Option Refusal) → NoStranger others → NoStranger (life_refusal life others)
@@ -190,6 +191,7 @@ tried_next access answered transition h known = absurd h
 
 room_next : (access : Access) (answered : Book_reply) (transition : Transition) → MadeRoom access answered transition → KnownReply answered → Next answered transition
 room_next access said.Room transition h known = handless _ transition _ h refl tt
+room_next access said.Dropped transition h known = handless _ transition _ h refl tt
 room_next access (said.Out ticket) transition h known = Writes (resume.Try access) ticket refl h
 room_next access said.Wait transition h known = says_word _ transition word.Busy h (λ e. cc)
 room_next access (said.KilledTask t) transition h known = handless _ transition _ h refl tt
@@ -204,6 +206,7 @@ set_next g answered transition h known = absurd h
 
 lower_next : (g : ℕ) (answered : Book_reply) (transition : Transition) → Lowered g answered transition → KnownReply answered → Next answered transition
 lower_next g said.Room transition h known = handless _ transition _ h refl (λ e. cc)
+lower_next g said.Dropped transition h known = handless _ transition _ h refl tt
 lower_next g (said.Out ticket) transition h known = Writes _ ticket refl h
 lower_next g said.Wait transition h known = says_word _ transition word.Busy h (λ e. cc)
 lower_next g (said.KilledTask t) transition h known = handless _ transition _ h refl tt
@@ -212,6 +215,7 @@ lower_next g (said.Refused why) transition h known = says_refused _ transition w
 lower_next g answered transition h known = absurd h
 
 reclaimed_next : (g left : ℕ) (answered : Book_reply) (transition : Transition) → Reclaimed g left answered transition → KnownReply answered → Next answered transition
+reclaimed_next g left said.Dropped transition h known = handless _ transition _ h (pages_none g left) tt
 reclaimed_next g left (said.Out ticket) transition h known = Writes _ ticket refl h
 reclaimed_next g left said.Wait transition h known = says_word _ transition word.Busy h (λ e. cc)
 reclaimed_next g left said.Nothing transition h known = says_word _ transition word.Again h (λ e. cc)
@@ -219,6 +223,7 @@ reclaimed_next g left (said.Refused why) transition h known = says_refused _ tra
 reclaimed_next g left answered transition h known = absurd h
 
 balanced_next : (answered : Book_reply) (transition : Transition) → Balanced answered transition → KnownReply answered → Next answered transition
+balanced_next said.Dropped transition h known = handless _ transition _ h refl tt
 balanced_next (said.Out ticket) transition h known = Writes _ ticket refl h
 balanced_next said.Wait transition h known = says_word _ transition word.Busy h (λ e. cc)
 balanced_next said.Nothing transition h known = handless _ transition _ h refl (λ e. cc)

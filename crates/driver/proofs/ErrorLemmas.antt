@@ -101,6 +101,7 @@ tried-cost access said transition h = absurd h
 
 room-cost : (access : Access) (said : Reply) (transition : Transition) → MadeRoom access said transition → cost transition ≡ 0
 room-cost access reply.Room transition h = rw h refl
+room-cost access reply.Dropped transition h = rw h refl
 room-cost access (reply.Out ticket) transition h = rw h refl
 room-cost access reply.Wait transition h = rw h refl
 room-cost access (reply.KilledTask t) transition h = rw h refl
@@ -115,6 +116,7 @@ max-cost g said transition h = absurd h
 
 lowered-cost : (g : ℕ) (said : Reply) (transition : Transition) → Lowered g said transition → cost transition ≡ 0
 lowered-cost g reply.Room transition h = rw h refl
+lowered-cost g reply.Dropped transition h = rw h refl
 lowered-cost g (reply.Out ticket) transition h = rw h refl
 lowered-cost g reply.Wait transition h = rw h refl
 lowered-cost g (reply.KilledTask t) transition h = rw h refl
@@ -123,6 +125,7 @@ lowered-cost g (reply.Refused why) transition h = rw h refl
 lowered-cost g said transition h = absurd h
 
 reclaimed-cost : (g left : ℕ) (said : Reply) (transition : Transition) → Reclaimed g left said transition → cost transition ≡ 0
+reclaimed-cost g left reply.Dropped transition h = rw h refl
 reclaimed-cost g left (reply.Out ticket) transition h = rw h refl
 reclaimed-cost g left reply.Wait transition h = rw h refl
 reclaimed-cost g left reply.Nothing transition h = rw h refl
@@ -130,6 +133,7 @@ reclaimed-cost g left (reply.Refused why) transition h = rw h refl
 reclaimed-cost g left said transition h = absurd h
 
 balanced-cost : (said : Reply) (transition : Transition) → Balanced said transition → cost transition ≡ 0
+balanced-cost reply.Dropped transition h = rw h refl
 balanced-cost (reply.Out ticket) transition h = rw h refl
 balanced-cost reply.Wait transition h = rw h refl
 balanced-cost reply.Nothing transition h = rw h refl
@@ -273,6 +277,7 @@ reads-owed g file.Max = refl
 reads-owed g file.Min = refl
 reads-owed g file.Events = refl
 reads-owed g file.EventsLocal = refl
+reads-owed g file.Stat = refl
 reads-owed g file.Reclaim = refl
 
 reclaims-owed : (g : ℕ) (a : Amount) → owed_judged (reclaims g a) ≡ 0
@@ -283,6 +288,7 @@ writes-owed : (g : ℕ) (text : List ℕ) (f : ControlFile) → owed_judged (wri
 writes-owed g text file.Current = refl
 writes-owed g text file.Events = refl
 writes-owed g text file.EventsLocal = refl
+writes-owed g text file.Stat = refl
 writes-owed g text file.Max = amount-owed (amount_of text) _ (λ a. refl)
 writes-owed g text file.Min = amount-owed (amount_of text) _ (λ a. refl)
 writes-owed g text file.Reclaim = amount-owed (amount_of text) _ (reclaims-owed g)

@@ -223,6 +223,7 @@ judged-plain tree who what = by_actor who
     reads g file.Min = refl
     reads g file.Events = refl
     reads g file.EventsLocal = refl
+    reads g file.Stat = refl
     reads g file.Reclaim = λ e. cc
 
     reclaimed : (g : ℕ) (amount : Amount) → Plain (reclaims g amount)
@@ -233,6 +234,7 @@ judged-plain tree who what = by_actor who
     writes g text file.Current = λ e. cc
     writes g text file.Events = λ e. cc
     writes g text file.EventsLocal = λ e. cc
+    writes g text file.Stat = λ e. cc
     writes g text file.Max = by_amount (amount_of text) _ (λ amount. refl)
     writes g text file.Min = by_amount (amount_of text) _ (λ amount. refl)
     writes g text file.Reclaim = by_amount (amount_of text) _ (reclaimed g)

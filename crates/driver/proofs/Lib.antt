@@ -9,3 +9,4 @@ pub mod Runs
 pub mod TurnExamples
 pub mod TaskExamples
 pub mod RemovalExamples
+pub mod FileExamples

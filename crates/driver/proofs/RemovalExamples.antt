@@ -33,7 +33,7 @@ use Rattle.driver.proofs.TaskExamples.{r, tree, world}
 
 -- two pages of a group's memory: one in a frame, and one on its block
 abbrev in_frame : ℕ → Page
-in_frame g = record { content = Memory; group = g; dirty = true; residence = Held 0 }
+in_frame g = record { content = Memory; group = g; dirty = false; residence = Held 0 }
 
 abbrev on_block : ℕ → Page
 on_block g = record { content = Memory; group = g; dirty = false; residence = Away 0 }

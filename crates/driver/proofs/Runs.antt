@@ -1,10 +1,10 @@
 -- Runs go on by one.
-use Rattle.std.proofs.Common.{◌≡◌, ◌≤◌, true, length, arith, rules, false, List, [], ◌∷◌, ◌++◌, refl, sym, ap, ◌∙◌, append_assoc, append-nil, subst}
+use Rattle.std.proofs.Common.{◌≡◌, ℕ, ◌≤◌, Bool, true, length, arith, rules, false, Some, None, List, [], ◌∷◌, ◌++◌, refl, sym, ap, ◌∙◌, append_assoc, append-nil, subst}
 use Rattle.machine.specs.declared.command.Actor.{Actor}
 use Rattle.machine.specs.declared.command.Step.{Step}
 use Rattle.machine.specs.declared.command.Reply.{Reply}
 use Rattle.driver.specs.declared.turn.Outcome.{Outcome}
-use Rattle.std.specs.Prelude.{Ok, Err}
+use Rattle.std.specs.Prelude.{if◌then◌else◌, Ok, Err}
 use Rattle.machine.specs.declared.refusal.Refusal.{Refusal}
 use Rattle.machine.specs.declared.command.Command.{Command}
 use Rattle.driver.specs.declared.turn.Stage.{Stage}
@@ -15,9 +15,10 @@ use Rattle.block_store.specs.Device.{Disk}
 use Rattle.machine.specs.declared.config.Config.{Config}
 use Rattle.machine.specs.State.{blocks_of, is_config}
 use Rattle.machine.specs.Call.{Caller}
+use Rattle.machine.proofs.Values.{some_inj}
 use Rattle.driver.specs.declared.desk.Desk.{Desk}
-use Rattle.driver.specs.Tickets.{OwnSeats}
-use Rattle.driver.specs.Desks.{world, swap_of, AsksFirst, IsOn, IsSame}
+use Rattle.driver.specs.Tickets.{blocks_in, OwnSeats}
+use Rattle.driver.specs.Desks.{world, blocks_of_desk, AsksFirst, IsOn, IsSame}
 use Rattle.driver.specs.Turns.{judged, ends_refused}
 use Rattle.driver.specs.Schedule.{World, first_world, fits, activity_of, with_activity, outcome_of, left_of, WantTurn, wants_at, StageTurn, Turn, Goings, is_end, said_at, all_said, Stepped, Runs}
 
@@ -76,14 +77,22 @@ same-more old mid new h k = record { blocks = k.blocks ∙ h.blocks; limit = k.l
 
 -- ---- the opening
 
--- a desk at which nobody has a command can go on with a device that has the swap blocks
+-- a desk at which nobody has a command can go on with a device that has the blocks
 pub opened_on : (desk : Desk) (config : Config) (disk : Disk) → world desk disk ≡ first_world config disk → AsksFirst desk → blocks_of config ≤ length disk.contents → IsOn desk disk
 opened_on desk config disk opens asks enough =
-    let swap : swap_of desk ≡ config.swap = ap (λ (w : World). w.past.state.opening.swap) opens in
+    let blocks : blocks_of_desk desk ≡ blocks_of config = ap (λ (w : World). blocks_in w.past.state.opening) opens in
     let seats : desk.seats ≡ [] = ap (λ (w : World). w.seats) opens in
-    let Own : List Seat → Type 0 = λ ss. OwnSeats (swap_of desk) ss in
-    let own : OwnSeats (swap_of desk) desk.seats = subst Own (sym seats) tt in
-    record { asks = asks; own = own; blocks = omega (arith, swap, enough) }
+    let Own : List Seat → Type 0 = λ ss. OwnSeats (blocks_of_desk desk) ss in
+    let own : OwnSeats (blocks_of_desk desk) desk.seats = subst Own (sym seats) tt in
+    record { asks = asks; own = own; blocks = omega (arith, blocks, enough) }
+
+-- how many blocks are asked for, where the configuration is within its limits
+pub blocks_known : (config : Config) (blocks : ℕ) → Some blocks ≡ (if is_config config then Some (blocks_of config) else None) → blocks ≡ blocks_of config
+blocks_known config blocks known = by_test (is_config config) known
+  where
+    by_test : (b : Bool) → Some blocks ≡ (if b then Some (blocks_of config) else None) → blocks ≡ blocks_of config
+    by_test true e = some_inj e
+    by_test false e = cc
 
 pub fitting : (config : Config) (disk : Disk) → is_config config ≡ true → blocks_of config ≤ length disk.contents → fits config disk ≡ true
 fitting config disk sized enough = rw sized (search (arith, rules, enough))

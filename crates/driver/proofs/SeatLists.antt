@@ -253,25 +253,25 @@ seated actor (seat ∷ seats) busy = at (is_of actor seat) busy (seated actor se
 
 -- tickets in hand
 
-pub own-activity_of : (swap : ℕ) (actor : Actor) (seats : List Seat) → OwnSeats swap seats → OwnActivity swap (activity_of actor seats)
-own-activity_of swap actor [] own = tt
-own-activity_of swap actor (seat ∷ seats) own = at (is_of actor seat) (own-activity_of swap actor seats own.1)
+pub own-activity_of : (blocks : ℕ) (actor : Actor) (seats : List Seat) → OwnSeats blocks seats → OwnActivity blocks (activity_of actor seats)
+own-activity_of blocks actor [] own = tt
+own-activity_of blocks actor (seat ∷ seats) own = at (is_of actor seat) (own-activity_of blocks actor seats own.1)
   where
-    at : (b : Bool) → OwnActivity swap (activity_of actor seats) → OwnActivity swap (if b then seat.activity else activity_of actor seats)
+    at : (b : Bool) → OwnActivity blocks (activity_of actor seats) → OwnActivity blocks (if b then seat.activity else activity_of actor seats)
     at true ih = own.0
     at false ih = ih
 
-own-with_activity : (swap : ℕ) (actor : Actor) (what : Activity) (seats : List Seat) → OwnSeats swap seats → OwnActivity swap what → OwnSeats swap (with_activity actor what seats)
-own-with_activity swap actor what [] own here = (here, tt)
-own-with_activity swap actor what (seat ∷ seats) own here = at (is_of actor seat) (own-with_activity swap actor what seats own.1 here)
+own-with_activity : (blocks : ℕ) (actor : Actor) (what : Activity) (seats : List Seat) → OwnSeats blocks seats → OwnActivity blocks what → OwnSeats blocks (with_activity actor what seats)
+own-with_activity blocks actor what [] own here = (here, tt)
+own-with_activity blocks actor what (seat ∷ seats) own here = at (is_of actor seat) (own-with_activity blocks actor what seats own.1 here)
   where
-    at : (b : Bool) → OwnSeats swap (with_activity actor what seats) → OwnSeats swap (if b then record { actor = seat.actor; activity = what } ∷ seats else seat ∷ with_activity actor what seats)
+    at : (b : Bool) → OwnSeats blocks (with_activity actor what seats) → OwnSeats blocks (if b then record { actor = seat.actor; activity = what } ∷ seats else seat ∷ with_activity actor what seats)
     at true ih = (here, own.1)
     at false ih = (own.0, ih)
 
-pub own-changed : (swap : ℕ) (actor : Actor) (what : Activity) (old new : List Seat) → new ≡ with_activity actor what old → OwnSeats swap old → OwnActivity swap what → OwnSeats swap new
-own-changed swap actor what old new e own here = rw e (own-with_activity swap actor what old own here)
+pub own-changed : (blocks : ℕ) (actor : Actor) (what : Activity) (old new : List Seat) → new ≡ with_activity actor what old → OwnSeats blocks old → OwnActivity blocks what → OwnSeats blocks new
+own-changed blocks actor what old new e own here = rw e (own-with_activity blocks actor what old own here)
 
-pub own-popped : (swap : ℕ) (rest : List Seat) (last : Seat) → OwnSeats swap (rest ++ last ∷ []) → OwnActivity swap last.activity × OwnSeats swap rest
-own-popped swap [] last own = (own.0, tt)
-own-popped swap (seat ∷ rest) last own = let below = own-popped swap rest last own.1 in (below.0, (own.0, below.1))
+pub own-popped : (blocks : ℕ) (rest : List Seat) (last : Seat) → OwnSeats blocks (rest ++ last ∷ []) → OwnActivity blocks last.activity × OwnSeats blocks rest
+own-popped blocks [] last own = (own.0, tt)
+own-popped blocks (seat ∷ rest) last own = let below = own-popped blocks rest last own.1 in (below.0, (own.0, below.1))

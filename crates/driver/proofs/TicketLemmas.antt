@@ -1,4 +1,4 @@
--- Whose the tickets in hand are: the book gives out such as the worker took, of swap blocks, and a command goes on with what it was given.
+-- Whose the tickets in hand are: the book gives out such as the worker took, of the machine's blocks, and a command goes on with what it was given.
 use Rattle.std.proofs.Common.{◌≡◌, ◌∙◌, ℕ, Bool, true, false, List, ap, sym, subst}
 use Rattle.std.specs.Prelude.{zero, suc, nat_le, Option, Some, None, Result, Ok, Err, IfOk, if◌then◌else◌}
 use Rattle.std.specs.declared.alloc.AllocError.{AllocError}
@@ -35,44 +35,44 @@ use Rattle.driver.specs.declared.turn.Transition.{Transition}
 use Rattle.driver.specs.declared.turn.Transition.TheVariants.{Goes}
 use Rattle.driver.specs.Turns.{done, wants_pages, wants_balance, wants, ends_with, resumes_at, Tried, MadeRoom, MaxSet, Lowered, Reclaimed, Balanced, Made, TaskDid, WasShown, Closed, Told, Judged, judged, task_judged, shell_judged, daemon_judged, with_group, with_file, with_amount, reads_file, reclaims, writes_file}
 use Rattle.driver.specs.Schedule.{wants_at}
-use Rattle.machine.proofs.SoundLemmas.{legal-fit}
-use Rattle.driver.specs.Tickets.{IsOwn, OwnEvent, OwnReply, OwnStage, OwnTransition}
+use Rattle.machine.proofs.SoundLemmas.{block_below}
+use Rattle.driver.specs.Tickets.{blocks_in, IsOwn, OwnEvent, OwnReply, OwnStage, OwnTransition}
 
 pub gives_own : (past : Past) (worker : ℕ) → worker ≡ 0 → Legal past.state.opening past.history past.state
-    → (said : Reply) → HandsOut past worker said → OwnReply past.state.opening.swap said
+    → (said : Reply) → HandsOut past worker said → OwnReply (blocks_in past.state.opening) said
 gives_own past worker first legal (reply.Fetch ticket) h =
     record {
       own = h.own ∙ first;
-      block = (legal-fit past.state.opening past.history past.state legal h.p h.page h.there).within ticket.block (ap (λ (r : Residence). block_at r) h.coming);
+      block = block_below past.state.opening past.history past.state legal h.p ticket.block h.page h.there (ap (λ (r : Residence). block_at r) h.coming);
     }
 gives_own past worker first legal (reply.Out ticket) h =
     record {
       own = h.own ∙ first;
-      block = (legal-fit past.state.opening past.history past.state legal h.p h.page h.there).within ticket.block (ap (λ (r : Residence). block_at r) h.going);
+      block = block_below past.state.opening past.history past.state legal h.p ticket.block h.page h.there (ap (λ (r : Residence). block_at r) h.going);
     }
 gives_own past worker first legal said h = tt
 
 -- ---- a command asks with the ticket that it holds
 
 abbrev pub OwnWant : ℕ → Want → Type 0
-OwnWant swap (want.Call remembers what) = OwnEvent swap what
-OwnWant swap (want.Read access ticket) = IsOwn swap ticket
-OwnWant swap (want.Write on ticket) = IsOwn swap ticket
-OwnWant swap (want.End said) = Unit {0}
+OwnWant blocks (want.Call remembers what) = OwnEvent blocks what
+OwnWant blocks (want.Read access ticket) = IsOwn blocks ticket
+OwnWant blocks (want.Write on ticket) = IsOwn blocks ticket
+OwnWant blocks (want.End said) = Unit {0}
 
-module _ (swap : ℕ) (marks : Watermarks) (free : ℕ) where
-  unless_own : (enough : Bool) (next : Want) → OwnWant swap next → OwnWant swap (if enough then done else next)
+module _ (blocks : ℕ) (marks : Watermarks) (free : ℕ) where
+  unless_own : (enough : Bool) (next : Want) → OwnWant blocks next → OwnWant blocks (if enough then done else next)
   unless_own true next own = tt
   unless_own false next own = own
 
-  balance_own : OwnWant swap (wants_balance marks free)
+  balance_own : OwnWant blocks (wants_balance marks free)
   balance_own = unless_own (nat_le marks.high free) _ tt
 
-  pages_own : (g left : ℕ) → OwnWant swap (wants_pages g left)
+  pages_own : (g left : ℕ) → OwnWant blocks (wants_pages g left)
   pages_own g zero = tt
   pages_own g (suc left) = tt
 
-  wants_own : (next : Stage) → OwnStage swap next → OwnWant swap (wants marks free next)
+  wants_own : (next : Stage) → OwnStage blocks next → OwnWant blocks (wants marks free next)
   wants_own (stage.Try access) own = tt
   wants_own (stage.MakeRoom access why) own = tt
   wants_own (stage.SetMax g max) own = tt
@@ -96,111 +96,115 @@ module _ (swap : ℕ) (marks : Watermarks) (free : ℕ) where
   wants_own (stage.Leave on ticket) own = own
   wants_own (stage.LeaveFail ticket) own = own
 
-pub wanted_own : (swap : ℕ) (past : Past) (next : Stage) (wanted : Want) → OwnStage swap next → wanted ≡ wants_at past next → OwnWant swap wanted
-wanted_own swap past next wanted own is = subst (λ (w : Want). OwnWant swap w) (sym is) (wants_own swap past.state.opening.watermarks (free_frames past.state) next own)
+pub wanted_own : (blocks : ℕ) (past : Past) (next : Stage) (wanted : Want) → OwnStage blocks next → wanted ≡ wants_at past next → OwnWant blocks wanted
+wanted_own blocks past next wanted own is = subst (λ (w : Want). OwnWant blocks w) (sym is) (wants_own blocks past.state.opening.watermarks (free_frames past.state) next own)
 
 -- ---- and goes on with the one that it is given
 
-tried_own : (swap : ℕ) (access : Access) (said : Reply) (transition : Transition) → OwnReply swap said → Tried access said transition → OwnTransition swap transition
-tried_own swap access (reply.Done byte hit) transition own h = rw h tt
-tried_own swap access (reply.Fetch ticket) transition own h = rw h own
-tried_own swap access (reply.Over group) transition own h = rw h tt
-tried_own swap access reply.NoFrame transition own h = rw h tt
-tried_own swap access reply.Busy transition own h = rw h tt
-tried_own swap access reply.Killed transition own h = rw h tt
-tried_own swap access (reply.Refused why) transition own h = rw h tt
-tried_own swap access said transition own h = absurd h
+tried_own : (blocks : ℕ) (access : Access) (said : Reply) (transition : Transition) → OwnReply blocks said → Tried access said transition → OwnTransition blocks transition
+tried_own blocks access (reply.Done byte hit) transition own h = rw h tt
+tried_own blocks access (reply.Fetch ticket) transition own h = rw h own
+tried_own blocks access (reply.Over group) transition own h = rw h tt
+tried_own blocks access reply.NoFrame transition own h = rw h tt
+tried_own blocks access reply.Busy transition own h = rw h tt
+tried_own blocks access reply.Killed transition own h = rw h tt
+tried_own blocks access (reply.Refused why) transition own h = rw h tt
+tried_own blocks access said transition own h = absurd h
 
-made_room_own : (swap : ℕ) (access : Access) (said : Reply) (transition : Transition) → OwnReply swap said → MadeRoom access said transition → OwnTransition swap transition
-made_room_own swap access reply.Room transition own h = rw h tt
-made_room_own swap access (reply.Out ticket) transition own h = rw h own
-made_room_own swap access reply.Wait transition own h = rw h tt
-made_room_own swap access (reply.KilledTask t) transition own h = rw h tt
-made_room_own swap access reply.NoVictim transition own h = rw h tt
-made_room_own swap access (reply.Refused why) transition own h = rw h tt
-made_room_own swap access said transition own h = absurd h
+made_room_own : (blocks : ℕ) (access : Access) (said : Reply) (transition : Transition) → OwnReply blocks said → MadeRoom access said transition → OwnTransition blocks transition
+made_room_own blocks access reply.Room transition own h = rw h tt
+made_room_own blocks access reply.Dropped transition own h = rw h tt
+made_room_own blocks access (reply.Out ticket) transition own h = rw h own
+made_room_own blocks access reply.Wait transition own h = rw h tt
+made_room_own blocks access (reply.KilledTask t) transition own h = rw h tt
+made_room_own blocks access reply.NoVictim transition own h = rw h tt
+made_room_own blocks access (reply.Refused why) transition own h = rw h tt
+made_room_own blocks access said transition own h = absurd h
 
-max_set_own : (swap : ℕ) (g : ℕ) (said : Reply) (transition : Transition) → OwnReply swap said → MaxSet g said transition → OwnTransition swap transition
-max_set_own swap g reply.Ok transition own h = rw h tt
-max_set_own swap g (reply.Refused why) transition own h = rw h tt
-max_set_own swap g said transition own h = absurd h
+max_set_own : (blocks : ℕ) (g : ℕ) (said : Reply) (transition : Transition) → OwnReply blocks said → MaxSet g said transition → OwnTransition blocks transition
+max_set_own blocks g reply.Ok transition own h = rw h tt
+max_set_own blocks g (reply.Refused why) transition own h = rw h tt
+max_set_own blocks g said transition own h = absurd h
 
-lowered_own : (swap : ℕ) (g : ℕ) (said : Reply) (transition : Transition) → OwnReply swap said → Lowered g said transition → OwnTransition swap transition
-lowered_own swap g reply.Room transition own h = rw h tt
-lowered_own swap g (reply.Out ticket) transition own h = rw h own
-lowered_own swap g reply.Wait transition own h = rw h tt
-lowered_own swap g (reply.KilledTask t) transition own h = rw h tt
-lowered_own swap g reply.NoVictim transition own h = rw h tt
-lowered_own swap g (reply.Refused why) transition own h = rw h tt
-lowered_own swap g said transition own h = absurd h
+lowered_own : (blocks : ℕ) (g : ℕ) (said : Reply) (transition : Transition) → OwnReply blocks said → Lowered g said transition → OwnTransition blocks transition
+lowered_own blocks g reply.Room transition own h = rw h tt
+lowered_own blocks g reply.Dropped transition own h = rw h tt
+lowered_own blocks g (reply.Out ticket) transition own h = rw h own
+lowered_own blocks g reply.Wait transition own h = rw h tt
+lowered_own blocks g (reply.KilledTask t) transition own h = rw h tt
+lowered_own blocks g reply.NoVictim transition own h = rw h tt
+lowered_own blocks g (reply.Refused why) transition own h = rw h tt
+lowered_own blocks g said transition own h = absurd h
 
-reclaimed_own : (swap : ℕ) (g left : ℕ) (said : Reply) (transition : Transition) → OwnReply swap said → Reclaimed g left said transition → OwnTransition swap transition
-reclaimed_own swap g left (reply.Out ticket) transition own h = rw h own
-reclaimed_own swap g left reply.Wait transition own h = rw h tt
-reclaimed_own swap g left reply.Nothing transition own h = rw h tt
-reclaimed_own swap g left (reply.Refused why) transition own h = rw h tt
-reclaimed_own swap g left said transition own h = absurd h
+reclaimed_own : (blocks : ℕ) (g left : ℕ) (said : Reply) (transition : Transition) → OwnReply blocks said → Reclaimed g left said transition → OwnTransition blocks transition
+reclaimed_own blocks g left reply.Dropped transition own h = rw h tt
+reclaimed_own blocks g left (reply.Out ticket) transition own h = rw h own
+reclaimed_own blocks g left reply.Wait transition own h = rw h tt
+reclaimed_own blocks g left reply.Nothing transition own h = rw h tt
+reclaimed_own blocks g left (reply.Refused why) transition own h = rw h tt
+reclaimed_own blocks g left said transition own h = absurd h
 
-balanced_own : (swap : ℕ) (said : Reply) (transition : Transition) → OwnReply swap said → Balanced said transition → OwnTransition swap transition
-balanced_own swap (reply.Out ticket) transition own h = rw h own
-balanced_own swap reply.Wait transition own h = rw h tt
-balanced_own swap reply.Nothing transition own h = rw h tt
-balanced_own swap (reply.Refused why) transition own h = rw h tt
-balanced_own swap said transition own h = absurd h
+balanced_own : (blocks : ℕ) (said : Reply) (transition : Transition) → OwnReply blocks said → Balanced said transition → OwnTransition blocks transition
+balanced_own blocks reply.Dropped transition own h = rw h tt
+balanced_own blocks (reply.Out ticket) transition own h = rw h own
+balanced_own blocks reply.Wait transition own h = rw h tt
+balanced_own blocks reply.Nothing transition own h = rw h tt
+balanced_own blocks (reply.Refused why) transition own h = rw h tt
+balanced_own blocks said transition own h = absurd h
 
-made_own : (swap : ℕ) (said : Reply) (transition : Transition) → OwnReply swap said → Made said transition → OwnTransition swap transition
-made_own swap reply.Ok transition own h = rw h tt
-made_own swap (reply.Refused why) transition own h = rw h tt
-made_own swap said transition own h = absurd h
+made_own : (blocks : ℕ) (said : Reply) (transition : Transition) → OwnReply blocks said → Made said transition → OwnTransition blocks transition
+made_own blocks reply.Ok transition own h = rw h tt
+made_own blocks (reply.Refused why) transition own h = rw h tt
+made_own blocks said transition own h = absurd h
 
-did_own : (swap : ℕ) (said : Reply) (transition : Transition) → OwnReply swap said → TaskDid said transition → OwnTransition swap transition
-did_own swap reply.Ok transition own h = rw h tt
-did_own swap reply.Killed transition own h = rw h tt
-did_own swap (reply.Refused why) transition own h = rw h tt
-did_own swap said transition own h = absurd h
+did_own : (blocks : ℕ) (said : Reply) (transition : Transition) → OwnReply blocks said → TaskDid said transition → OwnTransition blocks transition
+did_own blocks reply.Ok transition own h = rw h tt
+did_own blocks reply.Killed transition own h = rw h tt
+did_own blocks (reply.Refused why) transition own h = rw h tt
+did_own blocks said transition own h = absurd h
 
-shown_own : (swap : ℕ) (said : Reply) (transition : Transition) → OwnReply swap said → WasShown said transition → OwnTransition swap transition
-shown_own swap (reply.Shown numbers) transition own h = rw h tt
-shown_own swap (reply.Refused why) transition own h = rw h tt
-shown_own swap said transition own h = absurd h
+shown_own : (blocks : ℕ) (said : Reply) (transition : Transition) → OwnReply blocks said → WasShown said transition → OwnTransition blocks transition
+shown_own blocks (reply.Shown numbers) transition own h = rw h tt
+shown_own blocks (reply.Refused why) transition own h = rw h tt
+shown_own blocks said transition own h = absurd h
 
-closed_own : (swap : ℕ) (resumed : Transition) → OwnTransition swap resumed → (said : Reply) (transition : Transition) → OwnReply swap said → Closed resumed said transition → OwnTransition swap transition
-closed_own swap resumed here reply.Ok transition own h = rw h here
-closed_own swap resumed here (reply.StrangeIn ticket) transition own h = rw h tt
-closed_own swap resumed here (reply.StrangeOut ticket) transition own h = rw h tt
-closed_own swap resumed here said transition own h = absurd h
+closed_own : (blocks : ℕ) (resumed : Transition) → OwnTransition blocks resumed → (said : Reply) (transition : Transition) → OwnReply blocks said → Closed resumed said transition → OwnTransition blocks transition
+closed_own blocks resumed here reply.Ok transition own h = rw h here
+closed_own blocks resumed here (reply.StrangeIn ticket) transition own h = rw h tt
+closed_own blocks resumed here (reply.StrangeOut ticket) transition own h = rw h tt
+closed_own blocks resumed here said transition own h = absurd h
 
-resumes_at_own : (swap : ℕ) (on : Resume) → OwnStage swap (resumes_at on)
-resumes_at_own swap (resume.Try access) = tt
-resumes_at_own swap (resume.Lower g) = tt
-resumes_at_own swap (resume.Reclaim g left) = tt
-resumes_at_own swap resume.Balance = tt
+resumes_at_own : (blocks : ℕ) (on : Resume) → OwnStage blocks (resumes_at on)
+resumes_at_own blocks (resume.Try access) = tt
+resumes_at_own blocks (resume.Lower g) = tt
+resumes_at_own blocks (resume.Reclaim g left) = tt
+resumes_at_own blocks resume.Balance = tt
 
-pub told_own : (swap : ℕ) (remembers : Pending) (said : Reply) (transition : Transition) → OwnReply swap said → Told remembers said transition → OwnTransition swap transition
-told_own swap (pending.Try access) said transition own h = tried_own swap access said transition own h
-told_own swap (pending.MakeRoom access) said transition own h = made_room_own swap access said transition own h
-told_own swap (pending.SetMax g) said transition own h = max_set_own swap g.0 said transition own h
-told_own swap (pending.Lower g) said transition own h = lowered_own swap g.0 said transition own h
-told_own swap (pending.Reclaim g left) said transition own h = reclaimed_own swap g.0 left said transition own h
-told_own swap pending.Balance said transition own h = balanced_own swap said transition own h
-told_own swap pending.Make said transition own h = made_own swap said transition own h
-told_own swap pending.OfTask said transition own h = did_own swap said transition own h
-told_own swap pending.Show said transition own h = shown_own swap said transition own h
-told_own swap (pending.Arrive access) said transition own h = closed_own swap (Goes (stage.Try access)) tt said transition own h
-told_own swap pending.FetchFail said transition own h = closed_own swap (ends_with word.Io) tt said transition own h
-told_own swap (pending.Leave on) said transition own h = closed_own swap (Goes (resumes_at on)) (resumes_at_own swap on) said transition own h
-told_own swap pending.LeaveFail said transition own h = closed_own swap (ends_with word.Io) tt said transition own h
+pub told_own : (blocks : ℕ) (remembers : Pending) (said : Reply) (transition : Transition) → OwnReply blocks said → Told remembers said transition → OwnTransition blocks transition
+told_own blocks (pending.Try access) said transition own h = tried_own blocks access said transition own h
+told_own blocks (pending.MakeRoom access) said transition own h = made_room_own blocks access said transition own h
+told_own blocks (pending.SetMax g) said transition own h = max_set_own blocks g.0 said transition own h
+told_own blocks (pending.Lower g) said transition own h = lowered_own blocks g.0 said transition own h
+told_own blocks (pending.Reclaim g left) said transition own h = reclaimed_own blocks g.0 left said transition own h
+told_own blocks pending.Balance said transition own h = balanced_own blocks said transition own h
+told_own blocks pending.Make said transition own h = made_own blocks said transition own h
+told_own blocks pending.OfTask said transition own h = did_own blocks said transition own h
+told_own blocks pending.Show said transition own h = shown_own blocks said transition own h
+told_own blocks (pending.Arrive access) said transition own h = closed_own blocks (Goes (stage.Try access)) tt said transition own h
+told_own blocks pending.FetchFail said transition own h = closed_own blocks (ends_with word.Io) tt said transition own h
+told_own blocks (pending.Leave on) said transition own h = closed_own blocks (Goes (resumes_at on)) (resumes_at_own blocks on) said transition own h
+told_own blocks pending.LeaveFail said transition own h = closed_own blocks (ends_with word.Io) tt said transition own h
 
-pub told_result_own : (swap : ℕ) (remembers : Pending) (said : Reply) (result : Result Transition AllocError) → OwnReply swap said → IfOk result (λ transition. Told remembers said transition)
-    → IfOk result (λ transition. OwnTransition swap transition)
-told_result_own swap remembers said (Ok transition) own h = told_own swap remembers said transition own h
-told_result_own swap remembers said (Err e) own h = tt
+pub told_result_own : (blocks : ℕ) (remembers : Pending) (said : Reply) (result : Result Transition AllocError) → OwnReply blocks said → IfOk result (λ transition. Told remembers said transition)
+    → IfOk result (λ transition. OwnTransition blocks transition)
+told_result_own blocks remembers said (Ok transition) own h = told_own blocks remembers said transition own h
+told_result_own blocks remembers said (Err e) own h = tt
 
 -- ---- a command holds no ticket before its first turn
 
-module _ (swap : ℕ) where
+module _ (blocks : ℕ) where
   abbrev pub OwnJudged : Judged → Type 0
-  OwnJudged found = IfOk found (λ next. OwnStage swap next)
+  OwnJudged found = IfOk found (λ next. OwnStage blocks next)
 
   with_group_own : (found : Option ℕ) (next : ℕ → Judged) → ((g : ℕ) → OwnJudged (next g)) → OwnJudged (with_group found next)
   with_group_own None next own = tt
@@ -224,6 +228,7 @@ module _ (swap : ℕ) where
   reads_own g file.Min = tt
   reads_own g file.Events = tt
   reads_own g file.EventsLocal = tt
+  reads_own g file.Stat = tt
   reads_own g file.Reclaim = tt
 
   reclaims_own : (g : ℕ) (amount : Amount) → OwnJudged (reclaims g amount)
@@ -234,6 +239,7 @@ module _ (swap : ℕ) where
   writes_own g text file.Current = tt
   writes_own g text file.Events = tt
   writes_own g text file.EventsLocal = tt
+  writes_own g text file.Stat = tt
   writes_own g text file.Max = with_amount_own (amount_of text) _ (λ max. tt)
   writes_own g text file.Min = with_amount_own (amount_of text) _ (λ min. tt)
   writes_own g text file.Reclaim = with_amount_own (amount_of text) _ (reclaims_own g)
@@ -269,5 +275,5 @@ module _ (swap : ℕ) where
   judged_own tree actor.Control what = shell_own tree what
   judged_own tree actor.Daemon what = daemon_own what
 
-  pub first_own : (tree : List Node) (who : Actor) (what : Command) (next : Stage) → Ok next ≡ judged tree who what → OwnStage swap next
+  pub first_own : (tree : List Node) (who : Actor) (what : Command) (next : Stage) → Ok next ≡ judged tree who what → OwnStage blocks next
   first_own tree who what next found = subst OwnJudged (sym found) (judged_own tree who what)

@@ -43,6 +43,7 @@ use Rattle.driver.specs.declared.turn.Seat.{Seat}
 use Rattle.driver.specs.Turns.{ReadsIn, WritesOut, after_read, after_write}
 use Rattle.driver.specs.Schedule.{number_of, activity_of, with_activity, World, first_caller, first_world, Asks, WantTurn, wants_at, StageTurn, outcome_of, left_of}
 use Rattle.machine.proofs.Effects.{ends, Effect, step_effect}
+use Rattle.machine.proofs.SoundLemmas.{legal-files}
 use Rattle.machine.proofs.ShownLemmas.{shows_pages-legal}
 use Rattle.machine.proofs.SharedLemmas.{legal-live, ticket_taken}
 use Rattle.driver.proofs.Keeps.{activity_of-own, activity_of-other, number_pending, number_wanted, in_hand, Alike, Same, Ticketless, wants_alike, wanted_in_hand, number_at, is_idle, idle_none, Fine, FineOutcome, FineWant, wants_fine, IsAt}
@@ -237,7 +238,7 @@ module _ (opening : Opening) (old new : Past) (legal : LegalPast opening old) wh
   -- what the machine's step did
   pub served_effect : (what : Plain_event) (answer : Plain_reply) → IsServed old first_caller what answer new → Effect old.state what answer new.state
   served_effect what answer h =
-      step_effect old.state new.state (legal-live opening old.history old.state legal) (shows_pages-legal opening old.history old.state legal) what answer h.unrefused h.answers.steps
+      step_effect old.state new.state (legal-live opening old.history old.state legal) (shows_pages-legal opening old.history old.state legal) (legal-files opening old.history old.state legal) what answer h.unrefused h.answers.steps
 
   -- and the history is legal still
   pub served_legal : (what : Event) (answered : Reply) → KeepsPending old what → IsServed old first_caller (event_of what) (reply_of answered) new → LegalPast opening new

@@ -2,26 +2,26 @@
 use Rattle.std.specs.Prelude.{◌≡◌, ℕ, ◌≤◌, length}
 use Rattle.block_store.specs.Device.{Disk}
 use Rattle.driver.specs.Schedule.{World}
-use Rattle.driver.specs.Tickets.{OwnSeats}
+use Rattle.driver.specs.Tickets.{blocks_in, OwnSeats}
 use Rattle.driver.specs.declared.desk.Desk.{Desk}
 
 abbrev pub world : Desk → Disk → World
 world desk disk = record { past = desk.book; caller = desk.pass; disk = disk; seats = desk.seats }
 
--- how many swap blocks there are
-abbrev pub swap_of : Desk → ℕ
-swap_of desk = desk.book.state.opening.swap
+-- how many blocks its book uses
+abbrev pub blocks_of_desk : Desk → ℕ
+blocks_of_desk desk = blocks_in desk.book.state.opening
 
 -- the desk asks with the first pass of its book
 pub record AsksFirst (desk : Desk) : Type 0 where
   pub first : desk.pass.worker ≡ 0
   pub given : desk.book.passes ≡ 1
 
--- the desk can go on with this device: that has the swap blocks, and the tickets in hand name some of them
+-- the desk can go on with this device: that has the blocks, and the tickets in hand name some of them
 pub record IsOn (desk : Desk) (disk : Disk) : Type 0 where
   pub asks : AsksFirst desk
-  pub own : OwnSeats (swap_of desk) desk.seats
-  pub blocks : swap_of desk ≤ length disk.contents
+  pub own : OwnSeats (blocks_of_desk desk) desk.seats
+  pub blocks : blocks_of_desk desk ≤ length disk.contents
 
 -- the device has as many blocks as before, and as many calls of it can fail
 pub record IsSame (old new : Disk) : Type 0 where

@@ -1,5 +1,5 @@
 -- Schedules: a row of worlds, one step of the schedule between neighbours, over one book and one device. A step takes one actor's turns, or none.
-use Rattle.std.specs.Prelude.{◌≡◌, ◌⊎◌, ℕ, ◌+◌, ◌<◌, ◌==◌, ◌&&◌, nat_le, Bool, true, false, if◌then◌else◌, List, [], ◌∷◌, ◌++◌, length, count_by, Ok, Err}
+use Rattle.std.specs.Prelude.{◌≡◌, ◌⊎◌, ℕ, ◌+◌, ◌<◌, ◌==◌, ◌&&◌, nat_le, Bool, true, false, if◌then◌else◌, List, [], ◌∷◌, ◌++◌, length, slice_index, count_by, Ok, Err}
 use Rattle.machine.specs.declared.config.Config.{Config}
 use Rattle.machine.specs.declared.command.Actor.{Actor}
 use Rattle.machine.specs.declared.command.Actor.TheVariants as actor
@@ -10,7 +10,7 @@ use Rattle.machine.specs.declared.command.Word.TheVariants as word
 use Rattle.machine.specs.declared.command.Answer.{Answer}
 use Rattle.machine.specs.declared.command.Answer.TheVariants as answer
 use Rattle.machine.specs.declared.command.Reply.{Reply as Told_by}
-use Rattle.block_store.specs.Device.{Disk}
+use Rattle.block_store.specs.Device.{Disk, bytes_on}
 use Rattle.book.specs.declared.event.Event.{Event}
 use Rattle.book.specs.declared.event.Reply.{Reply}
 use Rattle.book.specs.Events.{event_of, reply_of}
@@ -26,7 +26,8 @@ use Rattle.driver.specs.declared.turn.Outcome.TheVariants.{Goes, Kills, Ends}
 use Rattle.driver.specs.declared.turn.Activity.{Activity}
 use Rattle.driver.specs.declared.turn.Activity.TheVariants.{Rests, Begun, Does}
 use Rattle.driver.specs.declared.turn.Seat.{Seat}
-use Rattle.machine.specs.State.{opening_of, blocks_of, is_config, free_frames}
+use Rattle.machine.specs.Pages.{home_block}
+use Rattle.machine.specs.State.{sizes_of, opening_of, blocks_of, is_config, free_frames}
 use Rattle.machine.specs.History.{at_first, Honest, Right}
 use Rattle.machine.specs.Call.{Past, first_past, Caller, Called}
 use Rattle.driver.specs.Turns.{wants, Told, ReadsIn, WritesOut, Judged, judged, ends_refused}
@@ -194,14 +195,18 @@ Runs old [] answers new = (answers ≡ []) × (new ≡ old)
 Runs old (s ∷ steps) answers new =
     (here : List Told_by) × (later : List Told_by) × (mid : World) × Stepped old s here mid × Runs mid steps later new × (answers ≡ here ++ later)
 
+-- what the files have at first: what the device's blocks behind those of swap hold
+abbrev pub files_on : Config → Disk → ℕ → ℕ → ℕ → ℕ
+files_on config disk file q o = slice_index (bytes_on disk.contents (home_block config.swap (sizes_of config.files) file q)) o
+
 -- these answers are those of the plain machine over a device, which is left so: a row of worlds from the opening one gives them, each page that was read
--- in brought what was last written, and each read gave it
+-- in brought what was last written, or what its file had at first, and each read gave that
 pub record Schedules (config : Config) (before : Disk) (steps : List Step) (answers : List Told_by) (after : Disk) : Type 0 where
   pub end : World
   pub runs : Runs (first_world config before) steps answers end
   pub device : end.disk ≡ after
-  pub honest : Honest at_first end.past.history
-  pub right : Right at_first end.past.history
+  pub honest : Honest (at_first (files_on config before)) end.past.history
+  pub right : Right (at_first (files_on config before)) end.past.history
 
 -- the configuration is within its limits, and the device has the blocks that it asks for
 abbrev pub fits : Config → Disk → Bool

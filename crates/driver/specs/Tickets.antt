@@ -1,5 +1,6 @@
 -- Tickets in hand, and tickets that were handed back.
-use Rattle.std.specs.Prelude.{◌≡◌, ℕ, ◌<◌, true, List, [], ◌∷◌}
+use Rattle.std.specs.Prelude.{◌≡◌, ℕ, ◌+◌, ◌<◌, true, List, [], ◌∷◌, sum}
+use Rattle.machine.specs.State.{Opening}
 use Rattle.pages.specs.Tickets.{TicketOf}
 use Rattle.book.specs.declared.event.Event.{Event}
 use Rattle.book.specs.declared.event.Event.TheVariants as event
@@ -15,47 +16,51 @@ use Rattle.driver.specs.declared.turn.Seat.{Seat}
 
 -- ---- tickets in hand
 
--- a ticket that the first worker took, of one of so many swap blocks
-pub record IsOwn (swap : ℕ) (ticket : TicketOf) : Type 0 where
+-- how many blocks there are: those of swap, and the homes of files' pages
+abbrev pub blocks_in : Opening → ℕ
+blocks_in opening = opening.swap + sum opening.files
+
+-- a ticket that the first worker took, of one of so many blocks
+pub record IsOwn (blocks : ℕ) (ticket : TicketOf) : Type 0 where
   pub own : ticket.worker ≡ 0
-  pub block : ticket.block < swap
+  pub block : ticket.block < blocks
 
 -- the ticket in hand is such a one, where there is one
 abbrev pub OwnEvent : ℕ → Event → Type 0
-OwnEvent swap (event.Arrived ticket) = IsOwn swap ticket
-OwnEvent swap (event.FetchFailed ticket) = IsOwn swap ticket
-OwnEvent swap (event.Left ticket) = IsOwn swap ticket
-OwnEvent swap (event.LeaveFailed ticket) = IsOwn swap ticket
-OwnEvent swap what = Unit {0}
+OwnEvent blocks (event.Arrived ticket) = IsOwn blocks ticket
+OwnEvent blocks (event.FetchFailed ticket) = IsOwn blocks ticket
+OwnEvent blocks (event.Left ticket) = IsOwn blocks ticket
+OwnEvent blocks (event.LeaveFailed ticket) = IsOwn blocks ticket
+OwnEvent blocks what = Unit {0}
 
 -- one that a reply gives out
 abbrev pub OwnReply : ℕ → Reply → Type 0
-OwnReply swap (reply.Fetch ticket) = IsOwn swap ticket
-OwnReply swap (reply.Out ticket) = IsOwn swap ticket
-OwnReply swap said = Unit {0}
+OwnReply blocks (reply.Fetch ticket) = IsOwn blocks ticket
+OwnReply blocks (reply.Out ticket) = IsOwn blocks ticket
+OwnReply blocks said = Unit {0}
 
 abbrev pub OwnStage : ℕ → Stage → Type 0
-OwnStage swap (stage.Read access ticket) = IsOwn swap ticket
-OwnStage swap (stage.Arrive access ticket) = IsOwn swap ticket
-OwnStage swap (stage.FetchFail ticket) = IsOwn swap ticket
-OwnStage swap (stage.Write on ticket) = IsOwn swap ticket
-OwnStage swap (stage.Leave on ticket) = IsOwn swap ticket
-OwnStage swap (stage.LeaveFail ticket) = IsOwn swap ticket
-OwnStage swap other = Unit {0}
+OwnStage blocks (stage.Read access ticket) = IsOwn blocks ticket
+OwnStage blocks (stage.Arrive access ticket) = IsOwn blocks ticket
+OwnStage blocks (stage.FetchFail ticket) = IsOwn blocks ticket
+OwnStage blocks (stage.Write on ticket) = IsOwn blocks ticket
+OwnStage blocks (stage.Leave on ticket) = IsOwn blocks ticket
+OwnStage blocks (stage.LeaveFail ticket) = IsOwn blocks ticket
+OwnStage blocks other = Unit {0}
 
 abbrev pub OwnTransition : ℕ → Transition → Type 0
-OwnTransition swap (Goes next) = OwnStage swap next
-OwnTransition swap (Kills t next) = OwnStage swap next
-OwnTransition swap (Ends said) = Unit {0}
+OwnTransition blocks (Goes next) = OwnStage blocks next
+OwnTransition blocks (Kills t next) = OwnStage blocks next
+OwnTransition blocks (Ends said) = Unit {0}
 
 abbrev pub OwnActivity : ℕ → Activity → Type 0
-OwnActivity swap Rests = Unit {0}
-OwnActivity swap (Begun command) = Unit {0}
-OwnActivity swap (Does next) = OwnStage swap next
+OwnActivity blocks Rests = Unit {0}
+OwnActivity blocks (Begun command) = Unit {0}
+OwnActivity blocks (Does next) = OwnStage blocks next
 
 abbrev pub OwnSeats : ℕ → List Seat → Type 0
-OwnSeats swap [] = Unit {0}
-OwnSeats swap (seat ∷ seats) = OwnActivity swap seat.activity × OwnSeats swap seats
+OwnSeats blocks [] = Unit {0}
+OwnSeats blocks (seat ∷ seats) = OwnActivity blocks seat.activity × OwnSeats blocks seats
 
 -- ---- tickets that were handed back
 

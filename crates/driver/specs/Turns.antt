@@ -112,10 +112,11 @@ Tried access reply.Killed transition = transition ≡ ends_with word.Killed
 Tried access (reply.Refused why) transition = transition ≡ ends_refused why
 Tried access said transition = ⊥
 
--- with room, or after a kill, the access is tried again; a page that is taken is written out first; where one is in transfer the access is told so;
+-- with room, or after a page is dropped or a task killed, the access is tried again; a page that has to be written out is written first; where one is in transfer the access is told so;
 -- with nobody to kill it wants memory
 abbrev pub MadeRoom : Access → Reply → Transition → Type 0
 MadeRoom access reply.Room transition = transition ≡ Goes (stage.Try access)
+MadeRoom access reply.Dropped transition = transition ≡ Goes (stage.Try access)
 MadeRoom access (reply.Out ticket) transition = transition ≡ Goes (stage.Write (resume.Try access) ticket)
 MadeRoom access reply.Wait transition = transition ≡ ends_with word.Busy
 MadeRoom access (reply.KilledTask t) transition = transition ≡ Kills t (stage.Try access)
@@ -131,6 +132,7 @@ MaxSet g said transition = ⊥
 
 abbrev pub Lowered : ℕ → Reply → Transition → Type 0
 Lowered g reply.Room transition = transition ≡ Ends answer.Done
+Lowered g reply.Dropped transition = transition ≡ Goes (stage.Lower (record { 0 = g }))
 Lowered g (reply.Out ticket) transition = transition ≡ Goes (stage.Write (resume.Lower (record { 0 = g })) ticket)
 Lowered g reply.Wait transition = transition ≡ ends_with word.Busy
 Lowered g (reply.KilledTask t) transition = transition ≡ Kills t (stage.Lower (record { 0 = g }))
@@ -138,8 +140,9 @@ Lowered g reply.NoVictim transition = transition ≡ Ends answer.Done
 Lowered g (reply.Refused why) transition = transition ≡ ends_refused why
 Lowered g said transition = ⊥
 
--- a page that is taken is written out first; where one is in transfer the writer is told so; where there is nothing it may ask again
+-- one page less is wanted once one was dropped, or written out; where one is in transfer the writer is told so; where there is nothing it may ask again
 abbrev pub Reclaimed : ℕ → ℕ → Reply → Transition → Type 0
+Reclaimed g left reply.Dropped transition = transition ≡ Goes (stage.Reclaim (record { 0 = g }) left)
 Reclaimed g left (reply.Out ticket) transition = transition ≡ Goes (stage.Write (resume.Reclaim (record { 0 = g }) left) ticket)
 Reclaimed g left reply.Wait transition = transition ≡ ends_with word.Busy
 Reclaimed g left reply.Nothing transition = transition ≡ ends_with word.Again
@@ -148,6 +151,7 @@ Reclaimed g left said transition = ⊥
 
 -- the daemon is done where there is nothing to be taken
 abbrev pub Balanced : Reply → Transition → Type 0
+Balanced reply.Dropped transition = transition ≡ Goes stage.Balance
 Balanced (reply.Out ticket) transition = transition ≡ Goes (stage.Write resume.Balance ticket)
 Balanced reply.Wait transition = transition ≡ ends_with word.Busy
 Balanced reply.Nothing transition = transition ≡ Ends answer.Done
@@ -273,6 +277,7 @@ reads_file g file.Max = Ok (stage.Show (query.Max (record { 0 = g })))
 reads_file g file.Min = Ok (stage.Show (query.Min (record { 0 = g })))
 reads_file g file.Events = Ok (stage.Show (query.Events (record { 0 = g })))
 reads_file g file.EventsLocal = Ok (stage.Show (query.EventsLocal (record { 0 = g })))
+reads_file g file.Stat = Ok (stage.Show (query.Stat (record { 0 = g })))
 reads_file g file.Reclaim = Err Invalid
 
 -- so many pages are to be taken; there is no telling how many `max` would be
@@ -285,6 +290,7 @@ abbrev pub writes_file : ℕ → List ℕ → ControlFile → Judged
 writes_file g text file.Current = Err Invalid
 writes_file g text file.Events = Err Invalid
 writes_file g text file.EventsLocal = Err Invalid
+writes_file g text file.Stat = Err Invalid
 writes_file g text file.Max = with_amount (amount_of text) (λ max. Ok (stage.SetMax (record { 0 = g }) max))
 writes_file g text file.Min = with_amount (amount_of text) (λ min. Ok (stage.SetMin (record { 0 = g }) min))
 writes_file g text file.Reclaim = with_amount (amount_of text) (reclaims g)

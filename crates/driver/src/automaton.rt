@@ -172,7 +172,7 @@ pub(crate) fn spend(reply: Reply)
         | Reply::NoFrame
         | Reply::Busy
         | Reply::Killed => {}
-        Reply::Ok | Reply::Room | Reply::Wait | Reply::Nothing => {}
+        Reply::Ok | Reply::Room | Reply::Dropped | Reply::Wait | Reply::Nothing => {}
         Reply::KilledTask(_) | Reply::NoVictim | Reply::Shown(_) | Reply::Refused(_) => {}
     }
 }
@@ -207,7 +207,7 @@ fn made_room(access: Access, reply: Reply) -> Transition
     ensures { MadeRoom access reply result }
 {
     match reply {
-        Reply::Room => Transition::Goes(Stage::Try(access)),
+        Reply::Room | Reply::Dropped => Transition::Goes(Stage::Try(access)),
         Reply::Out(ticket) => Transition::Goes(Stage::Write(Resume::Try(access), ticket)),
         Reply::Wait => word(Word::Busy),
         Reply::KilledTask(task) => Transition::Kills(task, Stage::Try(access)),
@@ -234,6 +234,7 @@ fn lowered(group: GroupId, reply: Reply) -> Transition
 {
     match reply {
         Reply::Room | Reply::NoVictim => Transition::Ends(Answer::Done),
+        Reply::Dropped => Transition::Goes(Stage::Lower(group)),
         Reply::Out(ticket) => Transition::Goes(Stage::Write(Resume::Lower(group), ticket)),
         Reply::Wait => word(Word::Busy),
         Reply::KilledTask(task) => Transition::Kills(task, Stage::Lower(group)),
@@ -247,6 +248,7 @@ fn reclaimed(group: GroupId, left: u64, reply: Reply) -> Transition
     ensures { Reclaimed group.0 left reply result }
 {
     match reply {
+        Reply::Dropped => Transition::Goes(Stage::Reclaim { group, left }),
         Reply::Out(ticket) => Transition::Goes(Stage::Write(
             Resume::Reclaim { group, left },
             ticket,
@@ -263,6 +265,7 @@ fn balanced(reply: Reply) -> Transition
     ensures { Balanced reply result }
 {
     match reply {
+        Reply::Dropped => Transition::Goes(Stage::Balance),
         Reply::Out(ticket) => Transition::Goes(Stage::Write(Resume::Balance, ticket)),
         Reply::Wait => word(Word::Busy),
         Reply::Nothing => Transition::Ends(Answer::Done),

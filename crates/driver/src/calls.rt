@@ -5,7 +5,7 @@ ghost use Rattle.machine.specs.Call.{Called};
 ghost use Rattle.book.specs.Events.{event_of, reply_of};
 ghost use Rattle.book.specs.Replies.{Replies, KeepsTicket, HandsOut};
 ghost use Rattle.driver.specs.Turns.{ReadsIn, WritesOut};
-ghost use Rattle.driver.specs.Tickets.{IsOwn, OwnEvent, OwnReply, OwnTransition, OwnActivity, IsHanded};
+ghost use Rattle.driver.specs.Tickets.{blocks_in, IsOwn, OwnEvent, OwnReply, OwnTransition, OwnActivity, IsHanded};
 ghost use Rattle.driver.specs.Desks.{IsSame};
 
 use crate::automaton::spend;
@@ -13,17 +13,17 @@ use crate::turn::{Access, Activity, Resume, Stage, Transition};
 use block_store::BlockDevice;
 use book::{Book, Event, InTicket, OutTicket, Pass, Reply};
 
-/// One event of the book, by its first pass. A ticket that is given out names a swap block, and one
-/// that comes back was handed back.
+/// One event of the book, by its first pass. A ticket that is given out names a block of swap or of a
+/// file, and one that comes back was handed back.
 pub fn call(book: &mut Book, pass: &mut Pass, event: Event) -> Reply
     requires first { pass.old.worker ≡ 0 }
     requires given { book.old.passes ≡ 1 }
-    requires own { OwnEvent book.old.state.opening.swap event }
+    requires own { OwnEvent (blocks_in book.old.state.opening) event }
     ensures called { Called book.old pass.old (event_of event) (reply_of result) book.new }
     ensures gives { HandsOut book.new pass.old.worker result }
     ensures keeps { KeepsTicket pass.old.worker event result }
     ensures replies { Replies event result }
-    ensures own { OwnReply book.old.state.opening.swap result }
+    ensures own { OwnReply (blocks_in book.old.state.opening) result }
     ensures handed { IsHanded result }
     ensures first { pass.new.worker ≡ 0 }
     ensures given { book.new.passes ≡ 1 }
@@ -38,7 +38,7 @@ pub fn call(book: &mut Book, pass: &mut Pass, event: Event) -> Reply
 pub fn read_in<D: BlockDevice>(device: &mut D, access: Access, ticket: InTicket) -> Transition
     requires { ticket.block < length (D.disk device.old).contents }
     ensures read { ReadsIn (D.disk device.old) access ticket result (D.disk device.new) }
-    ensures own { (swap : ℕ) → IsOwn swap ticket → OwnTransition swap result }
+    ensures own { (blocks : ℕ) → IsOwn blocks ticket → OwnTransition blocks result }
     ensures same { IsSame (D.disk device.old) (D.disk device.new) }
 {
     let mut ticket = ticket;
@@ -52,7 +52,7 @@ pub fn read_in<D: BlockDevice>(device: &mut D, access: Access, ticket: InTicket)
 pub fn write_out<D: BlockDevice>(device: &mut D, resume: Resume, ticket: OutTicket) -> Transition
     requires { ticket.block < length (D.disk device.old).contents }
     ensures write { WritesOut (D.disk device.old) resume ticket result (D.disk device.new) }
-    ensures own { (swap : ℕ) → IsOwn swap ticket → OwnTransition swap result }
+    ensures own { (blocks : ℕ) → IsOwn blocks ticket → OwnTransition blocks result }
     ensures same { IsSame (D.disk device.old) (D.disk device.new) }
 {
     match ticket.write_to(device) {
@@ -65,7 +65,7 @@ pub fn write_out<D: BlockDevice>(device: &mut D, resume: Resume, ticket: OutTick
 pub fn give_up(book: &mut Book, pass: &mut Pass, activity: Activity)
     requires first { pass.old.worker ≡ 0 }
     requires given { book.old.passes ≡ 1 }
-    requires own { OwnActivity book.old.state.opening.swap activity }
+    requires own { OwnActivity (blocks_in book.old.state.opening) activity }
     ensures first { pass.new.worker ≡ 0 }
     ensures given { book.new.passes ≡ 1 }
     ensures opening { book.new.state.opening ≡ book.old.state.opening }
@@ -79,7 +79,7 @@ pub fn give_up(book: &mut Book, pass: &mut Pass, activity: Activity)
 fn give_up_stage(book: &mut Book, pass: &mut Pass, stage: Stage)
     requires first { pass.old.worker ≡ 0 }
     requires given { book.old.passes ≡ 1 }
-    requires own { OwnActivity book.old.state.opening.swap (Activity.Does stage) }
+    requires own { OwnActivity (blocks_in book.old.state.opening) (Activity.Does stage) }
     ensures first { pass.new.worker ≡ 0 }
     ensures given { book.new.passes ≡ 1 }
     ensures opening { book.new.state.opening ≡ book.old.state.opening }
@@ -104,7 +104,7 @@ fn give_up_stage(book: &mut Book, pass: &mut Pass, stage: Stage)
 fn give_in(book: &mut Book, pass: &mut Pass, ticket: InTicket)
     requires first { pass.old.worker ≡ 0 }
     requires given { book.old.passes ≡ 1 }
-    requires own { IsOwn book.old.state.opening.swap ticket }
+    requires own { IsOwn (blocks_in book.old.state.opening) ticket }
     ensures first { pass.new.worker ≡ 0 }
     ensures given { book.new.passes ≡ 1 }
     ensures opening { book.new.state.opening ≡ book.old.state.opening }
@@ -118,7 +118,7 @@ fn give_in(book: &mut Book, pass: &mut Pass, ticket: InTicket)
 fn give_out(book: &mut Book, pass: &mut Pass, ticket: OutTicket)
     requires first { pass.old.worker ≡ 0 }
     requires given { book.old.passes ≡ 1 }
-    requires own { IsOwn book.old.state.opening.swap ticket }
+    requires own { IsOwn (blocks_in book.old.state.opening) ticket }
     ensures first { pass.new.worker ≡ 0 }
     ensures given { book.new.passes ≡ 1 }
     ensures opening { book.new.state.opening ≡ book.old.state.opening }

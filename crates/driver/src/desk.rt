@@ -8,7 +8,7 @@ ghost use Rattle.driver.specs.Turns.{AwaitsAll};
 ghost use Rattle.driver.specs.Schedule.{Asks, WantTurn, StageTurn, wants_at, Turn, Advances, Finishes, Begins, Stepped, Runs, activity_of, first_world};
 ghost use Rattle.driver.specs.Tickets.{OwnEvent, OwnStage, OwnTransition, OwnSeats};
 ghost use Rattle.driver.specs.Seats.{place_of, is_under_way};
-ghost use Rattle.driver.specs.Desks.{world, swap_of, AsksFirst, IsOn, IsSame};
+ghost use Rattle.driver.specs.Desks.{world, blocks_of_desk, AsksFirst, IsOn, IsSame};
 
 use crate::automaton::{ask, told};
 use crate::judge::judge;
@@ -61,9 +61,9 @@ impl Desk {
     fn ask_book(&mut self, pending: Pending, event: Event) -> Result<Transition, AllocError>
         requires first { AsksFirst self.old }
         requires awaits { AwaitsAll (Want.Call pending event) }
-        requires own { OwnEvent (swap_of self.old) event }
+        requires own { OwnEvent (blocks_of_desk self.old) event }
         ensures asks { IfOk result (λ transition. Asks self.old.pass self.old.book pending event transition self.new.book) }
-        ensures own { IfOk result (λ transition. OwnTransition (swap_of self.old) transition) }
+        ensures own { IfOk result (λ transition. OwnTransition (blocks_of_desk self.old) transition) }
         ensures first { AsksFirst self.new }
         ensures opening { self.new.book.state.opening ≡ self.old.book.state.opening }
         ensures seats { self.new.seats ≡ self.old.seats }
@@ -88,9 +88,9 @@ impl Desk {
         stage: Stage,
     ) -> Result<Transition, AllocError>
         requires on { IsOn self.old (D.disk device.old) }
-        requires own { OwnStage (swap_of self.old) stage }
+        requires own { OwnStage (blocks_of_desk self.old) stage }
         ensures turns { IfOk result (λ transition. WantTurn self.old.pass self.old.book (D.disk device.old) (wants_at self.old.book stage) transition self.new.book (D.disk device.new)) }
-        ensures own { IfOk result (λ transition. OwnTransition (swap_of self.old) transition) }
+        ensures own { IfOk result (λ transition. OwnTransition (blocks_of_desk self.old) transition) }
         ensures first { AsksFirst self.new }
         ensures opening { self.new.book.state.opening ≡ self.old.book.state.opening }
         ensures seats { self.new.seats ≡ self.old.seats }
@@ -112,7 +112,7 @@ impl Desk {
         stage: Stage,
     ) -> Result<Outcome, AllocError>
         requires on { IsOn self.old (D.disk device.old) }
-        requires own { OwnStage (swap_of self.old) stage }
+        requires own { OwnStage (blocks_of_desk self.old) stage }
         requires seated { place_of actor self.old.seats < length self.old.seats }
         requires free { is_under_way (activity_of actor self.old.seats) ≡ false }
         ensures turn { IfOk result (λ outcome. StageTurn (world self.old (D.disk device.old)) actor stage outcome (world self.new (D.disk device.new))) }
@@ -247,7 +247,7 @@ impl Desk {
     /// Spends what is left. Transfers whose tickets are in hand end as failed, with no answer.
     pub fn close(self)
         requires first { AsksFirst self }
-        requires own { OwnSeats (swap_of self) self.seats }
+        requires own { OwnSeats (blocks_of_desk self) self.seats }
     {
         let Desk {
             alloc: _,

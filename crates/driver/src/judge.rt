@@ -158,9 +158,8 @@ fn write_named(group: GroupId, file: ControlFile, text: &str) -> Result<Stage, R
     ensures { result ≡ writes_file group.0 text.now file }
 {
     match file {
-        ControlFile::Current | ControlFile::Events | ControlFile::EventsLocal => {
-            Err(Refusal::Invalid)
-        }
+        ControlFile::Current | ControlFile::Events | ControlFile::EventsLocal | ControlFile::Stat =>
+            Err(Refusal::Invalid),
         ControlFile::Max => match parse_amount(text) {
             Some(max) => Ok(Stage::SetMax { group, max }),
             None => Err(Refusal::Invalid),
@@ -210,6 +209,7 @@ fn read_named(group: GroupId, file: ControlFile) -> Result<Stage, Refusal>
         ControlFile::Min => Ok(Stage::Show(Query::Min(group))),
         ControlFile::Events => Ok(Stage::Show(Query::Events(group))),
         ControlFile::EventsLocal => Ok(Stage::Show(Query::EventsLocal(group))),
+        ControlFile::Stat => Ok(Stage::Show(Query::Stat(group))),
         ControlFile::Reclaim => Err(Refusal::Invalid),
     }
 }

@@ -5,13 +5,15 @@ ghost use Rattle.driver.specs.Schedule.{Schedules, fits, errors};
 
 use crate::desk::Desk;
 use block_store::BlockDevice;
+use files::blocks_for;
 use machine::command::{Reply, Step};
 use machine::config::Config;
 use machine::refusal::Refusal;
 use std::alloc::Global;
 
-/// The answers to a list of steps, in order: those of the plain machine over this device, whose first
-/// blocks are its swap: what they held is lost.
+/// The answers to a list of steps, in order: those of the plain machine over this device. Its first
+/// blocks are swap: what they held is lost. The blocks behind them are the homes of the files' pages:
+/// what they hold is what the files have at first.
 ///
 /// `Invalid` where the configuration is out of its limits or the device has too few blocks, and
 /// otherwise `NoMemory` where memory is wanted, for what is no command's answer, and refused.
@@ -29,7 +31,10 @@ pub fn run<D: BlockDevice>(
     ensures blocks { length (D.disk device.new).contents ≡ length (D.disk device.old).contents }
     ensures limit { (D.disk device.new).fault_limit ≡ (D.disk device.old).fault_limit }
 {
-    if device.blocks() < config.blocks() {
+    let Some(blocks) = blocks_for(&config) else {
+        return Err(Refusal::Invalid);
+    };
+    if device.blocks() < blocks {
         return Err(Refusal::Invalid);
     }
     let mut desk = Desk::open(alloc, config)?;

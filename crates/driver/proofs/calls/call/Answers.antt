@@ -1,7 +1,7 @@
 use Rattle.std.proofs.Common.{◌≡◌, subst}
 use Rattle.machine.specs.State.{Opening}
 use Rattle.book.specs.Events.{event_of, reply_of}
-use Rattle.driver.specs.Tickets.{OwnReply}
+use Rattle.driver.specs.Tickets.{blocks_in, OwnReply}
 use Rattle.machine.proofs.OpeningLemmas.{called_opening}
 use Rattle.driver.proofs.TicketLemmas.{gives_own}
 use Rattle.driver.proofs.calls.call.Goals as goal
@@ -11,7 +11,7 @@ returns-clause-own c =
     let past = c.call-reply.new.self in
     let said = c.call-reply.result in
     let kept : past.state.opening ≡ c.args.book.now.state.opening = called_opening c.args.book.now past c.args.pass.now (event_of c.args.event) (reply_of said) c.call-reply.ensures.called in
-    let Own : Opening → Type 0 = λ o. OwnReply o.swap said in
+    let Own : Opening → Type 0 = λ o. OwnReply (blocks_in o) said in
     subst Own kept (gives_own past c.args.pass.now.worker c.requires.first c.history_is_right.ensures.legal said c.call-reply.ensures.gives)
 
 pub returns-clause-opening : goal.returns-clause-opening

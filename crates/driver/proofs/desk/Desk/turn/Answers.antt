@@ -3,7 +3,7 @@ use Rattle.driver.specs.declared.turn.Activity.TheVariants.{Rests, Begun, Does}
 use Rattle.driver.specs.declared.turn.Seat.{Seat}
 use Rattle.driver.specs.Schedule.{World}
 use Rattle.driver.specs.Seats.{place_of}
-use Rattle.driver.specs.Desks.{world, swap_of}
+use Rattle.driver.specs.Desks.{world, blocks_of_desk}
 use Rattle.driver.proofs.SeatLists.{seated}
 use Rattle.driver.proofs.TicketLemmas.{first_own}
 use Rattle.driver.proofs.Runs.{turn_taken, turn_does, turn_begun, turn_refused}
@@ -11,21 +11,21 @@ use Rattle.driver.proofs.desk.Desk.turn.Goals as goal
 
 pub turn_stage-requires-clause-on : goal.turn_stage-requires-clause-on
 turn_stage-requires-clause-on g c =
-    record { asks = record { first = c.judge.ensures.pass ∙ c.requires.asks.first; given = c.requires.asks.given }; own = c.take.ensures.own (swap_of c.args.self.now) c.requires.own; blocks = c.requires.blocks }
+    record { asks = record { first = c.judge.ensures.pass ∙ c.requires.asks.first; given = c.requires.asks.given }; own = c.take.ensures.own (blocks_of_desk c.args.self.now) c.requires.own; blocks = c.requires.blocks }
 
 pub turn_stage-requires-in-Does-clause-on : goal.turn_stage-requires-in-Does-clause-on
-turn_stage-requires-in-Does-clause-on g c = record { asks = record { first = c.requires.asks.first; given = c.requires.asks.given }; own = c.take.ensures.own (swap_of c.args.self.now) c.requires.own; blocks = c.requires.blocks }
+turn_stage-requires-in-Does-clause-on g c = record { asks = record { first = c.requires.asks.first; given = c.requires.asks.given }; own = c.take.ensures.own (blocks_of_desk c.args.self.now) c.requires.own; blocks = c.requires.blocks }
 
 pub turn_stage-requires-in-Does-clause-own : goal.turn_stage-requires-in-Does-clause-own
-turn_stage-requires-in-Does-clause-own g c = c.in-Does.ensures.held (swap_of c.args.self.now) c.requires.own
+turn_stage-requires-in-Does-clause-own g c = c.in-Does.ensures.held (blocks_of_desk c.args.self.now) c.requires.own
 
 pub returns-in-Err-clause-on : goal.returns-in-Err-clause-on
 returns-in-Err-clause-on g c =
-    record { asks = record { first = c.judge.ensures.pass ∙ c.requires.asks.first; given = c.requires.asks.given }; own = c.take.ensures.own (swap_of c.args.self.now) c.requires.own; blocks = c.requires.blocks }
+    record { asks = record { first = c.judge.ensures.pass ∙ c.requires.asks.first; given = c.requires.asks.given }; own = c.take.ensures.own (blocks_of_desk c.args.self.now) c.requires.own; blocks = c.requires.blocks }
 
 pub turn_stage-requires-clause-own : goal.turn_stage-requires-clause-own
 turn_stage-requires-clause-own g c =
-    first_own (swap_of c.args.self.now) c.args.self.now.book.state.tree c.args.actor c.in-Begun.command c.in-Ok.stage c.in-Ok.ensures.judged
+    first_own (blocks_of_desk c.args.self.now) c.args.self.now.book.state.tree c.args.actor c.in-Begun.command c.in-Ok.stage c.in-Ok.ensures.judged
 
 pub turn_stage-requires-clause-seated : goal.turn_stage-requires-clause-seated
 turn_stage-requires-clause-seated g c =
