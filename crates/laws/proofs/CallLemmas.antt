@@ -10,7 +10,6 @@ use Rattle.machine.specs.declared.id.GroupId.{GroupId}
 use Rattle.machine.specs.declared.entry.Entry.{Entry}
 use Rattle.machine.specs.declared.event.Op.{Op}
 use Rattle.machine.specs.declared.event.Place.{Place}
-use Rattle.machine.specs.declared.event.Place.TheVariants.{Virtual}
 use Rattle.machine.specs.declared.event.Event.{Event}
 use Rattle.machine.specs.declared.event.Event.TheVariants as event
 use Rattle.machine.specs.declared.refusal.Refusal.{Refusal}
@@ -20,7 +19,6 @@ use Rattle.machine.specs.declared.reply.Reply.TheVariants as reply
 use Rattle.machine.specs.Slots.{there_and}
 use Rattle.machine.specs.Tree.{Node, node_at}
 use Rattle.machine.specs.Pages.{Page, Pages, page_at, is_anon, is_held, is_held_in}
-use Rattle.machine.specs.Tasks.{mapped_at}
 use Rattle.machine.specs.State.{Opening, State, page_numbers, first_state, is_swap_free}
 use Rattle.machine.specs.Reclaim.{target_of}
 use Rattle.machine.specs.Generations.{Gens, new_gens, of_kind, row_of, gens_at, IsGens}
@@ -254,15 +252,15 @@ only_takes_age old new caller what answer none called =
 -- the page that a place shows is marked
 pub record Marks (old : Past) (t : TaskId) (place : Place) (new : Past) : Type 0 where
   pub p : ℕ
-  pub shown : shown_at old.state.page_tables t.0 place ≡ Some p
+  pub shown : shown_at old.state t.0 place ≡ Some p
   pub marked : is_marked new.order.held.marks p ≡ true
 
 pub called_marks : (opening : Opening) (old new : Past) (caller : Caller) (t : TaskId) (place : Place) (op : Op) (byte : ℕ) (frame : FrameId) → Legal opening old.history old.state → IsOrdered old
     → Called old caller (event.Access t place op) (reply.Done byte (Some frame)) new → Marks old t place new
-called_marks opening old new caller t (Virtual v o) op byte frame legal was called =
-    let h = called_answers old new caller (event.Access t (Virtual v o) op) (reply.Done byte (Some frame)) refl called in
-    let hit = access-hits old.state new.state t v o op byte frame h.steps in
-    let shows : Option ℕ = mapped_at old.state.page_tables t.0 v in
+called_marks opening old new caller t place op byte frame legal was called =
+    let h = called_answers old new caller (event.Access t place op) (reply.Done byte (Some frame)) refl called in
+    let hit = access-hits old.state new.state t place op byte frame h.steps in
+    let shows : Option ℕ = shown_at old.state t.0 place in
     let below : hit.p < length old.order.held.marks = has_number hit.p hit.before in
     record {
       p = hit.p;

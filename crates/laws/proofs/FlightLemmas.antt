@@ -10,7 +10,8 @@ use Rattle.machine.specs.declared.entry.Entry.{Entry}
 use Rattle.machine.specs.declared.event.Cause.{Cause}
 use Rattle.machine.specs.declared.event.Op.{Op}
 use Rattle.machine.specs.declared.event.Op.TheVariants.{Read, Write}
-use Rattle.machine.specs.declared.event.Place.TheVariants.{Virtual}
+use Rattle.machine.specs.declared.event.Place.{Place}
+use Rattle.machine.specs.declared.event.Place.TheVariants.{Virtual, File}
 use Rattle.machine.specs.declared.event.Event.{Event}
 use Rattle.machine.specs.declared.event.Event.TheVariants as event
 use Rattle.machine.specs.declared.id.TaskId.{TaskId}
@@ -20,13 +21,13 @@ use Rattle.machine.specs.Slots.{Changes, there_and}
 use Rattle.machine.specs.Pages.{Content, Memory, OfFile, Residence, Held, Coming, Going, Away, Page, page_at, is_anon, in_transfer_at, is_in_transfer, in_transfer}
 use Rattle.machine.specs.Tasks.{PageTables, mappers, task_at}
 use Rattle.machine.specs.State.{Opening, State, over_in, is_frame_free}
-use Rattle.machine.specs.Access.{Meeting, Unmapped, Hits, Transferring, NeedsPage, NeedsCopy, NeedsSwapIn, Dangling, meets}
+use Rattle.machine.specs.Access.{Meeting, Unmapped, Hits, Transferring, NeedsPage, NeedsCopy, NeedsSwapIn, NeedsRead, Dangling, charges, is_fetch, meets}
 use Rattle.machine.specs.Reclaim.{has_takeable, has_transfer, stands, target_of}
-use Rattle.machine.specs.Call.{meeting_fetches, life_fetches, task_fetches, fetches, need}
-use Rattle.machine.specs.Step.{ChargeStep, TriesCharge, MakesPage, StartsFetch, HitStep, UnmappedStep, MeetStep, LifeStep, TaskStep, StartsLeave, Drops, LeavesBy, LeavesFrom, Takes, ReclaimStep, KillStep, RelieveStep, still, EndsTransfer, touched, Step}
+use Rattle.machine.specs.Call.{is_granted, meeting_fetches, life_fetches, task_fetches, fetches, need}
+use Rattle.machine.specs.Step.{ChargeStep, TriesCharge, MakesPage, StartsFetch, ReadsFile, HitStep, UnmappedStep, MeetStep, LifeStep, TaskStep, StartsLeave, Drops, LeavesBy, LeavesFrom, Takes, ReclaimStep, KillStep, RelieveStep, still, EndsTransfer, touched, Step}
 use Rattle.machine.proofs.SlotLemmas.{one_if, count_there-changes}
 use Rattle.machine.proofs.SoundLemmas.{count-less, still_passes}
-use Rattle.machine.proofs.MoveLemmas.{Settled, hits_held, swaps_away, in_frame-cases, on_block-cases}
+use Rattle.machine.proofs.MoveLemmas.{MetFile, met_file, Settled, hits_held, swaps_away, in_frame-cases, on_block-cases}
 use Rattle.machine.proofs.OpeningLemmas.{step_opening}
 use Rattle.machine.proofs.RemovedCounts.{in_transfer-removed}
 use Rattle.laws.specs.Laws.{begins_transfer, ends_transfer, transfers_begun, transfers_ended, TraceHasRoom, TransfersAreBegunLessEnded}
@@ -102,25 +103,25 @@ module _ (old new : State) where
 
   -- ---- accesses
 
-  module _ (t : TaskId) (v o : ℕ) (op : Op) where
+  module _ (t : TaskId) (place : Place) (op : Op) where
     -- where a charge is needed
-    charged : (g : ℕ) (Granted : Type 0) (answer : Reply) → (over_in old g ≡ None → is_frame_free old ≡ true → Granted → Flies old (event.Access t (Virtual v o) op) answer new) → TriesCharge old g Granted answer new
-        → Flies old (event.Access t (Virtual v o) op) answer new
+    charged : (g : ℕ) (Granted : Type 0) (answer : Reply) → (over_in old g ≡ None → is_frame_free old ≡ true → Granted → Flies old (event.Access t place op) answer new) → TriesCharge old g Granted answer new
+        → Flies old (event.Access t place op) answer new
     charged g Granted answer granted step = by_over (over_in old g) refl step
       where
-        by_free : (free : Bool) → over_in old g ≡ None → is_frame_free old ≡ free → ChargeStep old None free Granted answer new → Flies old (event.Access t (Virtual v o) op) answer new
+        by_free : (free : Bool) → over_in old g ≡ None → is_frame_free old ≡ free → ChargeStep old None free Granted answer new → Flies old (event.Access t place op) answer new
         by_free true within is h = granted within is h
         by_free false within is h = same_pages _ answer refl (ap begins_transfer h.0) (ap (λ (s : State). s.pages) h.1)
 
-        by_over : (low : Option ℕ) → over_in old g ≡ low → ChargeStep old low (is_frame_free old) Granted answer new → Flies old (event.Access t (Virtual v o) op) answer new
+        by_over : (low : Option ℕ) → over_in old g ≡ low → ChargeStep old low (is_frame_free old) Granted answer new → Flies old (event.Access t place op) answer new
         by_over (Some low) is h = same_pages _ answer refl (ap begins_transfer h.0) (ap (λ (s : State). s.pages) h.1)
         by_over None is h = by_free (is_frame_free old) is refl h
 
-    unmapped : (answer : Reply) → UnmappedStep old answer new → Flies old (event.Access t (Virtual v o) op) answer new
+    unmapped : (answer : Reply) → UnmappedStep old answer new → Flies old (event.Access t place op) answer new
     unmapped (reply.Done byte hit) h = same_pages _ (reply.Done byte hit) refl refl (ap (λ (s : State). s.pages) h.1)
     unmapped answer h = absurd h
 
-    hit : (p frame : ℕ) (page : Page) (done : Op) (answer : Reply) → page_at old.pages p ≡ Some page → HitStep old p page frame done answer new → Flies old (event.Access t (Virtual v o) op) answer new
+    hit : (p frame : ℕ) (page : Page) (done : Op) (answer : Reply) → page_at old.pages p ≡ Some page → HitStep old p page frame done answer new → Flies old (event.Access t place op) answer new
     hit p frame page Read (reply.Done byte at) there h = same_pages _ (reply.Done byte at) refl refl (ap (λ (s : State). s.pages) h.1)
     hit p frame page (Write b) (reply.Done byte at) there h =
         let one = one_changes p (Some page) (Some (touched page (Write b))) there h.2 in
@@ -128,51 +129,71 @@ module _ (old new : State) where
         quiet _ (reply.Done byte at) refl refl (omega (arith, one, same))
     hit p frame page done answer there h = absurd h
 
-    makes : (w g : ℕ) (answer : Reply) → MakesPage old t.0 w g op answer new → Flies old (event.Access t (Virtual v o) op) answer new
+    makes : (w g : ℕ) (answer : Reply) → MakesPage old t.0 w g op answer new → Flies old (event.Access t place op) answer new
     makes w g answer h = let one = one_changes h.page None _ h.slot_free h.placed in quiet _ answer refl (ap begins_transfer h.answers) (omega (arith, one))
 
     -- a page begins to be read in: that is what was needed for
-    swaps_in : (p block : ℕ) (page : Page) (answer : Reply) → page_at old.pages p ≡ Some page → page.residence ≡ Away block → fetches old t.0 (Virtual v o) op ≡ true
-        → StartsFetch old p page.group page.content block answer new → Flies old (event.Access t (Virtual v o) op) answer new
+    swaps_in : (p block : ℕ) (page : Page) (answer : Reply) → page_at old.pages p ≡ Some page → page.residence ≡ Away block → fetches old t.0 place op ≡ true
+        → StartsFetch old p page.group page.content block answer new → Flies old (event.Access t place op) answer new
     swaps_in p block page answer there away fetch h =
         let one = one_changes p (Some page) _ there h.placed in
         let none : flying (Some page) ≡ 0 = ap (λ r. one_if (in_transfer_at r)) away in
         let begins : one_if (begins_transfer answer) ≡ 1 = ap (λ a. one_if (begins_transfer a)) h.answers in
         may_begin _ answer refl (ap (λ b. if b then 2 else 1) fetch) (omega (arith, one, none, begins))
 
+    -- so does a page of a file
+    reads_in : (file q g : ℕ) (answer : Reply) → fetches old t.0 place op ≡ true → ReadsFile old file q g answer new → Flies old (event.Access t place op) answer new
+    reads_in file q g answer fetch h =
+        let one = one_changes h.page None _ h.slot_free h.fetch.placed in
+        let begins : one_if (begins_transfer answer) ≡ 1 = ap (λ a. one_if (begins_transfer a)) h.fetch.answers in
+        may_begin _ answer refl (ap (λ b. if b then 2 else 1) fetch) (omega (arith, one, begins))
+
     -- it is known before that a page will be read in
-    fetches-known : (task : Task) (p block : ℕ) (page : Page) → task_at old.tasks t.0 ≡ Some task → task.life ≡ Live → meets old t.0 (Virtual v o) op ≡ NeedsSwapIn p page block → over_in old page.group ≡ None
-        → is_frame_free old ≡ true → fetches old t.0 (Virtual v o) op ≡ true
-    fetches-known task p block page known live met within free =
-        ap (task_fetches old t.0 (Virtual v o) op) known
-        ∙ ap (life_fetches old t.0 (Virtual v o) op task) live
-        ∙ ap (meeting_fetches old task.group.0) met
+    fetches-known : (task : Task) (met : Meeting) (g : ℕ) → task_at old.tasks t.0 ≡ Some task → task.life ≡ Live → meets old t.0 place op ≡ met → is_fetch met ≡ true
+        → charges met task.group.0 ≡ Some g → over_in old g ≡ None → is_frame_free old ≡ true → fetches old t.0 place op ≡ true
+    fetches-known task met g known live is fetch charge within free =
+        ap (task_fetches old t.0 place op) known
+        ∙ ap (life_fetches old t.0 place op task) live
+        ∙ ap (meeting_fetches old task.group.0) is
+        ∙ ap (λ (b : Bool). b && is_granted old (charges met task.group.0)) fetch
+        ∙ ap (is_granted old) charge
         ∙ ap (λ (low : Option ℕ). is_none low && is_frame_free old) within
         ∙ free
 
-    meeting : (task : Task) (answer : Reply) (met : Meeting) → task_at old.tasks t.0 ≡ Some task → task.life ≡ Live → meets old t.0 (Virtual v o) op ≡ met → MeetStep old t.0 task.group.0 op met answer new
-        → Flies old (event.Access t (Virtual v o) op) answer new
+    -- a page that is to be swapped in stands on its block
+    away_at : (p : ℕ) (page : Page) (block : ℕ) → meets old t.0 place op ≡ NeedsSwapIn p page block → (page_at old.pages p ≡ Some page) × (page.residence ≡ Away block)
+    away_at p page block is = by_place place is
+      where
+        by_place : (at : Place) → meets old t.0 at op ≡ NeedsSwapIn p page block → (page_at old.pages p ≡ Some page) × (page.residence ≡ Away block)
+        by_place (Virtual v o) e = let found = swaps_away old t.0 v o op p page block e in (found.0, found.1)
+        by_place (File f q o) e = absurd (subst (MetFile old f q) e (met_file old t.0 f q o op))
+
+    meeting : (task : Task) (answer : Reply) (met : Meeting) → task_at old.tasks t.0 ≡ Some task → task.life ≡ Live → meets old t.0 place op ≡ met → MeetStep old t.0 task.group.0 op met answer new
+        → Flies old (event.Access t place op) answer new
     meeting task answer Unmapped known live is h = unmapped answer h
-    meeting task answer (Hits p page frame) known live is h = hit p frame page op answer (hits_held old t.0 (Virtual v o) op p page frame is).0 h
+    meeting task answer (Hits p page frame) known live is h = hit p frame page op answer (hits_held old t.0 place op p page frame is).0 h
     meeting task answer Transferring known live is h = same_pages _ answer refl (ap begins_transfer h.0) (ap (λ (s : State). s.pages) h.1)
     meeting task answer (NeedsPage w) known live is h = charged task.group.0 _ answer (λ within free made. makes w task.group.0 answer made) h
     meeting task answer (NeedsCopy w) known live is h = charged task.group.0 _ answer (λ within free made. makes w task.group.0 answer made) h
     meeting task answer (NeedsSwapIn p page block) known live is h =
-        let found = swaps_away old t.0 v o op p page block is in
-        charged page.group _ answer (λ within free begun. swaps_in p block page answer found.0 found.1 (fetches-known task p block page known live is within free) begun) h
+        let found = away_at p page block is in
+        charged page.group _ answer
+        (λ within free begun. swaps_in p block page answer found.0 found.1 (fetches-known task (NeedsSwapIn p page block) page.group known live is refl refl within free) begun) h
+    meeting task answer (NeedsRead file q) known live is h =
+        charged task.group.0 _ answer (λ within free begun. reads_in file q task.group.0 answer (fetches-known task (NeedsRead file q) task.group.0 known live is refl refl within free) begun) h
     meeting task answer Dangling known live is h = absurd h
 
-    accesses : (answer : Reply) → Step old (event.Access t (Virtual v o) op) answer new → Flies old (event.Access t (Virtual v o) op) answer new
+    accesses : (answer : Reply) → Step old (event.Access t place op) answer new → Flies old (event.Access t place op) answer new
     accesses answer step = by_slot (task_at old.tasks t.0) refl step
       where
-        by_life : (task : Task) (life : Life) → task_at old.tasks t.0 ≡ Some task → task.life ≡ life → LifeStep old life (MeetStep old t.0 task.group.0 op (meets old t.0 (Virtual v o) op) answer new) answer new
-            → Flies old (event.Access t (Virtual v o) op) answer new
-        by_life task Live known is h = meeting task answer (meets old t.0 (Virtual v o) op) known is refl h
+        by_life : (task : Task) (life : Life) → task_at old.tasks t.0 ≡ Some task → task.life ≡ life → LifeStep old life (MeetStep old t.0 task.group.0 op (meets old t.0 place op) answer new) answer new
+            → Flies old (event.Access t place op) answer new
+        by_life task Live known is h = meeting task answer (meets old t.0 place op) known is refl h
         by_life task Exited known is h = absurd h
         by_life task Killed known is h = same_pages _ answer refl (ap begins_transfer h.0) (ap (λ (s : State). s.pages) h.1)
 
-        by_slot : (slot : Option Task) → task_at old.tasks t.0 ≡ slot → TaskStep old slot (λ task. MeetStep old t.0 task.group.0 op (meets old t.0 (Virtual v o) op) answer new) answer new
-            → Flies old (event.Access t (Virtual v o) op) answer new
+        by_slot : (slot : Option Task) → task_at old.tasks t.0 ≡ slot → TaskStep old slot (λ task. MeetStep old t.0 task.group.0 op (meets old t.0 place op) answer new) answer new
+            → Flies old (event.Access t place op) answer new
         by_slot None known h = absurd h
         by_slot (Some task) known h = by_life task task.life known refl h
 
@@ -267,7 +288,7 @@ module _ (old new : State) where
       record { counts = omega (arith, one, flew, rests, end, no_begin); room = omega (arith, end, no_begin) }
 
 step_flies : (old new : State) (what : Event) (answer : Reply) → Step old what answer new → Flies old what answer new
-step_flies old new (event.Access t (Virtual v o) op) answer h = accesses old new t v o op answer h
+step_flies old new (event.Access t place op) answer h = accesses old new t place op answer h
 step_flies old new (event.Arrived ticket bytes) answer h = settles old new _ answer _ (λ frame block. Held frame) _ refl (λ frame block. refl) (λ frame block. refl) in_frame-cases h
 step_flies old new (event.FetchFailed ticket) answer h = settles old new _ answer _ (λ frame block. Away block) _ refl (λ frame block. refl) (λ frame block. refl) on_block-cases h
 step_flies old new (event.Left ticket) answer h = settles old new _ answer _ (λ frame block. Away block) _ refl (λ frame block. refl) (λ frame block. refl) on_block-cases h

@@ -3,10 +3,12 @@ use Rattle.std.proofs.Common.{◌≡◌, ℕ, ◌+◌, ◌<◌, ◌==◌, ◌&&�
 use Rattle.std.specs.Prelude.{MatchBool, find}
 use Rattle.std.specs.List.{list_any}
 use Rattle.std.proofs.lemmas.Bool.Decides.{nat_tests}
+use Rattle.std.proofs.lemmas.List.Sums.{sum_by-cons}
 use Rattle.machine.specs.declared.record.Life.{Life}
 use Rattle.machine.specs.declared.record.Life.TheVariants.{Live, Exited, Killed}
 use Rattle.machine.specs.declared.record.Task.{Task}
 use Rattle.machine.specs.declared.record.EventCounts.{EventCounts}
+use Rattle.machine.specs.declared.record.MemoryStat.{MemoryStat}
 use Rattle.machine.specs.declared.record.Key.{Key}
 use Rattle.machine.specs.declared.record.Key.TheVariants.{Low, High, Max, Oom, OomKill, OomGroupKill}
 use Rattle.machine.specs.declared.event.Place.{Place}
@@ -20,21 +22,49 @@ use Rattle.machine.specs.Slots.{at, Changes, there_and, count_there}
 use Rattle.machine.specs.Tree.{Node, chain, under_at, under}
 use Rattle.machine.specs.Amounts.{exceeds}
 use Rattle.machine.specs.Counts.{limits_at, is_full, over_at, Counted, local, total, counts_by}
-use Rattle.machine.specs.Pages.{Content, Memory, OfFile, Residence, Held, Coming, Going, Away, Page, page_at, in_transfer_at, frame_at, is_some_number, has_frame, is_charged, charged}
+use Rattle.machine.specs.Pages.{Content, Memory, OfFile, Residence, Held, Coming, Going, Away, Page, page_at, in_transfer_at, is_anon, frame_at, is_some_number, has_frame, is_charged, charged}
 use Rattle.machine.specs.Tasks.{task_at}
-use Rattle.machine.specs.State.{State, usage, over_in, is_frame_free}
-use Rattle.machine.specs.Access.{Meeting, Unmapped, Hits, Transferring, NeedsPage, NeedsCopy, NeedsSwapIn, Dangling, meets}
+use Rattle.machine.specs.State.{State, usage, stat_of, over_in, is_frame_free}
+use Rattle.machine.specs.Access.{Meeting, Unmapped, Hits, Transferring, NeedsPage, NeedsCopy, NeedsSwapIn, NeedsRead, Dangling, meets}
 use Rattle.machine.specs.Reclaim.{has_takeable, has_transfer, stands, target_of}
 use Rattle.machine.specs.Step.{Only, Takes, LeavesFrom, LeavesBy, ChargeStep, MakesPage, StartsFetch, HitStep, UnmappedStep, MeetStep, LifeStep, TaskStep, new_page, touched}
 use Rattle.machine.proofs.Values.{unlike}
 use Rattle.machine.proofs.SlotLemmas.{one_if, count_there-changes}
 use Rattle.machine.proofs.MoveLemmas.{hits_held}
-use Rattle.laws.specs.Laws.{TransfersStayCharged, CurrentCountsPages, EventsAreThoseCounted, count_for, ChargesStayWithinMax, KillsComeLast, ReadsGiveLastWrites}
+use Rattle.laws.specs.Laws.{TransfersStayCharged, CurrentCountsPages, StatAddsUpToCurrent, EventsAreThoseCounted, count_for, ChargesStayWithinMax, KillsComeLast, ReadsGiveLastWrites}
 
 -- ---- memory.current
 
 pub current_counts_pages : CurrentCountsPages
 current_counts_pages before after g n step = let e = step.0 in cc
+
+-- ---- memory.stat
+
+-- what passes a test is of one kind or of the other
+both_kinds : {T : Type 0} (test kind : T → Bool) (slots : List (Option T)) → count_there (λ x. test x && kind x) slots + count_there (λ x. test x && not (kind x)) slots ≡ count_there test slots
+both_kinds test kind [] = refl
+both_kinds {T} test kind (slot ∷ slots) =
+    let all = sum_by-cons (λ (slot : Option T). one_if (there_and test slot)) slot slots in
+    let of_kind = sum_by-cons (λ (slot : Option T). one_if (there_and (λ x. test x && kind x) slot)) slot slots in
+    let of_other = sum_by-cons (λ (slot : Option T). one_if (there_and (λ x. test x && not (kind x)) slot)) slot slots in
+    let here = by_slot slot in
+    let rest = both_kinds test kind slots in
+    omega (arith, all, of_kind, of_other, here, rest)
+  where
+    by_tests : (a b : Bool) → one_if (a && b) + one_if (a && not b) ≡ one_if a
+    by_tests true true = refl
+    by_tests true false = refl
+    by_tests false b = refl
+
+    by_slot : (slot : Option T) → one_if (there_and (λ x. test x && kind x) slot) + one_if (there_and (λ x. test x && not (kind x)) slot) ≡ one_if (there_and test slot)
+    by_slot None = refl
+    by_slot (Some x) = by_tests (test x) (kind x)
+
+pub stat_adds_up_to_current : StatAddsUpToCurrent
+stat_adds_up_to_current before after g stat step =
+    let e = step.0 in
+    let same : stat ≡ stat_of before g = cc in
+    ap (λ (x : MemoryStat). x.anon + x.file) same ∙ both_kinds (is_charged before.tree g) (λ (page : Page). is_anon page.content) before.pages
 
 -- ---- memory.events and memory.events.local
 
@@ -58,8 +88,8 @@ events_are_those_counted before after g counts key =
 -- ---- reads
 
 pub reads_give_last_writes : ReadsGiveLastWrites
-reads_give_last_writes [] earlier entry right = right.1
-reads_give_last_writes (first ∷ later) earlier entry right = reads_give_last_writes later earlier entry right.0
+reads_give_last_writes first [] earlier entry right = right.1
+reads_give_last_writes first (newest ∷ later) earlier entry right = reads_give_last_writes first later earlier entry right.0
 
 -- ---- kills
 
@@ -202,6 +232,7 @@ module _ (before after : State) (a : ℕ) where
   meet_within t g place op answer (NeedsPage v) is h = charge_within g _ answer (λ none made. makes_within t v g op answer none made) h
   meet_within t g place op answer (NeedsCopy v) is h = charge_within g _ answer (λ none made. makes_within t v g op answer none made) h
   meet_within t g place op answer (NeedsSwapIn p page block) is h = charge_within page.group _ answer (λ none begun. fetch_within p page.group page.content block answer none begun) h
+  meet_within t g place op answer (NeedsRead file q) is h = charge_within g _ answer (λ none begun. fetch_within begun.page g (OfFile file q) _ answer none begun.fetch) h
   meet_within t g place op answer Dangling is h = absurd h
 
 pub charges_stay_within_max : ChargesStayWithinMax

@@ -1,8 +1,13 @@
 -- Whose pages a reclaim takes, and what it does where it takes none.
-use Rattle.std.proofs.Common.{◌≡◌, inl, inr, ℕ, ◌==◌, ◌||◌, Bool, true, false, Option, Some, None, eqb-true, refl, ap, ◌∙◌, subst}
-use Rattle.std.specs.Prelude.{◌⊎◌}
+use Rattle.std.proofs.Common.{◌≡◌, inl, inr, ℕ, ◌==◌, ◌||◌, Bool, true, false, Option, Some, None, eqb-true, refl, sym, ap, ◌∙◌, subst}
+use Rattle.std.specs.Prelude.{◌⊎◌, MatchBool}
 use Rattle.std.proofs.lemmas.Bool.{and_parts}
+use Rattle.machine.specs.declared.record.Life.{Life}
+use Rattle.machine.specs.declared.record.Life.TheVariants.{Live, Exited, Killed}
+use Rattle.machine.specs.declared.record.Task.{Task}
 use Rattle.machine.specs.declared.event.Cause.{Cause}
+use Rattle.machine.specs.declared.event.Op.{Op}
+use Rattle.machine.specs.declared.event.Op.TheVariants.{Read, Write}
 use Rattle.machine.specs.declared.event.Event.{Event}
 use Rattle.machine.specs.declared.event.Event.TheVariants as event
 use Rattle.machine.specs.declared.reply.Reply.{Reply}
@@ -10,12 +15,15 @@ use Rattle.machine.specs.declared.reply.Reply.TheVariants as reply
 use Rattle.machine.specs.Slots.{Changes, there_and}
 use Rattle.machine.specs.Tree.{under}
 use Rattle.machine.specs.Amounts.{exceeds}
-use Rattle.machine.specs.Pages.{Content, Memory, OfFile, Residence, Held, Coming, Going, Away, Page, is_held}
-use Rattle.machine.specs.State.{State, usage, effective_min}
+use Rattle.machine.specs.Pages.{Content, Memory, OfFile, Residence, Held, Coming, Going, Away, Page, page_at, is_anon, is_held, home_block}
+use Rattle.machine.specs.State.{State, usage, over_in, is_frame_free, effective_min}
+use Rattle.machine.specs.Tasks.{task_at}
+use Rattle.machine.specs.Access.{Meeting, Unmapped, Hits, Transferring, NeedsPage, NeedsCopy, NeedsSwapIn, NeedsRead, Dangling, meets}
 use Rattle.machine.specs.Reclaim.{is_unprotected, has_takeable, has_transfer, stands, target_of}
-use Rattle.machine.specs.Step.{Only, Takes, LeavesBy, LeavesFrom, ReclaimStep, ReclaimOneStep, KillStep, RelieveStep, Step}
-use Rattle.machine.proofs.Values.{some_inj, unlike}
-use Rattle.laws.specs.Laws.{took_for, TakesUnprotected, ReclaimsSpareTheProtected, ReclaimsGiveUpLast, ReclaimsKillNobody}
+use Rattle.machine.specs.Step.{Only, ChargeStep, HitStep, MeetStep, LifeStep, TaskStep, StartsLeave, Drops, Takes, LeavesBy, LeavesFrom, ReclaimStep, ReclaimOneStep, KillStep, RelieveStep, Step}
+use Rattle.machine.proofs.Values.{some_inj, never_some, unlike}
+use Rattle.machine.proofs.TreeLemmas.{eq_cases}
+use Rattle.laws.specs.Laws.{took_for, TakesUnprotected, ReclaimsSpareTheProtected, ReclaimsGiveUpLast, ReclaimsKillNobody, OnlyCleanPagesAreDropped}
 use Rattle.laws.proofs.LawLemmas.{by_test, is_taking, never_taken, idle_of}
 
 -- ---- where the answer is that a page was taken, one was
@@ -87,6 +95,85 @@ module _ (before after : State) (target : ℕ) where
 
 pub reclaims_spare_the_protected : ReclaimsSpareTheProtected
 reclaims_spare_the_protected before after what answer target taken step = taken_unprotected before after target answer (step_takes before after what answer target taken step)
+
+-- ---- pages that are dropped
+
+-- where the answer says so, the page that goes is the one that was taken, and a clean one of a file
+module _ (before after : State) (target : ℕ) (h : Takes before target reply.Dropped after) (p : ℕ) (page : Page) (there : page_at before.pages p ≡ Some page)
+    (gone : page_at after.pages p ≡ None) where
+  its : (to : Option Page) → Changes before.pages after.pages h.p to → page ≡ h.page
+  its to changes =
+      elim (eq_cases p h.p) [
+        | inl same ↦ some_inj (sym there ∙ ap (page_at before.pages) same ∙ h.there)
+        | inr differs ↦ never_some (page_at after.pages p) gone (changes.others p differs ∙ there)
+      ]
+
+  taken_clean : (is_anon page.content ≡ false) × (page.dirty ≡ false)
+  taken_clean = by_residence h.page.residence h.leaves
+    where
+      by_dirty : (frame file q : ℕ) (dirty : Bool) → h.page.content ≡ OfFile file q → h.page.dirty ≡ dirty
+          → MatchBool dirty (StartsLeave before h.p h.page frame (home_block before.opening.swap before.opening.files file q) before.counted reply.Dropped after)
+          (Drops before h.p before.counted reply.Dropped after)
+          → (is_anon page.content ≡ false) × (page.dirty ≡ false)
+      by_dirty frame file q true content dirty k = absurd (let e = k.answers in cc)
+      by_dirty frame file q false content clean k = let same = its None k.gone in (ap (λ (x : Page). is_anon x.content) same ∙ ap is_anon content, ap (λ (x : Page). x.dirty) same ∙ clean)
+
+      by_content : (frame : ℕ) (content : Content) → h.page.content ≡ content → LeavesBy before h.p h.page content frame before.counted reply.Dropped after
+          → (is_anon page.content ≡ false) × (page.dirty ≡ false)
+      by_content frame Memory is k = absurd (let e = k.leave.answers in cc)
+      by_content frame (OfFile file q) is k = by_dirty frame file q h.page.dirty is refl k
+
+      by_residence : (r : Residence) → LeavesFrom before h.p h.page r before.counted reply.Dropped after → (is_anon page.content ≡ false) × (page.dirty ≡ false)
+      by_residence (Held frame) k = by_content frame h.page.content refl k
+      by_residence (Coming frame block ticket) k = absurd k
+      by_residence (Going frame block ticket) k = absurd k
+      by_residence (Away block) k = absurd k
+
+-- no event of a task is answered so
+module _ (before after : State) where
+  charge_keeps : (low : Option ℕ) (free : Bool) (Granted : Type 0) → (Granted → ⊥) → ChargeStep before low free Granted reply.Dropped after → ⊥
+  charge_keeps (Some low) free Granted granted h = let e = h.0 in cc
+  charge_keeps None true Granted granted h = granted h
+  charge_keeps None false Granted granted h = let e = h.0 in cc
+
+  hit_keeps : (p : ℕ) (page : Page) (frame : ℕ) (op : Op) → HitStep before p page frame op reply.Dropped after → ⊥
+  hit_keeps p page frame Read h = h
+  hit_keeps p page frame (Write b) h = h
+
+  meet_keeps : (t g : ℕ) (op : Op) (met : Meeting) → MeetStep before t g op met reply.Dropped after → ⊥
+  meet_keeps t g op Unmapped h = h
+  meet_keeps t g op (Hits p page frame) h = hit_keeps p page frame op h
+  meet_keeps t g op Transferring h = let e = h.0 in cc
+  meet_keeps t g op (NeedsPage v) h = charge_keeps (over_in before g) (is_frame_free before) _ (λ made. let e = made.answers in cc) h
+  meet_keeps t g op (NeedsCopy v) h = charge_keeps (over_in before g) (is_frame_free before) _ (λ made. let e = made.answers in cc) h
+  meet_keeps t g op (NeedsSwapIn p page block) h = charge_keeps (over_in before page.group) (is_frame_free before) _ (λ begun. let e = begun.answers in cc) h
+  meet_keeps t g op (NeedsRead file q) h = charge_keeps (over_in before g) (is_frame_free before) _ (λ begun. let e = begun.fetch.answers in cc) h
+  meet_keeps t g op Dangling h = h
+
+  task_keeps : (slot : Option Task) (Live_step : Task → Type 0) → ((task : Task) → Live_step task → ⊥) → TaskStep before slot Live_step reply.Dropped after → ⊥
+  task_keeps None Live_step living h = h
+  task_keeps (Some task) Live_step living h = by_life task.life h
+    where
+      by_life : (life : Life) → LifeStep before life (Live_step task) reply.Dropped after → ⊥
+      by_life Live k = living task k
+      by_life Exited k = k
+      by_life Killed k = let e = k.0 in cc
+
+pub only_clean_pages_are_dropped : OnlyCleanPagesAreDropped
+only_clean_pages_are_dropped before after (event.Relieve why) step p page there gone =
+    taken_clean before after (target_of why) (step_takes before after (event.Relieve why) reply.Dropped (target_of why) refl step) p page there gone
+only_clean_pages_are_dropped before after (event.ReclaimOne g) step p page there gone =
+    taken_clean before after g.0 (step_takes before after (event.ReclaimOne g) reply.Dropped g.0 refl step) p page there gone
+only_clean_pages_are_dropped before after (event.Access t place op) step p page there gone =
+    absurd (task_keeps before after (task_at before.tasks t.0) _ (λ task h. meet_keeps before after t.0 task.group.0 op (meets before t.0 place op) h) step)
+only_clean_pages_are_dropped before after (event.Fork t child) step p page there gone = absurd (task_keeps before after (task_at before.tasks t.0) _ (λ task h. let e = h.0 in cc) step)
+only_clean_pages_are_dropped before after (event.Exit t) step p page there gone = absurd (task_keeps before after (task_at before.tasks t.0) _ (λ task h. let e = h.0 in cc) step)
+only_clean_pages_are_dropped before after (event.Free t v) step p page there gone = absurd (task_keeps before after (task_at before.tasks t.0) _ (λ task h. let e = h.answers in cc) step)
+only_clean_pages_are_dropped before after (event.Arrived ticket bytes) step p page there gone = absurd (let e = step.answers in cc)
+only_clean_pages_are_dropped before after (event.FetchFailed ticket) step p page there gone = absurd (let e = step.answers in cc)
+only_clean_pages_are_dropped before after (event.Left ticket) step p page there gone = absurd (let e = step.answers in cc)
+only_clean_pages_are_dropped before after (event.LeaveFailed ticket) step p page there gone = absurd (let e = step.answers in cc)
+only_clean_pages_are_dropped before after what step p page there gone = absurd step
 
 -- ---- reclaims that take none
 

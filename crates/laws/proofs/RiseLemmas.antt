@@ -1,5 +1,5 @@
 -- Nothing but an access leaves more pages charged under a group.
-use Rattle.std.proofs.Common.{◌≡◌, inl, inr, ℕ, ◌+◌, ◌<◌, ◌≤◌, ◌&&◌, true, false, List, [], ◌∷◌, ◌++◌, length, Option, Some, None, refl, sym, ap, ◌∙◌, arith}
+use Rattle.std.proofs.Common.{◌≡◌, inl, inr, ℕ, ◌+◌, ◌<◌, ◌≤◌, ◌&&◌, Bool, true, false, List, [], ◌∷◌, ◌++◌, length, Option, Some, None, refl, sym, ap, ◌∙◌, arith}
 use Rattle.std.specs.Prelude.{IfSome}
 use Rattle.std.proofs.lemmas.Bool.{cases_lt, and_parts}
 use Rattle.std.proofs.Math.ListN.{get_or-eq_default}
@@ -19,7 +19,7 @@ use Rattle.machine.proofs.TreeLemmas.{under_at-append}
 use Rattle.machine.proofs.SlotLemmas.{one_if, count_there-changes}
 use Rattle.laws.specs.Laws.{OnlyAccessesCharge, WriteOutsStayCharged}
 use Rattle.machine.proofs.SoundLemmas.{bool_le, tests-less, count-less, still_passes, legal-sound, legal-fit}
-use Rattle.machine.proofs.Did.{is_access, is_out, Moves, Rests, Comes, Goes, Lands, Lies, Did, Kept, Made, Moved, Dropped, Ended, Spawned, Forked, Freed, Attached, Removed, Grown, step_did}
+use Rattle.machine.proofs.Did.{is_access, is_out, Moves, Rests, Comes, Goes, Lands, Lies, Did, Kept, Made, Moved, Cached, Dropped, Ended, Spawned, Forked, Freed, Attached, Removed, Grown, step_did}
 use Rattle.machine.proofs.RemovedCounts.{usage-no_more}
 use Rattle.machine.proofs.Values.{unlike}
 
@@ -75,12 +75,12 @@ module _ (before after : State) (a : ℕ) where
       omega (arith, same, le)
 
   -- a page that has a frame now had one before, but for one that an access reads in
-  framed : (what : Event) (answer : Reply) (page : Page) (now : Residence) → is_access what ≡ false → Moves before what answer page now → is_some_number (frame_at now) ≡ true → has_frame page ≡ true
-  framed what answer page now other (Rests is) e = ap (λ r. is_some_number (frame_at r)) (sym is) ∙ e
-  framed what answer page now other (Comes frame block ticket access out away is unused free) e = unlike (is_access what) access other
-  framed what answer page now other (Goes frame block ticket held is free fresh) e = ap (λ r. is_some_number (frame_at r)) held
-  framed what answer page now other (Lands frame out had is) e = ap is_some_number had
-  framed what answer page now other (Lies frame block out had on is) e = ap is_some_number had
+  framed : (what : Event) (answer : Reply) (page : Page) (dirty : Bool) (now : Residence) → is_access what ≡ false → Moves before what answer page dirty now → is_some_number (frame_at now) ≡ true → has_frame page ≡ true
+  framed what answer page dirty now other (Rests is memory stays) e = ap (λ r. is_some_number (frame_at r)) (sym is) ∙ e
+  framed what answer page dirty now other (Comes frame block ticket access out away is clean unused free) e = unlike (is_access what) access other
+  framed what answer page dirty now other (Goes frame block ticket held is as_it_was goes fresh) e = ap (λ r. is_some_number (frame_at r)) held
+  framed what answer page dirty now other (Lands frame out had is as_it_was arrives) e = ap is_some_number had
+  framed what answer page dirty now other (Lies frame block out had on is as_it_was anon) e = ap is_some_number had
 
   -- the pages that nothing maps any more are gone
   stilled_less : after.tree ≡ before.tree → ((p : ℕ) → page_at after.pages p ≡ still after.page_tables p (page_at before.pages p)) → Less
@@ -98,9 +98,10 @@ module _ (before after : State) (a : ℕ) where
   did_less what answer other falls groups (Moved p page dirty now counted there placed moves mapped e) =
       let one = one_changes p (Some page) _ (ap (λ (s : State). s.tree) e) there placed in
       let less : one_if (is_some_number (frame_at now) && under before.tree a page.group) ≤ one_if (is_charged before.tree a page) =
-      bool_le _ _ (λ is. let both = and_parts (is_some_number (frame_at now)) (under before.tree a page.group) is in rw (framed what answer page now other moves both.0, both.1) refl) in
+      bool_le _ _ (λ is. let both = and_parts (is_some_number (frame_at now)) (under before.tree a page.group) is in rw (framed what answer page dirty now other moves both.0, both.1) refl) in
       omega (arith, one, less)
-  did_less what answer other falls groups (Dropped p page counted out there may_go gone e) = let one = one_changes p (Some page) None (ap (λ (s : State). s.tree) e) there gone in omega (arith, one)
+  did_less what answer other falls groups (Cached t f q p frame ticket access out alive unread within free unused fresh filed placed e) = unlike (is_access what) access other
+  did_less what answer other falls groups (Dropped p page counted out there may_go went gone e) = let one = one_changes p (Some page) None (ap (λ (s : State). s.tree) e) there gone in omega (arith, one)
   did_less what answer other falls groups (Ended t ending counted out dead ends) = stilled_less (ap (λ (s : State). s.tree) ends.state) ends.pages
   did_less what answer other falls groups (Spawned t g is sets shown e) = let same : usage after a ≡ usage before a = ap (λ (s : State). usage s a) e in omega (arith, same)
   did_less what answer other falls groups (Forked t child is out alive sets copies e) = let same : usage after a ≡ usage before a = ap (λ (s : State). usage s a) e in omega (arith, same)
@@ -110,12 +111,12 @@ module _ (before after : State) (a : ℕ) where
   did_less what answer other falls groups (Grown path is out e) = made_less _ _ falls groups e
 
   -- a page has a frame when it begins to be written out, and had one before
-  framed_still : (what : Event) (answer : Reply) (page : Page) (now : Residence) → is_out answer ≡ true → Moves before what answer page now → frame_at now ≡ frame_at page.residence
-  framed_still what answer page now out (Rests is) = ap frame_at is
-  framed_still what answer page now out (Comes frame block ticket access other away is unused free) = unlike (is_out answer) out other
-  framed_still what answer page now out (Goes frame block ticket held is free fresh) = ap frame_at is ∙ sym (ap frame_at held)
-  framed_still what answer page now out (Lands frame other had is) = unlike (is_out answer) out other
-  framed_still what answer page now out (Lies frame block other had on is) = unlike (is_out answer) out other
+  framed_still : (what : Event) (answer : Reply) (page : Page) (dirty : Bool) (now : Residence) → is_out answer ≡ true → Moves before what answer page dirty now → frame_at now ≡ frame_at page.residence
+  framed_still what answer page dirty now out (Rests is memory stays) = ap frame_at is
+  framed_still what answer page dirty now out (Comes frame block ticket access other away is clean unused free) = unlike (is_out answer) out other
+  framed_still what answer page dirty now out (Goes frame block ticket held is as_it_was goes fresh) = ap frame_at is ∙ sym (ap frame_at held)
+  framed_still what answer page dirty now out (Lands frame other had is as_it_was arrives) = unlike (is_out answer) out other
+  framed_still what answer page dirty now out (Lies frame block other had on is as_it_was anon) = unlike (is_out answer) out other
 
   did_keep : (what : Event) (answer : Reply) → is_out answer ≡ true → Did before what answer after → Kept_so
   unfolding Kept_so
@@ -124,9 +125,10 @@ module _ (before after : State) (a : ℕ) where
   did_keep what answer out (Moved p page dirty now counted there placed moves mapped e) =
       let one = one_changes p (Some page) _ (ap (λ (s : State). s.tree) e) there placed in
       let same : one_if (is_some_number (frame_at now) && under before.tree a page.group) ≡ one_if (is_charged before.tree a page) =
-      ap (λ o. one_if (is_some_number o && under before.tree a page.group)) (framed_still what answer page now out moves) in
+      ap (λ o. one_if (is_some_number o && under before.tree a page.group)) (framed_still what answer page dirty now out moves) in
       omega (arith, one, same)
-  did_keep what answer out (Dropped p page counted other there may_go gone e) = unlike (is_out answer) out other
+  did_keep what answer out (Cached t f q p frame ticket access other alive unread within free unused fresh filed placed e) = unlike (is_out answer) out other
+  did_keep what answer out (Dropped p page counted other there may_go went gone e) = unlike (is_out answer) out other
   did_keep what answer out (Ended t ending counted other dead ends) = unlike (is_out answer) out other
   did_keep what answer out (Spawned t g is sets shown e) = ap (λ (s : State). usage s a) e
   did_keep what answer out (Forked t child is other alive sets copies e) = unlike (is_out answer) out other

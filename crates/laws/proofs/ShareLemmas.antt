@@ -63,5 +63,5 @@ removals_keep_ancestors_counts opening history before after g answer legal step 
 pub removed_groups_have_no_pages : RemovedGroupsHaveNoPages
 removed_groups_have_no_pages opening history s legal g gone = (
   λ p page there same. unlike (is_live s.tree g) (ap (is_live s.tree) (sym same) ∙ (legal-fit opening history s legal p page there).live) gone,
-  usage-nobody opening.swap s g (legal-sound opening history s legal).1 gone,
+  usage-nobody opening.swap opening.files s g (legal-sound opening history s legal).1 gone,
 )

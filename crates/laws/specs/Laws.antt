@@ -13,6 +13,7 @@ use Rattle.machine.specs.declared.event.Query.TheVariants as query
 use Rattle.machine.specs.declared.event.Event.{Event}
 use Rattle.machine.specs.declared.event.Event.TheVariants as event
 use Rattle.machine.specs.declared.record.EventCounts.{EventCounts}
+use Rattle.machine.specs.declared.record.MemoryStat.{MemoryStat}
 use Rattle.machine.specs.declared.record.Kind.{Kind}
 use Rattle.machine.specs.declared.record.Key.{Key}
 use Rattle.machine.specs.declared.record.Key.TheVariants.{Low, High, Max, Oom, OomKill, OomGroupKill}
@@ -25,7 +26,7 @@ use Rattle.machine.specs.Slots.{there_and}
 use Rattle.machine.specs.Amounts.{exceeds}
 use Rattle.machine.specs.Counts.{limits_at, local, total}
 use Rattle.machine.specs.Tree.{Node, node_at, is_live, under}
-use Rattle.machine.specs.Pages.{Page, page_at, is_anon, is_held, frame_at, block_at, ticket_at, is_in_transfer, is_charged, in_transfer}
+use Rattle.machine.specs.Pages.{OfFile, Page, page_at, is_anon, is_held, frame_at, block_at, ticket_at, is_in_transfer, is_charged, in_transfer, IsFiled}
 use Rattle.machine.specs.Tasks.{lives, group_of_task, mapped_at}
 use Rattle.machine.specs.State.{Opening, State, page_numbers, usage, effective_min, is_swap_free, opening_of, blocks_of}
 use Rattle.machine.specs.Reclaim.{is_idle, target_of}
@@ -42,7 +43,7 @@ use Rattle.machine.specs.declared.command.Answer.TheVariants as answer
 use Rattle.machine.specs.declared.command.Word.TheVariants as word
 use Rattle.machine.specs.declared.refusal.Refusal.TheVariants.{Stranger, NoMemory}
 use Rattle.block_store.specs.Device.{Disk}
-use Rattle.driver.specs.Schedule.{World, first_world, Runs, fits, errors}
+use Rattle.driver.specs.Schedule.{World, first_world, Runs, files_on, fits, errors}
 
 -- the history of every run leads from the opening to the run's state, one step of the machine an entry
 abbrev pub RunsAreLegal : Type 0
@@ -50,11 +51,11 @@ RunsAreLegal =
     (config : Config) (before : Disk) (steps : List Line) (answers : List Told_by) (end : World) → Runs (first_world config before) steps answers end
     → Legal (opening_of config) end.past.history end.past.state
 
--- over a device that has the swap blocks, and that keeps its promise, every page that was read in brought what was last written
+-- over a device that has the blocks, and that keeps its promise, every page that was read in brought what was last written, or what the device had for a file at first
 abbrev pub RunsAreHonest : Type 0
 RunsAreHonest =
     (config : Config) (before : Disk) (steps : List Line) (answers : List Told_by) (end : World) → fits config before ≡ true → Runs (first_world config before) steps answers end
-    → Honest at_first end.past.history
+    → Honest (at_first (files_on config before)) end.past.history
 
 -- no answer of a run is that a ticket was none of its holder's
 abbrev pub NoStrangers : Type 0
@@ -207,7 +208,7 @@ abbrev pub HitsMark : Type 0
 HitsMark =
     (config : Config) (before : Disk) (steps : List Line) (answers : List Told_by) (end : World) → Runs (first_world config before) steps answers end
     → (after : Past) (caller : Caller) (t : TaskId) (place : Place) (op : Op) (byte : ℕ) (frame : FrameId) → Called end.past caller (event.Access t place op) (reply.Done byte (Some frame)) after
-    → (p : ℕ) × (shown_at end.past.state.page_tables t.0 place ≡ Some p) × (is_marked after.order.held.marks p ≡ true)
+    → (p : ℕ) × (shown_at end.past.state t.0 place ≡ Some p) × (is_marked after.order.held.marks p ≡ true)
 
 -- no call marks a page otherwise. (Excludes a page that is marked as it is made, copied or read in, and one that a search marks.)
 abbrev pub OnlyHitsMark : Type 0
@@ -242,9 +243,9 @@ MarkedPagesStay =
     → (p : ℕ) (page : Page) → page_at end.past.state.pages p ≡ Some page → is_held page ≡ true → there_and is_held (page_at after.state.pages p) ≡ false → is_marked end.past.order.held.marks p ≡ true
     → AllByRecursion (λ l. has_mark end.past.order.held.marks l ≡ true) (old_pages (is_swap_free end.past.state) (gens_at end.past.order.held.groups page.group))
 
--- each read in a right history gave the last write before it
+-- each read in a right history gave the last write before it, or what the byte was at first, whatever that is
 abbrev pub ReadsGiveLastWrites : Type 0
-ReadsGiveLastWrites = (later earlier : List Entry) (entry : Entry) → Right at_first (later ++ entry ∷ earlier) → IsRight at_first earlier entry.event entry.reply
+ReadsGiveLastWrites = (first : Spot → ℕ) (later earlier : List Entry) (entry : Entry) → Right first (later ++ entry ∷ earlier) → IsRight first earlier entry.event entry.reply
 
 -- in whatever state a legal history ends, no two pages have one frame
 abbrev pub PagesShareNoFrame : Type 0
@@ -270,20 +271,39 @@ PagesShareNoTicket =
     (opening : Opening) (history : List Entry) (s : State) → Legal opening history s
     → (p q n : ℕ) (page other : Page) → page_at s.pages p ≡ Some page → page_at s.pages q ≡ Some other → ticket_at page.residence ≡ Some n → ticket_at other.residence ≡ Some n → p ≡ q
 
--- there are no pages of files: each page is memory of tasks
-abbrev pub PagesAreMemory : Type 0
-PagesAreMemory =
-    (opening : Opening) (history : List Entry) (s : State) → Legal opening history s → (p : ℕ) (page : Page) → page_at s.pages p ≡ Some page → is_anon page.content ≡ true
+-- a page of a file is one that the file has, and stands in its frame, or between that and its own home block; and memory is never dirty. (Excludes a page of a file that is written to
+-- a swap block or to another page's home, and one that is written out though nothing was written to it.)
+abbrev pub FilePagesStayAtHome : Type 0
+FilePagesStayAtHome =
+    (opening : Opening) (history : List Entry) (s : State) → Legal opening history s → (p : ℕ) (page : Page) → page_at s.pages p ≡ Some page → IsFiled opening.swap opening.files page
 
--- each virtual page that is mapped shows a page that is there
+-- a page of a file is there once. (Excludes a group that has a page of a file for itself, whose writes the others would not see.)
+abbrev pub FilePagesAreOne : Type 0
+FilePagesAreOne =
+    (opening : Opening) (history : List Entry) (s : State) → Legal opening history s
+    → (p p' file q : ℕ) (page other : Page) → page_at s.pages p ≡ Some page → page_at s.pages p' ≡ Some other → page.content ≡ OfFile file q → other.content ≡ OfFile file q → p ≡ p'
+
+-- a page that is dropped is of a file, and nothing was written to it since its home block had its bytes; and no other page goes. (Excludes a write that is lost.)
+abbrev pub OnlyCleanPagesAreDropped : Type 0
+OnlyCleanPagesAreDropped =
+    (before after : State) (what : Event) → Step before what reply.Dropped after
+    → (p : ℕ) (page : Page) → page_at before.pages p ≡ Some page → page_at after.pages p ≡ None → (is_anon page.content ≡ false) × (page.dirty ≡ false)
+
+-- memory.stat: the pages of both types add up to memory.current
+abbrev pub StatAddsUpToCurrent : Type 0
+StatAddsUpToCurrent =
+    (before after : State) (g : ℕ) (stat : MemoryStat) → Step before (event.Show (query.Stat (record { 0 = g }))) (reply.Shown (shown.Stat stat)) after → stat.anon + stat.file ≡ usage before g
+
+-- each virtual page that is mapped shows a page that is there, and that is memory
 abbrev pub MappingsShowPages : Type 0
 MappingsShowPages =
-    (opening : Opening) (history : List Entry) (s : State) → Legal opening history s → (t v p : ℕ) → mapped_at s.page_tables t v ≡ Some p → (page : Page) × (page_at s.pages p ≡ Some page)
+    (opening : Opening) (history : List Entry) (s : State) → Legal opening history s
+    → (t v p : ℕ) → mapped_at s.page_tables t v ≡ Some p → (page : Page) × (page_at s.pages p ≡ Some page) × (is_anon page.content ≡ true)
 
--- each page that is in no transfer is shown by a virtual page of a live task. (Excludes a page that outlives its last mapper, which nobody could give back.)
+-- memory that is in no transfer is shown by a virtual page of a live task. (Excludes a page that outlives its last mapper, which nobody could give back.)
 abbrev pub MemoryWithoutAMappingIsGone : Type 0
 MemoryWithoutAMappingIsGone =
-    (opening : Opening) (history : List Entry) (s : State) → Legal opening history s → (p : ℕ) (page : Page) → page_at s.pages p ≡ Some page → is_in_transfer page ≡ false
+    (opening : Opening) (history : List Entry) (s : State) → Legal opening history s → (p : ℕ) (page : Page) → page_at s.pages p ≡ Some page → is_anon page.content ≡ true → is_in_transfer page ≡ false
     → (t : ℕ) × (v : ℕ) × (lives s.tasks t ≡ true) × (mapped_at s.page_tables t v ≡ Some p)
 
 -- two virtual pages that show one page have one last write at each offset, whatever bytes were at first. (Excludes a write that one of them sees and the other does not, and a

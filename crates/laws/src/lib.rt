@@ -2,7 +2,7 @@
 //! a function that does nothing.
 #![tactic(auto)]
 
-ghost use Rattle.laws.specs.Laws.{RunsAreLegal, RunsAreHonest, NoStrangers, ErrorsAreFailures, CurrentCountsPages, EventsAreThoseCounted, ChargesStayWithinMax, OnlyAccessesCharge, KillsComeLast, ReadsGiveLastWrites, PagesShareNoFrame, PagesShareNoBlock, BlocksAreThere, PagesShareNoTicket, PagesAreMemory, MappingsShowPages, MemoryWithoutAMappingIsGone, SharedBytesAgree, ForksShare, MovesTakeNoCharge, RemovalsKeepAncestorsCounts, RemovedGroupsHaveNoPages, TraceHasRoom, TransfersAreBegunLessEnded, TransfersStayCharged, RepliesAreSettled, OrdersAreSettled, WriteOutsStayCharged, ReclaimsSpareTheProtected, ReclaimsGiveUpLast, ReclaimsKillNobody, HeldPagesAreListed, GenerationsHold, GroupsHaveCursors, HeldPagesGoOn, OnlyTakesAge, HitsMark, OnlyHitsMark, PagesLeaveInOrder, MarkedPagesStay, GroupsAreThere};
+ghost use Rattle.laws.specs.Laws.{RunsAreLegal, RunsAreHonest, NoStrangers, ErrorsAreFailures, CurrentCountsPages, EventsAreThoseCounted, ChargesStayWithinMax, OnlyAccessesCharge, KillsComeLast, ReadsGiveLastWrites, PagesShareNoFrame, PagesShareNoBlock, BlocksAreThere, PagesShareNoTicket, FilePagesStayAtHome, FilePagesAreOne, OnlyCleanPagesAreDropped, StatAddsUpToCurrent, MappingsShowPages, MemoryWithoutAMappingIsGone, SharedBytesAgree, ForksShare, MovesTakeNoCharge, RemovalsKeepAncestorsCounts, RemovedGroupsHaveNoPages, TraceHasRoom, TransfersAreBegunLessEnded, TransfersStayCharged, RepliesAreSettled, OrdersAreSettled, WriteOutsStayCharged, ReclaimsSpareTheProtected, ReclaimsGiveUpLast, ReclaimsKillNobody, HeldPagesAreListed, GenerationsHold, GroupsHaveCursors, HeldPagesGoOn, OnlyTakesAge, HitsMark, OnlyHitsMark, PagesLeaveInOrder, MarkedPagesStay, GroupsAreThere};
 
 /// The history of every run leads from the opening to the run's state, one step of the plain machine
 /// an entry.
@@ -10,8 +10,8 @@ pub fn runs_are_legal()
     ensures { RunsAreLegal }
 {}
 
-/// Every page that was read in during a run brought what was last written, the device being one that
-/// has the swap blocks and keeps its promise.
+/// Every page that was read in during a run brought what was last written, or what the device had for the
+/// file before the run, the device being one that has the blocks and keeps its promise.
 pub fn runs_are_honest()
     ensures { RunsAreHonest }
 {}
@@ -166,19 +166,36 @@ pub fn pages_share_no_ticket()
     ensures { PagesShareNoTicket }
 {}
 
-/// Whatever state a run's history leads to, each page is memory of tasks.
-pub fn pages_are_memory()
-    ensures { PagesAreMemory }
+/// Whatever state a run's history leads to, a page of a file stands in its frame, or between that and its
+/// own home block, and is written out only where it was written to.
+pub fn file_pages_stay_at_home()
+    ensures { FilePagesStayAtHome }
+{}
+
+/// Whatever state a run's history leads to, a page of a file is there once, whoever reaches for it.
+pub fn file_pages_are_one()
+    ensures { FilePagesAreOne }
+{}
+
+/// A page that is dropped, and not written out, is of a file, and was not written to since its home block
+/// had its bytes.
+pub fn only_clean_pages_are_dropped()
+    ensures { OnlyCleanPagesAreDropped }
+{}
+
+/// The two numbers of `memory.stat` add up to `memory.current`.
+pub fn stat_adds_up_to_current()
+    ensures { StatAddsUpToCurrent }
 {}
 
 /// Whatever state a run's history leads to, each virtual page that is mapped shows a page that is
-/// there.
+/// there, and that is memory of tasks.
 pub fn mappings_show_pages()
     ensures { MappingsShowPages }
 {}
 
-/// Whatever state a run's history leads to, each page that is in no transfer is shown by a virtual page
-/// of a live task: a page goes with its last mapper.
+/// Whatever state a run's history leads to, each page of memory that is in no transfer is shown by a virtual
+/// page of a live task: it goes with its last mapper.
 pub fn memory_without_a_mapping_is_gone()
     ensures { MemoryWithoutAMappingIsGone }
 {}

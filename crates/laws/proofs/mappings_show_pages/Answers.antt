@@ -9,4 +9,7 @@ there None e = cc
 there (Some page) e = (page, refl)
 
 pub returns : goal.returns
-returns c opening history s legal t v p mapped = there _ ((shows_pages-legal opening history s legal).there t v p mapped)
+returns c opening history s legal t v p mapped =
+    let shows = shows_pages-legal opening history s legal in
+    let found = there _ (shows.there t v p mapped) in
+    (found.0, found.1, shows.memory t v p found.0 mapped found.1)

@@ -1,5 +1,0 @@
-use Rattle.machine.proofs.SoundLemmas.{legal-fit}
-use Rattle.laws.proofs.pages_are_memory.Goals as goal
-
-pub returns : goal.returns
-returns c opening history s legal p page there = (legal-fit opening history s legal p page there).memory
