@@ -16,6 +16,7 @@ pub fn file_named(name: &str) -> Option<ControlFile>
         "memory.min" => Some(ControlFile::Min),
         "memory.events" => Some(ControlFile::Events),
         "memory.events.local" => Some(ControlFile::EventsLocal),
+        "memory.stat" => Some(ControlFile::Stat),
         "memory.reclaim" => Some(ControlFile::Reclaim),
         _ => None,
     }
@@ -27,7 +28,7 @@ pub fn has_file(group: GroupId, file: ControlFile) -> bool
 {
     match file {
         ControlFile::Current | ControlFile::Max | ControlFile::Min => group.0 != 0,
-        ControlFile::Events | ControlFile::EventsLocal => group.0 != 0,
+        ControlFile::Events | ControlFile::EventsLocal | ControlFile::Stat => group.0 != 0,
         ControlFile::Reclaim => true,
     }
 }

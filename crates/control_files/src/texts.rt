@@ -1,25 +1,33 @@
 //! What control files say.
 
-ghost use Rattle.std.specs.Prelude.{◌≡◌, IfOk};
-ghost use Rattle.machine.specs.Control.{text_of, bytes_text, line, key_line, events_text};
+ghost use Rattle.std.specs.Prelude.{◌≡◌, ◌*◌, IfOk};
+ghost use Rattle.machine.specs.Access.{page_size};
+ghost use Rattle.machine.specs.Control.{text_of, bytes_text, line, key_line, events_text, stat_text};
 ghost use Rattle.std.specs.String.{string_bytes};
 
 use crate::PAGE_BYTES;
 use machine::amount::Amount;
-use machine::record::EventCounts;
+use machine::record::{EventCounts, MemoryStat};
 use machine::reply::Shown;
 use std::alloc::{AllocError, Global};
+
+/// So many pages in bytes.
+fn bytes_of(pages: u64) -> u128
+    ensures { result ≡ pages * page_size }
+{
+    u128::from(pages) * u128::from(PAGE_BYTES)
+}
 
 /// So many pages as a line of bytes.
 fn pages_line(alloc: Global, pages: u64) -> Result<String, AllocError>
     ensures { IfOk result (λ s. string_bytes s ≡ line (bytes_text pages)) }
 {
-    let bytes = u128::from(pages) * u128::from(PAGE_BYTES);
+    let bytes = bytes_of(pages);
     format!(in alloc; "{bytes}\n")
 }
 
-/// The line of a key: its name, and how often it was counted.
-fn key_line(alloc: Global, name: &str, count: u64) -> Result<String, AllocError>
+/// The line of a key or a type: its name, and how often it was counted, or how many bytes there are.
+fn key_line(alloc: Global, name: &str, count: u128) -> Result<String, AllocError>
     ensures { IfOk result (λ s. string_bytes s ≡ key_line name.now count) }
 {
     format!(in alloc; "{name} {count}\n")
@@ -29,17 +37,26 @@ fn key_line(alloc: Global, name: &str, count: u64) -> Result<String, AllocError>
 fn events_lines(alloc: Global, counts: EventCounts) -> Result<String, AllocError>
     ensures { IfOk result (λ s. string_bytes s ≡ events_text counts) }
 {
-    let mut lines = key_line(alloc, "low", counts.low)?;
-    lines.push_str(key_line(alloc, "high", counts.high)?.as_str())?;
-    lines.push_str(key_line(alloc, "max", counts.max)?.as_str())?;
-    lines.push_str(key_line(alloc, "oom", counts.oom)?.as_str())?;
-    lines.push_str(key_line(alloc, "oom_kill", counts.oom_kill)?.as_str())?;
-    lines.push_str(key_line(alloc, "oom_group_kill", counts.oom_group_kill)?.as_str())?;
+    let mut lines = key_line(alloc, "low", u128::from(counts.low))?;
+    lines.push_str(key_line(alloc, "high", u128::from(counts.high))?.as_str())?;
+    lines.push_str(key_line(alloc, "max", u128::from(counts.max))?.as_str())?;
+    lines.push_str(key_line(alloc, "oom", u128::from(counts.oom))?.as_str())?;
+    lines.push_str(key_line(alloc, "oom_kill", u128::from(counts.oom_kill))?.as_str())?;
+    lines.push_str(key_line(alloc, "oom_group_kill", u128::from(counts.oom_group_kill))?.as_str())?;
     Ok(lines)
 }
 
-/// What a control file says of these numbers: pages in bytes, events by key. `AllocError` where memory
-/// is wanted and refused.
+/// How much memory there is of each of the two types, a line a type.
+fn stat_lines(alloc: Global, stat: MemoryStat) -> Result<String, AllocError>
+    ensures { IfOk result (λ s. string_bytes s ≡ stat_text stat) }
+{
+    let mut lines = key_line(alloc, "anon", bytes_of(stat.anon))?;
+    lines.push_str(key_line(alloc, "file", bytes_of(stat.file))?.as_str())?;
+    Ok(lines)
+}
+
+/// What a control file says of these numbers: pages in bytes, events by key, and pages by type. `AllocError`
+/// where memory is wanted and refused.
 pub fn show_text(alloc: Global, numbers: Shown) -> Result<String, AllocError>
     ensures { IfOk result (λ s. string_bytes s ≡ text_of numbers) }
 {
@@ -47,5 +64,6 @@ pub fn show_text(alloc: Global, numbers: Shown) -> Result<String, AllocError>
         Shown::Pages(pages) | Shown::Amount(Amount::Pages(pages)) => pages_line(alloc, pages),
         Shown::Amount(Amount::Max) => String::from_str(alloc, "max\n"),
         Shown::Events(counts) => events_lines(alloc, counts),
+        Shown::Stat(stat) => stat_lines(alloc, stat),
     }
 }
