@@ -10,23 +10,24 @@ use Rattle.machine.specs.declared.command.Actor.TheVariants as actor
 use Rattle.machine.specs.declared.command.Command.TheVariants as command
 use Rattle.machine.specs.declared.command.Step.TheVariants as step
 use Rattle.machine.specs.declared.event.Op.TheVariants as op
-use Rattle.machine.specs.declared.event.Place.TheVariants.{Virtual}
+use Rattle.machine.specs.declared.event.Place.TheVariants.{Virtual, File as InFile}
+use Rattle.machine.specs.declared.config.File.{File}
 use Rattle.scripts.specs.declared.fault.Cause.{Cause}
-use Rattle.scripts.specs.declared.fault.Cause.TheVariants.{UnknownWord, MissingArgument, ExtraArgument, BadNumber, BadName, HeaderAfterCommands, HeaderTwice}
+use Rattle.scripts.specs.declared.fault.Cause.TheVariants.{UnknownWord, MissingArgument, ExtraArgument, BadNumber, BadName, HeaderAfterCommands, HeaderTwice, TooManyFiles, TooManyBlocks}
 use Rattle.scripts.specs.declared.forms.Word.{Word}
 use Rattle.scripts.specs.declared.forms.Word.TheVariants as word
 use Rattle.scripts.specs.Words.{words_of}
 use Rattle.scripts.specs.Faults.{first_of, line_faults}
 use Rattle.scripts.specs.Script.{steps_of_item}
 use Rattle.scripts.specs.Meaning.{meaning}
-use Rattle.scripts.specs.Header.{is_header_line, frames_asked, header_frames}
+use Rattle.scripts.specs.Header.{default_config, is_header_line, frames_asked, header_frames}
 use Rattle.scripts.proofs.HeaderLemmas.{frames_line-other, frames_line-frames, frames_line-behind}
 
 -- ---- faults of a line of text
 
 -- with 64 frames asked for, behind commands or not, and behind these words of the header
 abbrev behind : Bool → List Word → List ℕ → Option Cause
-behind commands given line = first_of (line_faults (record { frames = 64; commands = commands; given = given }) (words_of line))
+behind commands given line = first_of (line_faults (record { frames = 64; commands = commands; given = given; config = default_config }) (words_of line))
 
 abbrev cause : List ℕ → Option Cause
 cause line = behind false [] line
@@ -220,6 +221,91 @@ rmdir_relative = refl
 rmdir_by_task : cause (codes "1 rmdir /a") ≡ Some UnknownWord
 rmdir_by_task = refl
 
+-- ---- lines of files, and accesses to them
+
+-- behind these files of the header
+abbrev among : List File → List ℕ → Option Cause
+among files line = first_of (line_faults (record { frames = 64; commands = false; given = []; config = record default_config { files = files } }) (words_of line))
+
+-- behind `file` stand a name, and how many pages the file has
+file : cause (codes "file a 1") ≡ None
+file = refl
+
+file_missing : cause (codes "file a") ≡ Some MissingArgument
+file_missing = refl
+
+file_extra : cause (codes "file a 1 2") ≡ Some ExtraArgument
+file_extra = refl
+
+-- a file has a page
+file_empty : cause (codes "file a 0") ≡ Some BadNumber
+file_empty = refl
+
+-- its name is that of a group, and no path
+file_path : cause (codes "file /a 1") ≡ Some BadName
+file_path = refl
+
+-- a number comes before a name
+file_number_before_name : cause (codes "file /a 0") ≡ Some BadNumber
+file_number_before_name = refl
+
+-- there are so many blocks, and no more
+file_most : cause (codes "file a 131072") ≡ None
+file_most = refl
+
+file_too_large : cause (codes "file a 131073") ≡ Some TooManyBlocks
+file_too_large = refl
+
+abbrev old : File
+old = record { name = codes "a"; pages = 65536 }
+
+-- those of the files before are counted
+file_behind : among (old ∷ []) (codes "file b 65536") ≡ None
+file_behind = refl
+
+file_full : among (old ∷ []) (codes "file b 65537") ≡ Some TooManyBlocks
+file_full = refl
+
+-- also where the line asks for swap
+swap_behind : among (old ∷ record { name = codes "b"; pages = 1 } ∷ []) (codes "swap 65536") ≡ Some TooManyBlocks
+swap_behind = refl
+
+-- no two have one name, which comes before the blocks
+file_twice : among (old ∷ []) (codes "file a 65537") ≡ Some HeaderTwice
+file_twice = refl
+
+-- 64 files of this name, which no header gives
+abbrev many : ℕ → List File
+many zero = []
+many (suc n) = old ∷ many n
+
+-- the 65th is one too many, which comes before the blocks
+file_65 : among (many 64) (codes "file b 1") ≡ Some TooManyFiles
+file_65 = refl
+
+-- but behind the name
+file_65_twice : among (many 64) (codes "file a 1") ≡ Some HeaderTwice
+file_65_twice = refl
+
+-- a task reads and writes a file by its name
+fwrite : cause (codes "1 fwrite a 0 0 255") ≡ None
+fwrite = refl
+
+fread : cause (codes "1 fread a 0 0") ≡ None
+fread = refl
+
+fread_extra : cause (codes "1 fread a 0 0 0") ≡ Some ExtraArgument
+fread_extra = refl
+
+fread_path : cause (codes "1 fread /a 0 0") ≡ Some BadName
+fread_path = refl
+
+fread_alone : cause (codes "fread a 0 0") ≡ Some UnknownWord
+fread_alone = refl
+
+begin_fread : cause (codes "begin 1 fread a 0 0") ≡ None
+begin_fread = refl
+
 -- ---- lines that are begun
 
 -- no line of the header is begun
@@ -288,52 +374,61 @@ is_header_line-task = refl
 -- ---- what lines say
 
 -- the shell does the whole of a line
-says_group : steps_of_item (meaning (words_of (codes "group /a"))) ≡ step.Begin actor.Shell (command.Group (codes "/a")) ∷ step.Finish actor.Shell ∷ []
+says_group : steps_of_item (meaning [] (words_of (codes "group /a"))) ≡ step.Begin actor.Shell (command.Group (codes "/a")) ∷ step.Finish actor.Shell ∷ []
 says_group = refl
 
 -- and what is begun is begun by control, and not finished
-says_begin : steps_of_item (meaning (words_of (codes "begin group /a"))) ≡ step.Begin actor.Control (command.Group (codes "/a")) ∷ []
+says_begin : steps_of_item (meaning [] (words_of (codes "begin group /a"))) ≡ step.Begin actor.Control (command.Group (codes "/a")) ∷ []
 says_begin = refl
 
 -- the daemon begins what is the daemon's
-says_daemon : steps_of_item (meaning (words_of (codes "begin daemon"))) ≡ step.Begin actor.Daemon command.Daemon ∷ []
+says_daemon : steps_of_item (meaning [] (words_of (codes "begin daemon"))) ≡ step.Begin actor.Daemon command.Daemon ∷ []
 says_daemon = refl
 
 -- a number is a task's
-says_step : steps_of_item (meaning (words_of (codes "step 007"))) ≡ step.Advance (actor.Task 7) ∷ []
+says_step : steps_of_item (meaning [] (words_of (codes "step 007"))) ≡ step.Advance (actor.Task 7) ∷ []
 says_step = refl
 
 -- virtual page, offset and byte, in this order
-says_write : steps_of_item (meaning (words_of (codes "7 write 1 2 3")))
+says_write : steps_of_item (meaning [] (words_of (codes "7 write 1 2 3")))
     ≡ step.Begin (actor.Task 7) (command.Access (Virtual 1 2) (op.Write 3)) ∷ step.Finish (actor.Task 7) ∷ []
 says_write = refl
 
+-- the file's number, page, offset and byte
+says_fwrite : steps_of_item (meaning (record { name = codes "b"; pages = 1 } ∷ old ∷ []) (words_of (codes "7 fwrite a 1 2 3")))
+    ≡ step.Begin (actor.Task 7) (command.Access (InFile 1 1 2) (op.Write 3)) ∷ step.Finish (actor.Task 7) ∷ []
+says_fwrite = refl
+
+-- a name that no file has
+says_fread : steps_of_item (meaning (old ∷ []) (words_of (codes "7 fread b 1 2"))) ≡ step.Begin (actor.Task 7) (command.Access (InFile 64 1 2) op.Read) ∷ step.Finish (actor.Task 7) ∷ []
+says_fread = refl
+
 -- the parent forks, and the other number is the child's
-says_fork : steps_of_item (meaning (words_of (codes "7 fork 008"))) ≡ step.Begin (actor.Task 7) (command.Fork 8) ∷ step.Finish (actor.Task 7) ∷ []
+says_fork : steps_of_item (meaning [] (words_of (codes "7 fork 008"))) ≡ step.Begin (actor.Task 7) (command.Fork 8) ∷ step.Finish (actor.Task 7) ∷ []
 says_fork = refl
 
-says_begin_fork : steps_of_item (meaning (words_of (codes "begin 7 fork 8"))) ≡ step.Begin (actor.Task 7) (command.Fork 8) ∷ []
+says_begin_fork : steps_of_item (meaning [] (words_of (codes "begin 7 fork 8"))) ≡ step.Begin (actor.Task 7) (command.Fork 8) ∷ []
 says_begin_fork = refl
 
 -- a virtual page
-says_free : steps_of_item (meaning (words_of (codes "7 free 8"))) ≡ step.Begin (actor.Task 7) (command.Free 8) ∷ step.Finish (actor.Task 7) ∷ []
+says_free : steps_of_item (meaning [] (words_of (codes "7 free 8"))) ≡ step.Begin (actor.Task 7) (command.Free 8) ∷ step.Finish (actor.Task 7) ∷ []
 says_free = refl
 
-says_begin_free : steps_of_item (meaning (words_of (codes "begin 7 free 8"))) ≡ step.Begin (actor.Task 7) (command.Free 8) ∷ []
+says_begin_free : steps_of_item (meaning [] (words_of (codes "begin 7 free 8"))) ≡ step.Begin (actor.Task 7) (command.Free 8) ∷ []
 says_begin_free = refl
 
 -- the shell attaches the task, which does nothing for it
-says_attach : steps_of_item (meaning (words_of (codes "attach 7 /a"))) ≡ step.Begin actor.Shell (command.Attach 7 (codes "/a")) ∷ step.Finish actor.Shell ∷ []
+says_attach : steps_of_item (meaning [] (words_of (codes "attach 7 /a"))) ≡ step.Begin actor.Shell (command.Attach 7 (codes "/a")) ∷ step.Finish actor.Shell ∷ []
 says_attach = refl
 
-says_begin_attach : steps_of_item (meaning (words_of (codes "begin attach 7 /a"))) ≡ step.Begin actor.Control (command.Attach 7 (codes "/a")) ∷ []
+says_begin_attach : steps_of_item (meaning [] (words_of (codes "begin attach 7 /a"))) ≡ step.Begin actor.Control (command.Attach 7 (codes "/a")) ∷ []
 says_begin_attach = refl
 
 -- the shell removes the group
-says_rmdir : steps_of_item (meaning (words_of (codes "rmdir /a"))) ≡ step.Begin actor.Shell (command.Rmdir (codes "/a")) ∷ step.Finish actor.Shell ∷ []
+says_rmdir : steps_of_item (meaning [] (words_of (codes "rmdir /a"))) ≡ step.Begin actor.Shell (command.Rmdir (codes "/a")) ∷ step.Finish actor.Shell ∷ []
 says_rmdir = refl
 
-says_begin_rmdir : steps_of_item (meaning (words_of (codes "begin rmdir /a"))) ≡ step.Begin actor.Control (command.Rmdir (codes "/a")) ∷ []
+says_begin_rmdir : steps_of_item (meaning [] (words_of (codes "begin rmdir /a"))) ≡ step.Begin actor.Control (command.Rmdir (codes "/a")) ∷ []
 says_begin_rmdir = refl
 
 -- ---- lines

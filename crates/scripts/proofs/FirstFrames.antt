@@ -4,10 +4,11 @@ use Rattle.std.specs.List.{list_any, filter_map}
 use Rattle.std.specs.Str.{is_utf8}
 use Rattle.std.proofs.Math.Seq.{get_or-append_seam, take-append_seam}
 use Rattle.std.proofs.lemmas.Bool.{or_from}
-use Rattle.std.proofs.lemmas.List.{append_assoc, length-append, map_push}
+use Rattle.std.proofs.lemmas.List.{append_assoc, length-append}
 use Rattle.std.proofs.lemmas.List.Folds.{list_any-append}
 use Rattle.machine.specs.Numbers.{is_numeral}
 use Rattle.machine.proofs.Values.{some_inj}
+use Rattle.machine.specs.declared.config.File.{File}
 use Rattle.scripts.specs.declared.meaning.Item.{Item}
 use Rattle.scripts.specs.declared.forms.Word.{Word}
 use Rattle.scripts.specs.declared.forms.Word.TheVariants as word
@@ -19,13 +20,13 @@ use Rattle.scripts.specs.Forms.{word_named}
 use Rattle.scripts.specs.Context.{Around}
 use Rattle.scripts.specs.Meaning.{meaning}
 use Rattle.scripts.specs.Faults.{fault, first_of, line_faults, word_faults}
-use Rattle.scripts.specs.Header.{word_of, is_header_line, is_of_header, is_frames, at_frames, frames_line, header_frames}
+use Rattle.scripts.specs.Header.{word_of, is_header_line, is_of_header, is_frames, at_frames, config_of, frames_line, header_frames}
 use Rattle.scripts.specs.Script.{items_of, is_command, header_word, around_of, fault_at}
 use Rattle.scripts.specs.Reading.{IsPart, option_list}
 use Rattle.scripts.proofs.HeaderLemmas.{frames_line-other, frames_line-frames, frames_line-behind}
 use Rattle.scripts.proofs.TellLemmas.{faults_by, meaning_by, not_skipped, no_number}
 use Rattle.scripts.proofs.LimitLemmas.{given_frames}
-use Rattle.scripts.proofs.Loop.{commands_push, found_push}
+use Rattle.scripts.proofs.Loop.{commands_push, found_push, items_push}
 
 -- ---- the lines before it
 
@@ -33,21 +34,22 @@ use Rattle.scripts.proofs.Loop.{commands_push, found_push}
 abbrev IsQuiet : Item → Type 0
 IsQuiet i = (is_command i ≡ false) × (given_frames (option_list (header_word i)) ≡ false)
 
-quiet_by : (first : List ℕ) (ws : List (List ℕ)) (comment : Bool) (o : Option Word) (number : Bool)
-    → (number ≡ true → is_of_header o ≡ false) → (comment || is_of_header o) ≡ true → is_frames o ≡ false → IsQuiet (meaning_by first ws comment o number)
-quiet_by first ws true o number f g h = (refl, refl)
-quiet_by first ws false None number f g h = absurd cc
-quiet_by first ws false (Some w) true f g h = (let e : is_of_header (Some w) ≡ false = f refl in absurd cc)
-quiet_by first ws false (Some word.Frames) false f g h = absurd cc
-quiet_by first ws false (Some word.Swap) false f g h = (refl, refl)
-quiet_by first ws false (Some word.Watermarks) false f g h = (refl, refl)
-quiet_by first ws false (Some word.Trace) false f g h = (refl, refl)
-quiet_by first ws false (Some word.Fault) false f g h = (refl, refl)
-quiet_by first ws false (Some _) false f g h = absurd cc
+quiet_by : (first : List ℕ) (ws : List (List ℕ)) (files : List File) (comment : Bool) (o : Option Word) (number : Bool)
+    → (number ≡ true → is_of_header o ≡ false) → (comment || is_of_header o) ≡ true → is_frames o ≡ false → IsQuiet (meaning_by files first ws comment o number)
+quiet_by first ws files true o number f g h = (refl, refl)
+quiet_by first ws files false None number f g h = absurd cc
+quiet_by first ws files false (Some w) true f g h = (let e : is_of_header (Some w) ≡ false = f refl in absurd cc)
+quiet_by first ws files false (Some word.Frames) false f g h = absurd cc
+quiet_by first ws files false (Some word.Swap) false f g h = (refl, refl)
+quiet_by first ws files false (Some word.File) false f g h = (refl, refl)
+quiet_by first ws files false (Some word.Watermarks) false f g h = (refl, refl)
+quiet_by first ws files false (Some word.Trace) false f g h = (refl, refl)
+quiet_by first ws files false (Some word.Fault) false f g h = (refl, refl)
+quiet_by first ws files false (Some _) false f g h = absurd cc
 
-quiet_words : (ws : List (List ℕ)) → is_header_line ws ≡ true → is_frames (word_of ws) ≡ false → IsQuiet (meaning ws)
-quiet_words [] g h = (refl, refl)
-quiet_words (first ∷ ws) g h = quiet_by first ws (is_comment first) (word_named speaker.Shell first) (is_numeral first) (no_number first) g h
+quiet_words : (files : List File) (ws : List (List ℕ)) → is_header_line ws ≡ true → is_frames (word_of ws) ≡ false → IsQuiet (meaning files ws)
+quiet_words files [] g h = (refl, refl)
+quiet_words files (first ∷ ws) g h = quiet_by first ws files (is_comment first) (word_named speaker.Shell first) (is_numeral first) (no_number first) g h
 
 -- ---- the line itself
 
@@ -98,10 +100,10 @@ here ls done rest x e c p =
     )
 
 -- one quiet line more
-more_clear : (frames : ℕ) (done : List (List ℕ)) (x : List ℕ) → IsClear (around_of frames (items_of done)) → IsQuiet (meaning (words_of x)) → IsClear (around_of frames (items_of (done ++ x ∷ [])))
+more_clear : (frames : ℕ) (done : List (List ℕ)) (x : List ℕ) → IsClear (around_of frames (items_of done)) → IsQuiet (meaning (config_of (items_of done)).files (words_of x)) → IsClear (around_of frames (items_of (done ++ x ∷ [])))
 more_clear frames done x c q =
-    let i = meaning (words_of x) in
-    let items : items_of (done ++ x ∷ []) ≡ items_of done ++ i ∷ [] = map_push (λ (l : List ℕ). meaning (words_of l)) done x in
+    let i = meaning (config_of (items_of done)).files (words_of x) in
+    let items : items_of (done ++ x ∷ []) ≡ items_of done ++ i ∷ [] = items_push done x in
     record {
       commands = ap (list_any is_command) items ∙ commands_push (items_of done) i ∙ or_from (list_any is_command (items_of done)) (is_command i) c.commands q.0;
       given = ap (λ (is : List Item). given_frames (filter_map header_word is)) items ∙ ap given_frames (found_push header_word (items_of done) i)
@@ -118,7 +120,7 @@ further ls done (x ∷ rest) l e c h =
         | false ↦ λ g. absurd (none_is (frames_line (x ∷ rest)) l (frames_line-behind x rest (rw (u, g) refl)) h)
         | true ↦ λ g. elim (is_frames (word_of (words_of x))) as (λ b. is_frames (word_of (words_of x)) ≡ b → IsFound ls l) [
           | true ↦ λ f. (let same : x ≡ l = some_inj (sym (frames_line-frames x rest (u, g, f)) ∙ h) in subst (λ (y : List ℕ). IsFound ls y) same (here ls done rest x e c (u, g, f)))
-          | false ↦ λ f. further ls (done ++ x ∷ []) rest l (e ∙ sym (append_assoc done (x ∷ []) rest)) (more_clear (header_frames ls) done x c (quiet_words (words_of x) g f))
+          | false ↦ λ f. further ls (done ++ x ∷ []) rest l (e ∙ sym (append_assoc done (x ∷ []) rest)) (more_clear (header_frames ls) done x c (quiet_words (config_of (items_of done)).files (words_of x) g f))
               (sym (frames_line-other x rest (u, g, f)) ∙ h)
         ] refl
       ] refl

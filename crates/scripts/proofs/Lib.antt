@@ -1,7 +1,9 @@
+pub mod WordLemmas
 pub mod Splits
 pub mod LineCuts
 pub mod Loop
 pub mod HeaderLemmas
+pub mod FileLemmas
 pub mod TellLemmas
 pub mod LimitLemmas
 pub mod FirstFrames

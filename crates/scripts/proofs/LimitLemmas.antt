@@ -1,12 +1,13 @@
 -- What is read of a faultless script keeps the configuration within the machine's limits.
-use Rattle.std.proofs.Common.{◌≡◌, ℕ, Bool, true, false, ◌||◌, List, [], ◌∷◌, ◌++◌, Some, None, ◌⊎◌, inl, inr, refl, sym, ap, ◌∙◌, arith}
+use Rattle.std.proofs.Common.{◌≡◌, ℕ, ◌+◌, Bool, true, false, ◌||◌, List, [], ◌∷◌, ◌++◌, Some, None, ◌⊎◌, inl, inr, refl, sym, ap, ◌∙◌, arith}
 use Rattle.std.specs.Prelude.{nat_le}
 use Rattle.std.specs.List.{list_any}
 use Rattle.std.specs.Str.{is_utf8}
 use Rattle.std.proofs.lemmas.Bool.{and_parts, or_right}
 use Rattle.std.proofs.lemmas.Bool.Decides.{nat_tests}
 use Rattle.std.proofs.lemmas.List.Folds.{list_any-append}
-use Rattle.machine.specs.State.{are_watermarks, is_config}
+use Rattle.machine.specs.State.{are_watermarks, are_files, blocks_of, is_config}
+use Rattle.scripts.proofs.FileLemmas.{no_more, files_push, blocks_push}
 use Rattle.scripts.specs.declared.meaning.Item.{Item}
 use Rattle.scripts.specs.declared.meaning.Item.TheVariants as item
 use Rattle.scripts.specs.declared.forms.Word.{Word}
@@ -33,11 +34,13 @@ Asked ls left frames commands given =
 -- what the lines before those left leave known fits, in a script of these lines
 pub record Fits (ls left : List (List ℕ)) (k : Known) : Type 0 where
   pub around : k.around.frames ≡ header_frames ls
-  pub frames : is_within 1 65536 (Some k.config.frames) ≡ true
-  pub swap : nat_le k.config.swap 65536 ≡ true
-  pub marks : are_watermarks k.config.watermarks (header_frames ls) ≡ true
-  pub trace : is_within 1 1048576 (Some k.config.trace) ≡ true
-  pub asked : Asked ls left k.config.frames k.around.commands k.around.given
+  pub frames : is_within 1 65536 (Some k.around.config.frames) ≡ true
+  pub swap : nat_le k.around.config.swap 65536 ≡ true
+  pub marks : are_watermarks k.around.config.watermarks (header_frames ls) ≡ true
+  pub trace : is_within 1 1048576 (Some k.around.config.trace) ≡ true
+  pub files : are_files k.around.config.files ≡ true
+  pub blocks : nat_le (blocks_of k.around.config) 131072 ≡ true
+  pub asked : Asked ls left k.around.config.frames k.around.commands k.around.given
 
 -- a line that asks for no frames, of the header
 other : (ls left more : List (List ℕ)) (n : ℕ) (b c : Bool) (given new : List Word) → frames_line left ≡ frames_line more → Asked ls left n b given → Asked ls more n (b || c) (given ++ new)
@@ -62,82 +65,107 @@ first ls left more m n b c given l e f g h (inr (inr p)) =
 -- ---- one line more
 
 abbrev Line : Known → List ℕ → Item → Type 0
-Line k l i = (is_utf8 l ≡ true) × Tells k.around (is_header_line (words_of l)) (is_frames (word_of (words_of l))) (fault at_frames l) i
+Line k l i = (is_utf8 l ≡ true) × Tells k.around (is_header_line (words_of l)) (is_frames (word_of (words_of l))) (fault at_frames l) (meaning [] (words_of l)) i
 
-step : (ls left more : List (List ℕ)) (k : Known) (l : List ℕ) (i : Item) → left ≡ l ∷ more → meaning (words_of l) ≡ i → Line k l i → Fits ls left k → Fits ls more (after k i)
-step ls left more k l (item.Frames n) e m (u, t) f =
-    let asks : frames_asked (Some l) ≡ n = rw (t.2, m) refl in
+step : (ls left more : List (List ℕ)) (k : Known) (l : List ℕ) (i : Item) → left ≡ l ∷ more → Line k l i → Fits ls left k → Fits ls more (after k i)
+step ls left more k l (item.Frames n) e (u, t) f =
+    let asks : frames_asked (Some l) ≡ n = rw (t.2, t.6) refl in
     record {
       around = f.around;
       frames = t.3;
       swap = f.swap;
       marks = f.marks;
       trace = f.trace;
-      asked = first ls left more k.config.frames n k.around.commands (k.around.commands || false) k.around.given l t.4 t.5 (ap frames_line e ∙ frames_line-frames l more (u, t.0, t.1)) asks f.asked;
+      files = f.files;
+      blocks = f.blocks;
+      asked = first ls left more k.around.config.frames n k.around.commands (k.around.commands || false) k.around.given l t.4 t.5 (ap frames_line e ∙ frames_line-frames l more (u, t.0, t.1)) asks f.asked;
     }
-step ls left more k l (item.Swap n) e m (u, t) f =
+step ls left more k l (item.Swap n) e (u, t) f =
     record {
       around = f.around;
       frames = f.frames;
       swap = (and_parts (nat_le 0 n) (nat_le n 65536) t.2).1;
       marks = f.marks;
       trace = f.trace;
-      asked = other ls left more k.config.frames k.around.commands false k.around.given (word.Swap ∷ []) (ap frames_line e ∙ frames_line-other l more (u, t.0, t.1)) f.asked;
+      files = f.files;
+      blocks = no_more (blocks_of (record k.around.config { swap = n })) 131072 t.3;
+      asked = other ls left more k.around.config.frames k.around.commands false k.around.given (word.Swap ∷ []) (ap frames_line e ∙ frames_line-other l more (u, t.0, t.1)) f.asked;
     }
-step ls left more k l (item.Marks n) e m (u, t) f =
+step ls left more k l (item.File file) e (u, t) f =
+    record {
+      around = f.around;
+      frames = f.frames;
+      swap = f.swap;
+      marks = f.marks;
+      trace = f.trace;
+      files = files_push k.around.config.files file f.files t.2 t.3 t.4;
+      blocks = rw blocks_push (no_more (blocks_of k.around.config + file.pages) 131072 t.5);
+      asked = other ls left more k.around.config.frames k.around.commands false k.around.given (word.File ∷ []) (ap frames_line e ∙ frames_line-other l more (u, t.0, t.1)) f.asked;
+    }
+step ls left more k l (item.Marks n) e (u, t) f =
     record {
       around = f.around;
       frames = f.frames;
       swap = f.swap;
       marks = ap (are_watermarks n) (sym f.around) ∙ t.2;
       trace = f.trace;
-      asked = other ls left more k.config.frames k.around.commands false k.around.given (word.Watermarks ∷ []) (ap frames_line e ∙ frames_line-other l more (u, t.0, t.1)) f.asked;
+      files = f.files;
+      blocks = f.blocks;
+      asked = other ls left more k.around.config.frames k.around.commands false k.around.given (word.Watermarks ∷ []) (ap frames_line e ∙ frames_line-other l more (u, t.0, t.1)) f.asked;
     }
-step ls left more k l (item.Trace n) e m (u, t) f =
+step ls left more k l (item.Trace n) e (u, t) f =
     record {
       around = f.around;
       frames = f.frames;
       swap = f.swap;
       marks = f.marks;
       trace = t.2;
-      asked = other ls left more k.config.frames k.around.commands false k.around.given (word.Trace ∷ []) (ap frames_line e ∙ frames_line-other l more (u, t.0, t.1)) f.asked;
+      files = f.files;
+      blocks = f.blocks;
+      asked = other ls left more k.around.config.frames k.around.commands false k.around.given (word.Trace ∷ []) (ap frames_line e ∙ frames_line-other l more (u, t.0, t.1)) f.asked;
     }
-step ls left more k l (item.Fails what n) e m (u, t) f =
+step ls left more k l (item.Fails what n) e (u, t) f =
     record {
       around = f.around;
       frames = f.frames;
       swap = f.swap;
       marks = f.marks;
       trace = f.trace;
-      asked = other ls left more k.config.frames k.around.commands false k.around.given (word.Fault ∷ []) (ap frames_line e ∙ frames_line-other l more (u, t.0, t.1)) f.asked;
+      files = f.files;
+      blocks = f.blocks;
+      asked = other ls left more k.around.config.frames k.around.commands false k.around.given (word.Fault ∷ []) (ap frames_line e ∙ frames_line-other l more (u, t.0, t.1)) f.asked;
     }
-step ls left more k l item.Nothing e m (u, t) f =
+step ls left more k l item.Nothing e (u, t) f =
     record {
       around = f.around;
       frames = f.frames;
       swap = f.swap;
       marks = f.marks;
       trace = f.trace;
-      asked = other ls left more k.config.frames k.around.commands false k.around.given [] (ap frames_line e ∙ frames_line-other l more (u, t.0, t.1)) f.asked;
+      files = f.files;
+      blocks = f.blocks;
+      asked = other ls left more k.around.config.frames k.around.commands false k.around.given [] (ap frames_line e ∙ frames_line-other l more (u, t.0, t.1)) f.asked;
     }
-step ls left more k l _ e m (u, t) f =
+step ls left more k l _ e (u, t) f =
     record {
       around = f.around;
       frames = f.frames;
       swap = f.swap;
       marks = f.marks;
       trace = f.trace;
-      asked = command ls left more k.config.frames k.around.commands k.around.given [] (ap frames_line e ∙ frames_line-behind l more (rw (u, t) refl)) f.asked;
+      files = f.files;
+      blocks = f.blocks;
+      asked = command ls left more k.around.config.frames k.around.commands k.around.given [] (ap frames_line e ∙ frames_line-behind l more (rw (u, t) refl)) f.asked;
     }
 
 any : (n : ℕ) → nat_le 0 n ≡ true
 any n = grind (arith, nat_tests)
 
 pub fits_start : (ls : List (List ℕ)) → Fits ls ls (at_start (header_frames ls))
-fits_start ls = record { around = refl; frames = refl; swap = refl; marks = any (header_frames ls); trace = refl; asked = inr (inr (refl, refl)) }
+fits_start ls = record { around = refl; frames = refl; swap = refl; marks = any (header_frames ls); trace = refl; files = refl; blocks = refl; asked = inr (inr (refl, refl)) }
 
-pub fits_after : (ls left more : List (List ℕ)) (k : Known) (l : List ℕ) → left ≡ l ∷ more → fault k.around l ≡ None → Fits ls left k → Fits ls more (after k (meaning (words_of l)))
-fits_after ls left more k l e fine f = step ls left more k l (meaning (words_of l)) e refl (tells k.around l fine) f
+pub fits_after : (ls left more : List (List ℕ)) (k : Known) (l : List ℕ) → left ≡ l ∷ more → fault k.around l ≡ None → Fits ls left k → Fits ls more (after k (meaning k.around.config.files (words_of l)))
+fits_after ls left more k l e fine f = step ls left more k l (meaning k.around.config.files (words_of l)) e (tells k.around l fine) f
 
 -- where nothing is left the frames are the header's
 at_end : (ls : List (List ℕ)) (n : ℕ) (b : Bool) (given : List Word) → Asked ls [] n b given → n ≡ header_frames ls
@@ -145,8 +173,8 @@ at_end ls n b given (inl p) = p.0
 at_end ls n b given (inr (inl p)) = p.0 ∙ sym p.1
 at_end ls n b given (inr (inr p)) = p.0 ∙ sym (ap frames_asked p.1)
 
-pub fits_end : (ls : List (List ℕ)) (k : Known) → Fits ls [] k → is_config k.config ≡ true
+pub fits_end : (ls : List (List ℕ)) (k : Known) → Fits ls [] k → is_config k.around.config ≡ true
 fits_end ls k f =
-    let e : k.config.frames ≡ header_frames ls = at_end ls k.config.frames k.around.commands k.around.given f.asked in
-    let marks : are_watermarks k.config.watermarks k.config.frames ≡ true = ap (are_watermarks k.config.watermarks) e ∙ f.marks in
-    rw (f.frames, f.swap, marks, f.trace) refl
+    let e : k.around.config.frames ≡ header_frames ls = at_end ls k.around.config.frames k.around.commands k.around.given f.asked in
+    let marks : are_watermarks k.around.config.watermarks k.around.config.frames ≡ true = ap (are_watermarks k.around.config.watermarks) e ∙ f.marks in
+    rw (f.frames, f.swap, marks, f.trace, f.files, f.blocks) refl

@@ -3,13 +3,14 @@ use Rattle.std.proofs.Common.{◌≡◌, ℕ, ◌+◌, ◌-◌, ◌<◌, ◌≤�
 use Rattle.std.specs.List.{list_any, filter_map, flat_map}
 use Rattle.std.specs.Str.Lines.{lines}
 use Rattle.std.proofs.lemmas.Bool.{cases_lt}
-use Rattle.std.proofs.lemmas.List.{append-nil, drop_more, take_more, map_push, length-drop, nil_from_length}
+use Rattle.std.proofs.lemmas.List.{append-nil, drop_more, take_more, length-drop, nil_from_length}
 use Rattle.std.proofs.lemmas.List.Elements.{filter_map-append}
 use Rattle.std.proofs.lemmas.List.Concat.{flat_map-append}
 use Rattle.std.proofs.lemmas.List.Sums.{fold_push}
 use Rattle.std.proofs.lemmas.List.Folds.{list_any-append}
 use Rattle.std.proofs.lemmas.Grind.{common_steps}
 use Rattle.machine.specs.declared.command.Step.{Step}
+use Rattle.machine.specs.declared.config.File.{File}
 use Rattle.scripts.specs.declared.forms.DeviceCall.TheVariants as call
 use Rattle.scripts.specs.declared.fault.Cause.{Cause}
 use Rattle.scripts.specs.declared.meaning.Item.{Item}
@@ -17,7 +18,7 @@ use Rattle.scripts.specs.Words.{words_of}
 use Rattle.scripts.specs.Faults.{fault}
 use Rattle.scripts.specs.Meaning.{meaning}
 use Rattle.scripts.specs.Header.{config_after, default_config, config_of, header_frames}
-use Rattle.scripts.specs.Script.{items_of, fails, faults_of, steps_of_item, steps_of, is_command, header_word, around_of, fault_at, IsFaultless, IsFirstFault}
+use Rattle.scripts.specs.Script.{with_line, items_of, fails, faults_of, steps_of_item, steps_of, is_command, header_word, around_of, fault_at, IsFaultless, IsFirstFault}
 use Rattle.machine.specs.State.{is_config}
 use Rattle.scripts.proofs.LimitLemmas.{Fits, fits_start, fits_after, fits_end}
 use Rattle.scripts.specs.Reading.{Known, known, at_start, after, option_list}
@@ -49,6 +50,10 @@ commands_push is i = list_any-append is_command is (i ∷ []) ∙ or_false (list
 steps_push : (is : List Item) (i : Item) → steps_of (is ++ i ∷ []) ≡ steps_of is ++ steps_of_item i
 steps_push is i = flat_map-append steps_of_item is (i ∷ []) ∙ ap (λ (ss : List Step). flat_map steps_of_item is ++ ss) (append-nil (steps_of_item i))
 
+-- one more line
+pub items_push : (ls : List (List ℕ)) (l : List ℕ) → items_of (ls ++ l ∷ []) ≡ items_of ls ++ meaning (config_of (items_of ls)).files (words_of l) ∷ []
+items_push ls l = fold_push with_line [] ls l
+
 -- one more line of known meaning
 known_push : (frames : ℕ) (is : List Item) (i : Item) → known frames (is ++ i ∷ []) ≡ after (known frames is) i
 known_push frames is i =
@@ -78,16 +83,20 @@ fault_is ls n k line e f = ap (λ (x : List ℕ). fault (around_of (header_frame
 
 -- a faultless line is taken up
 pub goes_on : (ls left : List (List ℕ)) (n : ℕ) (k k' : Known) (line : List ℕ) (more : List (List ℕ)) → SoFar ls left n k → left ≡ line ∷ more
-    → fault k.around line ≡ None → k' ≡ after k (meaning (words_of line)) → SoFar ls more (n + 1) k'
+    → fault k.around line ≡ None → k' ≡ after k (meaning k.around.config.files (words_of line)) → SoFar ls more (n + 1) k'
 goes_on ls left n k k' line more so_far e fine added =
     let next = by_place ls n line more (sym so_far.left_is ∙ e) in
     let here : fault_at ls n ≡ None = fault_is ls n k line so_far.known_is next.line_is ∙ fine in
-    let items : items_of (take (n + 1) ls) ≡ items_of (take n ls) ++ meaning (words_of line) ∷ [] =
-    ap items_of (take_more ls n [] next.there) ∙ map_push (λ (l : List ℕ). meaning (words_of l)) (take n ls) (get_or ls n []) ∙ ap (λ (l : List ℕ). items_of (take n ls) ++ meaning (words_of l) ∷ []) next.line_is in
+    let before = items_of (take n ls) in
+    let files_is : k.around.config.files ≡ (config_of before).files = ap (λ (x : Known). x.around.config.files) so_far.known_is in
+    let i = meaning k.around.config.files (words_of line) in
+    let items : items_of (take (n + 1) ls) ≡ before ++ i ∷ [] =
+    ap items_of (take_more ls n [] next.there) ∙ items_push (take n ls) (get_or ls n []) ∙ ap (λ (l : List ℕ). before ++ meaning (config_of before).files (words_of l) ∷ []) next.line_is
+    ∙ ap (λ (fs : List File). before ++ meaning fs (words_of line) ∷ []) (sym files_is) in
     record {
       left_is = sym next.more_is;
       within = omega (arith, next.there);
-      known_is = added ∙ ap (λ (x : Known). after x (meaning (words_of line))) so_far.known_is ∙ sym (known_push (header_frames ls) (items_of (take n ls)) (meaning (words_of line))) ∙ ap (λ (is : List Item). known (header_frames ls) is) (sym items);
+      known_is = added ∙ ap (λ (x : Known). after x i) so_far.known_is ∙ sym (known_push (header_frames ls) before i) ∙ ap (λ (is : List Item). known (header_frames ls) is) (sym items);
       clean = λ i h. elim (cases_lt i n) [ inl lt ↦ so_far.clean i lt | inr le ↦ (let same : i ≡ n = omega arith in subst (λ (j : ℕ). fault_at ls j ≡ None) (sym same) here) ];
       fits = rw added (fits_after ls left more k line e fine so_far.fits);
     }
@@ -108,11 +117,11 @@ faults ls left n k line more cause so_far e faulty =
 -- all lines are read
 pub record IsRead (ls : List (List ℕ)) (k : Known) : Type 0 where
   pub faultless : IsFaultless ls
-  pub config : k.config ≡ config_of (items_of ls)
+  pub config : k.around.config ≡ config_of (items_of ls)
   pub read_faults : k.read_faults ≡ faults_of call.Read (items_of ls)
   pub write_faults : k.write_faults ≡ faults_of call.Write (items_of ls)
   pub steps : k.steps ≡ steps_of (items_of ls)
-  pub limits : is_config k.config ≡ true
+  pub limits : is_config k.around.config ≡ true
 
 -- where nothing is left, all is read
 pub ends : (ls : List (List ℕ)) (rest : List ℕ) (n : ℕ) (k : Known) → SoFar ls (lines rest) n k → length rest ≡ 0 → IsRead ls k
@@ -124,7 +133,7 @@ ends ls rest n k so_far e =
     let known_all : k ≡ known (header_frames ls) (items_of ls) = so_far.known_is ∙ ap (λ (l : List (List ℕ)). known (header_frames ls) (items_of l)) whole in
     record {
       faultless = λ i h. so_far.clean i (omega (arith, all, h));
-      config = ap (λ (x : Known). x.config) known_all;
+      config = ap (λ (x : Known). x.around.config) known_all;
       read_faults = ap (λ (x : Known). x.read_faults) known_all;
       write_faults = ap (λ (x : Known). x.write_faults) known_all;
       steps = ap (λ (x : Known). x.steps) known_all;

@@ -1,24 +1,26 @@
 -- The faults of a line.
-use Rattle.std.specs.Prelude.{ℕ, Bool, true, false, ◌&&◌, ◌||◌, not, List, [], ◌∷◌, ◌^◌, length, Option, Some, None, is_some, nat_lt, nat_le, if◌then◌else◌}
+use Rattle.std.specs.Prelude.{ℕ, ◌+◌, Bool, true, false, ◌&&◌, ◌||◌, not, List, [], ◌∷◌, ◌^◌, length, Option, Some, None, is_some, nat_lt, nat_le, if◌then◌else◌}
 use Rattle.std.specs.List.{list_all, list_any, zip}
 use Rattle.std.specs.Str.{is_utf8}
 use denote.Ref.{Bor}
-use Rattle.machine.specs.Names.{is_path}
+use Rattle.machine.specs.declared.config.Config.{Config}
+use Rattle.machine.specs.declared.limit.TheConstants.{MOST_FILES, MOST_BLOCKS}
+use Rattle.machine.specs.Names.{is_name, is_path}
 use Rattle.machine.specs.Numbers.{is_numeral, number_below}
-use Rattle.machine.specs.State.{are_watermarks}
+use Rattle.machine.specs.State.{are_watermarks, blocks_of}
 use Rattle.scripts.specs.declared.fault.Cause.{Cause}
-use Rattle.scripts.specs.declared.fault.Cause.TheVariants.{NotText, UnknownWord, MissingArgument, ExtraArgument, BadNumber, BadName, HeaderAfterCommands, HeaderTwice}
+use Rattle.scripts.specs.declared.fault.Cause.TheVariants.{NotText, UnknownWord, MissingArgument, ExtraArgument, BadNumber, BadName, HeaderAfterCommands, HeaderTwice, TooManyFiles, TooManyBlocks}
 use Rattle.scripts.specs.declared.forms.Word.{Word}
 use Rattle.scripts.specs.declared.forms.Word.TheVariants as word
 use Rattle.scripts.specs.declared.forms.Speaker.TheVariants as speaker
 use Rattle.scripts.specs.declared.forms.Kind.{Kind}
-use Rattle.scripts.specs.declared.forms.Kind.TheVariants.{Number, Path, Actor, Call, Any, Line}
+use Rattle.scripts.specs.declared.forms.Kind.TheVariants.{Number, Path, Name, Actor, Call, Any, Line}
 use Rattle.scripts.specs.declared.forms.Manner.{Manner}
 use Rattle.scripts.specs.declared.forms.Manner.TheVariants as manner
 use Rattle.scripts.specs.Forms.{form_of, word_named, same_word, takes_line, may_stand, actor_named, call_named}
 use Rattle.scripts.specs.Context.{Around}
 use Rattle.scripts.specs.Words.{words_of, is_comment}
-use Rattle.scripts.specs.Meaning.{at, marks_of}
+use Rattle.scripts.specs.Meaning.{at, number_value, marks_of, has_name}
 
 -- what a reference to a word points to
 abbrev pub now : Bor (List ℕ) → List ℕ
@@ -32,6 +34,7 @@ is_within least most (Some n) = nat_le least n && nat_le n most
 abbrev pub word_fits : Kind → List ℕ → Bool
 word_fits (Number least most) word = true
 word_fits Path word = true
+word_fits Name word = true
 word_fits Actor word = is_numeral word || is_some (actor_named word)
 word_fits Call word = is_some (call_named word)
 word_fits Any word = true
@@ -41,15 +44,17 @@ word_fits Line word = true
 abbrev pub number_fits : Kind → List ℕ → Bool
 number_fits (Number least most) word = is_within least most (number_below (2 ^ 32) word)
 number_fits Path word = true
+number_fits Name word = true
 number_fits Actor word = is_some (actor_named word) || is_some (number_below (2 ^ 32) word)
 number_fits Call word = true
 number_fits Any word = true
 number_fits Line word = true
 
--- an argument is a path, where its place asks for one
+-- an argument is a path, or a file's name, where its place asks for one
 abbrev pub name_fits : Kind → List ℕ → Bool
 name_fits (Number least most) word = true
 name_fits Path word = is_path word
+name_fits Name word = is_name word
 name_fits Actor word = true
 name_fits Call word = true
 name_fits Any word = true
@@ -65,6 +70,20 @@ all_fit fits kinds words = list_all (λ p. fits p.0 p.1) (zip kinds words)
 -- the daemon's marks, if the line gives them, are in order and within the frames
 abbrev pub marks_fit : ℕ → Word → List (List ℕ) → Bool
 marks_fit frames w arguments = not (same_word w word.Watermarks) || are_watermarks (marks_of (at arguments 0) (at arguments 1)) frames
+
+-- the line gives a file a name that one before it has
+abbrev pub names_again : Config → Word → List (List ℕ) → Bool
+names_again config w arguments = same_word w word.File && list_any (has_name (at arguments 0)) config.files
+
+-- the line asks for a file where there are as many as there can be
+abbrev pub files_full : Config → Word → Bool
+files_full config w = same_word w word.File && nat_le MOST_FILES (length config.files)
+
+-- how many blocks the header asks for up to this line, where the line asks for some
+abbrev pub blocks_with : Config → Word → List (List ℕ) → ℕ
+blocks_with config word.Swap arguments = blocks_of (record config { swap = number_value (at arguments 0) })
+blocks_with config word.File arguments = blocks_of config + number_value (at arguments 1)
+blocks_with config w arguments = 0
 
 -- the cause of the first test that holds
 abbrev pub first_of : List (Bool × Cause) → Option Cause
@@ -82,7 +101,9 @@ word_faults around how task word arguments =
     ∷ (not (marks_fit around.frames word arguments), BadNumber)
     ∷ (not (all_fit name_fits form.arguments arguments), BadName)
     ∷ (form.header && around.commands, HeaderAfterCommands)
-    ∷ (form.once && list_any (same_word word) around.given, HeaderTwice)
+    ∷ ((form.once && list_any (same_word word) around.given) || names_again around.config word arguments, HeaderTwice)
+    ∷ (files_full around.config word, TooManyFiles)
+    ∷ (nat_lt MOST_BLOCKS (blocks_with around.config word arguments), TooManyBlocks)
     ∷ []
 
 abbrev pub named_faults : Around → Manner → Option (List ℕ) → Option Word → List (List ℕ) → List (Bool × Cause)

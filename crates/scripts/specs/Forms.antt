@@ -55,6 +55,7 @@ byte = kind.Number 0 255
 abbrev pub form_of : Word → Row
 form_of word.Frames = header (codes "frames") (kind.Number 1 65536 ∷ [])
 form_of word.Swap = header (codes "swap") (kind.Number 0 65536 ∷ [])
+form_of word.File = header_many (codes "file") (kind.Name ∷ kind.Number 1 4294967295 ∷ [])
 form_of word.Watermarks = header (codes "watermarks") (number ∷ number ∷ [])
 form_of word.Trace = header (codes "trace") (kind.Number 1 1048576 ∷ [])
 form_of word.Fault = header_many (codes "fault") (kind.Call ∷ kind.Number 1 4294967295 ∷ [])
@@ -67,6 +68,8 @@ form_of word.Cat = shell (codes "cat") (kind.Path ∷ kind.Any ∷ [])
 form_of word.Protection = shell (codes "prot") (kind.Path ∷ kind.Path ∷ [])
 form_of word.Write = task (codes "write") (number ∷ number ∷ byte ∷ [])
 form_of word.Read = task (codes "read") (number ∷ number ∷ [])
+form_of word.FileWrite = task (codes "fwrite") (kind.Name ∷ number ∷ number ∷ byte ∷ [])
+form_of word.FileRead = task (codes "fread") (kind.Name ∷ number ∷ number ∷ [])
 form_of word.Fork = task (codes "fork") (number ∷ [])
 form_of word.Free = task (codes "free") (number ∷ [])
 form_of word.Exit = task (codes "exit") []
@@ -77,8 +80,8 @@ form_of word.Finish = part (codes "finish") (kind.Actor ∷ [])
 
 abbrev pub words : List Word
 words =
-    word.Frames ∷ word.Swap ∷ word.Watermarks ∷ word.Trace ∷ word.Fault ∷ word.Group ∷ word.Rmdir ∷ word.Task ∷ word.Attach ∷ word.Set ∷ word.Cat ∷ word.Protection ∷ word.Write ∷ word.Read
-    ∷ word.Fork ∷ word.Free ∷ word.Exit ∷ word.Daemon ∷ word.Begin ∷ word.Step ∷ word.Finish ∷ []
+    word.Frames ∷ word.Swap ∷ word.File ∷ word.Watermarks ∷ word.Trace ∷ word.Fault ∷ word.Group ∷ word.Rmdir ∷ word.Task ∷ word.Attach ∷ word.Set ∷ word.Cat ∷ word.Protection ∷ word.Write
+    ∷ word.Read ∷ word.FileWrite ∷ word.FileRead ∷ word.Fork ∷ word.Free ∷ word.Exit ∷ word.Daemon ∷ word.Begin ∷ word.Step ∷ word.Finish ∷ []
 
 abbrev pub same_speaker : Speaker → Speaker → Bool
 same_speaker speaker.Shell speaker.Shell = true
@@ -125,25 +128,28 @@ call_named text =
 abbrev pub place : Word → ℕ
 place word.Frames = 0
 place word.Swap = 1
-place word.Watermarks = 2
-place word.Trace = 3
-place word.Fault = 4
-place word.Group = 5
-place word.Rmdir = 6
-place word.Task = 7
-place word.Attach = 8
-place word.Set = 9
-place word.Cat = 10
-place word.Protection = 11
-place word.Write = 12
-place word.Read = 13
-place word.Fork = 14
-place word.Free = 15
-place word.Exit = 16
-place word.Daemon = 17
-place word.Begin = 18
-place word.Step = 19
-place word.Finish = 20
+place word.File = 2
+place word.Watermarks = 3
+place word.Trace = 4
+place word.Fault = 5
+place word.Group = 6
+place word.Rmdir = 7
+place word.Task = 8
+place word.Attach = 9
+place word.Set = 10
+place word.Cat = 11
+place word.Protection = 12
+place word.Write = 13
+place word.Read = 14
+place word.FileWrite = 15
+place word.FileRead = 16
+place word.Fork = 17
+place word.Free = 18
+place word.Exit = 19
+place word.Daemon = 20
+place word.Begin = 21
+place word.Step = 22
+place word.Finish = 23
 
 abbrev pub same_word : Word → Word → Bool
 same_word v w = place v == place w

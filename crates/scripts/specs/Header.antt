@@ -1,5 +1,5 @@
 -- The header: how large the machine is.
-use Rattle.std.specs.Prelude.{ℕ, Bool, true, false, ◌&&◌, ◌||◌, List, [], ◌∷◌, fold, find, Option, Some, None, is_none, if◌then◌else◌}
+use Rattle.std.specs.Prelude.{ℕ, Bool, true, false, ◌&&◌, ◌||◌, List, [], ◌∷◌, ◌++◌, fold, find, Option, Some, None, is_none, if◌then◌else◌}
 use Rattle.std.specs.List.{take_while}
 use Rattle.std.specs.Str.{is_utf8}
 use Rattle.machine.specs.declared.config.Config.{Config}
@@ -18,11 +18,12 @@ use Rattle.scripts.specs.Faults.{fault}
 
 -- what holds where the header says nothing
 abbrev pub default_config : Config
-default_config = record { frames = 64; swap = 0; watermarks = record { low = 0; high = 0 }; trace = 65536 }
+default_config = record { frames = 64; swap = 0; files = []; watermarks = record { low = 0; high = 0 }; trace = 65536 }
 
 abbrev pub config_after : Config → Item → Config
 config_after c (item.Frames n) = record c { frames = n }
 config_after c (item.Swap n) = record c { swap = n }
+config_after c (item.File file) = record c { files = c.files ++ file ∷ [] }
 config_after c (item.Marks m) = record c { watermarks = m }
 config_after c (item.Trace n) = record c { trace = n }
 config_after c item.Nothing = c
@@ -68,7 +69,7 @@ frames_line ls = find (λ l. is_frames (word_of (words_of l))) (header_lines ls)
 
 -- of that line, before which neither a command nor another `frames` stands: so nothing before it makes it faulty
 abbrev pub at_frames : Around
-at_frames = record { frames = default_config.frames; commands = false; given = [] }
+at_frames = record { frames = default_config.frames; commands = false; given = []; config = default_config }
 
 -- the frames of a machine of which the header says this alone
 abbrev pub frames_of : Item → ℕ
@@ -77,7 +78,7 @@ frames_of i = (config_after default_config i).frames
 -- the frames that the line asks for; the default where there is none, or it has a fault
 abbrev pub frames_asked : Option (List ℕ) → ℕ
 frames_asked None = default_config.frames
-frames_asked (Some l) = if is_none (fault at_frames l) then frames_of (meaning (words_of l)) else default_config.frames
+frames_asked (Some l) = if is_none (fault at_frames l) then frames_of (meaning default_config.files (words_of l)) else default_config.frames
 
 abbrev pub header_frames : List (List ℕ) → ℕ
 header_frames ls = frames_asked (frames_line ls)

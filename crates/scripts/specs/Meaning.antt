@@ -1,13 +1,16 @@
 -- What a line says.
-use Rattle.std.specs.Prelude.{ℕ, ◌^◌, List, [], ◌∷◌, Option, Some, None, unwrap_or, slice_index_or, if◌then◌else◌}
+use Rattle.std.specs.Prelude.{ℕ, Bool, ◌^◌, List, [], ◌∷◌, Option, Some, None, min, position, unwrap_or, slice_index_or, if◌then◌else◌}
+use Rattle.std.specs.Str.{bytes_eq}
 use Rattle.machine.specs.declared.command.Actor.{Actor}
 use Rattle.machine.specs.declared.command.Actor.TheVariants as actor
 use Rattle.machine.specs.declared.command.Command.{Command}
 use Rattle.machine.specs.declared.command.Command.TheVariants as command
-use Rattle.machine.specs.declared.event.Place.TheVariants.{Virtual}
+use Rattle.machine.specs.declared.event.Place.TheVariants as place
 use Rattle.machine.specs.declared.event.Op.{Op}
 use Rattle.machine.specs.declared.event.Op.TheVariants as op
+use Rattle.machine.specs.declared.config.File.{File}
 use Rattle.machine.specs.declared.config.Watermarks.{Watermarks}
+use Rattle.machine.specs.declared.limit.TheConstants.{MOST_FILES}
 use Rattle.machine.specs.Numbers.{is_numeral, number_below}
 use Rattle.scripts.specs.declared.meaning.Item.{Item}
 use Rattle.scripts.specs.declared.meaning.Item.TheVariants as item
@@ -48,46 +51,63 @@ abbrev pub marks_of : List ℕ → List ℕ → Watermarks
 marks_of low high = record { low = number_value low; high = number_value high }
 
 abbrev pub access_to : List ℕ → List ℕ → Op → Command
-access_to page offset op = command.Access (Virtual (number_value page) (number_value offset)) op
+access_to page offset op = command.Access (place.Virtual (number_value page) (number_value offset)) op
 
--- of a line with this word and these arguments, behind a task's number where there is one; what `begin` says, the line behind it tells
-abbrev pub word_means : Option (List ℕ) → Word → List (List ℕ) → Item
-word_means task word.Frames a = item.Frames (number_value (at a 0))
-word_means task word.Swap a = item.Swap (number_value (at a 0))
-word_means task word.Watermarks a = item.Marks (marks_of (at a 0) (at a 1))
-word_means task word.Trace a = item.Trace (number_value (at a 0))
-word_means task word.Fault a = item.Fails (call_value (at a 0)) (number_value (at a 1))
-word_means task word.Group a = item.Does (actor_of task) (command.Group (at a 0))
-word_means task word.Rmdir a = item.Does (actor_of task) (command.Rmdir (at a 0))
-word_means task word.Task a = item.Does (actor_of task) (command.Task (number_value (at a 0)) (at a 1))
-word_means task word.Attach a = item.Does (actor_of task) (command.Attach (number_value (at a 0)) (at a 1))
-word_means task word.Set a = item.Does (actor_of task) (command.Set (at a 0) (at a 1) (at a 2))
-word_means task word.Cat a = item.Does (actor_of task) (command.Cat (at a 0) (at a 1))
-word_means task word.Protection a = item.Does (actor_of task) (command.Protection (at a 0) (at a 1))
-word_means task word.Write a = item.Does (actor_of task) (access_to (at a 0) (at a 1) (op.Write (byte_value (at a 2))))
-word_means task word.Read a = item.Does (actor_of task) (access_to (at a 0) (at a 1) op.Read)
-word_means task word.Fork a = item.Does (actor_of task) (command.Fork (number_value (at a 0)))
-word_means task word.Free a = item.Does (actor_of task) (command.Free (number_value (at a 0)))
-word_means task word.Exit a = item.Does (actor_of task) command.Exit
-word_means task word.Daemon a = item.Does actor.Daemon command.Daemon
-word_means task word.Begin a = item.Nothing
-word_means task word.Step a = item.Advances (actor_value (at a 0))
-word_means task word.Finish a = item.Finishes (actor_value (at a 0))
+-- the file of this name has it
+abbrev pub has_name : List ℕ → File → Bool
+has_name name file = bytes_eq file.name name
 
-abbrev pub named_means : Option (List ℕ) → Option Word → List (List ℕ) → Item
-named_means task None a = item.Nothing
-named_means task (Some word) a = word_means task word a
+-- the number of the file of this name: its place. Of a name that none has it is one that no file has, since there are at most 64 in a faultless script
+abbrev pub file_number : List File → List ℕ → ℕ
+file_number files name = min (unwrap_or (position (has_name name) files) MOST_FILES) MOST_FILES
 
-abbrev pub task_means : List ℕ → List (List ℕ) → Item
-task_means task [] = item.Nothing
-task_means task (word ∷ a) = named_means (Some task) (word_named speaker.Task word) a
+abbrev pub file_access_to : List File → List ℕ → List ℕ → List ℕ → Op → Command
+file_access_to files name page offset op = command.Access (place.File (file_number files name) (number_value page) (number_value offset)) op
+
+abbrev pub file_of : List ℕ → List ℕ → File
+file_of name pages = record { name = name; pages = number_value pages }
+
+-- of a line with this word and these arguments, behind a task's number where there is one, where the header has these files; what `begin` says, the line behind it tells
+abbrev pub word_means : List File → Option (List ℕ) → Word → List (List ℕ) → Item
+word_means files task word.Frames a = item.Frames (number_value (at a 0))
+word_means files task word.Swap a = item.Swap (number_value (at a 0))
+word_means files task word.File a = item.File (file_of (at a 0) (at a 1))
+word_means files task word.Watermarks a = item.Marks (marks_of (at a 0) (at a 1))
+word_means files task word.Trace a = item.Trace (number_value (at a 0))
+word_means files task word.Fault a = item.Fails (call_value (at a 0)) (number_value (at a 1))
+word_means files task word.Group a = item.Does (actor_of task) (command.Group (at a 0))
+word_means files task word.Rmdir a = item.Does (actor_of task) (command.Rmdir (at a 0))
+word_means files task word.Task a = item.Does (actor_of task) (command.Task (number_value (at a 0)) (at a 1))
+word_means files task word.Attach a = item.Does (actor_of task) (command.Attach (number_value (at a 0)) (at a 1))
+word_means files task word.Set a = item.Does (actor_of task) (command.Set (at a 0) (at a 1) (at a 2))
+word_means files task word.Cat a = item.Does (actor_of task) (command.Cat (at a 0) (at a 1))
+word_means files task word.Protection a = item.Does (actor_of task) (command.Protection (at a 0) (at a 1))
+word_means files task word.Write a = item.Does (actor_of task) (access_to (at a 0) (at a 1) (op.Write (byte_value (at a 2))))
+word_means files task word.Read a = item.Does (actor_of task) (access_to (at a 0) (at a 1) op.Read)
+word_means files task word.FileWrite a = item.Does (actor_of task) (file_access_to files (at a 0) (at a 1) (at a 2) (op.Write (byte_value (at a 3))))
+word_means files task word.FileRead a = item.Does (actor_of task) (file_access_to files (at a 0) (at a 1) (at a 2) op.Read)
+word_means files task word.Fork a = item.Does (actor_of task) (command.Fork (number_value (at a 0)))
+word_means files task word.Free a = item.Does (actor_of task) (command.Free (number_value (at a 0)))
+word_means files task word.Exit a = item.Does (actor_of task) command.Exit
+word_means files task word.Daemon a = item.Does actor.Daemon command.Daemon
+word_means files task word.Begin a = item.Nothing
+word_means files task word.Step a = item.Advances (actor_value (at a 0))
+word_means files task word.Finish a = item.Finishes (actor_value (at a 0))
+
+abbrev pub named_means : List File → Option (List ℕ) → Option Word → List (List ℕ) → Item
+named_means files task None a = item.Nothing
+named_means files task (Some word) a = word_means files task word a
+
+abbrev pub task_means : List File → List ℕ → List (List ℕ) → Item
+task_means files task [] = item.Nothing
+task_means files task (word ∷ a) = named_means files (Some task) (word_named speaker.Task word) a
 
 -- of a line without its `begin`
-abbrev pub bare_means : List (List ℕ) → Item
-bare_means [] = item.Nothing
-bare_means (first ∷ more) =
-    if is_numeral first then task_means first more
-    else named_means None (word_named speaker.Shell first) more
+abbrev pub bare_means : List File → List (List ℕ) → Item
+bare_means files [] = item.Nothing
+bare_means files (first ∷ more) =
+    if is_numeral first then task_means files first more
+    else named_means files None (word_named speaker.Shell first) more
 
 -- what is begun is not finished, and control does what the shell would do
 abbrev pub only_begun : Item → Item
@@ -95,10 +115,10 @@ only_begun (item.Does actor.Shell what) = item.Begins actor.Control what
 only_begun (item.Does who what) = item.Begins who what
 only_begun i = i
 
--- what the words of a faultless line say
-abbrev pub meaning : List (List ℕ) → Item
-meaning [] = item.Nothing
-meaning (first ∷ more) =
+-- what the words of a faultless line say, where the header has these files
+abbrev pub meaning : List File → List (List ℕ) → Item
+meaning files [] = item.Nothing
+meaning files (first ∷ more) =
     if is_comment first then item.Nothing
-    else if takes_line (word_named speaker.Shell first) then only_begun (bare_means more)
-    else bare_means (first ∷ more)
+    else if takes_line (word_named speaker.Shell first) then only_begun (bare_means files more)
+    else bare_means files (first ∷ more)

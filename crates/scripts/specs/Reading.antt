@@ -1,7 +1,6 @@
 -- What has been read of a script, line by line. No public clause cites it.
 use Rattle.std.specs.Prelude.{◌≡◌, ℕ, true, false, ◌&&◌, ◌||◌, List, [], ◌∷◌, ◌++◌, Option, Some, None}
 use Rattle.machine.specs.declared.command.Step.{Step}
-use Rattle.machine.specs.declared.config.Config.{Config}
 use Rattle.scripts.specs.declared.meaning.Item.{Item}
 use Rattle.scripts.specs.declared.forms.Word.TheVariants as word
 use Rattle.scripts.specs.declared.forms.DeviceCall.{DeviceCall}
@@ -12,23 +11,22 @@ use Rattle.scripts.specs.declared.header.Part.TheVariants as part
 use Rattle.std.specs.Str.{is_utf8}
 use Rattle.scripts.specs.Words.{words_of}
 use Rattle.scripts.specs.Context.{Around, around}
-use Rattle.scripts.specs.Header.{config_after, config_of, word_of, is_header_line, is_frames}
+use Rattle.scripts.specs.Header.{config_after, word_of, is_header_line, is_frames}
 use Rattle.scripts.specs.Script.{fails, faults_of, steps_of_item, steps_of, is_command, header_word, around_of}
 
 -- what the lines read so far leave to be known: for the faults of the next line, and for the script
 pub record Known : Type 0 where
   pub around : Around
-  pub config : Config
   pub read_faults : List ℕ
   pub write_faults : List ℕ
   pub steps : List Step
 
 abbrev pub known_by : Reading → Known
-known_by r = record { around = around r.context; config = r.script.config; read_faults = r.script.read_faults.items; write_faults = r.script.write_faults.items; steps = r.script.steps.items }
+known_by r = record { around = around r.context; read_faults = r.read_faults.items; write_faults = r.write_faults.items; steps = r.steps.items }
 
 -- what lines that say this leave known, where the header asks for so many frames
 abbrev pub known : ℕ → List Item → Known
-known frames is = record { around = around_of frames is; config = config_of is; read_faults = faults_of call.Read is; write_faults = faults_of call.Write is; steps = steps_of is }
+known frames is = record { around = around_of frames is; read_faults = faults_of call.Read is; write_faults = faults_of call.Write is; steps = steps_of is }
 
 abbrev pub at_start : ℕ → Known
 at_start frames = known frames []
@@ -49,8 +47,7 @@ with_step k s = record k { around = record k.around { commands = true }; steps =
 -- one more item
 abbrev pub after : Known → Item → Known
 after k i = record {
-  around = record { frames = k.around.frames; commands = k.around.commands || is_command i; given = k.around.given ++ option_list (header_word i) };
-  config = config_after k.config i;
+  around = record { frames = k.around.frames; commands = k.around.commands || is_command i; given = k.around.given ++ option_list (header_word i); config = config_after k.around.config i };
   read_faults = k.read_faults ++ option_list (fails call.Read i);
   write_faults = k.write_faults ++ option_list (fails call.Write i);
   steps = k.steps ++ steps_of_item i;

@@ -1,5 +1,5 @@
 -- What a script says, and its first faulty line.
-use Rattle.std.specs.Prelude.{◌≡◌, ℕ, ◌+◌, ◌-◌, ◌<◌, ◌≤◌, Bool, true, false, List, [], ◌∷◌, length, map, take, Option, Some, None, slice_index_or}
+use Rattle.std.specs.Prelude.{◌≡◌, ℕ, ◌+◌, ◌-◌, ◌<◌, ◌≤◌, Bool, true, false, List, [], ◌∷◌, ◌++◌, length, fold, take, Option, Some, None, slice_index_or}
 use Rattle.std.specs.List.{list_any, filter_map, flat_map}
 use Rattle.machine.specs.declared.command.Step.{Step}
 use Rattle.machine.specs.declared.command.Step.TheVariants as step
@@ -16,13 +16,17 @@ use Rattle.scripts.specs.Words.{words_of}
 use Rattle.scripts.specs.Context.{Around}
 use Rattle.scripts.specs.Faults.{fault}
 use Rattle.scripts.specs.Meaning.{meaning}
-use Rattle.scripts.specs.Header.{header_frames}
+use Rattle.scripts.specs.Header.{config_of, header_frames}
 
 -- ---- what a script says
 
+-- what one line more says behind those that say this: a file's name is that of a file before it
+abbrev pub with_line : List Item → List ℕ → List Item
+with_line is l = is ++ meaning (config_of is).files (words_of l) ∷ []
+
 -- what each of these lines says
 abbrev pub items_of : List (List ℕ) → List Item
-items_of ls = map (λ l. meaning (words_of l)) ls
+items_of ls = fold with_line [] ls
 
 -- which call of the kind is to fail, where the line says so of one
 abbrev pub fails : DeviceCall → Item → Option ℕ
@@ -43,6 +47,7 @@ steps_of_item (item.Finishes actor) = step.Finish actor ∷ []
 steps_of_item item.Nothing = []
 steps_of_item (item.Frames n) = []
 steps_of_item (item.Swap n) = []
+steps_of_item (item.File file) = []
 steps_of_item (item.Marks m) = []
 steps_of_item (item.Trace n) = []
 steps_of_item (item.Fails what n) = []
@@ -60,6 +65,7 @@ is_command (item.Finishes actor) = true
 is_command item.Nothing = false
 is_command (item.Frames n) = false
 is_command (item.Swap n) = false
+is_command (item.File file) = false
 is_command (item.Marks m) = false
 is_command (item.Trace n) = false
 is_command (item.Fails what n) = false
@@ -67,6 +73,7 @@ is_command (item.Fails what n) = false
 abbrev pub header_word : Item → Option Word
 header_word (item.Frames n) = Some word.Frames
 header_word (item.Swap n) = Some word.Swap
+header_word (item.File file) = Some word.File
 header_word (item.Marks m) = Some word.Watermarks
 header_word (item.Trace n) = Some word.Trace
 header_word (item.Fails what n) = Some word.Fault
@@ -78,7 +85,7 @@ header_word (item.Finishes actor) = None
 
 -- what a line has to know of the others, where the header asks for so many frames and the lines before say this
 abbrev pub around_of : ℕ → List Item → Around
-around_of frames is = record { frames = frames; commands = list_any is_command is; given = filter_map header_word is }
+around_of frames is = record { frames = frames; commands = list_any is_command is; given = filter_map header_word is; config = config_of is }
 
 -- why a line is faulty behind those before it, if it is; by its place, from 0
 abbrev pub fault_at : List (List ℕ) → ℕ → Option Cause

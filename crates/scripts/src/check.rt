@@ -1,17 +1,23 @@
 //! Which fault a line with a known word has.
 
-ghost use Rattle.std.specs.Prelude.{◌≡◌, length, IfNone};
+ghost use Rattle.std.specs.Prelude.{◌≡◌, ◌+◌, nat_lt, sum, length, IfNone};
+ghost use Rattle.std.specs.List.{list_any};
 ghost use Rattle.std.specs.Option.{option_map};
+ghost use Rattle.machine.specs.State.{sizes_of};
 ghost use Rattle.scripts.specs.Forms.{form_of};
 ghost use Rattle.scripts.specs.Context.{around};
-ghost use Rattle.scripts.specs.Faults.{word_fits, number_fits, name_fits, all_fit, task_fits, marks_fit, first_of, word_faults, now};
+ghost use Rattle.scripts.specs.Faults.{word_fits, number_fits, name_fits, all_fit, task_fits, marks_fit, names_again, files_full, blocks_with, first_of, word_faults, now};
+ghost use Rattle.scripts.specs.Meaning.{has_name};
 
 use crate::context::Context;
 use crate::fault::Cause;
 use crate::forms::{Kind, Manner, Word, actor_named, call_named, may_stand};
-use crate::meaning::marks_of;
+use crate::meaning::{has_name, marks_of, number_value};
 use crate::words::Token;
-use text_forms::name::is_path;
+use files::blocks_behind;
+use machine::config::{Config, File};
+use machine::limit::{MOST_BLOCKS, MOST_FILES};
+use text_forms::name::{is_name, is_path};
 
 pub fn word_fits(kind: Kind, word: &Token<'_>) -> bool
     ensures { result ≡ word_fits kind word.now }
@@ -19,7 +25,7 @@ pub fn word_fits(kind: Kind, word: &Token<'_>) -> bool
     match kind {
         Kind::Actor => word.is_digits() || actor_named(word.text()).is_some(),
         Kind::Call => call_named(word.text()).is_some(),
-        Kind::Number { .. } | Kind::Path | Kind::Any | Kind::Line => true,
+        Kind::Number { .. } | Kind::Path | Kind::Name | Kind::Any | Kind::Line => true,
     }
 }
 
@@ -32,7 +38,7 @@ pub fn number_fits(kind: Kind, word: &Token<'_>) -> bool
             None => false,
         },
         Kind::Actor => actor_named(word.text()).is_some() || word.number().is_some(),
-        Kind::Path | Kind::Call | Kind::Any | Kind::Line => true,
+        Kind::Path | Kind::Name | Kind::Call | Kind::Any | Kind::Line => true,
     }
 }
 
@@ -41,6 +47,7 @@ pub fn name_fits(kind: Kind, word: &Token<'_>) -> bool
 {
     match kind {
         Kind::Path => is_path(word.text()),
+        Kind::Name => is_name(word.text()),
         Kind::Number { .. } | Kind::Actor | Kind::Call | Kind::Any | Kind::Line => true,
     }
 }
@@ -92,6 +99,56 @@ fn marks_fit(frames: u32, word: Word, arguments: &[Token<'_>]) -> bool
     marks_of(&arguments[0], &arguments[1]).are_in_order(frames)
 }
 
+fn is_taken(files: &[File], name: &Token<'_>) -> bool
+    ensures { result ≡ list_any (has_name name.now) files.now }
+{
+    files.iter().any(|file| has_name(name, file))
+}
+
+/// Whether the line gives a file a name that one before it has.
+fn names_again(config: &Config, word: Word, arguments: &[Token<'_>]) -> bool
+    requires { length arguments.now ≡ length (form_of word).arguments }
+    ensures { result ≡ names_again config.now word arguments.now }
+{
+    if word != Word::File {
+        return false;
+    }
+    is_taken(config.files.as_slice(), &arguments[0])
+}
+
+/// Whether the line asks for a file where there are as many as there can be.
+fn files_full(config: &Config, word: Word) -> bool
+    ensures { result ≡ files_full config.now word }
+{
+    word == Word::File && MOST_FILES <= config.files.as_slice().len()
+}
+
+/// Whether swap and these files are more blocks than there can be.
+fn too_many(swap: u32, files: &[File], pages: u32) -> bool
+    ensures { result ≡ nat_lt MOST_BLOCKS (swap + sum (sizes_of files.now) + pages) }
+{
+    if swap > MOST_BLOCKS {
+        return true;
+    }
+    match blocks_behind(swap, files) {
+        Some(used) => pages > MOST_BLOCKS - used,
+        None => true,
+    }
+}
+
+/// Whether the header asks for too many blocks up to this line, where the line asks for some.
+fn blocks_full(config: &Config, word: Word, arguments: &[Token<'_>]) -> bool
+    requires { length arguments.now ≡ length (form_of word).arguments }
+    ensures { result ≡ nat_lt MOST_BLOCKS (blocks_with config.now word arguments.now) }
+{
+    let files = config.files.as_slice();
+    match word {
+        Word::Swap => too_many(number_value(&arguments[0]), files, 0),
+        Word::File => too_many(config.swap, files, number_value(&arguments[1])),
+        _ => false,
+    }
+}
+
 /// The first fault of a line with this word, which stands behind a task's number where there is one.
 pub fn fault_of_word(
     context: &Context,
@@ -125,8 +182,14 @@ pub fn fault_of_word(
     if context.is_late(word) {
         return Some(Cause::HeaderAfterCommands);
     }
-    if context.is_repeated(word) {
+    if context.is_repeated(word) || names_again(&context.config, word, arguments) {
         return Some(Cause::HeaderTwice);
+    }
+    if files_full(&context.config, word) {
+        return Some(Cause::TooManyFiles);
+    }
+    if blocks_full(&context.config, word, arguments) {
+        return Some(Cause::TooManyBlocks);
     }
     None
 }

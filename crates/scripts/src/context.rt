@@ -6,6 +6,7 @@ ghost use Rattle.scripts.specs.Forms.{form_of, same_word};
 ghost use Rattle.scripts.specs.Context.{around};
 
 use crate::forms::Word;
+use machine::config::Config;
 
 /// What a line has to know of the other lines.
 #[derive(Debug, Drop)]
@@ -16,6 +17,8 @@ pub struct Context {
     pub commands: bool,
     /// The words of the header's lines that stand before.
     pub given: Vec<Word>,
+    /// What these lines say.
+    pub config: Config,
 }
 
 impl Context {

@@ -10,7 +10,7 @@ use crate::header::{header_frames, is_of_header, is_skipped, word_of};
 use crate::lines::{as_text, first_line};
 use crate::why::{BadPath, Placed, Why};
 use crate::words::{Token, words_of};
-use machine::limit::LAST_NUMBER;
+use machine::limit::{LAST_NUMBER, MOST_BLOCKS, MOST_FILES};
 use std::alloc::{AllocError, Global};
 use std::str;
 use text_forms::name::is_name;
@@ -236,20 +236,25 @@ fn bad_path(path: &str) -> Option<BadPath<'_>> {
 }
 
 fn bad_name<'w>(parts: &Parts<'w, '_>) -> Option<Why<'w>> {
-    let (_, placed) = parts.misfit(parts.word()?, Cause::BadName)?;
+    let (kind, placed) = parts.misfit(parts.word()?, Cause::BadName)?;
+    if kind == Kind::Name {
+        return Some(Why::Name(placed, bad_part(placed.text)));
+    }
     Some(Why::Path(placed, bad_path(placed.text)?))
 }
 
 /// Which of the earlier lines is looked for.
 #[derive(Clone, Copy)]
-enum Earlier {
+enum Earlier<'a> {
     /// One behind which no line of the header may stand.
     EndOfHeader,
     /// One with this word.
     With(Word),
+    /// One with a file of this name.
+    FileNamed(&'a str),
 }
 
-fn is_earlier(alloc: Global, line: &[u8], earlier: Earlier) -> Result<bool, AllocError> {
+fn is_earlier(alloc: Global, line: &[u8], earlier: Earlier<'_>) -> Result<bool, AllocError> {
     let Some(text) = as_text(line) else {
         return Ok(false);
     };
@@ -258,6 +263,9 @@ fn is_earlier(alloc: Global, line: &[u8], earlier: Earlier) -> Result<bool, Allo
     Ok(match earlier {
         Earlier::EndOfHeader => !is_skipped(words.as_slice()) && !is_of_header(word),
         Earlier::With(wanted) => word == Some(wanted),
+        Earlier::FileNamed(name) => {
+            word == Some(Word::File) && words.get(1).is_some_and(|second| second.text() == name)
+        }
     })
 }
 
@@ -266,7 +274,7 @@ fn earlier_line(
     alloc: Global,
     text: &[u8],
     line: usize,
-    earlier: Earlier,
+    earlier: Earlier<'_>,
 ) -> Result<Option<usize>, AllocError> {
     let mut rest = text;
     for number in 1..line {
@@ -298,15 +306,31 @@ fn header_after_commands<'w>(
     }))
 }
 
+fn file_twice<'w>(
+    alloc: Global,
+    text: &[u8],
+    line: usize,
+    parts: &Parts<'w, '_>,
+) -> Result<Option<Why<'w>>, AllocError> {
+    let Some(name) = parts.placed(1) else {
+        return Ok(None);
+    };
+    let earlier = Earlier::FileNamed(name.text);
+    Ok(earlier_line(alloc, text, line, earlier)?.map(|line| Why::FileTwice(name, line)))
+}
+
 fn header_twice<'w>(
     alloc: Global,
     text: &[u8],
     line: usize,
-    word: Option<Word>,
+    parts: &Parts<'w, '_>,
 ) -> Result<Option<Why<'w>>, AllocError> {
-    let Some(word) = word else {
+    let Some(word) = parts.word() else {
         return Ok(None);
     };
+    if word == Word::File {
+        return file_twice(alloc, text, line, parts);
+    }
     let name = word.form().name;
     Ok(earlier_line(alloc, text, line, Earlier::With(word))?.map(|line| Why::Twice { line, name }))
 }
@@ -342,7 +366,9 @@ fn why<'w>(
         Cause::BadNumber => bad_number(alloc, text, &parts),
         Cause::BadName => Ok(bad_name(&parts)),
         Cause::HeaderAfterCommands => header_after_commands(alloc, text, line, parts.word()),
-        Cause::HeaderTwice => header_twice(alloc, text, line, parts.word()),
+        Cause::HeaderTwice => header_twice(alloc, text, line, &parts),
+        Cause::TooManyFiles => Ok(Some(Why::FilesFull(MOST_FILES))),
+        Cause::TooManyBlocks => Ok(Some(Why::BlocksFull(MOST_BLOCKS))),
     }
 }
 

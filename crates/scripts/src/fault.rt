@@ -25,15 +25,21 @@ pub enum Cause {
     /// A number has a character that is no decimal digit, or is out of its limits.
     #[error("bad number")]
     BadNumber,
-    /// A path of a group is none.
+    /// A path of a group is none, or a name of a file.
     #[error("bad name")]
     BadName,
     /// A line of the header stands behind one that is not.
     #[error("header after commands")]
     HeaderAfterCommands,
-    /// A word that comes at most once came before.
+    /// A word that comes at most once came before, or a file of this name.
     #[error("header twice")]
     HeaderTwice,
+    /// As many files as there can be came before.
+    #[error("too many files")]
+    TooManyFiles,
+    /// With this line swap and the files ask for more blocks than there can be.
+    #[error("too many blocks")]
+    TooManyBlocks,
 }
 
 /// Why a line could not be read.

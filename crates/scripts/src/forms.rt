@@ -24,6 +24,8 @@ pub enum Kind {
     Number { least: u32, most: u32 },
     /// A path of a group.
     Path,
+    /// A name of a file.
+    Name,
     /// An actor: a task's number, or a name.
     Actor,
     /// A call of the device.
@@ -55,6 +57,7 @@ pub enum DeviceCall {
 pub enum Word {
     Frames,
     Swap,
+    File,
     Watermarks,
     Trace,
     Fault,
@@ -67,6 +70,8 @@ pub enum Word {
     Protection,
     Write,
     Read,
+    FileWrite,
+    FileRead,
     Fork,
     Free,
     Exit,
@@ -107,6 +112,12 @@ const ENTRIES: Kind = Kind::Number {
     most: MOST_ENTRIES,
 };
 
+/// Pages of a file.
+const PAGES: Kind = Kind::Number {
+    least: 1,
+    most: LAST_NUMBER,
+};
+
 /// Which call of its kind, counted from 1.
 const COUNT: Kind = Kind::Number {
     least: 1,
@@ -123,9 +134,10 @@ const BYTE: Kind = Kind::Number {
     most: 255,
 };
 
-const WORDS: [Word; 21] = [
+const WORDS: [Word; 24] = [
     Word::Frames,
     Word::Swap,
+    Word::File,
     Word::Watermarks,
     Word::Trace,
     Word::Fault,
@@ -138,6 +150,8 @@ const WORDS: [Word; 21] = [
     Word::Protection,
     Word::Write,
     Word::Read,
+    Word::FileWrite,
+    Word::FileRead,
     Word::Fork,
     Word::Free,
     Word::Exit,
@@ -230,6 +244,7 @@ impl Word {
         match self {
             Word::Frames => header("frames", &[FRAMES]),
             Word::Swap => header("swap", &[BLOCKS]),
+            Word::File => header_many("file", &[Kind::Name, PAGES]),
             Word::Watermarks => header("watermarks", &[NUMBER, NUMBER]),
             Word::Trace => header("trace", &[ENTRIES]),
             Word::Fault => header_many("fault", &[Kind::Call, COUNT]),
@@ -242,6 +257,8 @@ impl Word {
             Word::Protection => shell("prot", &[Kind::Path, Kind::Path]),
             Word::Write => task("write", &[NUMBER, NUMBER, BYTE]),
             Word::Read => task("read", &[NUMBER, NUMBER]),
+            Word::FileWrite => task("fwrite", &[Kind::Name, NUMBER, NUMBER, BYTE]),
+            Word::FileRead => task("fread", &[Kind::Name, NUMBER, NUMBER]),
             Word::Fork => task("fork", &[NUMBER]),
             Word::Free => task("free", &[NUMBER]),
             Word::Exit => task("exit", &[]),

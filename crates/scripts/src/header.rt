@@ -2,7 +2,7 @@
 
 ghost use Rattle.std.specs.Prelude.{◌≡◌, IfOk};
 ghost use Rattle.std.specs.Str.Lines.{lines};
-ghost use Rattle.scripts.specs.Header.{word_of, is_skipped, is_of_header, is_frames, frames_of, frames_asked, header_frames};
+ghost use Rattle.scripts.specs.Header.{default_config, word_of, is_skipped, is_of_header, is_frames, frames_of, frames_asked, header_frames};
 ghost use Rattle.scripts.specs.Reading.{IsPart};
 
 use crate::context::Context;
@@ -12,16 +12,24 @@ use crate::line::read_line;
 use crate::lines::{as_text, first_line};
 use crate::meaning::Item;
 use crate::words::{Token, words_of};
-use machine::config::{Config, Watermarks};
+use machine::config::{Config, FileList, Watermarks};
 use std::alloc::{AllocError, Global};
 
+/// How many frames there are where the header says nothing of them.
+const DEFAULT_FRAMES: u32 = 64;
+
 /// What holds where the header says nothing.
-pub const DEFAULT_CONFIG: Config = Config {
-    frames: 64,
-    swap: 0,
-    watermarks: Watermarks { low: 0, high: 0 },
-    trace: 65_536,
-};
+pub fn default_config(alloc: Global) -> Config
+    ensures { result ≡ default_config }
+{
+    Config {
+        frames: DEFAULT_FRAMES,
+        swap: 0,
+        files: FileList::new(alloc),
+        watermarks: Watermarks { low: 0, high: 0 },
+        trace: 65_536,
+    }
+}
 
 /// What a line is to the header.
 enum Part {
@@ -91,7 +99,7 @@ fn frames_of(item: &Item) -> u32
 {
     match item {
         Item::Frames(frames) => *frames,
-        _ => DEFAULT_CONFIG.frames,
+        _ => DEFAULT_FRAMES,
     }
 }
 
@@ -99,13 +107,14 @@ fn frames_asked(alloc: Global, line: &[u8]) -> Result<u32, AllocError>
     ensures { IfOk result (λ frames. frames ≡ frames_asked (Some line.now)) }
 {
     let context = Context {
-        frames: DEFAULT_CONFIG.frames,
+        frames: DEFAULT_FRAMES,
         commands: false,
         given: Vec::new(alloc),
+        config: default_config(alloc),
     };
     match read_line(alloc, &context, line) {
         Ok(item) => Ok(frames_of(&item)),
-        Err(LineError::Fault(_)) => Ok(DEFAULT_CONFIG.frames),
+        Err(LineError::Fault(_)) => Ok(DEFAULT_FRAMES),
         Err(LineError::Memory) => Err(AllocError),
     }
 }
@@ -121,8 +130,8 @@ pub fn header_frames(alloc: Global, text: &[u8]) -> Result<u32, AllocError>
         match part_of(alloc, line)? {
             Part::Other => rest = after,
             Part::Frames => return frames_asked(alloc, line),
-            Part::Behind => return Ok(DEFAULT_CONFIG.frames),
+            Part::Behind => return Ok(DEFAULT_FRAMES),
         }
     }
-    Ok(DEFAULT_CONFIG.frames)
+    Ok(DEFAULT_FRAMES)
 }

@@ -28,7 +28,7 @@ fn read_named(
 ) -> Result<Item, LineError>
     ensures { Reads result
         (first_of (named_faults (around context.now) manner (option_map now task.entry) word arguments.now))
-        (named_means (option_map now task.entry) word arguments.now) }
+        (named_means (around context.now).config.files (option_map now task.entry) word arguments.now) }
 {
     let Some(word) = word else {
         return Err(LineError::Fault(Cause::UnknownWord));
@@ -36,7 +36,13 @@ fn read_named(
     if let Some(cause) = fault_of_word(context, manner, task, word, arguments) {
         return Err(LineError::Fault(cause));
     }
-    Ok(item_of_word(alloc, task, word, arguments)?)
+    Ok(item_of_word(
+        alloc,
+        context.config.files.as_slice(),
+        task,
+        word,
+        arguments,
+    )?)
 }
 
 /// Of a line that begins with a task's number.
@@ -49,7 +55,7 @@ fn read_task(
 ) -> Result<Item, LineError>
     ensures { Reads result
         (first_of (task_faults (around context.now) manner task.now words.now))
-        (task_means task.now words.now) }
+        (task_means (around context.now).config.files task.now words.now) }
 {
     let Some((first, arguments)) = words.split_first() else {
         return Err(LineError::Fault(Cause::MissingArgument));
@@ -62,7 +68,7 @@ fn read_task(
 fn read_begun(alloc: Global, context: &Context, words: &[Token<'_>]) -> Result<Item, LineError>
     ensures { Reads result
         (first_of (bare_faults (around context.now) Begun words.now))
-        (only_begun (bare_means words.now)) }
+        (only_begun (bare_means (around context.now).config.files words.now)) }
 {
     let Some((first, more)) = words.split_first() else {
         return Err(LineError::Fault(Cause::MissingArgument));
@@ -79,7 +85,7 @@ fn read_begun(alloc: Global, context: &Context, words: &[Token<'_>]) -> Result<I
 fn read_words(alloc: Global, context: &Context, words: &[Token<'_>]) -> Result<Item, LineError>
     ensures { Reads result
         (first_of (line_faults (around context.now) words.now))
-        (meaning words.now) }
+        (meaning (around context.now).config.files words.now) }
 {
     let Some((first, more)) = words.split_first() else {
         return Ok(Item::Nothing);
@@ -99,7 +105,7 @@ fn read_words(alloc: Global, context: &Context, words: &[Token<'_>]) -> Result<I
 
 /// What a line says among those that the context is of.
 pub fn read_line(alloc: Global, context: &Context, line: &[u8]) -> Result<Item, LineError>
-    ensures { Reads result (fault (around context.now) line.now) (meaning (words_of line.now)) }
+    ensures { Reads result (fault (around context.now) line.now) (meaning (around context.now).config.files (words_of line.now)) }
 {
     let Some(text) = as_text(line) else {
         return Err(LineError::Fault(Cause::NotText));

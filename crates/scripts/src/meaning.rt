@@ -1,17 +1,18 @@
 //! What the words of a line say.
 
-ghost use Rattle.std.specs.Prelude.{◌≡◌, length, IfOk};
+ghost use Rattle.std.specs.Prelude.{◌≡◌, position, length, IfOk};
 ghost use Rattle.std.specs.Option.{option_map};
 ghost use Rattle.machine.specs.declared.command.Command.TheVariants.{Protection};
 ghost use Rattle.scripts.specs.Forms.{form_of};
 ghost use Rattle.scripts.specs.Faults.{now};
-ghost use Rattle.scripts.specs.Meaning.{number_value, byte_value, actor_of, actor_value, call_value, marks_of, access_to, word_means, only_begun};
+ghost use Rattle.scripts.specs.Meaning.{number_value, byte_value, actor_of, actor_value, call_value, marks_of, access_to, has_name, file_number, file_access_to, file_of, word_means, only_begun};
 
 use crate::forms::{DeviceCall, Word, actor_named, call_named};
 use crate::words::Token;
 use machine::command::{Actor, Command};
-use machine::config::Watermarks;
+use machine::config::{File, Watermarks};
 use machine::event::{Op, Place};
+use machine::limit::MOST_FILES;
 use machine::text::Text;
 use std::alloc::{AllocError, Global};
 
@@ -24,6 +25,8 @@ pub enum Item {
     Frames(u32),
     /// So many swap blocks.
     Swap(u32),
+    /// A file.
+    File(File),
     /// The daemon's marks.
     Marks(Watermarks),
     /// So many entries of the trace.
@@ -40,7 +43,7 @@ pub enum Item {
     Finishes(Actor),
 }
 
-fn number_value(word: &Token<'_>) -> u32
+pub fn number_value(word: &Token<'_>) -> u32
     ensures { result ≡ number_value word.now }
 {
     word.number().unwrap_or(0)
@@ -110,19 +113,68 @@ fn access_to(page: &Token<'_>, offset: &Token<'_>, op: Op) -> Command
     Command::Access { place, op }
 }
 
-/// What a line with this word says, which stands behind a task's number where there is one.
+pub fn has_name(name: &Token<'_>, file: &File) -> bool
+    ensures { result ≡ has_name name.now file.now }
+{
+    file.name.as_str() == name.text()
+}
+
+fn place_of(files: &[File], name: &Token<'_>) -> Option<usize>
+    ensures { result ≡ position (has_name name.now) files.now }
+{
+    files.iter().position(|file| has_name(name, file))
+}
+
+fn file_number(files: &[File], name: &Token<'_>) -> u32
+    ensures { result ≡ file_number files.now name.now }
+{
+    let place = place_of(files, name).unwrap_or(MOST_FILES);
+    place.min(MOST_FILES) as u32
+}
+
+fn file_access_to(
+    files: &[File],
+    name: &Token<'_>,
+    page: &Token<'_>,
+    offset: &Token<'_>,
+    op: Op,
+) -> Command
+    ensures { result ≡ file_access_to files.now name.now page.now offset.now op }
+{
+    let place = Place::File {
+        file: file_number(files, name),
+        page: number_value(page),
+        offset: number_value(offset),
+    };
+    Command::Access { place, op }
+}
+
+fn file_of(alloc: Global, name: &Token<'_>, pages: &Token<'_>) -> Result<File, AllocError>
+    ensures { IfOk result (λ file. file ≡ file_of name.now pages.now) }
+{
+    Ok(File {
+        name: text_of(alloc, name)?,
+        pages: number_value(pages),
+    })
+}
+
+/// What a line with this word says where the header has these files, which stands behind a task's number where there is one.
 pub fn item_of_word(
     alloc: Global,
+    files: &[File],
     task: Option<&Token<'_>>,
     word: Word,
     arguments: &[Token<'_>],
 ) -> Result<Item, AllocError>
     requires { length arguments.now ≡ length (form_of word).arguments }
-    ensures { IfOk result (λ item. item ≡ word_means (option_map now task.entry) word arguments.now) }
+    ensures { IfOk result (λ item. item ≡ word_means files.now (option_map now task.entry) word arguments.now) }
 {
     let command = match word {
         Word::Frames => return Ok(Item::Frames(number_value(&arguments[0]))),
         Word::Swap => return Ok(Item::Swap(number_value(&arguments[0]))),
+        Word::File => {
+            return Ok(Item::File(file_of(alloc, &arguments[0], &arguments[1])?));
+        }
         Word::Watermarks => return Ok(Item::Marks(marks_of(&arguments[0], &arguments[1]))),
         Word::Trace => return Ok(Item::Trace(number_value(&arguments[0]))),
         Word::Fault => {
@@ -154,6 +206,19 @@ pub fn item_of_word(
             access_to(&arguments[0], &arguments[1], Op::Write(byte))
         }
         Word::Read => access_to(&arguments[0], &arguments[1], Op::Read),
+        Word::FileWrite => {
+            let byte = byte_value(&arguments[3]);
+            file_access_to(
+                files,
+                &arguments[0],
+                &arguments[1],
+                &arguments[2],
+                Op::Write(byte),
+            )
+        }
+        Word::FileRead => {
+            file_access_to(files, &arguments[0], &arguments[1], &arguments[2], Op::Read)
+        }
         Word::Fork => Command::Fork {
             child: number_value(&arguments[0]),
         },

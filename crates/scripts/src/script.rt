@@ -16,7 +16,7 @@ ghost use Rattle.scripts.specs.Reading.{known_by, at_start, with_fault, with_ste
 use crate::context::Context;
 use crate::fault::{LineError, ScriptFault};
 use crate::forms::{DeviceCall, Word};
-use crate::header::{DEFAULT_CONFIG, header_frames};
+use crate::header::{default_config, header_frames};
 use crate::line::read_line;
 use crate::lines::first_line;
 use crate::meaning::Item;
@@ -48,7 +48,9 @@ pub struct Script {
 #[derive(Debug, Drop)]
 struct Reading {
     context: Context,
-    script: Script,
+    read_faults: Vec<u64>,
+    write_faults: Vec<u64>,
+    steps: Vec<Step>,
 }
 
 impl Reading {
@@ -60,13 +62,11 @@ impl Reading {
                 frames,
                 commands: false,
                 given: Vec::new(alloc),
+                config: default_config(alloc),
             },
-            script: Script {
-                config: DEFAULT_CONFIG,
-                read_faults: Vec::new(alloc),
-                write_faults: Vec::new(alloc),
-                steps: Vec::new(alloc),
-            },
+            read_faults: Vec::new(alloc),
+            write_faults: Vec::new(alloc),
+            steps: Vec::new(alloc),
         }
     }
 
@@ -75,8 +75,8 @@ impl Reading {
     {
         self.context.given.push(Word::Fault)?;
         match call {
-            DeviceCall::Read => self.script.read_faults.push(u64::from(number))?,
-            DeviceCall::Write => self.script.write_faults.push(u64::from(number))?,
+            DeviceCall::Read => self.read_faults.push(u64::from(number))?,
+            DeviceCall::Write => self.write_faults.push(u64::from(number))?,
         }
         Ok(())
     }
@@ -85,7 +85,7 @@ impl Reading {
         ensures { OnOk result (known_by self.new ≡ with_step (known_by self.old) step) }
     {
         self.context.commands = true;
-        self.script.steps.push(step)?;
+        self.steps.push(step)?;
         Ok(())
     }
 
@@ -96,19 +96,23 @@ impl Reading {
             Item::Nothing => {}
             Item::Frames(frames) => {
                 self.context.given.push(Word::Frames)?;
-                self.script.config.frames = frames;
+                self.context.config.frames = frames;
             }
             Item::Swap(swap) => {
                 self.context.given.push(Word::Swap)?;
-                self.script.config.swap = swap;
+                self.context.config.swap = swap;
+            }
+            Item::File(file) => {
+                self.context.given.push(Word::File)?;
+                self.context.config.files.push(file)?;
             }
             Item::Marks(marks) => {
                 self.context.given.push(Word::Watermarks)?;
-                self.script.config.watermarks = marks;
+                self.context.config.watermarks = marks;
             }
             Item::Trace(trace) => {
                 self.context.given.push(Word::Trace)?;
-                self.script.config.trace = trace;
+                self.context.config.trace = trace;
             }
             Item::Fails(call, number) => self.add_fault(call, number)?,
             Item::Does(actor, command) => {
@@ -125,7 +129,7 @@ impl Reading {
     fn add_line(&mut self, alloc: Global, line: &[u8]) -> Result<(), LineError>
         ensures { Adds result
             (fault (known_by self.old).around line.now)
-            (known_by self.new ≡ after (known_by self.old) (meaning (words_of line.now))) }
+            (known_by self.new ≡ after (known_by self.old) (meaning (known_by self.old).around.config.files (words_of line.now))) }
     {
         let item = read_line(alloc, &self.context, line)?;
         self.add(item)?;
@@ -160,7 +164,19 @@ fn read_schedule(alloc: Global, text: &[u8]) -> Result<Script, ScriptFault>
             }),
         }
     }
-    Ok(reading.script)
+    let Reading {
+        context,
+        read_faults,
+        write_faults,
+        steps,
+    } = reading;
+    let Context { config, .. } = context;
+    Ok(Script {
+        config,
+        read_faults,
+        write_faults,
+        steps,
+    })
 }
 
 /// What a script says, or its first faulty line and the first of that line's causes.

@@ -33,6 +33,7 @@ impl fmt::Display for Kind {
         match self {
             Kind::Number { least, most } => write!(f, "a number from {least} to {most}"),
             Kind::Path => f.write_str("a path"),
+            Kind::Name => f.write_str("a name of a file"),
             Kind::Actor => f.write_str("a task's number, shell, control or daemon"),
             Kind::Call => f.write_str("read or write"),
             Kind::Any => f.write_str("a word"),
@@ -52,7 +53,7 @@ impl fmt::Display for Form {
     }
 }
 
-/// What makes a path none.
+/// What makes a path none, or a name.
 #[derive(Clone, Copy, Debug)]
 pub enum BadPath<'a> {
     NoSlash,
@@ -121,6 +122,7 @@ pub enum Why<'a> {
     /// The second is above the frames.
     MarkAboveFrames(Placed<'a>, u32),
     Path(Placed<'a>, BadPath<'a>),
+    Name(Placed<'a>, BadPath<'a>),
     /// The header ended before this line, which has this first word.
     HeaderEnded {
         line: usize,
@@ -131,9 +133,15 @@ pub enum Why<'a> {
         line: usize,
         name: &'static str,
     },
+    /// This earlier line has a file of the same name.
+    FileTwice(Placed<'a>, usize),
+    /// So many files stand before, which is as many as there can be.
+    FilesFull(usize),
+    /// So many blocks are as many as there can be.
+    BlocksFull(u32),
 }
 
-const TASK_WORDS: &str = "write, read, fork, free or exit";
+const TASK_WORDS: &str = "write, read, fwrite, fread, fork, free or exit";
 
 impl fmt::Display for Why<'_> {
     fn fmt<W: Write>(&self, f: &mut Formatter<W>) -> fmt::Result {
@@ -188,11 +196,24 @@ impl fmt::Display for Why<'_> {
                 "{high} is above {frames}, which are the frames"
             ),
             Why::Path(word, path) => write!(f, "{word} is no path: it {path}"),
+            Why::Name(word, path) => write!(f, "{word} is no name of a file: it {path}"),
             Why::HeaderEnded { line, name } => write!(
                 f,
                 "{name} has to stand above line {line}, which is not of the header"
             ),
             Why::Twice { line, name } => write!(f, "line {line} has {name} already"),
+            Why::FileTwice(word, line) => write!(
+                f,
+                "{word} is the name of the file of line {line}"
+            ),
+            Why::FilesFull(most) => write!(
+                f,
+                "{most} files stand before, and there can be no more"
+            ),
+            Why::BlocksFull(most) => write!(
+                f,
+                "swap and the files up to this line have more than {most} blocks together"
+            ),
         }
     }
 }

@@ -37,31 +37,41 @@ impl Fault {
     }
 }
 
-/// What the frames and the swap blocks of a machine take: 4,096 bytes each. The machine wants more
-/// than these.
+/// What the frames of a machine and the blocks of its device take: 4,096 bytes each. The machine wants
+/// more than these.
 #[derive(Clone, Copy, Debug, PartialEq, Eq)]
 pub(crate) struct Wanted {
     frames: u32,
     swap: u32,
+    /// How many blocks there are, those of swap among them.
+    blocks: u32,
 }
 
 impl Wanted {
-    pub(crate) fn of(config: Config) -> Wanted {
+    pub(crate) fn of(config: &Config, blocks: u32) -> Wanted {
         Wanted {
             frames: config.frames,
             swap: config.swap,
+            blocks,
         }
     }
 }
 
 impl fmt::Display for Wanted {
     fn fmt<W: fmt::Write>(&self, f: &mut fmt::Formatter<W>) -> fmt::Result {
-        let pages = u64::from(self.frames) + u64::from(self.swap);
+        let pages = u64::from(self.frames) + u64::from(self.blocks);
         let bytes = pages * PAGE_BYTES as u64;
-        write!(
-            f,
-            "{} frames and {} swap blocks want at least {bytes} bytes",
-            self.frames, self.swap
-        )
+        match self.blocks.saturating_sub(self.swap) {
+            0 => write!(
+                f,
+                "{} frames and {} swap blocks want at least {bytes} bytes",
+                self.frames, self.swap
+            ),
+            files => write!(
+                f,
+                "{} frames, {} swap blocks and {files} pages of files want at least {bytes} bytes",
+                self.frames, self.swap
+            ),
+        }
     }
 }

@@ -7,6 +7,7 @@ ghost use Rattle.std.specs.Prelude.{◌≤◌};
 
 use block_store::MemDevice;
 use fault::{Fault, Wanted};
+use files::blocks_for;
 use machine::command::Reply;
 use machine::refusal::Refusal;
 use scripts::{Mode, Script, ScriptFault};
@@ -42,26 +43,30 @@ fn read_bytes<R: Read>(alloc: Global, script: &mut R) -> Result<Vec<u8>, Fault> 
 }
 
 /// Why a run gave no answers.
-fn refused(script: &Script, refusal: Refusal) -> Fault {
+fn refused(wanted: Wanted, refusal: Refusal) -> Fault {
     match refusal {
-        Refusal::NoMemory => Fault::Memory(Wanted::of(script.config)),
+        Refusal::NoMemory => Fault::Memory(wanted),
         refusal => Fault::Run(refusal),
     }
 }
 
 /// The run of a script over a new device, which has the blocks that the script asks for, and its
 /// faults.
-fn run(alloc: Global, script: &Script) -> Result<Vec<Reply>, Fault> {
-    let mut device = MemDevice::new(
-        alloc,
-        script.config.blocks(),
-        &script.read_faults,
-        &script.write_faults,
-    )
-    .map_err(|_| refused(script, Refusal::NoMemory))?;
-    driver::run(alloc, script.config, &mut device, &script.steps).map_err(|refusal| refused(
-        script, refusal,
-    ))
+fn run(alloc: Global, script: Script) -> Result<Vec<Reply>, Fault> {
+    let Script {
+        config,
+        read_faults,
+        write_faults,
+        steps,
+    } = script;
+    let Some(blocks) = blocks_for(&config) else {
+        return Err(Fault::Run(Refusal::Invalid));
+    };
+    let wanted = Wanted::of(&config, blocks);
+    let mut device = MemDevice::new(alloc, blocks, &read_faults, &write_faults).map_err(|_| {
+        refused(wanted, Refusal::NoMemory)
+    })?;
+    driver::run(alloc, config, &mut device, &steps).map_err(|refusal| refused(wanted, refusal))
 }
 
 /// The fault of a script. Where there is no memory to say more of it, its line is said alone.
@@ -78,7 +83,7 @@ fn faulty(alloc: Global, detail: Detail, bytes: &[u8], fault: ScriptFault) -> Fa
 fn answers<R: Read>(alloc: Global, detail: Detail, script: &mut R) -> Result<Vec<Reply>, Fault> {
     let bytes = read_bytes(alloc, script)?;
     match scripts::read(alloc, &bytes, Mode::Schedule) {
-        Ok(script) => run(alloc, &script),
+        Ok(script) => run(alloc, script),
         Err(fault) => Err(faulty(alloc, detail, &bytes, fault)),
     }
 }
