@@ -5,7 +5,8 @@ ghost use Rattle.machine.specs.Access.{page_size};
 ghost use Rattle.machine.specs.Pages.{is_held_in};
 ghost use Rattle.machine.specs.Tasks.{is_live_life, lives, mapped_at};
 
-use machine::config::{Config, Watermarks};
+use files::blocks_for;
+use machine::config::{Config, FileList, Watermarks};
 use machine::id::{GroupId, PageId, TaskId};
 use machine::record::Life;
 use page_state::State;
@@ -23,10 +24,11 @@ fn open<R: Abort + AllocGlobal>(rt: &R) -> Result<State, AllocError> {
     let config = Config {
         frames: 2,
         swap: 0,
+        files: FileList::new(rt.alloc()),
         watermarks: Watermarks { low: 0, high: 0 },
         trace: 1,
     };
-    assert!(rt; config.is_valid());
+    assert!(rt; blocks_for(&config).is_some());
     State::open(rt.alloc(), config)
 }
 

@@ -1,0 +1,129 @@
+//! A caller of `driver`: a file on a device that has its bytes before the run, and after it.
+
+use block_store::{BlockDevice, MemDevice};
+use driver::run;
+use machine::bytes::PAGE_BYTES;
+use machine::command::{Actor, Answer, Command, Reply, Step};
+use machine::config::{Config, File, FileList, Watermarks};
+use machine::event::{Op, Place};
+use machine::text::Text;
+use std::alloc::AllocError;
+use std::process::Abort;
+use std::test::Fail;
+
+/// Two frames, one swap block, and a file of two pages, whose homes are blocks 1 and 2.
+fn machine<R: AllocGlobal>(rt: &R) -> Result<Config, AllocError> {
+    let mut files = FileList::new(rt.alloc());
+    let name = text(rt, "log")?;
+    files.push(File { name, pages: 2 })?;
+    Ok(Config {
+        frames: 2,
+        swap: 1,
+        files,
+        watermarks: Watermarks { low: 0, high: 0 },
+        trace: 100,
+    })
+}
+
+fn text<R: AllocGlobal>(rt: &R, word: &str) -> Result<Text, AllocError> {
+    let string = String::from_str(rt.alloc(), word)?;
+    Ok(Text::new(string))
+}
+
+/// A command of this actor, carried out to its end.
+fn add(steps: &mut Vec<Step>, actor: Actor, command: Command) -> Result<(), AllocError> {
+    steps.push(Step::Begin(actor, command))?;
+    steps.push(Step::Finish(actor))?;
+    Ok(())
+}
+
+/// Task 1 of the root begins.
+fn begin<R: AllocGlobal>(rt: &R, steps: &mut Vec<Step>) -> Result<(), AllocError> {
+    let path = text(rt, "/")?;
+    add(steps, Actor::Shell, Command::Task { task: 1, path })
+}
+
+/// It reaches for byte 5 of the file's second page.
+fn reach(steps: &mut Vec<Step>, op: Op) -> Result<(), AllocError> {
+    let place = Place::File {
+        file: 0,
+        page: 1,
+        offset: 5,
+    };
+    add(steps, Actor::Task(1), Command::Access { place, op })
+}
+
+/// The device, whose last block has a 9 there.
+fn device<R: Abort + AllocGlobal>(rt: &R) -> Result<MemDevice, AllocError> {
+    let mut device = MemDevice::new(rt.alloc(), 3, &[], &[])?;
+    let mut bytes = [0; PAGE_BYTES];
+    bytes[5] = 9;
+    assert!(rt; device.blocks() == 3);
+    assert!(rt; device.write(2, &bytes).is_ok());
+    Ok(device)
+}
+
+/// The byte there, of the device's last block.
+fn stored<R: Abort>(rt: &R, device: &mut MemDevice) -> u8 {
+    let mut bytes = [0; PAGE_BYTES];
+    assert!(rt; device.blocks() == 3);
+    assert!(rt; device.read(2, &mut bytes).is_ok());
+    bytes[5]
+}
+
+fn is_byte(reply: Option<&Reply>, byte: u8) -> bool {
+    match reply {
+        Some(
+            Reply {
+                actor: _,
+                answer: Answer::Byte(read),
+            },
+        ) => *read == byte,
+        _ => false,
+    }
+}
+
+#[test]
+fn a_file_has_what_its_device_had(rt: HostRuntime) -> Result<(), Fail> {
+    let mut device = device(&rt)?;
+    let mut steps = Vec::new(rt.alloc());
+    begin(&rt, &mut steps)?;
+    reach(&mut steps, Op::Read)?;
+    let config = machine(&rt)?;
+    let Ok(answers) = run(rt.alloc(), config, &mut device, &steps) else {
+        panic!(rt; "no answers")
+    };
+    assert!(rt; is_byte(answers.get(1), 9));
+    Ok(())
+}
+
+#[test]
+fn a_device_has_what_was_written_home(rt: HostRuntime) -> Result<(), Fail> {
+    let mut device = device(&rt)?;
+    let mut steps = Vec::new(rt.alloc());
+    begin(&rt, &mut steps)?;
+    reach(&mut steps, Op::Write(7))?;
+    reach(&mut steps, Op::Read)?;
+    let config = machine(&rt)?;
+    let Ok(answers) = run(rt.alloc(), config, &mut device, &steps) else {
+        panic!(rt; "no answers")
+    };
+    assert!(rt; is_byte(answers.get(2), 7));
+    assert_eq!(rt; stored(&rt, &mut device), 9);
+    let path = text(&rt, "/")?;
+    let file = text(&rt, "memory.reclaim")?;
+    let amount = text(&rt, "4096")?;
+    add(
+        &mut steps,
+        Actor::Shell,
+        Command::Set {
+            path,
+            file,
+            text: amount,
+        },
+    )?;
+    let config = machine(&rt)?;
+    assert!(rt; run(rt.alloc(), config, &mut device, &steps).is_ok());
+    assert_eq!(rt; stored(&rt, &mut device), 7);
+    Ok(())
+}
