@@ -91,21 +91,3 @@ fn at_most_131072_blocks(rt: HostRuntime) -> Result<(), Fail> {
     assert_eq!(rt; sized(alloc, 65_537, 1, 1)?, None);
     Ok(())
 }
-
-// The example of the README.
-#[test]
-fn homes_stand_behind_the_swap_blocks(rt: HostRuntime) -> Result<(), Fail> {
-    let alloc = rt.alloc();
-    let mut list = FileList::new(alloc);
-    add(alloc, &mut list, "a", 2)?;
-    add(alloc, &mut list, "b", 3)?;
-    let files = Files::open(alloc, &list, 10)?;
-    assert_eq!(rt; (files.first(), files.pages()), (10, 5));
-    assert_eq!(rt; (files.home(0, 0), files.home(0, 1)), (Some(10), Some(11)));
-    assert_eq!(rt; (files.home(1, 0), files.home(1, 2)), (Some(12), Some(14)));
-    assert_eq!(rt;
-        (files.home(0, 2), files.home(1, 3), files.home(2, 0)),
-        (None, None, None)
-    );
-    Ok(())
-}
