@@ -7,7 +7,7 @@ use subcommands::Detail;
 
 /// The program's version, and the toolchain that proves and builds it, as `rt version` says.
 /// `docs/check_commands` compares the two.
-const VERSION: &str = "0.1.0 (rattle-kit-13b logic dac8208d650f15bf)";
+const VERSION: &str = "0.1.0 (rattle-kit-13f logic dac8208d650f15bf)";
 
 /// What the words ask for.
 #[derive(Clone, Copy, Debug, PartialEq, Eq)]
