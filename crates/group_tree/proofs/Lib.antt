@@ -8,3 +8,6 @@ pub mod PreorderLemmas
 pub mod LineageLemmas
 pub mod RemoveLemmas
 pub mod RemovedTables
+pub mod SiblingLemmas
+pub mod AppendLemmas
+pub mod UnlinkLemmas

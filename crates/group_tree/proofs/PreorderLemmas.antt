@@ -1,18 +1,21 @@
 -- A walk over a group and those below it, step by step.
-use Rattle.std.proofs.Common.{inl, inr, ◌≡◌, ℕ, zero, suc, ◌+◌, ◌<◌, ◌≤◌, ◌==◌, Bool, true, false, if◌then◌else◌, ◌&&◌, ◌||◌, List, [], ◌∷◌, ◌++◌, length, drop, get_or, map, filter, Option, Some, None, refl, sym, ap, ◌∙◌, subst, arith, append_assoc, append-nil, add-one, drop-cons, length-drop}
+use Rattle.std.proofs.Common.{inl, inr, ◌≡◌, ℕ, zero, suc, ◌+◌, ◌-◌, ◌<◌, ◌≤◌, ◌==◌, Bool, true, false, if◌then◌else◌, ◌&&◌, ◌||◌, List, [], ◌∷◌, ◌++◌, length, drop, get_or, map, filter, Option, Some, None, is_some, refl, sym, ap, ◌∙◌, subst, arith, append_assoc, append-nil, add-one, drop-cons, length-drop}
 use Rattle.std.specs.Prelude.{flat_map, nat_le}
 use Rattle.std.specs.List.{enumerate_from, list_any}
 use Rattle.std.specs.Option.{option_map_or}
 use Rattle.std.proofs.lemmas.Bool.{cases_lt, cases_Bool, and_from, and_parts, or_left, or_right, or_cases}
 use Rattle.std.proofs.lemmas.Bool.Decides.{nat_tests}
-use Rattle.std.proofs.lemmas.List.Folds.{list_any-append}
-use Rattle.machine.specs.Tree.{Node, no_node, node_at, is_live, is_child, is_parent, under, under_at, IsTree, numbers, children, preorder_to, preorder}
+use Rattle.std.proofs.lemmas.List.Elements.{All-from_get_or}
+use Rattle.std.proofs.lemmas.List.Folds.{list_any-append, list_any_at, list_any_none}
+use Rattle.machine.specs.Tree.{Node, no_node, node_at, is_live, is_child, is_parent, has_children, under, under_at, IsTree, numbers, children, preorder_to, preorder}
 use Rattle.machine.proofs.TreeLemmas.{eq_cases, under_at-None, under_at-step}
 use Rattle.group_tree.specs.Groups.{IsGroupTree}
+use Rattle.group_tree.specs.Siblings.{IsFirstFrom, child_of}
 use Rattle.group_tree.specs.Walk.{children_among, children_from, after_in, after, left}
 use Rattle.group_tree.proofs.TreeFacts.{live-within, within}
 use Rattle.group_tree.proofs.LineageLemmas.{under-child}
 use Rattle.group_tree.proofs.WalkLemmas.{under_here}
+use Rattle.group_tree.proofs.SiblingLemmas.{first-later}
 
 nothing_left : (xs : List Node) → length xs ≡ 0 → xs ≡ []
 nothing_left [] h = refl
@@ -51,12 +54,37 @@ among_numbers at p k (x ∷ xs) h =
 pub children-from : (tree : List Node) (p : ℕ) → children tree p ≡ children_from tree p 0
 children-from tree p = among_numbers (node_at tree) p 0 tree (λ i lt. ap (node_at tree) (let same : 0 + i ≡ i = omega arith in same))
 
-is_parent-same : (at : Option ℕ) (p : ℕ) → is_parent at p ≡ true → at ≡ Some p
+pub is_parent-same : (at : Option ℕ) (p : ℕ) → is_parent at p ≡ true → at ≡ Some p
 is_parent-same None p e = absurd cc
 is_parent-same (Some q) p e = let same : q ≡ p = grind (arith, nat_tests, e) in ap Some same
 
 pub child_parent : (tree : List Node) (p g : ℕ) → is_child p (node_at tree g) ≡ true → (node_at tree g).parent ≡ Some p
 child_parent tree p g t = is_parent-same _ p (and_parts (node_at tree g).live _ t).1
+
+pub child-from : (tree : List Node) (p g : ℕ) → is_live tree g ≡ true → (node_at tree g).parent ≡ Some p → is_child p (node_at tree g) ≡ true
+child-from tree p g live below = and_from (is_live tree g) _ live (ap (λ at. is_parent at p) below ∙ (let own : (p == p) ≡ true = grind arith in own))
+
+-- over numbers that are no children nothing changes
+children_from-skip : (tree : List Node) (p n k m : ℕ) → k + n ≡ m → m ≤ length tree → ((j : ℕ) → k ≤ j → j < m → is_child p (node_at tree j) ≡ false) → children_from tree p k ≡ children_from tree p m
+children_from-skip tree p zero k m sum within none = let same : k ≡ m = omega arith in ap (children_from tree p) same
+children_from-skip tree p (suc n) k m sum within none =
+    children_from-other tree p k (omega arith) (none k (omega arith) (omega arith)) ∙ children_from-skip tree p n (k + 1) m (omega arith) within (λ j from to. none j (omega (arith, from)) to)
+
+-- the children from a number on begin with the first of them
+pub first-some : (tree : List Node) (p k c : ℕ) → IsFirstFrom (child_of tree p) k (Some c) → children_from tree p k ≡ c ∷ children_from tree p (c + 1)
+first-some tree p k c first =
+    let from = first.0 in
+    let lt = within tree c p (child_parent tree p c first.1) in
+    children_from-skip tree p (c - k) k c (omega (arith, from)) (omega (arith, lt)) first.2 ∙ children_from-child tree p c lt first.1
+
+-- and where none is the first, there is none
+pub first-none : (tree : List Node) (p k : ℕ) → IsFirstFrom (child_of tree p) k None → children_from tree p k ≡ []
+first-none tree p k none =
+    elim (cases_lt k (length tree)) [
+      | inl lt ↦
+          children_from-skip tree p (length tree - k) k (length tree) (omega (arith, lt)) (omega arith) (λ j from to. none j from) ∙ children_from-end tree p (length tree) (omega arith)
+      | inr ge ↦ children_from-end tree p k ge
+    ]
 
 flat_map-child : (tree : List Node) (f h : ℕ → List ℕ) (p : ℕ) → ((c : ℕ) → (node_at tree c).parent ≡ Some p → f c ≡ h c) → (k : ℕ) → k < length tree
     → flat_map f (children_from tree p (k + 1)) ≡ flat_map h (children_from tree p (k + 1)) → (b : Bool) → is_child p (node_at tree k) ≡ b
@@ -92,6 +120,10 @@ module _ (tree : List Node) (is : IsTree tree) where
         | inl child ↦ absurd (let falls = is.falls k g (child_parent tree g k child) in omega (arith, falls, h))
         | inr other ↦ other
       ]
+
+  -- so the first of all is the first above it
+  pub first-own : (g : ℕ) (at : Option ℕ) → IsFirstFrom (child_of tree g) 0 at → IsFirstFrom (child_of tree g) (g + 1) at
+  first-own g at first = first-later (child_of tree g) 0 (g + 1) at (omega arith) (λ j lt. no_child g j (omega (arith, lt))) first
 
   -- the children of a group are numbered above it
   children_from-own : (g n k : ℕ) → g < length tree → k + n ≡ g + 1 → children_from tree g k ≡ children_from tree g (g + 1)
@@ -306,3 +338,8 @@ preorder-has tree groups target g live =
     same_tests _ _
     (λ h. let comes = comes_to tree is target there (length tree) target g live (under_here tree target target (let own : (target == target) ≡ true = grind arith in own)) h in and_from _ _ comes.0 comes.1)
     (λ h. reaches tree is target there groups.parents_live (suc g) g (omega arith) (and_parts _ _ h).0 (and_parts _ _ h).1 (node_at tree g).parent refl)
+
+-- a group has children exactly where it has a first one
+pub has-first : (tree : List Node) (p : ℕ) (at : Option ℕ) → IsFirstFrom (child_of tree p) 0 at → is_some at ≡ has_children tree p
+has-first tree p (Some c) first = sym (list_any_at (is_child p) tree c no_node (within tree c p (child_parent tree p c first.1)) first.1)
+has-first tree p None first = sym (list_any_none (is_child p) tree (All-from_get_or (λ x. is_child p x ≡ false) tree no_node (λ j lt. first j (omega arith))))

@@ -48,7 +48,7 @@ module _ (tree : List Node) (g : ℕ) (old : List Group) (live : ℕ) (index : P
       let seen = ap length gone.view in
       omega (arith, lt, len, seen)
 
-  node_is : node_at tree g ≡ node_of group
+  pub node_is : node_at tree g ≡ node_of group
   node_is = ap (λ (t : List Node). node_at t g) (sym gone.view) ∙ get_or-map node_of old g group no_node within-removed ∙ ap node_of (sym gone.read)
 
   pub nodes-removed : nodes_of (slice_set old g (record group { live = false })) ≡ without_group tree g

@@ -1,7 +1,7 @@
 -- What the tables say of the groups, and go on to once there is one more.
-use Rattle.std.proofs.Common.{◌≡◌, ℕ, ◌+◌, ◌==◌, Bool, true, false, cond, if◌then◌else◌, ◌&&◌, ◌||◌, List, [], ◌∷◌, ◌++◌, length, Option, Some, None, refl, sym, ap, ◌∙◌, arith}
+use Rattle.std.proofs.Common.{◌≡◌, ℕ, ◌+◌, ◌==◌, Bool, true, false, cond, if◌then◌else◌, ◌&&◌, List, [], ◌∷◌, ◌++◌, length, Option, Some, None, refl, sym, ap, ◌∙◌, arith}
 use Rattle.std.specs.Prelude.{string_bytes}
-use Rattle.std.specs.List.{list_any, position_from}
+use Rattle.std.specs.List.{position_from}
 use Rattle.std.specs.Str.{bytes_eq}
 use Rattle.std.specs.Map.{lookup}
 use Rattle.std.specs.declared.string.String.{String}
@@ -10,19 +10,14 @@ use Rattle.std.proofs.lemmas.Iterator.Adapters.{position_from-zero}
 use Rattle.std.proofs.lemmas.List.Sums.{sum_by-append, sum_by-cons}
 use Rattle.std.proofs.lemmas.Bool.Decides.{nat_tests}
 use Rattle.machine.specs.declared.id.GroupId.{GroupId}
-use Rattle.machine.specs.Tree.{Node, is_child, has_children, is_at_path, live_groups, find_group}
-use Rattle.group_tree.specs.declared.tree.Group.{Group}
-use Rattle.group_tree.specs.Tables.{number, node_of, nodes_of, indexed}
+use Rattle.machine.specs.Tree.{Node, is_at_path, live_groups, find_group}
+use Rattle.group_tree.specs.Tables.{number, indexed}
 
 pub live_groups-push : (tree : List Node) (x : Node) → x.live ≡ true → live_groups (tree ++ x ∷ []) ≡ live_groups tree + 1
 live_groups-push tree x live =
     let sum : live_groups (tree ++ x ∷ []) ≡ live_groups tree + live_groups (x ∷ []) = sum_by-append (λ (y : Node). if y.live then 1 else 0) tree (x ∷ []) in
     let one : live_groups (x ∷ []) ≡ 1 = sum_by-cons (λ (y : Node). if y.live then 1 else 0) x [] ∙ ap (λ b. (if b then 1 else 0) + 0) live in
     omega (arith, sum, one)
-
-pub has_children-nodes : (groups : List Group) (g : ℕ) → list_any (λ x. is_child g (node_of x)) groups ≡ has_children (nodes_of groups) g
-has_children-nodes [] g = refl
-has_children-nodes (x ∷ groups) g = ap (λ t. is_child g (node_of x) || t) (has_children-nodes groups g)
 
 -- the first, or the other where there is none
 abbrev pub or_else : {X : Type 0} → Option X → Option X → Option X

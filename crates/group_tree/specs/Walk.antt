@@ -1,7 +1,7 @@
 -- What is left of a walk over a group and those below it, each before those below it.
-use Rattle.std.specs.Prelude.{ℕ, zero, suc, ◌+◌, ◌<◌, ◌≤◌, nat_le, if◌then◌else◌, List, [], ◌∷◌, ◌++◌, length, drop, flat_map, Option, Some, None}
+use Rattle.std.specs.Prelude.{◌≡◌, ℕ, zero, suc, ◌+◌, ◌≤◌, true, nat_le, if◌then◌else◌, List, [], ◌∷◌, ◌++◌, drop, flat_map, Option, Some, None}
 use Rattle.std.specs.Option.{option_map_or}
-use Rattle.machine.specs.Tree.{Node, node_at, is_child, preorder}
+use Rattle.machine.specs.Tree.{Node, node_at, is_live, is_child, preorder}
 
 -- the children of p in a list of groups, of which the first is numbered k
 abbrev pub children_among : ℕ → ℕ → List Node → List ℕ
@@ -28,7 +28,7 @@ abbrev pub left : List Node → ℕ → Option ℕ → List ℕ
 left tree start None = []
 left tree start (Some g) = preorder tree g ++ after tree start g
 
--- a walk stands at a group that is there, and is not above the start
+-- a walk stands at a live group, and is not above the start
 abbrev pub IsWithin : List Node → ℕ → Option ℕ → Type 0
 IsWithin tree start None = Unit {0}
-IsWithin tree start (Some g) = (start ≤ g) × (g < length tree)
+IsWithin tree start (Some g) = (start ≤ g) × (is_live tree g ≡ true)

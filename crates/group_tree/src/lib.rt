@@ -8,6 +8,7 @@ pub use lineage::Lineage;
 pub use preorder::Preorder;
 pub use tree::Tree;
 
+mod children;
 mod lineage;
 mod path;
 mod preorder;

@@ -1,10 +1,10 @@
 //! A walk over a group and all below it.
 
-ghost use Rattle.std.specs.Prelude.{◌≡◌, ◌+◌, ◌<◌, ◌≤◌, [], ◌∷◌, length, IsTrue, MatchOption, IfSome};
+ghost use Rattle.std.specs.Prelude.{◌≡◌, ◌∷◌, true, Some, IsTrue};
 ghost use Rattle.std.specs.Option.{option_map};
 ghost use Rattle.std.specs.Iterator.{YieldsFirstBy, item_count};
-ghost use Rattle.machine.specs.Tree.{node_at, is_live, preorder};
-ghost use Rattle.group_tree.specs.Walk.{children_from, after, left, IsWithin};
+ghost use Rattle.machine.specs.Tree.{is_live, preorder};
+ghost use Rattle.group_tree.specs.Walk.{after, left, IsWithin};
 
 use crate::Tree;
 use machine::id::GroupId;
@@ -12,33 +12,17 @@ use std::iter::FusedIterator;
 use std::marker::Model;
 
 impl Tree {
-    /// The first child of a group that is numbered `from` or more.
-    fn next_child(&self, parent: GroupId, from: u32) -> Option<GroupId>
-        ensures next { MatchOption result (children_from self.now parent.0 from ≡ [])
-            (λ c. children_from self.now parent.0 from
-            ≡ c.0 ∷ children_from self.now parent.0 (c.0 + 1)) }
-        ensures child { IfSome result (λ c. (node_at self.now c.0).parent ≡ Some parent.0) }
-        ensures from { IfSome result (λ c. (from ≤ c.0) × (c.0 < length self.now)) }
-    {
-        for number in from..self.next_id().0 {
-            if self.is_child(GroupId(number), parent) {
-                return Some(GroupId(number));
-            }
-        }
-        None
-    }
-
     /// The group that a walk from `start` comes to once it is through with all below a group: the
     /// next sibling of it, or of the nearest group above it that has one, below `start`.
     fn after(&self, start: GroupId, group: GroupId) -> Option<GroupId>
-        requires { group.0 < length self.now }
+        requires { is_live self.now group.0 ≡ true }
         ensures next { after self.now start.0 group.0 ≡ left self.now start.0 (option_map (λ g. g.0) result) }
         ensures within { IsWithin self.now start.0 (option_map (λ g. g.0) result) }
     {
         let mut at = group;
         while at.0 > start.0 {
             let parent = self.parent(at)?;
-            if let Some(sibling) = self.next_child(parent, at.0 + 1) {
+            if let Some(sibling) = self.next_sibling(at) {
                 return Some(sibling);
             }
             at = parent;
@@ -55,7 +39,7 @@ impl Tree {
     {
         // A group's children are numbered above it.
         self.groups_form_a_tree();
-        match self.next_child(group, group.0 + 1) {
+        match self.first_child(group) {
             Some(child) => Some(child),
             None => self.after(start, group),
         }

@@ -1,14 +1,16 @@
 //! The groups, by number and by path.
 
-ghost use Rattle.std.specs.Prelude.{◌≡◌, ℕ, Bool, ◌<◌, ◌++◌, ◌∷◌, [], true, false, length, map, IsTrue, IfSome, IfOk, IfErr, OnOk, OnErr};
+ghost use Rattle.std.specs.Prelude.{◌≡◌, ℕ, Bool, ◌+◌, ◌<◌, ◌++◌, ◌∷◌, [], true, false, length, map, IsTrue, IfSome, IfOk, IfErr, OnOk, OnErr};
 ghost use Rattle.std.specs.Option.{option_map};
-ghost use Rattle.machine.specs.Tree.{root, node_at, is_live, is_child, chain, under, has_children, find_group, without_group};
+ghost use Rattle.machine.specs.Tree.{root, node_at, is_live, chain, under, has_children, find_group, without_group};
 ghost use Rattle.machine.specs.Names.{parent_path};
 ghost use Rattle.machine.specs.Refusals.{first_cause, space_refusal, mkdir_refusal};
 ghost use Rattle.machine.specs.Step.{new_node};
 ghost use Rattle.group_tree.specs.Groups.{IsGroupTree};
-ghost use Rattle.group_tree.specs.Tables.{node_of};
+ghost use Rattle.group_tree.specs.Tables.{number};
+ghost use Rattle.group_tree.specs.Siblings.{child_of, IsFirstFrom};
 
+use crate::children::Children;
 use crate::path::parent_path;
 use arrayvec::ArrayVec;
 use indexmap::IndexMap;
@@ -37,15 +39,6 @@ struct Group {
     live: bool,
 }
 
-impl Group {
-    /// Whether it is live and hangs below the parent.
-    fn is_child(&self, parent: GroupId) -> bool
-        ensures { result ≡ is_child parent.0 (node_of self.now) }
-    {
-        self.live && self.parent == Some(parent)
-    }
-}
-
 /// The tree of groups. Its first group is the root, at `/`.
 ///
 /// A contract sees it as the list of its groups in order of making, so a group's number is its
@@ -55,6 +48,8 @@ pub struct Tree {
     alloc: Global,
     /// By number. A removed group stays, so that its parent stays known.
     groups: Vec<Group>,
+    /// By number: which children each has.
+    children: Children,
     /// How many groups are live.
     live: usize,
     /// The live group of each path.
@@ -65,12 +60,13 @@ impl Model for Tree {
     ghost use Rattle.std.specs.Prelude.{List};
     ghost use Rattle.machine.specs.Tree.{Node};
     ghost use Rattle.group_tree.specs.Tables.{nodes_of, AreTables};
+    ghost use Rattle.group_tree.specs.Siblings.{AreLinked};
 
     ghost Value = { List Node };
 
     ghost view = { λ t. nodes_of t.groups.items };
 
-    ghost invariant = { λ t. AreTables t.groups.items t.live t.by_path.entries };
+    ghost invariant = { λ t. AreTables t.groups.items t.live t.by_path.entries × AreLinked (nodes_of t.groups.items) t.children.links.items };
 }
 
 impl Tree {
@@ -79,6 +75,7 @@ impl Tree {
         ensures { IfOk result (λ tree. tree ≡ root ∷ []) }
     {
         let mut groups = Vec::with_capacity(alloc, 1)?;
+        let mut children = Children::open(alloc)?;
         let mut by_path = IndexMap::new(alloc);
         let path = String::from_str(alloc, "/")?;
         by_path.insert(String::from_str(alloc, "/")?, GroupId::ROOT)?;
@@ -87,9 +84,11 @@ impl Tree {
             path,
             live: true,
         });
+        children.append(GroupId::ROOT, None);
         Ok(Tree {
             alloc,
             groups,
+            children,
             live: 1,
             by_path,
         })
@@ -116,12 +115,14 @@ impl Tree {
         let key = String::from_str(self.alloc, path)?;
         let path = String::from_str(self.alloc, path)?;
         self.groups.reserve(1)?;
+        self.children.reserve()?;
         self.by_path.insert(key, id)?;
         self.groups.push_reserved(Group {
             parent,
             path,
             live: true,
         });
+        self.children.append(id, parent);
         self.live += 1;
         Ok(id)
     }
@@ -138,6 +139,7 @@ impl Tree {
         let removed = &mut self.groups[group.0 as usize];
         removed.live = false;
         self.by_path.swap_remove(removed.path.as_str());
+        self.children.remove(group, removed.parent);
         self.live -= 1;
     }
 
@@ -196,21 +198,26 @@ impl Tree {
         false
     }
 
-    /// Whether this is the number of a live group that hangs below the parent.
-    pub(crate) fn is_child(&self, group: GroupId, parent: GroupId) -> bool
-        ensures { result ≡ is_child parent.0 (node_at self.now group.0) }
+    /// The first of a group's children (kernel: css_next_child of no child).
+    pub(crate) fn first_child(&self, group: GroupId) -> Option<GroupId>
+        ensures { IsFirstFrom (child_of self.now group.0) 0 (number result) }
     {
-        match self.groups.get(group.0 as usize) {
-            Some(group) => group.is_child(parent),
-            None => false,
-        }
+        self.children.first_child(group)
+    }
+
+    /// The next child of what a live group hangs below (kernel: css_next_child).
+    pub(crate) fn next_sibling(&self, group: GroupId) -> Option<GroupId>
+        ensures { (parent : ℕ) → child_of self.now parent group.0 ≡ true
+            → IsFirstFrom (child_of self.now parent) (group.0 + 1) (number result) }
+    {
+        self.children.next_sibling(group)
     }
 
     /// Whether a live group hangs below this one.
     pub fn has_children(&self, group: GroupId) -> bool
         ensures { result ≡ has_children self.now group.0 }
     {
-        self.groups.iter().any(|other| other.is_child(group))
+        self.first_child(group).is_some()
     }
 
     /// The group, what it hangs below, and so on up to the root. No group has more than 16 above it.

@@ -1,13 +1,16 @@
-use Rattle.std.proofs.Common.{◌+◌, ◌++◌, ◌∷◌, [], ap, ◌∙◌, true, arith, refl, length}
+use Rattle.std.proofs.Common.{◌+◌, ◌++◌, ◌∷◌, [], List, ap, sym, subst, ◌∙◌, true, arith, refl, length}
 use Rattle.std.proofs.lemmas.List.{length-map}
-use Rattle.machine.specs.Tree.{find_group}
+use Rattle.machine.specs.Tree.{Node, find_group}
+use Rattle.machine.specs.Step.{new_node}
+use Rattle.group_tree.specs.declared.children.Links.{Links}
+use Rattle.group_tree.specs.Siblings.{AreLinked}
 use Rattle.group_tree.specs.Tables.{node_of}
 use Rattle.group_tree.proofs.PushLemmas.{Makes, nodes-made, AreTables-made}
 use Rattle.group_tree.proofs.tree.Tree.mkdir.Goals as goal
 
 made : (c : goal.After-self-1) → Makes c.args.self.now c.args.path.now c.self.inside.groups.items c.self.inside.live c.self.inside.by_path c.find-parent.result c.in_ok-key.key c.in_ok-path.path c.next_id-id.result c.push_reserved.new.self.items (c.self.inside.live + 1) c.insert.new.self.entries
 made c = record {
-  tables = c.self.invariant;
+  tables = c.self.invariant.0;
   view = c.self.view_is;
   free = c.requires;
   left = (let same = length-map c.self.inside.groups.items node_of in let seen = ap length c.self.view_is in let some = c.if-len-ge-MAX_NUMBERS.false in omega (arith, same, seen, some));
@@ -21,7 +24,13 @@ made c = record {
 }
 
 pub invariant_of-self-2 : goal.invariant_of-self-2
-invariant_of-self-2 c = AreTables-made _ _ _ _ _ _ _ _ _ _ _ _ (made c)
+invariant_of-self-2 c = (
+  AreTables-made _ _ _ _ _ _ _ _ _ _ _ _ (made c),
+  subst (λ (t : List Node). AreLinked t c.append.new.self.links.items) (sym (nodes-made _ _ _ _ _ _ _ _ _ _ _ _ (made c)))
+      (c.append.ensures c.args.self.now (new_node c.args.self.now c.args.path.now)
+      (subst (λ (links : List Links). AreLinked c.args.self.now links) (sym c.in_ok-reserve-2.ensures.links) (subst (λ (t : List Node). AreLinked t c.self.inside.children.links.items) c.self.view_is c.self.invariant.1))
+      refl (sym (made c).found)),
+)
 
 pub returns-clause-ok : goal.returns-clause-ok
 returns-clause-ok c = nodes-made _ _ _ _ _ _ _ _ _ _ _ _ (made c)

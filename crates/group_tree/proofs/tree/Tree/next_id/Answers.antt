@@ -6,7 +6,7 @@ use Rattle.group_tree.proofs.tree.Tree.next_id.Goals as goal
 pub overflow_cast-result : goal.overflow_cast-result
 overflow_cast-result c =
     let same = length-map c.self.inside.groups.items node_of in
-    let most = c.self.invariant.tree.numbers in
+    let most = c.self.invariant.0.tree.numbers in
     omega (arith, same, most)
 
 pub returns : goal.returns

@@ -8,7 +8,7 @@ use Rattle.group_tree.proofs.tree.Tree.space_refusal.Goals.{then-self-ge-MAX_GRO
 
 pub returns-then-len-gt-MAX_LEVELS : goal.returns-then-len-gt-MAX_LEVELS
 returns-then-len-gt-MAX_LEVELS c =
-    let same = c.self.invariant.counted in
+    let same = c.self.invariant.0.counted in
     let seen = ap live_groups c.self.view_is in
     elim c.if-self-ge-MAX_GROUPS.branch [
       | then-self-ge-MAX_GROUPS w ↦ let many = w.if-self-ge-MAX_GROUPS.true in no_space c.args.self.now c.args.parent.0 (omega (arith, same, seen, many))
@@ -22,7 +22,7 @@ returns-then-len-gt-MAX_LEVELS c =
 
 pub returns-else-len-gt-MAX_LEVELS : goal.returns-else-len-gt-MAX_LEVELS
 returns-else-len-gt-MAX_LEVELS c =
-    let same = c.self.invariant.counted in
+    let same = c.self.invariant.0.counted in
     let seen = ap live_groups c.self.view_is in
     elim c.if-self-ge-MAX_GROUPS.branch [
       | then-self-ge-MAX_GROUPS w ↦
