@@ -1,21 +1,17 @@
 -- What the children of a group ask for is part of what the group counts: they count pages of their own, and each of these is counted at the group too.
-use Rattle.std.proofs.Common.{inl, inr, ◌≡◌, ℕ, zero, suc, ◌+◌, ◌<◌, ◌≤◌, ◌==◌, Bool, true, false, cond, List, [], ◌∷◌, length, get_or, Option, Some, None, refl, sym, ap, ◌∙◌, arith}
+use Rattle.std.proofs.Common.{inl, inr, ◌≡◌, ℕ, zero, suc, ◌+◌, ◌<◌, ◌≤◌, ◌==◌, Bool, true, false, cond, List, [], ◌∷◌, length, Option, Some, None, refl, sym, ap, ◌∙◌, arith}
 use Rattle.std.specs.Prelude.{count_by, sum_by}
 use Rattle.std.proofs.lemmas.Bool.{cases_lt, cases_Bool}
-use Rattle.std.proofs.lemmas.List.{get_or_default}
 use Rattle.std.proofs.lemmas.List.Sums.{sum_by-cons}
 use Rattle.machine.specs.declared.amount.Amount.{Amount}
 use Rattle.machine.specs.declared.amount.Amount.TheVariants.{Max, Pages}
-use Rattle.machine.specs.declared.record.Limits.{Limits}
 use Rattle.machine.specs.Amounts.{at_most}
-use Rattle.machine.specs.Counts.{no_limits}
-use Rattle.machine.specs.Protection.{min_usage, children_min_usage, min_of}
-use Rattle.machine.specs.Tree.{Node, node_at, is_child, IsTree, rank, share, under}
-use Rattle.machine.proofs.TreeLemmas.{eq_cases, share-None, share-beyond, share-own, share-step, parent_above, rank-parent}
+use Rattle.machine.specs.Protection.{min_usage, children_min_usage}
+use Rattle.machine.specs.Tree.{Node, node_at, is_child, children, IsTree, rank, share, under}
+use Rattle.machine.proofs.TreeLemmas.{eq_cases, share-None, share-beyond, share-own, share-step, share-le, parent_above, rank-parent}
 use Rattle.group_tree.specs.Walk.{children_from}
 use Rattle.group_tree.proofs.PreorderLemmas.{children_from-end, children_from-child, children_from-other, children-from, child_parent}
 use Rattle.page_counter.specs.Counts.{Counts, AreCounts, usage_of}
-use Rattle.page_counter.specs.Tables.{IsCounters}
 use Rattle.page_counter.proofs.ChargeLemmas.{count_more}
 
 sum_by-plus : (f h : ℕ → ℕ) (xs : List ℕ) → sum_by (λ x. f x + h x) xs ≡ sum_by f xs + sum_by h xs
@@ -164,7 +160,7 @@ module _ (tree : List Node) (is : IsTree tree) (p : ℕ) where
       let more = count_more tree is p x charges in
       omega (arith, less, plus, rest, here, more)
 
-at_most-le : (count : ℕ) (amount : Amount) → at_most count amount ≤ count
+pub at_most-le : (count : ℕ) (amount : Amount) → at_most count amount ≤ count
 at_most-le count Max = omega arith
 at_most-le count (Pages n) = omega arith
 
@@ -179,6 +175,20 @@ children_min_usage-le s setting charges is counted p lt =
     let children = ap (sum_by (min_usage setting (usage_of s))) (children-from s.tree p) in
     omega (arith, less, all, here, children)
 
+-- counts to which one charge was added, at some of the groups above it: what the children ask for together is at most one more than what the group counted
+pub children_min_usage-grown : (tree : List Node) → IsTree tree → (p : ℕ) (setting : ℕ → Amount) (old now : ℕ → ℕ) (at : Option ℕ) → ((a : ℕ) → a < length tree → now a ≤ old a + share tree a at) → sum_by old (children tree p) ≤ old p
+    → children_min_usage tree setting now p ≤ old p + 1
+children_min_usage-grown tree is p setting old now at grown within =
+    let less =
+    sum-le tree p (min_usage setting now) (λ c. old c + share tree c at) 0
+    (λ c from there child. let some = at_most-le (now c) (setting c) in let more = grown c there in omega (arith, some, more)) in
+    let plus = sum_by-plus old (λ c. share tree c at) (children_from tree p 0) in
+    let one = share-children tree is p (rank at) at (omega arith) in
+    let most = share-le tree is p at in
+    let left = ap (sum_by (min_usage setting now)) (children-from tree p) in
+    let right = ap (sum_by old) (children-from tree p) in
+    omega (arith, less, plus, one, most, left, right, within)
+
 -- what agrees at each group that is there asks for as much
 pub children_min_usage-same : (tree : List Node) (setting : ℕ → Amount) (f h : ℕ → ℕ) → ((a : ℕ) → a < length tree → f a ≡ h a) → (p : ℕ) → children_min_usage tree setting f p ≡ children_min_usage tree setting h p
 children_min_usage-same tree setting f h same p =
@@ -188,43 +198,3 @@ children_min_usage-same tree setting f h same p =
     let left = ap (sum_by (min_usage setting f)) (children-from tree p) in
     let right = ap (sum_by (min_usage setting h)) (children-from tree p) in
     omega (arith, less, more, left, right)
-
--- the sum has the terms of the children that are numbered below k
-abbrev pub IsSummed : Counts → ℕ → ℕ → ℕ → Type 0
-IsSummed s p k sum = sum + sum_from s.tree p (min_usage (min_of s.limits) (usage_of s)) k ≡ children_min_usage s.tree (min_of s.limits) (usage_of s) p
-
-module _ (s : Counts) (p : ℕ) where
-  pub IsSummed-start : IsSummed s p 0 0
-  IsSummed-start = let children = ap (sum_by (min_usage (min_of s.limits) (usage_of s))) (children-from s.tree p) in omega (arith, children)
-
-  -- the term of the next child, as it is read from the tables
-  pub IsSummed-child : (usage : List ℕ) (limits : Limits) (k sum n : ℕ) → IsCounters s → usage ≡ s.usage → k < length usage → is_child p (node_at s.tree k) ≡ true
-      → limits ≡ get_or s.limits k limits → n ≡ at_most (get_or usage k 0) limits.min → IsSummed s p k sum → IsSummed s p (k + 1) (sum + n)
-  IsSummed-child usage limits k sum n held same lt child read is summed =
-      let len = ap length same in
-      let limits_len = held.limits_length in
-      let usage_len = held.usage_length in
-      let step = sum_from-child s.tree p (min_usage (min_of s.limits) (usage_of s)) k (omega (arith, len, usage_len, lt)) child in
-      let term : n ≡ min_usage (min_of s.limits) (usage_of s) k =
-      is ∙ ap (λ u. at_most (get_or u k 0) limits.min) same ∙ ap (λ l. at_most (get_or s.usage k 0) l.min) (read ∙ get_or_default s.limits k limits no_limits (omega (arith, len, limits_len, usage_len, lt))) in
-      omega (arith, step, term, summed)
-
-  pub IsSummed-other : (usage : List ℕ) (k sum : ℕ) → IsCounters s → usage ≡ s.usage → k < length usage → is_child p (node_at s.tree k) ≡ false → IsSummed s p k sum → IsSummed s p (k + 1) sum
-  IsSummed-other usage k sum held same lt other summed =
-      let len = ap length same in
-      let usage_len = held.usage_length in
-      let step = sum_from-other s.tree p (min_usage (min_of s.limits) (usage_of s)) k (omega (arith, len, usage_len, lt)) other in
-      omega (arith, step, summed)
-
-  pub IsSummed-end : (usage : List ℕ) (k sum : ℕ) → IsCounters s → usage ≡ s.usage → length usage ≤ k → IsSummed s p k sum → sum ≡ children_min_usage s.tree (min_of s.limits) (usage_of s) p
-  IsSummed-end usage k sum held same end summed =
-      let len = ap length same in
-      let usage_len = held.usage_length in
-      let none = sum_from-end s.tree p (min_usage (min_of s.limits) (usage_of s)) k (omega (arith, len, usage_len, end)) in
-      omega (arith, none, summed)
-
-  -- no such sum is more than the group's count
-  pub IsSummed-le : (k sum : ℕ) → IsCounters s → IsTree s.tree → p < length s.tree → IsSummed s p k sum → sum ≤ usage_of s p
-  IsSummed-le k sum held is lt summed =
-      let most = children_min_usage-le s (min_of s.limits) held.charges is held.counted p lt in
-      omega (arith, most, summed)

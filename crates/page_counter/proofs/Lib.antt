@@ -4,3 +4,7 @@ pub mod GroupLemmas
 pub mod WriteLemmas
 pub mod WalkLemmas
 pub mod ChildLemmas
+pub mod SumLemmas
+pub mod KeptLemmas
+pub mod GroupSums
+pub mod SettingLemmas

@@ -1,14 +1,28 @@
 -- Steps of the walks from a group up to the root.
-use Rattle.std.proofs.Common.{inl, inr, ◌≡◌, ℕ, ◌+◌, ◌-◌, ◌<◌, ◌≤◌, List, length, Option, Some, None, sym, ap, ◌∙◌, arith, slice_index, slice_set, get_or, get_or-set_other, get_or-set_same, cond, ◌==◌, Bool, true, false}
+use Rattle.std.proofs.Common.{inl, inr, ◌≡◌, ℕ, ◌+◌, ◌-◌, ◌<◌, ◌≤◌, List, length, Option, Some, None, refl, sym, ap, ◌∙◌, arith, slice_index, slice_set, get_or, get_or-set_other, get_or-set_same, cond, ◌==◌, Bool, true, false}
 use Rattle.std.specs.Option.{option_eq}
 use Rattle.std.proofs.lemmas.List.{get_or_default}
 use Rattle.machine.specs.declared.id.GroupId.{GroupId}
 use Rattle.machine.specs.declared.record.Limits.{Limits}
 use Rattle.machine.specs.Amounts.{exceeds}
 use Rattle.machine.specs.Counts.{no_limits, limits_at, is_full, over_at}
-use Rattle.machine.specs.Tree.{Node, node_at, IsTree, share, IsAbove}
+use Rattle.machine.specs.Tree.{Node, node_at, is_live, IsTree, share, IsAbove}
+use Rattle.group_tree.specs.Lineages.{IsLineage}
 use Rattle.group_tree.specs.Tables.{number}
 use Rattle.machine.proofs.TreeLemmas.{eq_cases, share-step, share-own, share-above, share-le, over_at-step}
+
+-- the group, if there is one, is live
+abbrev pub IsLiveAt : List Node → Option ℕ → Type 0
+IsLiveAt tree None = Unit {0}
+IsLiveAt tree (Some g) = is_live tree g ≡ true
+
+live_at : (tree : List Node) → IsLineage tree → (g : ℕ) → is_live tree g ≡ true → (at : Option ℕ) → (node_at tree g).parent ≡ at → IsLiveAt tree at
+live_at tree is g live None parent = tt
+live_at tree is g live (Some p) parent = is.parents_live g p live parent
+
+-- what a live group hangs below is live
+pub live_parent : (tree : List Node) → IsLineage tree → (g : ℕ) → is_live tree g ≡ true → IsLiveAt tree (node_at tree g).parent
+live_parent tree is g live = live_at tree is g live (node_at tree g).parent refl
 
 module _ (tree : List Node) (is : IsTree tree) (now old : List ℕ) (group g : ℕ) where
   -- now lacks what the walk from the group to here took

@@ -5,6 +5,7 @@ use Rattle.machine.specs.Tree.{IsTree, share}
 use Rattle.machine.proofs.TreeLemmas.{eq_cases, share-None}
 use Rattle.group_tree.proofs.LineageLemmas.{live-within}
 use Rattle.page_counter.specs.Counts.{Counts, SameGroups, Charges, MovesUp, AreCounts, IsOut}
+use Rattle.page_counter.specs.Sums.{AreKept}
 use Rattle.page_counter.specs.Tables.{IsCounters}
 use Rattle.page_counter.proofs.ChargeLemmas.{live-out, counts_itself}
 
@@ -56,12 +57,13 @@ Charges-taken s now usage g is same taken =
       usage = λ a lt. (let e = taken a lt in let none = share-None s.tree is a in let here = ap (λ u. slice_index u a) same in omega (arith, e, none, here));
     }
 
--- the counters stay such, where only counts changed
-pub IsCounters-counts : (old new : Counts) (charges : List ℕ) → IsCounters old → SameGroups old new → length new.usage ≡ length old.usage → AreCounts new charges → IsCounters new
-IsCounters-counts old new charges held groups same counted =
+-- the counters stay such, where only counts and sums changed
+pub IsCounters-counts : (old new : Counts) (sums sums' : List ℕ) (charges : List ℕ) → IsCounters old sums → SameGroups old new → length new.usage ≡ length old.usage → AreCounts new charges → AreKept new.tree new.limits new.usage sums' → IsCounters new sums'
+IsCounters-counts old new sums sums' charges held groups same counted kept =
     record {
       limits_length = ap length groups.limits ∙ held.limits_length ∙ sym (ap length groups.tree);
       usage_length = same ∙ held.usage_length ∙ sym (ap length groups.tree);
       charges = charges;
       counted = counted;
+      kept = kept;
     }

@@ -1,6 +1,7 @@
 -- The tables that the counters stand in, by the groups' numbers.
 use Rattle.std.specs.Prelude.{◌≡◌, ℕ, ◌-◌, List, length, min, vec_len, vec_capacity}
 use Rattle.page_counter.specs.Counts.{Counts, AreCounts}
+use Rattle.page_counter.specs.Sums.{AreKept}
 use Rattle.page_counter.specs.declared.counters.Counters.TheInside.{Inside}
 
 -- what the tables say. There is memory for as many groups more as each table has room for
@@ -9,12 +10,13 @@ counts_of c = record {
   tree = c.lineage.tree;
   limits = c.limits.items;
   usage = c.usage.items;
-  room = min c.lineage.room (min (vec_capacity c.limits - vec_len c.limits) (vec_capacity c.usage - vec_len c.usage));
+  room = min c.lineage.room (min (vec_capacity c.limits - vec_len c.limits) (min (vec_capacity c.usage - vec_len c.usage) (vec_capacity c.sums - vec_len c.sums)));
 }
 
--- each table has one entry a group, and the counts are those of some list of charges
-pub record IsCounters (s : Counts) : Type 0 where
+-- each table has one entry a group, the counts are those of some list of charges, and the sums are kept
+pub record IsCounters (s : Counts) (sums : List ℕ) : Type 0 where
   pub limits_length : length s.limits ≡ length s.tree
   pub usage_length : length s.usage ≡ length s.tree
   pub charges : List ℕ
   pub counted : AreCounts s charges
+  pub kept : AreKept s.tree s.limits s.usage sums

@@ -1,11 +1,12 @@
 //! The counters of all groups.
 
-ghost use Rattle.std.specs.Prelude.{◌≡◌, ◌+◌, ◌<◌, ◌≤◌, ◌++◌, ◌∷◌, ℕ, List, [], length, slice_index, slice_set, Some, None, true, false, option_map, IfOk, OnOk, IfErr, OnErr, IsOk, IsSome};
+ghost use Rattle.std.specs.Prelude.{◌≡◌, ◌+◌, ◌<◌, ◌≤◌, ◌++◌, ◌∷◌, ℕ, List, [], length, sum_by, slice_index, slice_set, Some, None, true, false, option_map, IfOk, OnOk, IfErr, OnErr, IsOk, IsSome};
 ghost use Rattle.machine.specs.Protection.{min_usage, children_min_usage, min_of};
 ghost use Rattle.machine.specs.Counts.{no_limits, limits_at, over_at};
-ghost use Rattle.machine.specs.Tree.{IsTree, IsAbove, node_at, is_live, has_children, share};
+ghost use Rattle.machine.specs.Tree.{IsTree, IsAbove, node_at, is_live, is_child, children, has_children, share};
 ghost use Rattle.group_tree.specs.Lineages.{bare, IsLineage};
 ghost use Rattle.group_tree.specs.Tables.{number};
+ghost use Rattle.page_counter.specs.Sums.{AreKept, Propagates};
 
 use crate::charge::{Charge, Over};
 use group_tree::Lineage;
@@ -25,6 +26,9 @@ pub struct Counters {
     lineage: Lineage,
     limits: Vec<Limits>,
     usage: Vec<u64>,
+    /// What the live children of each group ask for together. It is kept, and not asked of them,
+    /// so that it costs a look however many they are.
+    sums: Vec<u64>,
 }
 
 impl Model for Counters {
@@ -36,7 +40,7 @@ impl Model for Counters {
 
     ghost view = { counts_of };
 
-    ghost invariant = { λ c. IsCounters (counts_of c) };
+    ghost invariant = { λ c. IsCounters (counts_of c) c.sums.items };
 }
 
 impl Counters {
@@ -53,12 +57,15 @@ impl Counters {
         let lineage = Lineage::new(alloc)?;
         let mut limits = Vec::with_capacity(alloc, 1)?;
         let mut usage = Vec::with_capacity(alloc, 1)?;
+        let mut sums = Vec::with_capacity(alloc, 1)?;
         limits.push_reserved(Limits::NONE);
         usage.push_reserved(0);
+        sums.push_reserved(0);
         Ok(Counters {
             lineage,
             limits,
             usage,
+            sums,
         })
     }
 
@@ -75,7 +82,8 @@ impl Counters {
     {
         self.lineage.reserve()?;
         self.limits.reserve(1)?;
-        self.usage.reserve(1)
+        self.usage.reserve(1)?;
+        self.sums.reserve(1)
     }
 
     /// A group more, below another, with no limit and no page charged. Its memory was asked for by
@@ -95,6 +103,7 @@ impl Counters {
         self.lineage.add(parent);
         self.limits.push_reserved(Limits::NONE);
         self.usage.push_reserved(0);
+        self.sums.push_reserved(0);
     }
 
     /// A group more, below another, with no limit and no page charged. `AllocError` where there is
@@ -172,7 +181,15 @@ impl Counters {
         ensures room { self.new.room ≡ self.old.room }
         ensures counted { (charges : List ℕ) → AreCounts self.old charges → AreCounts self.new charges }
     {
+        self.lineage.is_lineage();
+        // What the children ask for fits, since no count is too large.
+        counts_fit(&self.usage);
+        let usage = self.usage[group.0 as usize];
+        let before = self.limits[group.0 as usize].min.at_most(usage);
+        let after = min.at_most(usage);
         self.limits[group.0 as usize].min = min;
+        let sums = self.sums.as_mut_slice();
+        propagate_min_usage(&self.lineage, sums, group, before, after);
     }
 
     /// How many of the pages that are charged to the group or below it its min protects (kernel:
@@ -184,22 +201,13 @@ impl Counters {
         self.min(group).at_most(self.usage(group))
     }
 
-    /// The sum of `min_usage` over the groups that hang below this one (kernel:
+    /// The sum of `min_usage` over the live groups that hang below this one (kernel:
     /// `children_min_usage` of a `struct page_counter`).
-    pub fn children_min_usage(&self, group: GroupId) -> u64
+    pub fn children_min_usage(&self, group: GroupId) -> &u64
         requires live { is_live self.now.tree group.0 ≡ true }
-        ensures { result ≡ children_min_usage self.now.tree (min_of self.now.limits) (usage_of self.now) group.0 }
+        ensures { result.now ≡ children_min_usage self.now.tree (min_of self.now.limits) (usage_of self.now) group.0 }
     {
-        self.lineage.is_lineage();
-        let usage = self.usage.as_slice();
-        let mut sum = 0;
-        for (number, count) in usage.iter().enumerate() {
-            if self.lineage.is_child(number, group) {
-                // Each child counts pages of its own, and all are counted at the group.
-                sum += self.limits[number].min.at_most(*count);
-            }
-        }
-        sum
+        &self.sums[group.0 as usize]
     }
 
     /// How many pages are charged to the group or below it (kernel: page_counter_read).
@@ -235,12 +243,9 @@ impl Counters {
         ensures err { OnErr result (self.new ≡ self.old) }
     {
         self.lineage.is_lineage();
-        add_up(
-            &self.lineage,
-            &self.limits,
-            self.usage.as_mut_slice(),
-            group,
-        )?;
+        let usage = self.usage.as_mut_slice();
+        let sums = self.sums.as_mut_slice();
+        add_up(&self.lineage, &self.limits, usage, sums, group)?;
         Ok(Charge::new(group))
     }
 
@@ -253,7 +258,9 @@ impl Counters {
     {
         self.lineage.is_lineage();
         let group = charge.into_group();
-        take_down(&self.lineage, self.usage.as_mut_slice(), group, None);
+        let usage = self.usage.as_mut_slice();
+        let sums = self.sums.as_mut_slice();
+        take_down(&self.lineage, &self.limits, usage, sums, group, None);
     }
 
     /// Gives a charge to what its group hangs below: a page less at the group itself, and the same
@@ -269,7 +276,13 @@ impl Counters {
         let Some(parent) = self.lineage.parent(group) else {
             unreachable!()
         };
-        self.usage[group.0 as usize] -= 1;
+        let limit = self.limits[group.0 as usize];
+        let count = self.usage[group.0 as usize];
+        let fewer = count - 1;
+        self.usage[group.0 as usize] = fewer;
+        let (before, after) = (limit.min.at_most(count), limit.min.at_most(fewer));
+        let sums = self.sums.as_mut_slice();
+        propagate_min_usage(&self.lineage, sums, group, before, after);
         Charge::new(parent)
     }
 
@@ -313,25 +326,34 @@ fn add_up(
     lineage: &Lineage,
     limits: &[Limits],
     usage: &mut [u64],
+    sums: &mut [u64],
     group: GroupId,
 ) -> Result<(), Over>
-    requires tree { IsTree lineage.now.tree }
+    requires tree { IsLineage lineage.now.tree }
     requires limits { length limits.now ≡ length lineage.now.tree }
     requires usage { length usage.old ≡ length lineage.now.tree }
-    requires there { group.0 < length lineage.now.tree }
+    requires live { is_live lineage.now.tree group.0 ≡ true }
     requires room { (a : ℕ) → a < length lineage.now.tree → slice_index usage.old a < 18446744073709551615 }
+    requires within { (a : ℕ) → a < length lineage.now.tree → sum_by (λ c. slice_index usage.old c) (children lineage.now.tree a) ≤ slice_index usage.old a }
+    requires kept { AreKept lineage.now.tree limits.now usage.old sums.old }
     ensures under { OnOk result (over_at lineage.now.tree limits.now (λ a. slice_index usage.old a) (Some group.0) ≡ None) }
     ensures over { IfErr result (λ limit. over_at lineage.now.tree limits.now (λ a. slice_index usage.old a) (Some group.0) ≡ Some limit.0.0) }
     ensures charged { OnOk result ((a : ℕ) → a < length lineage.now.tree → slice_index usage.new a ≡ slice_index usage.old a + share lineage.now.tree a (Some group.0)) }
     ensures err { OnErr result (usage.new ≡ usage.old) }
+    ensures kept { AreKept lineage.now.tree limits.now usage.new sums.new }
 {
     let mut at = Some(group);
     while let Some(here) = at {
-        if limits[here.0 as usize].max.is_full(usage[here.0 as usize]) {
-            take_down(lineage, usage, group, Some(here));
+        let count = usage[here.0 as usize];
+        let limit = limits[here.0 as usize];
+        if limit.max.is_full(count) {
+            take_down(lineage, limits, usage, sums, group, Some(here));
             return Err(Over(here));
         }
-        usage[here.0 as usize] += 1;
+        let more = count + 1;
+        usage[here.0 as usize] = more;
+        let (before, after) = (limit.min.at_most(count), limit.min.at_most(more));
+        propagate_min_usage(lineage, sums, here, before, after);
         at = lineage.parent(here);
     }
     Ok(())
@@ -339,20 +361,58 @@ fn add_up(
 
 /// Takes one from the count of each group from this one up to `until`, which keeps its count, as
 /// do those above it.
-fn take_down(lineage: &Lineage, usage: &mut [u64], group: GroupId, until: Option<GroupId>)
-    requires tree { IsTree lineage.now.tree }
+fn take_down(
+    lineage: &Lineage,
+    limits: &[Limits],
+    usage: &mut [u64],
+    sums: &mut [u64],
+    group: GroupId,
+    until: Option<GroupId>,
+)
+    requires tree { IsLineage lineage.now.tree }
+    requires limits { length limits.now ≡ length lineage.now.tree }
     requires usage { length usage.old ≡ length lineage.now.tree }
-    requires there { group.0 < length lineage.now.tree }
+    requires live { is_live lineage.now.tree group.0 ≡ true }
     requires above { IsAbove lineage.now.tree (number until) (Some group.0) }
     requires counted { (a : ℕ) → a < length lineage.now.tree → share lineage.now.tree a (Some group.0) ≤ slice_index usage.old a + share lineage.now.tree a (number until) }
-    ensures { (a : ℕ) → a < length lineage.now.tree → slice_index usage.new a + share lineage.now.tree a (Some group.0) ≡ slice_index usage.old a + share lineage.now.tree a (number until) }
+    requires kept { AreKept lineage.now.tree limits.now usage.old sums.old }
+    ensures taken { (a : ℕ) → a < length lineage.now.tree → slice_index usage.new a + share lineage.now.tree a (Some group.0) ≡ slice_index usage.old a + share lineage.now.tree a (number until) }
+    ensures kept { AreKept lineage.now.tree limits.now usage.new sums.new }
 {
     let mut at = Some(group);
     while let Some(here) = at {
         if until == Some(here) {
             return;
         }
-        usage[here.0 as usize] -= 1;
+        let count = usage[here.0 as usize];
+        let min = limits[here.0 as usize].min;
+        let fewer = count - 1;
+        usage[here.0 as usize] = fewer;
+        let (before, after) = (min.at_most(count), min.at_most(fewer));
+        propagate_min_usage(lineage, sums, here, before, after);
         at = lineage.parent(here);
     }
+}
+
+/// Nothing is done: each count fits its type.
+fn counts_fit(usage: &[u64])
+    ensures { (a : ℕ) → slice_index usage.now a ≤ 18446744073709551615 }
+{
+    let _ = usage.len();
+}
+
+/// The group asks for `after` where it asked for `before`: the sum of the group that it hangs
+/// below, and no other, changes by as much (kernel: propagate_protected_usage).
+fn propagate_min_usage(lineage: &Lineage, sums: &mut [u64], group: GroupId, before: u64, after: u64)
+    requires live { is_live lineage.now.tree group.0 ≡ true }
+    requires sums { length sums.old ≡ length lineage.now.tree }
+    requires covered { (p : ℕ) → is_child p (node_at lineage.now.tree group.0) ≡ true → before ≤ slice_index sums.old p }
+    requires fits { (p : ℕ) → is_child p (node_at lineage.now.tree group.0) ≡ true → before < after → slice_index sums.old p + after ≤ 18446744073709551615 + before }
+    ensures { Propagates lineage.now.tree group.0 before after sums.old sums.new }
+{
+    let Some(parent) = lineage.parent(group) else {
+        return;
+    };
+    let sum = sums[parent.0 as usize];
+    sums[parent.0 as usize] = sum - before + after;
 }

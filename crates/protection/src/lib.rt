@@ -50,7 +50,7 @@ pub fn effective(tree: &Tree, counters: &Counters, target: GroupId, group: Group
         return counters.min(group);
     }
     let above = effective(tree, counters, target, parent);
-    let siblings = counters.children_min_usage(parent);
+    let siblings = *counters.children_min_usage(parent);
     part_of(above, siblings, counters.min_usage(group))
 }
 

@@ -2,14 +2,18 @@ use Rattle.std.proofs.Common.{◌≡◌, ◌+◌, ◌<◌, ℕ, length, Some, sl
 use Rattle.machine.specs.Counts.{over_at}
 use Rattle.machine.specs.Tree.{share, IsAbove, IsBelow, rank}
 use Rattle.group_tree.specs.Tables.{number}
+use Rattle.page_counter.specs.Sums.{AreKept}
+use Rattle.page_counter.proofs.WalkLemmas.{IsLiveAt}
 use Rattle.page_counter.proofs.counters.add_up.Given as goal
 
 abbrev pub invariant-loop-at : goal.invariant-loop-at
 invariant-loop-at l = record {
   there : IsBelow (number l.at) (length l.lineage.tree);
+  live : IsLiveAt l.lineage.tree (number l.at);
   above : IsAbove l.lineage.tree (number l.at) (Some l.group.0);
   counts : (a : ℕ) → a < length l.lineage.tree → slice_index l.usage a + share l.lineage.tree a (number l.at) ≡ slice_index l.fn.usage a + share l.lineage.tree a (Some l.group.0);
   over : over_at l.lineage.tree l.limits (λ a. slice_index l.fn.usage a) (number l.at) ≡ over_at l.lineage.tree l.limits (λ a. slice_index l.fn.usage a) (Some l.group.0);
+  kept : AreKept l.lineage.tree l.limits l.usage l.sums;
 }
 
 abbrev pub decreases-loop-at : goal.decreases-loop-at

@@ -10,23 +10,27 @@ take_down-requires-clause-above c a = let none = share-None c.self.inside.lineag
 
 pub take_down-requires-clause-counted : goal.take_down-requires-clause-counted
 take_down-requires-clause-counted c =
-    rw (c.into_group-group.ensures, c.as_mut_slice.ensures.value)
+    rw (c.into_group-group.ensures, c.as_mut_slice-usage.ensures.value)
     (λ a lt. let counted = share-counted _ c.args.charge c.is_lineage.ensures.earlier_parents (rw (← c.self.view_is) at c.requires.out) a lt in omega (arith, counted))
+
+pub take_down-requires-clause-kept : goal.take_down-requires-clause-kept
+take_down-requires-clause-kept c = rw (c.deref.ensures.value, c.as_mut_slice-usage.ensures.value, c.as_mut_slice-sums.ensures.value) c.self.invariant.kept
 
 pub invariant_of-self : goal.invariant_of-self
 invariant_of-self c =
     let out = rw (← c.self.view_is) at c.requires.out in
     let items = with_items_is c.self.inside.usage c.take_down.new.usage (omega arith) in
     let len = ap length items in
-    IsCounters-counts _ _ out.others c.self.invariant (record { tree = refl; limits = refl; room = refl }) (omega (arith, len))
+    IsCounters-counts _ _ _ _ out.others c.self.invariant (record { tree = refl; limits = refl; room = refl }) (omega (arith, len))
     (AreCounts-uncharge _ _ c.args.charge out.others c.is_lineage.ensures.earlier_parents
-    (Charges-taken _ c.take_down.new.usage _ c.args.charge c.is_lineage.ensures.earlier_parents items (rw (c.into_group-group.ensures, c.as_mut_slice.ensures.value) at c.take_down.ensures)) out.counted)
+    (Charges-taken _ c.take_down.new.usage _ c.args.charge c.is_lineage.ensures.earlier_parents items (rw (c.into_group-group.ensures, c.as_mut_slice-usage.ensures.value) at c.take_down.ensures.taken)) out.counted)
+    (rw (items, with_items_is c.self.inside.sums c.take_down.new.sums (omega arith)) (rw c.deref.ensures.value at c.take_down.ensures.kept))
 
 pub returns-clause-uncharged : goal.returns-clause-uncharged
 returns-clause-uncharged c =
     let items = with_items_is c.self.inside.usage c.take_down.new.usage (omega arith) in
     rw (← c.self.view_is)
-    (Charges-taken _ c.take_down.new.usage _ c.args.charge c.is_lineage.ensures.earlier_parents items (rw (c.into_group-group.ensures, c.as_mut_slice.ensures.value) at c.take_down.ensures))
+    (Charges-taken _ c.take_down.new.usage _ c.args.charge c.is_lineage.ensures.earlier_parents items (rw (c.into_group-group.ensures, c.as_mut_slice-usage.ensures.value) at c.take_down.ensures.taken))
 
 pub returns-clause-counted : goal.returns-clause-counted
 returns-clause-counted c =
@@ -34,4 +38,4 @@ returns-clause-counted c =
     rw (← c.self.view_is)
     (λ rest counted.
     AreCounts-uncharge _ _ c.args.charge rest c.is_lineage.ensures.earlier_parents
-    (Charges-taken _ c.take_down.new.usage _ c.args.charge c.is_lineage.ensures.earlier_parents items (rw (c.into_group-group.ensures, c.as_mut_slice.ensures.value) at c.take_down.ensures)) counted)
+    (Charges-taken _ c.take_down.new.usage _ c.args.charge c.is_lineage.ensures.earlier_parents items (rw (c.into_group-group.ensures, c.as_mut_slice-usage.ensures.value) at c.take_down.ensures.taken)) counted)
