@@ -3,13 +3,13 @@
 use std::alloc::{AllocError, Global};
 use std::ops::RangeInclusive;
 use std::process::Abort;
-use subcommands::{Detail, schedule_with};
+use subcommands::{Options, schedule_with};
 
 // The script's run ends with this status, and writes this and no more.
 fn ends<R: Abort + AllocGlobal>(
     rt: &R,
     name: &str,
-    detail: Detail,
+    options: Options,
     script: &[u8],
     out: &str,
     err: &str,
@@ -18,7 +18,7 @@ fn ends<R: Abort + AllocGlobal>(
     let mut script = script;
     let mut printed = Vec::new(rt.alloc());
     let mut said = Vec::new(rt.alloc());
-    let given = schedule_with(rt.alloc(), detail, &mut script, &mut printed, &mut said);
+    let given = schedule_with(rt.alloc(), options, &mut script, &mut printed, &mut said);
     let printed = std::str::from_utf8(&printed).unwrap_or("no text");
     let said = std::str::from_utf8(&said).unwrap_or("no text");
     assert_eq!(rt; said, err, "standard error: {name}");
@@ -28,7 +28,7 @@ fn ends<R: Abort + AllocGlobal>(
 
 /// The script runs, and prints this.
 pub fn prints<R: Abort + AllocGlobal>(rt: &R, name: &str, script: &str, out: &str) {
-    ends(rt, name, Detail::Cause, script.as_bytes(), out, "", 0);
+    ends(rt, name, Options::default(), script.as_bytes(), out, "", 0);
 }
 
 /// The script has a faulty line: this line alone goes to the standard error, and nothing is run.
@@ -38,13 +38,17 @@ pub fn faults<R: Abort + AllocGlobal>(rt: &R, name: &str, script: &str, line: &s
 
 /// The same for a script that may not be text.
 pub fn faults_in_bytes<R: Abort + AllocGlobal>(rt: &R, name: &str, script: &[u8], line: &str) {
-    ends(rt, name, Detail::Cause, script, "", line, 1);
+    ends(rt, name, Options::default(), script, "", line, 1);
 }
 
 /// The script has a faulty line, and it is asked for more of the fault: these lines go to the standard
 /// error.
 pub fn explains<R: Abort + AllocGlobal>(rt: &R, name: &str, script: &[u8], lines: &str) {
-    ends(rt, name, Detail::Explained, script, "", lines, 1);
+    let options = Options {
+        explain: true,
+        ..Options::default()
+    };
+    ends(rt, name, options, script, "", lines, 1);
 }
 
 /// A line for each number, with this before and this after it.

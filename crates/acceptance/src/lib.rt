@@ -25,6 +25,8 @@ mod generations;
 #[cfg(test)]
 mod min_file;
 #[cfg(test)]
+mod printing;
+#[cfg(test)]
 mod read_ins;
 #[cfg(test)]
 mod reclaim_turns;

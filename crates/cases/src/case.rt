@@ -11,7 +11,7 @@ ghost use Rattle.std.specs.Str.{bytes_eq};
 use std::alloc::{AllocError, Global};
 use std::io;
 use std::io::Write;
-use subcommands::{Detail, schedule_with};
+use subcommands::{Options, schedule_with};
 
 /// The part of a case that a line belongs to.
 #[derive(Clone, Copy)]
@@ -29,7 +29,7 @@ pub struct Case {
     script: String,
     out: String,
     err: String,
-    detail: Detail,
+    options: Options,
     /// Where the next line of the file belongs.
     next: Part,
 }
@@ -41,7 +41,7 @@ impl Case {
             script: String::new(alloc),
             out: String::new(alloc),
             err: String::new(alloc),
-            detail: Detail::Cause,
+            options: Options::default(),
             next: Part::Script,
         })
     }
@@ -57,7 +57,7 @@ impl Case {
             return add_line(&mut self.err, fault);
         }
         if let Some(more) = line.strip_prefix("-- explained ") {
-            self.detail = Detail::Explained;
+            self.options.explain = true;
             return add_line(&mut self.err, more);
         }
         match self.next {
@@ -82,7 +82,7 @@ impl Case {
         let mut script = self.script.as_bytes();
         let mut out = Vec::new(alloc);
         let mut err = Vec::new(alloc);
-        let status = schedule_with(alloc, self.detail, &mut script, &mut out, &mut err);
+        let status = schedule_with(alloc, self.options, &mut script, &mut out, &mut err);
         if self.is_met(status, &out, &err) {
             return Ok(());
         }

@@ -6,6 +6,7 @@ pub mod Faithful
 pub mod TicketLemmas
 pub mod SeatLists
 pub mod Runs
+pub mod SinkLemmas
 pub mod TurnExamples
 pub mod TaskExamples
 pub mod RemovalExamples

@@ -3,3 +3,4 @@ pub mod Schedule
 pub mod Tickets
 pub mod Seats
 pub mod Desks
+pub mod Sinks

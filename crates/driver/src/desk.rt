@@ -1,6 +1,6 @@
 //! A book, and the seats of those who work on it.
 
-ghost use Rattle.std.specs.Prelude.{◌≡◌, ◌⊎◌, ◌<◌, ◌++◌, [], true, false, List, length, OnOk, IfOk, IfErr};
+ghost use Rattle.std.specs.Prelude.{◌≡◌, ◌⊎◌, ◌<◌, [], true, false, List, length, OnOk, OnErr, IfOk, IfErr};
 ghost use Rattle.machine.specs.declared.command.Reply.{Reply as Told_by};
 ghost use Rattle.machine.specs.State.{is_config};
 ghost use Rattle.block_store.specs.Device.{Disk};
@@ -9,10 +9,12 @@ ghost use Rattle.driver.specs.Schedule.{Asks, WantTurn, StageTurn, wants_at, Tur
 ghost use Rattle.driver.specs.Tickets.{OwnEvent, OwnStage, OwnTransition, OwnSeats};
 ghost use Rattle.driver.specs.Seats.{place_of, is_under_way};
 ghost use Rattle.driver.specs.Desks.{world, blocks_of_desk, AsksFirst, IsOn, IsSame};
+ghost use Rattle.driver.specs.Sinks.{Heard, StartsStep, StartsRun};
 
 use crate::automaton::{ask, told};
 use crate::judge::judge;
 use crate::seats::Seats;
+use crate::sink::{Closed, Cut, Sink};
 use crate::turn::{Activity, Outcome, Pending, Seat, Stage, Transition, Want};
 use crate::{calls, seats};
 use block_store::BlockDevice;
@@ -149,97 +151,110 @@ impl Desk {
     }
 
     /// Begins the actor's command, unless one is under way.
-    fn begin(
+    fn begin<S: Sink>(
         &mut self,
+        at: usize,
         actor: Actor,
         command: &Command,
-        answers: &mut Vec<Reply>,
-    ) -> Result<(), AllocError>
-        ensures begins { OnOk result ((added : List Told_by) × (answers.new.items ≡ answers.old.items ++ added) × ((disk : Disk) → Begins (world self.old disk) actor command.now (activity_of actor self.old.seats) added (world self.new disk))) }
+        sink: &mut S,
+    ) -> Result<(), Cut>
+        ensures begins { OnOk result ((added : List Told_by) × S.took sink.old sink.new added × ((disk : Disk) → Begins (world self.old disk) actor command.now (activity_of actor self.old.seats) added (world self.new disk))) }
+        ensures cut { OnErr result (Heard S.took S.failed sink.old sink.new []) }
         ensures on { (disk : Disk) → IsOn self.old disk → IsOn self.new disk }
     {
         if self.seats.is_under_way(actor) {
-            seats::answer(answers, actor, Answer::Word(Word::Underway))?;
+            seats::answer(sink, at, actor, Answer::Word(Word::Underway))?;
             return Ok(());
         }
         let command = command.copy(self.alloc)?;
-        self.seats.seat(actor, command)
+        self.seats.seat(actor, command)?;
+        Ok(())
     }
 
     /// One turn, whatever comes of it: `idle` where the actor has no command.
-    fn advance<D: BlockDevice>(
+    fn advance<D: BlockDevice, S: Sink>(
         &mut self,
         device: &mut D,
+        at: usize,
         actor: Actor,
-        answers: &mut Vec<Reply>,
-    ) -> Result<(), AllocError>
+        sink: &mut S,
+    ) -> Result<(), Cut>
         requires { IsOn self.old (D.disk device.old) }
-        ensures advances { OnOk result ((added : List Told_by) × (answers.new.items ≡ answers.old.items ++ added) × Advances (world self.old (D.disk device.old)) actor added (world self.new (D.disk device.new))) }
+        ensures advances { OnOk result ((added : List Told_by) × S.took sink.old sink.new added × Advances (world self.old (D.disk device.old)) actor added (world self.new (D.disk device.new))) }
+        ensures cut { OnErr result (Heard S.took S.failed sink.old sink.new []) }
         ensures on { IsOn self.new (D.disk device.new) }
         ensures same { IsSame (D.disk device.old) (D.disk device.new) }
     {
         let shown = self.turn(device, actor)?;
-        seats::say(answers, actor, shown)
+        seats::say(sink, at, actor, shown)?;
+        Ok(())
     }
 
     /// Turns until an answer, at most 1,000.
-    fn finish<D: BlockDevice>(
+    fn finish<D: BlockDevice, S: Sink>(
         &mut self,
         device: &mut D,
+        at: usize,
         actor: Actor,
-        answers: &mut Vec<Reply>,
-    ) -> Result<(), AllocError>
+        sink: &mut S,
+    ) -> Result<(), Cut>
         requires { IsOn self.old (D.disk device.old) }
-        ensures finishes { OnOk result ((added : List Told_by) × (answers.new.items ≡ answers.old.items ++ added) × Finishes (world self.old (D.disk device.old)) actor added (world self.new (D.disk device.new))) }
+        ensures finishes { OnOk result ((added : List Told_by) × S.took sink.old sink.new added × Finishes (world self.old (D.disk device.old)) actor added (world self.new (D.disk device.new))) }
+        ensures cut { OnErr result ((added : List Told_by) × Heard S.took S.failed sink.old sink.new added × StartsStep (world self.old (D.disk device.old)) (Step.Finish actor) added) }
         ensures on { IsOn self.new (D.disk device.new) }
         ensures same { IsSame (D.disk device.old) (D.disk device.new) }
     {
         for _turn in 0..MOST_TURNS {
+            self.book.history_is_right();
             let outcome = self.turn(device, actor)?;
             let ends = seats::ends(&outcome);
-            seats::say(answers, actor, outcome)?;
+            seats::say(sink, at, actor, outcome)?;
             if ends {
                 return Ok(());
             }
         }
-        seats::answer(answers, actor, Answer::Word(Word::TurnLimit))?;
+        self.book.history_is_right();
+        seats::answer(sink, at, actor, Answer::Word(Word::TurnLimit))?;
         Ok(())
     }
 
-    /// One step of a schedule.
-    fn step<D: BlockDevice>(
+    /// One step of a schedule, which stands there in it.
+    fn step<D: BlockDevice, S: Sink>(
         &mut self,
         device: &mut D,
+        at: usize,
         step: &Step,
-        answers: &mut Vec<Reply>,
-    ) -> Result<(), AllocError>
+        sink: &mut S,
+    ) -> Result<(), Cut>
         requires { IsOn self.old (D.disk device.old) }
-        ensures step { OnOk result ((added : List Told_by) × (answers.new.items ≡ answers.old.items ++ added) × Stepped (world self.old (D.disk device.old)) step.now added (world self.new (D.disk device.new))) }
+        ensures step { OnOk result ((added : List Told_by) × S.took sink.old sink.new added × Stepped (world self.old (D.disk device.old)) step.now added (world self.new (D.disk device.new))) }
+        ensures cut { OnErr result ((added : List Told_by) × Heard S.took S.failed sink.old sink.new added × StartsStep (world self.old (D.disk device.old)) step.now added) }
         ensures on { IsOn self.new (D.disk device.new) }
         ensures same { IsSame (D.disk device.old) (D.disk device.new) }
     {
+        self.book.history_is_right();
         match step {
-            Step::Begin(actor, command) => self.begin(*actor, command, answers),
-            Step::Advance(actor) => self.advance(device, *actor, answers),
-            Step::Finish(actor) => self.finish(device, *actor, answers),
+            Step::Begin(actor, command) => self.begin(at, *actor, command, sink),
+            Step::Advance(actor) => self.advance(device, at, *actor, sink),
+            Step::Finish(actor) => self.finish(device, at, *actor, sink),
         }
     }
 
-    /// All steps of a schedule, in order.
-    pub fn run_all<D: BlockDevice>(
+    /// All steps of a schedule, in order. Each answer goes to the sink as it comes.
+    pub fn run_all<D: BlockDevice, S: Sink>(
         &mut self,
         device: &mut D,
         steps: &[Step],
-        answers: &mut Vec<Reply>,
-    ) -> Result<(), AllocError>
-        requires on { IsOn self.old (D.disk device.old) }
-        requires empty { answers.old.items ≡ [] }
-        ensures runs { OnOk result (Runs (world self.old (D.disk device.old)) steps.now answers.new.items (world self.new (D.disk device.new))) }
+        sink: &mut S,
+    ) -> Result<(), Cut>
+        requires { IsOn self.old (D.disk device.old) }
+        ensures runs { OnOk result ((answers : List Told_by) × S.took sink.old sink.new answers × Runs (world self.old (D.disk device.old)) steps.now answers (world self.new (D.disk device.new))) }
+        ensures cut { OnErr result ((answers : List Told_by) × Heard S.took S.failed sink.old sink.new answers × StartsRun (world self.old (D.disk device.old)) steps.now answers) }
         ensures on { IsOn self.new (D.disk device.new) }
         ensures same { IsSame (D.disk device.old) (D.disk device.new) }
     {
-        for step in steps {
-            self.step(device, step, answers)?;
+        for (at, step) in steps.iter().enumerate() {
+            self.step(device, at, step, sink)?;
         }
         Ok(())
     }

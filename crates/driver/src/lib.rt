@@ -7,7 +7,8 @@
 
 pub use machine::command::{Actor, Answer, Command, Reply, Step, Word};
 pub use machine::config::Config;
-pub use schedule::run;
+pub use schedule::{run, run_into};
+pub use sink::{Closed, Sink, Stop};
 
 pub mod automaton;
 mod calls;
@@ -15,4 +16,5 @@ mod desk;
 mod judge;
 mod schedule;
 mod seats;
+mod sink;
 pub mod turn;

@@ -1,9 +1,11 @@
 //! A whole schedule.
 
-ghost use Rattle.std.specs.Prelude.{◌≡◌, ◌⊎◌, ◌+◌, ◌≤◌, true, false, length, IfOk, IfErr};
+ghost use Rattle.std.specs.Prelude.{◌≡◌, ◌⊎◌, ◌+◌, ◌≤◌, true, false, length, IfOk, IfErr, OnOk, OnErr};
 ghost use Rattle.driver.specs.Schedule.{Schedules, fits, errors};
+ghost use Rattle.driver.specs.Sinks.{Gives, GivesStart, IsCut};
 
 use crate::desk::Desk;
+use crate::sink::{Cut, Sink, Stop};
 use block_store::BlockDevice;
 use files::blocks_for;
 use machine::command::{Reply, Step};
@@ -31,19 +33,58 @@ pub fn run<D: BlockDevice>(
     ensures blocks { length (D.disk device.new).contents ≡ length (D.disk device.old).contents }
     ensures limit { (D.disk device.new).fault_limit ≡ (D.disk device.old).fault_limit }
 {
+    let mut answers = Vec::new(alloc);
+    match run_into(alloc, config, device, steps, &mut answers) {
+        Ok(()) => Ok(answers),
+        Err(Stop::Refused(cause)) => Err(cause),
+        Err(Stop::Closed) => Err(Refusal::NoMemory),
+    }
+}
+
+/// The same, but each answer goes to the sink as it comes, so that what was answered is known while the
+/// run goes on, and also where it does not go through.
+///
+/// `Closed` where the sink takes no more answers; the run ends then.
+pub fn run_into<D: BlockDevice, S: Sink>(
+    alloc: Global,
+    config: Config,
+    device: &mut D,
+    steps: &[Step],
+    sink: &mut S,
+) -> Result<(), Stop>
+    ensures gives { OnOk result (Gives S.took config (D.disk device.old) steps.now sink.old sink.new (D.disk device.new)) }
+    ensures starts { OnErr result (fits config (D.disk device.old) ≡ true → GivesStart S.took S.failed config (D.disk device.old) steps.now sink.old sink.new) }
+    ensures sized { OnOk result (fits config (D.disk device.old) ≡ true) }
+    ensures err { IfErr result (λ stop. (stop ≡ Stop.Refused Refusal.Invalid) × (fits config (D.disk device.old) ≡ false) ⊎ IsCut stop × (fits config (D.disk device.old) ≡ true)) }
+    ensures untouched { fits config (D.disk device.old) ≡ false → D.disk device.new ≡ D.disk device.old }
+    ensures unheard { fits config (D.disk device.old) ≡ false → sink.new ≡ sink.old }
+    ensures blocks { length (D.disk device.new).contents ≡ length (D.disk device.old).contents }
+    ensures limit { (D.disk device.new).fault_limit ≡ (D.disk device.old).fault_limit }
+{
     let Some(blocks) = blocks_for(&config) else {
-        return Err(Refusal::Invalid);
+        return Err(Stop::Refused(Refusal::Invalid));
     };
     if device.blocks() < blocks {
-        return Err(Refusal::Invalid);
+        return Err(Stop::Refused(Refusal::Invalid));
     }
-    let mut desk = Desk::open(alloc, config)?;
-    let mut answers = Vec::new(alloc);
-    let ran = desk.run_all(device, steps, &mut answers);
+    let mut desk = match Desk::open(alloc, config) {
+        Ok(desk) => desk,
+        Err(cause) => return Err(Stop::Refused(cause)),
+    };
+    let ran = desk.run_all(device, steps, sink);
     desk.book.history_is_right();
     desk.close();
     match ran {
-        Ok(()) => Ok(answers),
-        Err(_) => Err(Refusal::NoMemory),
+        Ok(()) => Ok(()),
+        Err(cut) => Err(stop_of(cut)),
+    }
+}
+
+fn stop_of(cut: Cut) -> Stop
+    ensures { IsCut result }
+{
+    match cut {
+        Cut::NoMemory => Stop::Refused(Refusal::NoMemory),
+        Cut::Closed => Stop::Closed,
     }
 }

@@ -5,6 +5,7 @@ ghost use Rattle.driver.specs.Schedule.{number_of, with_activity, activity_of, s
 ghost use Rattle.driver.specs.Tickets.{OwnTransition, OwnActivity, OwnSeats, IsSpendableStage};
 ghost use Rattle.driver.specs.Seats.{place_of, is_under_way, IsTaken};
 
+use crate::sink::{Closed, Sink};
 use crate::turn::{Activity, Outcome, Seat, Stage, Transition};
 use indexmap::IndexSet;
 use machine::command::{Actor, Answer, Command, Reply, Word};
@@ -216,23 +217,24 @@ pub fn ends(outcome: &Outcome) -> bool
     }
 }
 
-/// Keeps what a turn shows.
-pub fn say(answers: &mut Vec<Reply>, actor: Actor, outcome: Outcome) -> Result<(), AllocError>
-    ensures { OnOk result (answers.new.items ≡ answers.old.items ++ said_at actor outcome) }
+/// Tells what a turn shows.
+pub fn say<S: Sink>(sink: &mut S, at: usize, actor: Actor, outcome: Outcome) -> Result<(), Closed>
+    ensures said { OnOk result (S.took sink.old sink.new (said_at actor outcome)) }
+    ensures failed { OnErr result (S.failed sink.old sink.new) }
 {
     match outcome {
         Outcome::Goes => Ok(()),
-        Outcome::Kills(task) => answer(answers, actor, Answer::Kill(task)),
-        Outcome::Ends(said) => answer(answers, actor, said),
+        Outcome::Kills(task) => answer(sink, at, actor, Answer::Kill(task)),
+        Outcome::Ends(said) => answer(sink, at, actor, said),
     }
 }
 
-/// Keeps an answer.
-pub fn answer(answers: &mut Vec<Reply>, actor: Actor, answer: Answer) -> Result<(), AllocError>
-    ensures { OnOk result (answers.new.items ≡ answers.old.items ++ answer_by actor answer) }
+/// Tells an answer.
+pub fn answer<S: Sink>(sink: &mut S, at: usize, actor: Actor, answer: Answer) -> Result<(), Closed>
+    ensures said { OnOk result (S.took sink.old sink.new (answer_by actor answer)) }
+    ensures failed { OnErr result (S.failed sink.old sink.new) }
 {
-    answers.push(Reply { actor, answer })?;
-    Ok(())
+    sink.take(at, Reply { actor, answer })
 }
 
 /// A word as an outcome.

@@ -7,7 +7,7 @@ mod words;
 ghost use Rattle.std.specs.Prelude.{◌≡◌, ◌≤◌};
 
 use std::fs::{File, OpenFile};
-use std::io::{ErrorKind, Write};
+use std::io::{ErrorKind, IsTerminal, Write};
 use std::process::ExitCode;
 use std::rt::{Env, Files};
 use std::{env, io};
@@ -35,9 +35,11 @@ fn open<R: Files, E: Write>(rt: &R, name: &str, err: &mut E) -> Option<R::File> 
     }
 }
 
+/// What is shown of how far a run has come is shown on a terminal alone.
 fn serve<R: Files + AllocGlobal, O: Write, E: Write>(
     rt: &R,
     request: Request<'_>,
+    is_terminal: bool,
     out: &mut O,
     err: &mut E,
 ) -> u8
@@ -46,9 +48,11 @@ fn serve<R: Files + AllocGlobal, O: Write, E: Write>(
     let Some(mut script) = open(rt, request.file, err) else {
         return FAILED;
     };
+    let mut options = request.options;
+    options.progress = options.progress && is_terminal;
     match request.subcommand {
         Subcommand::Schedule => {
-            subcommands::schedule_with(rt.alloc(), request.detail, &mut script, out, err)
+            subcommands::schedule_with(rt.alloc(), options, &mut script, out, err)
         }
     }
 }
@@ -72,7 +76,12 @@ fn show<O: Write, E: Write>(out: &mut O, err: &mut E, text: &clap::Error) -> u8
 
 /// The status: 0 for a script that was run and for help and the version, 1 for a script that wasn't
 /// run, 2 for words that ask for nothing.
-fn start<R: Env + Files + AllocGlobal, O: Write, E: Write>(rt: &R, out: &mut O, err: &mut E) -> u8
+fn start<R: Env + Files + AllocGlobal, O: Write, E: Write>(
+    rt: &R,
+    is_terminal: bool,
+    out: &mut O,
+    err: &mut E,
+) -> u8
     ensures a_known_status { result ≤ 2 }
 {
     let words = match given_words(rt) {
@@ -87,7 +96,7 @@ fn start<R: Env + Files + AllocGlobal, O: Write, E: Write>(rt: &R, out: &mut O, 
         }
     };
     match words::read_words(rt.alloc(), &words) {
-        Ok(request) => serve(rt, request, out, err),
+        Ok(request) => serve(rt, request, is_terminal, out, err),
         Err(Refused::Text(text)) if !text.use_stderr() => show(out, err, &text),
         Err(Refused::Text(text)) => {
             // The status tells of the failure even where its text can't be written.
@@ -102,5 +111,6 @@ fn start<R: Env + Files + AllocGlobal, O: Write, E: Write>(rt: &R, out: &mut O, 
 }
 
 fn main(rt: HostRuntime) -> ExitCode {
-    ExitCode::from(start(&rt, &mut rt.stdout(), &mut rt.stderr()))
+    let is_terminal = rt.stderr().is_terminal();
+    ExitCode::from(start(&rt, is_terminal, &mut rt.stdout(), &mut rt.stderr()))
 }

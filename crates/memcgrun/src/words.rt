@@ -3,7 +3,7 @@
 use clap::error::ErrorKind;
 use clap::{Arg, ArgAction, Command, Error};
 use std::alloc::{AllocError, Global};
-use subcommands::Detail;
+use subcommands::Options;
 
 /// The program's version, and the toolchain that proves and builds it, as `rt version` says.
 /// `docs/check_commands` compares the two.
@@ -21,7 +21,7 @@ pub enum Subcommand {
 pub struct Request<'a> {
     pub subcommand: Subcommand,
     pub file: &'a str,
-    pub detail: Detail,
+    pub options: Options,
 }
 
 /// Why there is no request.
@@ -51,19 +51,52 @@ impl From<AllocError> for Refused {
 
 const EXPLAIN: &str = "explain";
 
+const LINES: &str = "lines";
+
+const PROGRESS: &str = "progress";
+
+const SUMMARY: &str = "summary";
+
+/// An option that is given or not.
+fn flag<'a>(alloc: Global, name: &'a str, help: &'a str) -> Arg<'a> {
+    Arg::new(alloc, name)
+        .long(name)
+        .action(ArgAction::SetTrue)
+        .help(help)
+}
+
 fn command<'a>(alloc: Global) -> Result<Command<'a>, AllocError> {
     let file = Arg::new(alloc, "FILE")
         .required(true)
         .action(ArgAction::Set)
         .help("The script");
-    let explain = Arg::new(alloc, EXPLAIN)
-        .long(EXPLAIN)
-        .action(ArgAction::SetTrue)
-        .help("Say more of a faulty line, in a second line");
+    let explain = flag(
+        alloc,
+        EXPLAIN,
+        "Say more of a faulty line, in a second line",
+    );
+    let lines = flag(
+        alloc,
+        LINES,
+        "Put the number of its line before each line of an answer",
+    );
+    let progress = flag(
+        alloc,
+        PROGRESS,
+        "Show on a terminal how many lines are done",
+    );
+    let summary = flag(
+        alloc,
+        SUMMARY,
+        "Say at the end how much was done, on standard error",
+    );
     let schedule = Command::new(alloc, "schedule")
         .about("Runs a script, one turn after another")
         .arg(file)?
-        .arg(explain)?;
+        .arg(explain)?
+        .arg(lines)?
+        .arg(progress)?
+        .arg(summary)?;
     Command::new(alloc, "memcgrun")
         .about("Runs scripts of memory control groups")
         .version(VERSION)
@@ -76,21 +109,22 @@ fn command<'a>(alloc: Global) -> Result<Command<'a>, AllocError> {
 pub fn read_words<'a>(alloc: Global, words: &'a [String]) -> Result<Request<'a>, Refused> {
     let matches = command(alloc)?.try_get_matches_from(words)?;
     // The subcommand and its FILE are required, so clap has found both.
-    let (file, is_explained) = match matches.subcommand() {
+    let (file, options) = match matches.subcommand() {
         Some((_, schedule)) => (
             schedule.get_str("FILE").unwrap_or(""),
-            schedule.get_flag(EXPLAIN),
+            Options {
+                explain: schedule.get_flag(EXPLAIN),
+                lines: schedule.get_flag(LINES),
+                progress: schedule.get_flag(PROGRESS),
+                summary: schedule.get_flag(SUMMARY),
+            },
         ),
-        None => ("", false),
+        None => ("", Options::default()),
     };
     Ok(Request {
         subcommand: Subcommand::Schedule,
         file,
-        detail: if is_explained {
-            Detail::Explained
-        } else {
-            Detail::Cause
-        },
+        options,
     })
 }
 
@@ -110,18 +144,37 @@ mod tests {
     #[test]
     fn a_script_is_asked_for(rt: HostRuntime) -> Result<(), Fail> {
         let rows = [
-            ("memcgrun schedule a", Detail::Cause),
-            ("memcgrun schedule -- a", Detail::Cause),
-            ("memcgrun schedule --explain a", Detail::Explained),
-            ("memcgrun schedule a --explain", Detail::Explained),
-            ("memcgrun schedule --explain -- a", Detail::Explained),
+            ("memcgrun schedule a", [false, false, false, false]),
+            ("memcgrun schedule -- a", [false, false, false, false]),
+            ("memcgrun schedule --explain a", [true, false, false, false]),
+            ("memcgrun schedule a --explain", [true, false, false, false]),
+            (
+                "memcgrun schedule --explain -- a",
+                [true, false, false, false],
+            ),
+            ("memcgrun schedule --lines a", [false, true, false, false]),
+            (
+                "memcgrun schedule --progress a",
+                [false, false, true, false],
+            ),
+            ("memcgrun schedule a --summary", [false, false, false, true]),
+            (
+                "memcgrun schedule --summary --lines a",
+                [false, true, false, true],
+            ),
         ];
-        for (line, detail) in rows {
+        for (line, [explain, lines, progress, summary]) in rows {
             let words = words_of(rt.alloc(), line)?;
             let request = read_words(rt.alloc(), &words).ok().ok_or("refused")?;
+            let options = Options {
+                explain,
+                lines,
+                progress,
+                summary,
+            };
             assert_eq!(rt; request.subcommand, Subcommand::Schedule, "{line}");
             assert_eq!(rt; request.file, "a", "{line}");
-            assert_eq!(rt; request.detail, detail, "{line}");
+            assert_eq!(rt; request.options, options, "{line}");
         }
         Ok(())
     }
@@ -144,6 +197,8 @@ mod tests {
             ("memcgrun schedule a b", false),
             ("memcgrun schedule -x a", false),
             ("memcgrun schedule --explain", false),
+            ("memcgrun schedule --lines --lines a", false),
+            ("memcgrun --summary schedule a", false),
             ("memcgrun --explain schedule a", false),
             ("memcgrun run a", false),
             ("memcgrun schedule --help", true),

@@ -67,8 +67,8 @@ first ls left more m n b c given l e f g h (inr (inr p)) =
 abbrev Line : Known → List ℕ → Item → Type 0
 Line k l i = (is_utf8 l ≡ true) × Tells k.around (is_header_line (words_of l)) (is_frames (word_of (words_of l))) (fault at_frames l) (meaning [] (words_of l)) i
 
-step : (ls left more : List (List ℕ)) (k : Known) (l : List ℕ) (i : Item) → left ≡ l ∷ more → Line k l i → Fits ls left k → Fits ls more (after k i)
-step ls left more k l (item.Frames n) e (u, t) f =
+step : (ls left more : List (List ℕ)) (k : Known) (n : ℕ) (l : List ℕ) (i : Item) → left ≡ l ∷ more → Line k l i → Fits ls left k → Fits ls more (after k n i)
+step ls left more k at l (item.Frames n) e (u, t) f =
     let asks : frames_asked (Some l) ≡ n = rw (t.2, t.6) refl in
     record {
       around = f.around;
@@ -80,7 +80,7 @@ step ls left more k l (item.Frames n) e (u, t) f =
       blocks = f.blocks;
       asked = first ls left more k.around.config.frames n k.around.commands (k.around.commands || false) k.around.given l t.4 t.5 (ap frames_line e ∙ frames_line-frames l more (u, t.0, t.1)) asks f.asked;
     }
-step ls left more k l (item.Swap n) e (u, t) f =
+step ls left more k at l (item.Swap n) e (u, t) f =
     record {
       around = f.around;
       frames = f.frames;
@@ -91,7 +91,7 @@ step ls left more k l (item.Swap n) e (u, t) f =
       blocks = no_more (blocks_of (record k.around.config { swap = n })) 131072 t.3;
       asked = other ls left more k.around.config.frames k.around.commands false k.around.given (word.Swap ∷ []) (ap frames_line e ∙ frames_line-other l more (u, t.0, t.1)) f.asked;
     }
-step ls left more k l (item.File file) e (u, t) f =
+step ls left more k at l (item.File file) e (u, t) f =
     record {
       around = f.around;
       frames = f.frames;
@@ -102,7 +102,7 @@ step ls left more k l (item.File file) e (u, t) f =
       blocks = rw blocks_push (no_more (blocks_of k.around.config + file.pages) 131072 t.5);
       asked = other ls left more k.around.config.frames k.around.commands false k.around.given (word.File ∷ []) (ap frames_line e ∙ frames_line-other l more (u, t.0, t.1)) f.asked;
     }
-step ls left more k l (item.Marks n) e (u, t) f =
+step ls left more k at l (item.Marks n) e (u, t) f =
     record {
       around = f.around;
       frames = f.frames;
@@ -113,7 +113,7 @@ step ls left more k l (item.Marks n) e (u, t) f =
       blocks = f.blocks;
       asked = other ls left more k.around.config.frames k.around.commands false k.around.given (word.Watermarks ∷ []) (ap frames_line e ∙ frames_line-other l more (u, t.0, t.1)) f.asked;
     }
-step ls left more k l (item.Trace n) e (u, t) f =
+step ls left more k at l (item.Trace n) e (u, t) f =
     record {
       around = f.around;
       frames = f.frames;
@@ -124,7 +124,7 @@ step ls left more k l (item.Trace n) e (u, t) f =
       blocks = f.blocks;
       asked = other ls left more k.around.config.frames k.around.commands false k.around.given (word.Trace ∷ []) (ap frames_line e ∙ frames_line-other l more (u, t.0, t.1)) f.asked;
     }
-step ls left more k l (item.Fails what n) e (u, t) f =
+step ls left more k at l (item.Fails what n) e (u, t) f =
     record {
       around = f.around;
       frames = f.frames;
@@ -135,7 +135,7 @@ step ls left more k l (item.Fails what n) e (u, t) f =
       blocks = f.blocks;
       asked = other ls left more k.around.config.frames k.around.commands false k.around.given (word.Fault ∷ []) (ap frames_line e ∙ frames_line-other l more (u, t.0, t.1)) f.asked;
     }
-step ls left more k l item.Nothing e (u, t) f =
+step ls left more k at l item.Nothing e (u, t) f =
     record {
       around = f.around;
       frames = f.frames;
@@ -146,7 +146,7 @@ step ls left more k l item.Nothing e (u, t) f =
       blocks = f.blocks;
       asked = other ls left more k.around.config.frames k.around.commands false k.around.given [] (ap frames_line e ∙ frames_line-other l more (u, t.0, t.1)) f.asked;
     }
-step ls left more k l _ e (u, t) f =
+step ls left more k at l _ e (u, t) f =
     record {
       around = f.around;
       frames = f.frames;
@@ -164,8 +164,8 @@ any n = grind (arith, nat_tests)
 pub fits_start : (ls : List (List ℕ)) → Fits ls ls (at_start (header_frames ls))
 fits_start ls = record { around = refl; frames = refl; swap = refl; marks = any (header_frames ls); trace = refl; files = refl; blocks = refl; asked = inr (inr (refl, refl)) }
 
-pub fits_after : (ls left more : List (List ℕ)) (k : Known) (l : List ℕ) → left ≡ l ∷ more → fault k.around l ≡ None → Fits ls left k → Fits ls more (after k (meaning k.around.config.files (words_of l)))
-fits_after ls left more k l e fine f = step ls left more k l (meaning k.around.config.files (words_of l)) e (tells k.around l fine) f
+pub fits_after : (ls left more : List (List ℕ)) (k : Known) (n : ℕ) (l : List ℕ) → left ≡ l ∷ more → fault k.around l ≡ None → Fits ls left k → Fits ls more (after k n (meaning k.around.config.files (words_of l)))
+fits_after ls left more k n l e fine f = step ls left more k n l (meaning k.around.config.files (words_of l)) e (tells k.around l fine) f
 
 -- where nothing is left the frames are the header's
 at_end : (ls : List (List ℕ)) (n : ℕ) (b : Bool) (given : List Word) → Asked ls [] n b given → n ≡ header_frames ls

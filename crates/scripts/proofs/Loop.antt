@@ -1,5 +1,5 @@
 -- Reading lines one after the other, as a loop does.
-use Rattle.std.proofs.Common.{◌≡◌, ℕ, ◌+◌, ◌-◌, ◌<◌, ◌≤◌, Bool, true, false, ◌||◌, List, [], ◌∷◌, ◌++◌, length, take, drop, get_or, Option, Some, None, refl, sym, ap, ◌∙◌, subst, arith, inl, inr}
+use Rattle.std.proofs.Common.{◌≡◌, ℕ, ◌+◌, ◌-◌, ◌<◌, ◌≤◌, Bool, true, false, ◌||◌, List, [], ◌∷◌, ◌++◌, length, take, drop, get_or, replicate, append_assoc, length-append, Option, Some, None, refl, sym, ap, ◌∙◌, subst, arith, inl, inr}
 use Rattle.std.specs.List.{list_any, filter_map, flat_map}
 use Rattle.std.specs.Str.Lines.{lines}
 use Rattle.std.proofs.lemmas.Bool.{cases_lt}
@@ -18,7 +18,7 @@ use Rattle.scripts.specs.Words.{words_of}
 use Rattle.scripts.specs.Faults.{fault}
 use Rattle.scripts.specs.Meaning.{meaning}
 use Rattle.scripts.specs.Header.{config_after, default_config, config_of, header_frames}
-use Rattle.scripts.specs.Script.{with_line, items_of, fails, faults_of, steps_of_item, steps_of, is_command, header_word, around_of, fault_at, IsFaultless, IsFirstFault}
+use Rattle.scripts.specs.Script.{with_line, items_of, fails, faults_of, steps_of_item, steps_of, lines_from, lines_of, is_command, header_word, around_of, fault_at, IsFaultless, IsFirstFault}
 use Rattle.machine.specs.State.{is_config}
 use Rattle.scripts.proofs.LimitLemmas.{Fits, fits_start, fits_after, fits_end}
 use Rattle.scripts.specs.Reading.{Known, known, at_start, after, option_list}
@@ -27,6 +27,7 @@ use Rattle.scripts.specs.Reading.{Known, known, at_start, after, option_list}
 pub record SoFar (ls left : List (List ℕ)) (n : ℕ) (k : Known) : Type 0 where
   pub left_is : left ≡ drop n ls
   pub within : n ≤ length ls
+  pub counted : length (items_of (take n ls)) ≡ n
   pub known_is : k ≡ known (header_frames ls) (items_of (take n ls))
   pub clean : (i : ℕ) → i < n → fault_at ls i ≡ None
   pub fits : Fits ls left k
@@ -50,18 +51,26 @@ commands_push is i = list_any-append is_command is (i ∷ []) ∙ or_false (list
 steps_push : (is : List Item) (i : Item) → steps_of (is ++ i ∷ []) ≡ steps_of is ++ steps_of_item i
 steps_push is i = flat_map-append steps_of_item is (i ∷ []) ∙ ap (λ (ss : List Step). flat_map steps_of_item is ++ ss) (append-nil (steps_of_item i))
 
+lines_push : (n : ℕ) (is : List Item) (i : Item) → lines_from n (is ++ i ∷ []) ≡ lines_from n is ++ replicate (length (steps_of_item i)) (n + length is)
+lines_push n [] i = append-nil (replicate (length (steps_of_item i)) n) ∙ ap (λ (m : ℕ). replicate (length (steps_of_item i)) m) (omega arith)
+lines_push n (first ∷ is) i =
+    let here : List ℕ = replicate (length (steps_of_item first)) n in
+    let later : n + 1 + length is ≡ n + length (first ∷ is) = omega arith in
+    ap (λ (ns : List ℕ). here ++ ns) (lines_push (n + 1) is i ∙ ap (λ (m : ℕ). lines_from (n + 1) is ++ replicate (length (steps_of_item i)) m) later)
+    ∙ sym (append_assoc here (lines_from (n + 1) is) (replicate (length (steps_of_item i)) (n + length (first ∷ is))))
+
 -- one more line
 pub items_push : (ls : List (List ℕ)) (l : List ℕ) → items_of (ls ++ l ∷ []) ≡ items_of ls ++ meaning (config_of (items_of ls)).files (words_of l) ∷ []
 items_push ls l = fold_push with_line [] ls l
 
 -- one more line of known meaning
-known_push : (frames : ℕ) (is : List Item) (i : Item) → known frames (is ++ i ∷ []) ≡ after (known frames is) i
+known_push : (frames : ℕ) (is : List Item) (i : Item) → known frames (is ++ i ∷ []) ≡ after (known frames is) (1 + length is) i
 known_push frames is i =
-    rw (commands_push is i, found_push header_word is i, fold_push config_after default_config is i, found_push (fails call.Read) is i, found_push (fails call.Write) is i, steps_push is i) refl
+    rw (lines_push 1 is i, commands_push is i, found_push header_word is i, fold_push config_after default_config is i, found_push (fails call.Read) is i, found_push (fails call.Write) is i, steps_push is i) refl
 
 -- before the first line
 pub starts : (ls : List (List ℕ)) → SoFar ls ls 0 (at_start (header_frames ls))
-starts ls = record { left_is = refl; within = omega arith; known_is = refl; clean = λ i h. absurd (omega arith); fits = fits_start ls }
+starts ls = record { left_is = refl; within = omega arith; counted = refl; known_is = refl; clean = λ i h. absurd (omega arith); fits = fits_start ls }
 
 -- the line at a place, and those after it
 record IsNext (ls : List (List ℕ)) (n : ℕ) (line : List ℕ) (more : List (List ℕ)) : Type 0 where
@@ -83,7 +92,7 @@ fault_is ls n k line e f = ap (λ (x : List ℕ). fault (around_of (header_frame
 
 -- a faultless line is taken up
 pub goes_on : (ls left : List (List ℕ)) (n : ℕ) (k k' : Known) (line : List ℕ) (more : List (List ℕ)) → SoFar ls left n k → left ≡ line ∷ more
-    → fault k.around line ≡ None → k' ≡ after k (meaning k.around.config.files (words_of line)) → SoFar ls more (n + 1) k'
+    → fault k.around line ≡ None → k' ≡ after k (n + 1) (meaning k.around.config.files (words_of line)) → SoFar ls more (n + 1) k'
 goes_on ls left n k k' line more so_far e fine added =
     let next = by_place ls n line more (sym so_far.left_is ∙ e) in
     let here : fault_at ls n ≡ None = fault_is ls n k line so_far.known_is next.line_is ∙ fine in
@@ -93,12 +102,14 @@ goes_on ls left n k k' line more so_far e fine added =
     let items : items_of (take (n + 1) ls) ≡ before ++ i ∷ [] =
     ap items_of (take_more ls n [] next.there) ∙ items_push (take n ls) (get_or ls n []) ∙ ap (λ (l : List ℕ). before ++ meaning (config_of before).files (words_of l) ∷ []) next.line_is
     ∙ ap (λ (fs : List File). before ++ meaning fs (words_of line) ∷ []) (sym files_is) in
+    let place : n + 1 ≡ 1 + length before = omega (arith, so_far.counted) in
     record {
       left_is = sym next.more_is;
       within = omega (arith, next.there);
-      known_is = added ∙ ap (λ (x : Known). after x i) so_far.known_is ∙ sym (known_push (header_frames ls) before i) ∙ ap (λ (is : List Item). known (header_frames ls) is) (sym items);
+      counted = ap length items ∙ length-append before (i ∷ []) ∙ ap (λ (m : ℕ). m + 1) so_far.counted;
+      known_is = added ∙ ap (λ (x : Known). after x (n + 1) i) so_far.known_is ∙ ap (λ (m : ℕ). after (known (header_frames ls) before) m i) place ∙ sym (known_push (header_frames ls) before i) ∙ ap (λ (is : List Item). known (header_frames ls) is) (sym items);
       clean = λ i h. elim (cases_lt i n) [ inl lt ↦ so_far.clean i lt | inr le ↦ (let same : i ≡ n = omega arith in subst (λ (j : ℕ). fault_at ls j ≡ None) (sym same) here) ];
-      fits = rw added (fits_after ls left more k line e fine so_far.fits);
+      fits = rw added (fits_after ls left more k (n + 1) line e fine so_far.fits);
     }
 
 -- a faulty line is the first one
@@ -121,6 +132,7 @@ pub record IsRead (ls : List (List ℕ)) (k : Known) : Type 0 where
   pub read_faults : k.read_faults ≡ faults_of call.Read (items_of ls)
   pub write_faults : k.write_faults ≡ faults_of call.Write (items_of ls)
   pub steps : k.steps ≡ steps_of (items_of ls)
+  pub lines : k.lines ≡ lines_of (items_of ls)
   pub limits : is_config k.around.config ≡ true
 
 -- where nothing is left, all is read
@@ -137,5 +149,6 @@ ends ls rest n k so_far e =
       read_faults = ap (λ (x : Known). x.read_faults) known_all;
       write_faults = ap (λ (x : Known). x.write_faults) known_all;
       steps = ap (λ (x : Known). x.steps) known_all;
+      lines = ap (λ (x : Known). x.lines) known_all;
       limits = fits_end ls k (subst (λ (left : List (List ℕ)). Fits ls left k) empty so_far.fits);
     }

@@ -1,5 +1,5 @@
 -- What a script says, and its first faulty line.
-use Rattle.std.specs.Prelude.{◌≡◌, ℕ, ◌+◌, ◌-◌, ◌<◌, ◌≤◌, Bool, true, false, List, [], ◌∷◌, ◌++◌, length, fold, take, Option, Some, None, slice_index_or}
+use Rattle.std.specs.Prelude.{◌≡◌, ℕ, ◌+◌, ◌-◌, ◌<◌, ◌≤◌, Bool, true, false, List, [], ◌∷◌, ◌++◌, length, fold, take, replicate, Option, Some, None, slice_index_or}
 use Rattle.std.specs.List.{list_any, filter_map, flat_map}
 use Rattle.machine.specs.declared.command.Step.{Step}
 use Rattle.machine.specs.declared.command.Step.TheVariants as step
@@ -54,6 +54,14 @@ steps_of_item (item.Fails what n) = []
 
 abbrev pub steps_of : List Item → List Step
 steps_of is = flat_map steps_of_item is
+
+-- for each of the steps the number of the line that it comes of, where the first line's number is this
+abbrev pub lines_from : ℕ → List Item → List ℕ
+lines_from n [] = []
+lines_from n (i ∷ is) = replicate (length (steps_of_item i)) n ++ lines_from (n + 1) is
+
+abbrev pub lines_of : List Item → List ℕ
+lines_of is = lines_from 1 is
 
 -- ---- the first faulty line
 

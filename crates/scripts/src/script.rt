@@ -10,7 +10,7 @@ ghost use Rattle.scripts.specs.Faults.{fault};
 ghost use Rattle.scripts.specs.Meaning.{meaning};
 ghost use Rattle.scripts.specs.Lines.{Adds};
 ghost use Rattle.scripts.specs.Header.{config_of, at_frames, frames_line};
-ghost use Rattle.scripts.specs.Script.{items_of, faults_of, steps_of, fault_at, IsFaultless, IsFirstFault, NamesFirstFault};
+ghost use Rattle.scripts.specs.Script.{items_of, faults_of, steps_of, lines_of, fault_at, IsFaultless, IsFirstFault, NamesFirstFault};
 ghost use Rattle.scripts.specs.Reading.{known_by, at_start, with_fault, with_step, after};
 
 use crate::context::Context;
@@ -42,6 +42,8 @@ pub struct Script {
     pub write_faults: Vec<u64>,
     /// What the other lines ask for, in their order.
     pub steps: Vec<Step>,
+    /// For each of the steps the number of the line that it comes of, from 1.
+    pub lines: Vec<usize>,
 }
 
 /// What has been read of a script.
@@ -51,6 +53,7 @@ struct Reading {
     read_faults: Vec<u64>,
     write_faults: Vec<u64>,
     steps: Vec<Step>,
+    lines: Vec<usize>,
 }
 
 impl Reading {
@@ -67,6 +70,7 @@ impl Reading {
             read_faults: Vec::new(alloc),
             write_faults: Vec::new(alloc),
             steps: Vec::new(alloc),
+            lines: Vec::new(alloc),
         }
     }
 
@@ -81,16 +85,18 @@ impl Reading {
         Ok(())
     }
 
-    fn add_step(&mut self, step: Step) -> Result<(), AllocError>
-        ensures { OnOk result (known_by self.new ≡ with_step (known_by self.old) step) }
+    fn add_step(&mut self, line: usize, step: Step) -> Result<(), AllocError>
+        ensures { OnOk result (known_by self.new ≡ with_step (known_by self.old) line step) }
     {
         self.context.commands = true;
         self.steps.push(step)?;
+        self.lines.push(line)?;
         Ok(())
     }
 
-    fn add(&mut self, item: Item) -> Result<(), AllocError>
-        ensures { OnOk result (known_by self.new ≡ after (known_by self.old) item) }
+    /// What the line of this number says.
+    fn add(&mut self, line: usize, item: Item) -> Result<(), AllocError>
+        ensures { OnOk result (known_by self.new ≡ after (known_by self.old) line item) }
     {
         match item {
             Item::Nothing => {}
@@ -116,23 +122,24 @@ impl Reading {
             }
             Item::Fails(call, number) => self.add_fault(call, number)?,
             Item::Does(actor, command) => {
-                self.add_step(Step::Begin(actor, command))?;
-                self.add_step(Step::Finish(actor))?;
+                self.add_step(line, Step::Begin(actor, command))?;
+                self.add_step(line, Step::Finish(actor))?;
             }
-            Item::Begins(actor, command) => self.add_step(Step::Begin(actor, command))?,
-            Item::Advances(actor) => self.add_step(Step::Advance(actor))?,
-            Item::Finishes(actor) => self.add_step(Step::Finish(actor))?,
+            Item::Begins(actor, command) => self.add_step(line, Step::Begin(actor, command))?,
+            Item::Advances(actor) => self.add_step(line, Step::Advance(actor))?,
+            Item::Finishes(actor) => self.add_step(line, Step::Finish(actor))?,
         }
         Ok(())
     }
 
-    fn add_line(&mut self, alloc: Global, line: &[u8]) -> Result<(), LineError>
+    /// The line of this number.
+    fn add_line(&mut self, alloc: Global, number: usize, line: &[u8]) -> Result<(), LineError>
         ensures { Adds result
             (fault (known_by self.old).around line.now)
-            (known_by self.new ≡ after (known_by self.old) (meaning (known_by self.old).around.config.files (words_of line.now))) }
+            (known_by self.new ≡ after (known_by self.old) number (meaning (known_by self.old).around.config.files (words_of line.now))) }
     {
         let item = read_line(alloc, &self.context, line)?;
-        self.add(item)?;
+        self.add(number, item)?;
         Ok(())
     }
 }
@@ -144,6 +151,7 @@ fn read_schedule(alloc: Global, text: &[u8]) -> Result<Script, ScriptFault>
     ensures read_faults { IfOk result (λ s. s.read_faults.items ≡ faults_of Read (items_of (lines text.now))) }
     ensures write_faults { IfOk result (λ s. s.write_faults.items ≡ faults_of Write (items_of (lines text.now))) }
     ensures steps { IfOk result (λ s. s.steps.items ≡ steps_of (items_of (lines text.now))) }
+    ensures lines { IfOk result (λ s. s.lines.items ≡ lines_of (items_of (lines text.now))) }
     ensures fault { IfErr result (λ e. NamesFirstFault e (lines text.now)) }
 {
     let Ok(frames) = header_frames(alloc, text) else {
@@ -155,7 +163,7 @@ fn read_schedule(alloc: Global, text: &[u8]) -> Result<Script, ScriptFault>
     while !rest.is_empty() {
         let (line, after) = first_line(rest);
         number += 1;
-        match reading.add_line(alloc, line) {
+        match reading.add_line(alloc, number, line) {
             Ok(()) => rest = after,
             Err(LineError::Memory) => return Err(ScriptFault::Memory),
             Err(LineError::Fault(cause)) => return Err(ScriptFault::At {
@@ -169,6 +177,7 @@ fn read_schedule(alloc: Global, text: &[u8]) -> Result<Script, ScriptFault>
         read_faults,
         write_faults,
         steps,
+        lines,
     } = reading;
     let Context { config, .. } = context;
     Ok(Script {
@@ -176,6 +185,7 @@ fn read_schedule(alloc: Global, text: &[u8]) -> Result<Script, ScriptFault>
         read_faults,
         write_faults,
         steps,
+        lines,
     })
 }
 
@@ -189,6 +199,7 @@ pub fn read(alloc: Global, text: &[u8], mode: Mode) -> Result<Script, ScriptFaul
     ensures read_faults { IfOk result (λ s. s.read_faults.items ≡ faults_of Read (items_of (lines text.now))) }
     ensures write_faults { IfOk result (λ s. s.write_faults.items ≡ faults_of Write (items_of (lines text.now))) }
     ensures steps { IfOk result (λ s. s.steps.items ≡ steps_of (items_of (lines text.now))) }
+    ensures lines { IfOk result (λ s. s.lines.items ≡ lines_of (items_of (lines text.now))) }
     ensures fault { IfErr result (λ e. NamesFirstFault e (lines text.now)) }
 {
     match mode {

@@ -2,32 +2,28 @@
 #![tactic(auto)]
 
 mod fault;
+mod options;
+mod printer;
 
 ghost use Rattle.std.specs.Prelude.{◌≤◌};
 
 use block_store::MemDevice;
+use driver::{Stop, run_into};
 use fault::{Fault, Wanted};
 use files::blocks_for;
-use machine::command::Reply;
 use machine::refusal::Refusal;
+pub use options::Options;
+use printer::Printer;
 use scripts::{Mode, Script, ScriptFault};
 use std::alloc::Global;
-use std::io::{BufWriter, Read, Write};
+use std::io;
+use std::io::{ErrorKind, Read, Write};
 
 /// The most bytes that a script may have. A reader that never ends is refused here, and takes no
 /// more memory than this.
 pub const SCRIPT_BYTES: u64 = 1 << 26;
 
 const FAILED: u8 = 1;
-
-/// How much is said of a script's fault.
-#[derive(Clone, Copy, Debug, PartialEq, Eq)]
-pub enum Detail {
-    /// The line and the cause.
-    Cause,
-    /// A second line says which word is wrong, and what its place asks for.
-    Explained,
-}
 
 fn read_bytes<R: Read>(alloc: Global, script: &mut R) -> Result<Vec<u8>, Fault> {
     let mut bytes = Vec::new(alloc);
@@ -50,14 +46,21 @@ fn refused(wanted: Wanted, refusal: Refusal) -> Fault {
     }
 }
 
-/// The run of a script over a new device, which has the blocks that the script asks for, and its
-/// faults.
-fn run(alloc: Global, script: Script) -> Result<Vec<Reply>, Fault> {
+/// Runs a script over a new device, which has the blocks that the script asks for, and its faults. Each
+/// answer is written as it comes.
+fn run<O: Write, E: Write>(
+    alloc: Global,
+    options: Options,
+    script: Script,
+    out: &mut O,
+    err: &mut E,
+) -> Result<(), Fault> {
     let Script {
         config,
         read_faults,
         write_faults,
         steps,
+        lines,
     } = script;
     let Some(blocks) = blocks_for(&config) else {
         return Err(Fault::Run(Refusal::Invalid));
@@ -66,12 +69,31 @@ fn run(alloc: Global, script: Script) -> Result<Vec<Reply>, Fault> {
     let mut device = MemDevice::new(alloc, blocks, &read_faults, &write_faults).map_err(|_| {
         refused(wanted, Refusal::NoMemory)
     })?;
-    driver::run(alloc, config, &mut device, &steps).map_err(|refusal| refused(wanted, refusal))
+    let mut printer = Printer::new(alloc, options, &steps, &lines, out, err);
+    let ran = run_into(alloc, config, &mut device, &steps, &mut printer);
+    let written = printer.end(ran.is_ok());
+    match ran {
+        Ok(()) => written.map_err(|error| unwritten(wanted, error)),
+        Err(Stop::Refused(refusal)) => Err(refused(wanted, refusal)),
+        Err(Stop::Closed) => {
+            written.map_err(|error| unwritten(wanted, error))?;
+            // Not reached: a sink is closed only where an answer could not be written.
+            Err(Fault::Unwritable(ErrorKind::Other.into()))
+        }
+    }
+}
+
+/// Why an answer could not be written: its bytes want memory too.
+fn unwritten(wanted: Wanted, error: io::Error) -> Fault {
+    match error.kind() {
+        ErrorKind::OutOfMemory => refused(wanted, Refusal::NoMemory),
+        _ => Fault::Unwritable(error),
+    }
 }
 
 /// The fault of a script. Where there is no memory to say more of it, its line is said alone.
-fn faulty(alloc: Global, detail: Detail, bytes: &[u8], fault: ScriptFault) -> Fault {
-    if detail == Detail::Cause {
+fn faulty(alloc: Global, options: Options, bytes: &[u8], fault: ScriptFault) -> Fault {
+    if !options.explain {
         return Fault::Script(fault);
     }
     match scripts::explain(alloc, bytes, fault) {
@@ -80,40 +102,27 @@ fn faulty(alloc: Global, detail: Detail, bytes: &[u8], fault: ScriptFault) -> Fa
     }
 }
 
-fn answers<R: Read>(alloc: Global, detail: Detail, script: &mut R) -> Result<Vec<Reply>, Fault> {
-    let bytes = read_bytes(alloc, script)?;
-    match scripts::read(alloc, &bytes, Mode::Schedule) {
-        Ok(script) => run(alloc, script),
-        Err(fault) => Err(faulty(alloc, detail, &bytes, fault)),
-    }
-}
-
-fn print_all<W: Write>(alloc: Global, answers: &[Reply], out: &mut W) -> Result<(), Fault> {
-    let mut lines = BufWriter::new(alloc, out).map_err(Fault::Unwritable)?;
-    for answer in answers {
-        answer.print(&mut lines).map_err(Fault::Unwritable)?;
-    }
-    // Dropping the buffer writes what is left too, but says nothing of a write that fails.
-    lines.flush().map_err(Fault::Unwritable)
-}
-
-fn schedule_or_fault<R: Read, O: Write>(
+fn schedule_or_fault<R: Read, O: Write, E: Write>(
     alloc: Global,
-    detail: Detail,
+    options: Options,
     script: &mut R,
     out: &mut O,
+    err: &mut E,
 ) -> Result<(), Fault> {
-    let answers = answers(alloc, detail, script)?;
-    print_all(alloc, &answers, out)
+    let bytes = read_bytes(alloc, script)?;
+    match scripts::read(alloc, &bytes, Mode::Schedule) {
+        Ok(script) => run(alloc, options, script, out, err),
+        Err(fault) => Err(faulty(alloc, options, &bytes, fault)),
+    }
 }
 
-/// Runs a script, one turn after another, and writes the line of each answer to `out`.
+/// Runs a script, one turn after another, and writes the line of each answer to `out` as it comes.
 ///
 /// The exit status is 0, or 1 where the run fails: the script can't be read or has more than
 /// [`SCRIPT_BYTES`], a line of it is faulty, the run wants memory, or an answer can't be written.
 /// Then `err` gets one line, which for a faulty line is `line L: CAUSE`; but none where `out` is a
 /// pipe that nobody reads any more. Nothing is run, and `out` gets nothing, unless the script as a
-/// whole is sound.
+/// whole is sound; a run that fails later has written what it had answered.
 pub fn schedule<R: Read, O: Write, E: Write>(
     alloc: Global,
     script: &mut R,
@@ -122,20 +131,21 @@ pub fn schedule<R: Read, O: Write, E: Write>(
 ) -> u8
     ensures success_or_failure { result ≤ 1 }
 {
-    schedule_with(alloc, Detail::Cause, script, out, err)
+    schedule_with(alloc, Options::default(), script, out, err)
 }
 
-/// The same. With [`Detail::Explained`] a second line to `err` says more of a faulty line.
+/// The same, with what the options ask for: more of a faulty line, how many lines are done, and how
+/// much was done go to `err`, the number of a line stands in `out`.
 pub fn schedule_with<R: Read, O: Write, E: Write>(
     alloc: Global,
-    detail: Detail,
+    options: Options,
     script: &mut R,
     out: &mut O,
     err: &mut E,
 ) -> u8
     ensures success_or_failure { result ≤ 1 }
 {
-    let Err(fault) = schedule_or_fault(alloc, detail, script, out) else {
+    let Err(fault) = schedule_or_fault(alloc, options, script, out, err) else {
         return 0;
     };
     if !fault.is_silent() {

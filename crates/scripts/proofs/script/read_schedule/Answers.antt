@@ -45,3 +45,8 @@ pub returns-clause-steps : goal.returns-clause-steps
 returns-clause-steps c =
     let empty : length c.loop-rest.rest.now ≡ 0 = search rules in
     (ends (lines c.args.text.now) c.loop-rest.rest.now c.loop-rest.number (known_by c.loop-rest.reading) c.loop-rest.invariant.0 empty).steps
+
+pub returns-clause-lines : goal.returns-clause-lines
+returns-clause-lines c =
+    let empty : length c.loop-rest.rest.now ≡ 0 = search rules in
+    (ends (lines c.args.text.now) c.loop-rest.rest.now c.loop-rest.number (known_by c.loop-rest.reading) c.loop-rest.invariant.0 empty).lines

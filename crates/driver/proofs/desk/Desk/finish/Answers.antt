@@ -1,20 +1,20 @@
-use Rattle.std.proofs.Common.{◌∙◌, ◌+◌, ◌++◌, List, [], ◌∷◌, ap, sym, refl, arith, append_assoc, inl, inr, length-append, append-nil}
-use Rattle.machine.specs.declared.command.Reply.{Reply}
+use Rattle.std.proofs.Common.{◌∙◌, ◌+◌, ◌++◌, [], ◌∷◌, ap, sym, refl, arith, inl, inr, length-append, subst}
 use Rattle.machine.specs.declared.command.Answer.TheVariants.{Word}
 use Rattle.machine.specs.declared.command.Word.TheVariants.{TurnLimit}
 use Rattle.driver.specs.Schedule.{said_at, all_said, answer_by}
 use Rattle.driver.specs.Desks.{world}
 use Rattle.driver.proofs.Runs.{Goings-more, all_said-more, same-refl, same-more}
+use Rattle.driver.proofs.SinkLemmas.{on_err, finish_starts}
 use Rattle.driver.proofs.desk.Desk.finish.Goals as goal
 
 pub loop-turn-init : goal.loop-turn-init
-loop-turn-init g c = record { on = c.requires; same = same-refl _; goes = ([], refl, sym (append-nil c.args.answers.now.items), refl) }
+loop-turn-init g c = record { on = c.requires; same = same-refl _; goes = ([], refl, g.met.S.Sink.nothing _, refl) }
 
 pub returns-then-ends-clause-finishes : goal.returns-then-ends-clause-finishes
 returns-then-ends-clause-finishes g c =
     let k = c.loop-turn.invariant.goes in (
       all_said c.args.actor k.0 ++ said_at c.args.actor c.in_ok-outcome.outcome,
-      c.in_ok-say.ensures ∙ (ap (λ (rs : List Reply). rs ++ said_at c.args.actor c.in_ok-outcome.outcome) k.2 ∙ append_assoc c.args.answers.now.items (all_said c.args.actor k.0) (said_at c.args.actor c.in_ok-outcome.outcome)),
+      g.met.S.Sink.more _ _ _ _ _ k.2 c.in_ok-say.ensures.said,
       (
         k.0,
         world c.loop-turn.self (g.D.BlockDevice.disk c.loop-turn.device),
@@ -38,8 +38,7 @@ loop-turn-preserved g c =
       goes = (
         k.0 ++ c.in_ok-outcome.outcome ∷ [],
         length-append k.0 (c.in_ok-outcome.outcome ∷ []) ∙ ap (λ n. n + 1) k.1,
-        c.in_ok-say.ensures ∙ (ap (λ (rs : List Reply). rs ++ said_at c.args.actor c.in_ok-outcome.outcome) k.2 ∙ (append_assoc c.args.answers.now.items (all_said c.args.actor k.0) (said_at c.args.actor c.in_ok-outcome.outcome)
-            ∙ ap (λ (rs : List Reply). c.args.answers.now.items ++ rs) (sym (all_said-more c.args.actor k.0 c.in_ok-outcome.outcome)))),
+        subst (g.S.Sink.took _ _) (sym (all_said-more c.args.actor k.0 c.in_ok-outcome.outcome)) (g.met.S.Sink.more _ _ _ _ _ k.2 c.in_ok-say.ensures.said),
         Goings-more _ _ k.0 _ _ c.in_ok-outcome.outcome k.3 c.in_ok-outcome.ensures.turn (sym c.ends-ends.ensures ∙ c.if-ends.false),
       );
     }
@@ -48,11 +47,38 @@ pub returns-clause-finishes : goal.returns-clause-finishes
 returns-clause-finishes g c =
     let k = c.loop-turn.invariant.goes in (
       all_said c.args.actor k.0 ++ answer_by c.args.actor (Word TurnLimit),
-      c.in_ok-answer.ensures ∙ (ap (λ (rs : List Reply). rs ++ answer_by c.args.actor (Word TurnLimit)) k.2 ∙ append_assoc c.args.answers.now.items (all_said c.args.actor k.0) (answer_by c.args.actor (Word TurnLimit))),
+      g.met.S.Sink.more _ _ _ _ _ k.2 c.in_ok-answer.ensures.said,
       (
         k.0,
         world c.loop-turn.self (g.D.BlockDevice.disk c.loop-turn.device),
         k.3,
         inr (record { spent = omega (arith, k.1, c.loop-turn-test.false, c.loop-turn.auto._turn-end); stays = refl; answers_are = refl }),
       ),
+    )
+
+pub returns-in_err-outcome-clause-cut : goal.returns-in_err-outcome-clause-cut
+returns-in_err-outcome-clause-cut g c =
+    let k = c.loop-turn.invariant.goes in
+    on_err c.from_residual.result (
+      all_said c.args.actor k.0,
+      record { mid = c.loop-turn.sink; takes = k.2; fails = g.met.S.Sink.stays _ },
+      finish_starts _ c.args.actor k.0 (world c.loop-turn.self (g.D.BlockDevice.disk c.loop-turn.device)) (omega (arith, k.1, c.loop-turn-test.true)) k.3 c.history_is_right.ensures.right,
+    )
+
+pub returns-in_err-say-clause-cut : goal.returns-in_err-say-clause-cut
+returns-in_err-say-clause-cut g c =
+    let k = c.loop-turn.invariant.goes in
+    on_err c.from_residual-in_err-say.result (
+      all_said c.args.actor k.0,
+      record { mid = c.loop-turn.sink; takes = k.2; fails = c.in_err-say.ensures.failed },
+      finish_starts _ c.args.actor k.0 (world c.loop-turn.self (g.D.BlockDevice.disk c.loop-turn.device)) (omega (arith, k.1, c.loop-turn-test.true)) k.3 c.history_is_right.ensures.right,
+    )
+
+pub returns-in_err-answer-clause-cut : goal.returns-in_err-answer-clause-cut
+returns-in_err-answer-clause-cut g c =
+    let k = c.loop-turn.invariant.goes in
+    on_err c.from_residual-in_err-answer.result (
+      all_said c.args.actor k.0,
+      record { mid = c.loop-turn.sink; takes = k.2; fails = c.in_err-answer.ensures.failed },
+      finish_starts _ c.args.actor k.0 (world c.loop-turn.self (g.D.BlockDevice.disk c.loop-turn.device)) (omega (arith, k.1, c.loop-turn.auto._turn-end)) k.3 c.history_is_right-2.ensures.right,
     )

@@ -1,17 +1,42 @@
-use Rattle.std.proofs.Common.{◌≡◌, ◌∙◌, ◌+◌, ◌++◌, ◌∷◌, [], List, take, sym, ap}
-use Rattle.std.proofs.lemmas.List.{take_more}
+use Rattle.std.proofs.Common.{◌≡◌, ◌∙◌, ◌+◌, ◌++◌, ◌∷◌, [], List, take, sym, ap, refl, subst}
+use Rattle.std.proofs.lemmas.List.{take_more, take_all}
 use Rattle.machine.specs.declared.command.Step.{Step}
-use Rattle.driver.proofs.Runs.{Runs-more, same-more}
+use Rattle.driver.specs.Schedule.{Runs}
+use Rattle.driver.specs.Desks.{world}
+use Rattle.driver.proofs.Runs.{Runs-more, same-refl, same-more}
+use Rattle.driver.proofs.SinkLemmas.{on_err, heard-more, step_starts}
 use Rattle.driver.proofs.desk.Desk.run_all.Goals as goal
 
-pub loop-step-preserved : goal.loop-step-preserved
-loop-step-preserved g c =
+pub loop-at-init : goal.loop-at-init
+loop-at-init g c = record { on = c.requires; same = same-refl _; ran = ([], g.met.S.Sink.nothing _, (refl, refl)) }
+
+pub loop-at-preserved : goal.loop-at-preserved
+loop-at-preserved g c =
+    let ran = c.loop-at.invariant.ran in
     let went = c.in_ok-step.ensures.step in
     let steps : List Step = c.args.steps.now in
-    let i = c.loop-step.step-index in
-    let more : take (i + 1) steps ≡ take i steps ++ c.step-item.result ∷ [] = take_more steps i c.step-item.result c.loop-step-test.true ∙ ap (λ (s : Step). take i steps ++ s ∷ []) (sym c.step-item.is) in
+    let i = c.loop-at.at in
+    let item : Step = c.index-steps-at.result in
+    let more : take (i + 1) steps ≡ take i steps ++ item ∷ [] = take_more steps i item c.loop-at-test.true ∙ ap (λ (s : Step). take i steps ++ s ∷ []) (sym c.index-steps-at.is) in
     record {
       on = c.in_ok-step.ensures.on;
-      same = same-more _ _ _ c.loop-step.invariant.same c.in_ok-step.ensures.same;
-      ran = rw (more, went.1) (Runs-more _ _ _ _ _ _ went.0 c.loop-step.invariant.ran went.2);
+      same = same-more _ _ _ c.loop-at.invariant.same c.in_ok-step.ensures.same;
+      ran = (ran.0 ++ went.0, g.met.S.Sink.more _ _ _ _ _ ran.1 went.1, rw more (Runs-more _ _ _ _ _ _ went.0 ran.2 went.2));
     }
+
+pub returns-in_err-step-clause-cut : goal.returns-in_err-step-clause-cut
+returns-in_err-step-clause-cut g c =
+    let ran = c.loop-at.invariant.ran in
+    let cut = c.in_err-step.ensures.cut in
+    on_err c.from_residual.result (
+      ran.0 ++ cut.0,
+      heard-more g.S.Sink.took g.S.Sink.failed g.met.S.Sink.more _ _ _ ran.0 cut.0 ran.1 cut.1,
+      step_starts _ c.args.steps.now c.loop-at.at c.index-steps-at.result ran.0 _ cut.0 c.loop-at-test.true c.index-steps-at.is ran.2 cut.2,
+    )
+
+pub returns-clause-runs : goal.returns-clause-runs
+returns-clause-runs g c =
+    let ran = c.loop-at.invariant.ran in
+    let steps : List Step = c.args.steps.now in
+    let all : take c.loop-at.at steps ≡ steps = take_all c.loop-at.at steps c.loop-at-test.false in
+    (ran.0, ran.1, subst (λ (ss : List Step). Runs (world c.args.self.now (g.D.BlockDevice.disk c.args.device.now)) ss ran.0 (world c.loop-at.self (g.D.BlockDevice.disk c.loop-at.device))) all ran.2)

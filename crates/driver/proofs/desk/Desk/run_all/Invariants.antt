@@ -1,11 +1,12 @@
-use Rattle.std.proofs.Common.{take}
+use Rattle.std.proofs.Common.{List, take}
+use Rattle.machine.specs.declared.command.Reply.{Reply}
 use Rattle.driver.specs.Schedule.{Runs}
 use Rattle.driver.specs.Desks.{world, IsOn, IsSame}
 use Rattle.driver.proofs.desk.Desk.run_all.Given as goal
 
-abbrev pub invariant-loop-step : goal.invariant-loop-step
-invariant-loop-step g l = record {
+abbrev pub invariant-loop-at : goal.invariant-loop-at
+invariant-loop-at g l = record {
   on : IsOn l.self (g.D.BlockDevice.disk l.device);
   same : IsSame (g.D.BlockDevice.disk l.fn.device) (g.D.BlockDevice.disk l.device);
-  ran : Runs (world l.fn.self (g.D.BlockDevice.disk l.fn.device)) (take l.step-index l.steps) l.answers.items (world l.self (g.D.BlockDevice.disk l.device));
+  ran : (answers : List Reply) × g.S.Sink.took l.fn.sink l.sink answers × Runs (world l.fn.self (g.D.BlockDevice.disk l.fn.device)) (take l.at l.steps) answers (world l.self (g.D.BlockDevice.disk l.device));
 }

@@ -1,0 +1,180 @@
+//! What is written while a run goes on, and beside its answers.
+
+use std::alloc::Global;
+use std::io::{Error, ErrorKind, Write};
+use std::{io, str};
+use subcommands::{Options, schedule_with};
+
+const OVER_LIMIT: &str = "\
+group /a
+set /a memory.max 4096
+task 1 /a
+1 write 0 0 1
+1 write 1 0 1
+cat /a memory.max
+rmdir /b
+task 2 /a
+begin 2 read 0 0
+";
+
+const PRINTED: &str = "\
+killed 1
+1 killed
+4096
+error ENOENT
+";
+
+// Keeps so many writes, and fails at the next.
+struct Limited {
+    kept: Vec<u8>,
+    writes: usize,
+}
+
+impl Write for Limited {
+    fn write(&mut self, buf: &[u8]) -> io::Result<usize> {
+        let Some(left) = self.writes.checked_sub(1) else {
+            return Err(Error::from(ErrorKind::StorageFull));
+        };
+        self.writes = left;
+        self.kept.write(buf)
+    }
+
+    fn flush(&mut self) -> io::Result<()> {
+        Ok(())
+    }
+}
+
+// Each answer goes out in a write of its own, so those before one that can't be written are out.
+#[test]
+fn answers_are_written_as_they_come(rt: HostRuntime) {
+    let alloc = rt.alloc();
+    for writes in 0..=4 {
+        let mut out = Limited {
+            kept: Vec::new(alloc),
+            writes,
+        };
+        let mut err = Vec::new(alloc);
+        let mut script = OVER_LIMIT.as_bytes();
+        let status = schedule_with(alloc, Options::default(), &mut script, &mut out, &mut err);
+        assert_eq!(rt; status, if writes == 4 { 0 } else { 1 }, "{writes} writes");
+        let Limited { kept, writes: _ } = out;
+        let mut wanted = Vec::new(alloc);
+        for line in PRINTED.lines().take(writes) {
+            assert!(rt; writeln!(&mut wanted, "{line}").is_ok());
+        }
+        assert_eq!(rt;
+            str::from_utf8(&kept),
+            str::from_utf8(&wanted),
+            "{writes} writes"
+        );
+    }
+}
+
+// The script ends with status 0, and writes this to standard output and this to standard error.
+fn writes<R: Abort + AllocGlobal>(rt: &R, options: Options, script: &str, out: &str, err: &str) {
+    let alloc: Global = rt.alloc();
+    let mut script = script.as_bytes();
+    let mut printed = Vec::new(alloc);
+    let mut said = Vec::new(alloc);
+    let status = schedule_with(alloc, options, &mut script, &mut printed, &mut said);
+    assert_eq!(rt; str::from_utf8(&said), Ok(err), "standard error");
+    assert_eq!(rt; str::from_utf8(&printed), Ok(out), "standard output");
+    assert_eq!(rt; status, 0, "status");
+}
+
+#[test]
+fn nothing_is_said_that_was_not_asked_for(rt: HostRuntime) {
+    writes(&rt, Options::default(), OVER_LIMIT, PRINTED, "");
+}
+
+#[test]
+fn each_answer_stands_behind_its_line(rt: HostRuntime) {
+    let options = Options {
+        lines: true,
+        ..Options::default()
+    };
+    let out = "\
+5: killed 1
+5: 1 killed
+6: 4096
+7: error ENOENT
+";
+    writes(&rt, options, OVER_LIMIT, out, "");
+}
+
+// Lines that ask for nothing are counted too, and a text of several lines has the number before each.
+#[test]
+fn each_line_of_a_text_stands_behind_its_line(rt: HostRuntime) {
+    let options = Options {
+        lines: true,
+        ..Options::default()
+    };
+    let script = "# two groups\n\nframes 8\ngroup /a\ncat /a memory.stat\ncat /a memory.current\n";
+    let out = "5: anon 0\n5: file 0\n6: 0\n";
+    writes(&rt, options, script, out, "");
+}
+
+#[test]
+fn a_summary_counts_what_was_done(rt: HostRuntime) {
+    let options = Options {
+        summary: true,
+        ..Options::default()
+    };
+    let err = "lines 9, kills 1, refused 1, unfinished 1\n";
+    writes(&rt, options, OVER_LIMIT, PRINTED, err);
+    writes(
+        &rt,
+        options,
+        "",
+        "",
+        "lines 0, kills 0, refused 0, unfinished 0\n",
+    );
+    // One that was begun over another was not begun.
+    let script = "group /a\ntask 1 /a\nbegin 1 write 0 0 1\nbegin 1 read 0 0\nfinish 1\n";
+    let err = "lines 5, kills 0, refused 1, unfinished 0\n";
+    writes(&rt, options, script, "1 Underway\n", err);
+}
+
+#[test]
+fn a_terminal_sees_how_many_lines_are_done(rt: HostRuntime) {
+    let options = Options {
+        progress: true,
+        ..Options::default()
+    };
+    let err = "\r1 of 2 lines\r2 of 2 lines\r\u{1b}[K";
+    writes(&rt, options, "group /a\ntask 1 /a\n", "", err);
+    // It is taken back before an answer, and not written again for less than a hundredth of the lines.
+    let err = "\r1 of 2 lines\r\u{1b}[K\r2 of 2 lines\r\u{1b}[K";
+    writes(
+        &rt,
+        options,
+        "group /a\ncat /a memory.current\n",
+        "0\n",
+        err,
+    );
+    writes(&rt, options, "", "", "");
+}
+
+#[test]
+fn a_run_that_is_cut_short_says_how_far_it_came(rt: HostRuntime) {
+    let alloc = rt.alloc();
+    let options = Options {
+        summary: true,
+        ..Options::default()
+    };
+    let mut out = Limited {
+        kept: Vec::new(alloc),
+        writes: 2,
+    };
+    let mut err = Vec::new(alloc);
+    let mut script = OVER_LIMIT.as_bytes();
+    assert_eq!(rt;
+        schedule_with(alloc, options, &mut script, &mut out, &mut err),
+        1
+    );
+    let Limited { kept, writes: _ } = out;
+    assert_eq!(rt; str::from_utf8(&kept), Ok("killed 1\n1 killed\n"));
+    let wanted =
+        "lines 6, kills 1, refused 0, unfinished 0\nthe answers can't be written: no storage space\n";
+    assert_eq!(rt; str::from_utf8(&err), Ok(wanted));
+}

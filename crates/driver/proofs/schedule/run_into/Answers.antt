@@ -1,0 +1,54 @@
+use Rattle.std.proofs.Common.{◌≡◌, inr, [], true, refl, subst, arith}
+use Rattle.machine.specs.History.{at_first, Honest}
+use Rattle.block_store.specs.Device.{Disk}
+use Rattle.driver.specs.Schedule.{World, first_world, Runs, files_on, fits}
+use Rattle.driver.specs.Sinks.{StartsRun}
+use Rattle.driver.specs.Desks.{world}
+use Rattle.driver.proofs.ErrorLemmas.{errors_are_failures}
+use Rattle.driver.proofs.Faithful.{runs_are_honest}
+use Rattle.driver.proofs.Runs.{opened_on, blocks_known, fitting}
+use Rattle.driver.proofs.SinkLemmas.{run_starts, opening_starts}
+use Rattle.driver.proofs.schedule.run_into.Goals as goal
+
+pub returns-in-Err-clause-starts : goal.returns-in-Err-clause-starts
+returns-in-Err-clause-starts g c =
+    λ fit. record {
+      answers = [];
+      heard = record { mid = c.args.sink.now; takes = g.met.S.Sink.nothing _; fails = g.met.S.Sink.stays _ };
+      starts = opening_starts c.args.config (g.D.BlockDevice.disk c.args.device.now) c.args.steps.now fit;
+    }
+
+pub run_all-ran-requires : goal.run_all-ran-requires
+run_all-ran-requires g c =
+    let disk : Disk = g.D.BlockDevice.disk c.args.device.now in
+    opened_on c.in-Ok.desk c.args.config disk (c.in-Ok.ensures.opens disk) c.in-Ok.ensures.asks (omega (arith, c.if-blocks.false, c.blocks-2.ensures, blocks_known c.args.config c.in-Some.blocks c.in-Some.ensures))
+
+pub returns-in-Ok-ran-clause-gives : goal.returns-in-Ok-ran-clause-gives
+returns-in-Ok-ran-clause-gives g c =
+    let before : Disk = g.D.BlockDevice.disk c.args.device.now in
+    let end : World = world c.run_all-ran.new.self (g.D.BlockDevice.disk c.run_all-ran.new.device) in
+    let told = c.in-Ok-ran.ensures.runs in
+    let From : World → Type 0 = λ w. Runs w c.args.steps.now told.0 end in
+    let ran : Runs (first_world c.args.config before) c.args.steps.now told.0 end = subst From (c.in-Ok.ensures.opens before) told.2 in
+    let fit : fits c.args.config before ≡ true = fitting c.args.config before c.in-Ok.ensures.sized (omega (arith, c.if-blocks.false, c.blocks-2.ensures, blocks_known c.args.config c.in-Some.blocks c.in-Some.ensures)) in
+    let honest : Honest (at_first (files_on c.args.config before)) end.past.history = runs_are_honest c.args.config before c.args.steps.now told.0 end fit ran in
+    record {
+      answers = told.0;
+      takes = told.1;
+      schedules = record { end = end; runs = ran; device = refl; honest = honest; right = c.history_is_right.ensures.right (files_on c.args.config before) honest };
+      failures = errors_are_failures c.args.config before c.args.steps.now told.0 end ran;
+    }
+
+pub returns-in-Ok-ran-clause-sized : goal.returns-in-Ok-ran-clause-sized
+returns-in-Ok-ran-clause-sized g c = fitting c.args.config (g.D.BlockDevice.disk c.args.device.now) c.in-Ok.ensures.sized (omega (arith, c.if-blocks.false, c.blocks-2.ensures, blocks_known c.args.config c.in-Some.blocks c.in-Some.ensures))
+
+pub returns-in-Err-ran-clause-starts : goal.returns-in-Err-ran-clause-starts
+returns-in-Err-ran-clause-starts g c =
+    λ fit.
+    let before : Disk = g.D.BlockDevice.disk c.args.device.now in
+    let told = c.in-Err-ran.ensures.cut in
+    let From : World → Type 0 = λ w. StartsRun w c.args.steps.now told.0 in
+    record { answers = told.0; heard = told.1; starts = run_starts c.args.config before c.args.steps.now told.0 fit (subst From (c.in-Ok.ensures.opens before) told.2) }
+
+pub returns-in-Err-ran-clause-err : goal.returns-in-Err-ran-clause-err
+returns-in-Err-ran-clause-err g c = inr (c.stop_of.ensures, fitting c.args.config (g.D.BlockDevice.disk c.args.device.now) c.in-Ok.ensures.sized (omega (arith, c.if-blocks.false, c.blocks-2.ensures, blocks_known c.args.config c.in-Some.blocks c.in-Some.ensures)))

@@ -1,0 +1,82 @@
+-- What a sink has of a run, and what a run that was cut short had done.
+use Rattle.std.specs.Prelude.{◌≡◌, ℕ, ◌+◌, ◌≤◌, List, [], ◌∷◌, ◌++◌, length}
+use Rattle.std.specs.List.{AllByRecursion}
+use Rattle.machine.specs.declared.config.Config.{Config}
+use Rattle.machine.specs.declared.command.Step.{Step}
+use Rattle.machine.specs.declared.command.Step.TheVariants.{Begin, Advance, Finish}
+use Rattle.machine.specs.declared.command.Reply.{Reply as Told_by}
+use Rattle.machine.specs.declared.refusal.Refusal.TheVariants.{NoMemory}
+use Rattle.machine.specs.History.{at_first, Honest, Right}
+use Rattle.block_store.specs.Device.{Disk}
+use Rattle.driver.specs.declared.sink.Stop.{Stop}
+use Rattle.driver.specs.declared.sink.Stop.TheVariants.{Refused, Closed}
+use Rattle.driver.specs.Schedule.{World, Runs, Schedules, errors, most_turns}
+
+-- it took these answers, and none behind them
+pub record Heard {S : Type 0} (took : S → S → List Told_by → Type 0) (failed : S → S → Type 0) (old new : S) (answers : List Told_by) : Type 0 where
+  pub mid : S
+  pub takes : took old mid answers
+  pub fails : failed mid new
+
+-- ---- a run that went through
+
+-- the sink took the answers of the plain machine to the steps, which are at most as many EIO as calls of the device failed meanwhile
+pub record Gives {S : Type 0} (took : S → S → List Told_by → Type 0) (config : Config) (before : Disk) (steps : List Step) (old new : S) (after : Disk) : Type 0 where
+  pub answers : List Told_by
+  pub takes : took old new answers
+  pub schedules : Schedules config before steps answers after
+  pub failures : errors answers + before.failures ≤ after.failures
+
+-- ---- a run that was cut short
+
+-- why it was, where it had begun
+abbrev pub IsCut : Stop → Type 0
+IsCut (Refused why) = why ≡ NoMemory
+IsCut Closed = Unit {0}
+
+-- the turns that were taken of the step that was under way: a finish takes them one by one, and of any other step nothing was told
+abbrev pub AreTurnsOf : List Step → List Step → Type 0
+AreTurnsOf [] turns = turns ≡ []
+AreTurnsOf (Begin who what ∷ later) turns = turns ≡ []
+AreTurnsOf (Advance who ∷ later) turns = turns ≡ []
+AreTurnsOf (Finish who ∷ later) turns = (length turns ≤ most_turns) × AllByRecursion (λ (s : Step). s ≡ Advance who) turns
+
+-- these answers are those of the plain machine to the first of the steps, and to single turns that the step behind them took before the run was cut short
+pub record Starts (config : Config) (before : Disk) (steps : List Step) (answers : List Told_by) : Type 0 where
+  pub done : List Step
+  pub left : List Step
+  pub cut : steps ≡ done ++ left
+  pub turns : List Step
+  pub taken : AreTurnsOf left turns
+  pub disk : Disk
+  pub schedules : Schedules config before (done ++ turns) answers disk
+
+-- the sink took these, and none behind them
+pub record GivesStart {S : Type 0} (took : S → S → List Told_by → Type 0) (failed : S → S → Type 0) (config : Config) (before : Disk) (steps : List Step) (old new : S) : Type 0 where
+  pub answers : List Told_by
+  pub heard : Heard took failed old new answers
+  pub starts : Starts config before steps answers
+
+-- ---- the same of a desk
+
+-- each read gave what was last written, where each page that was read in brought that
+abbrev pub IsRightOnce : World → Type 0
+IsRightOnce w = (files : ℕ → ℕ → ℕ → ℕ) → Honest (at_first files) w.past.history → Right (at_first files) w.past.history
+
+pub record StartsRun (old : World) (steps : List Step) (answers : List Told_by) : Type 0 where
+  pub done : List Step
+  pub left : List Step
+  pub cut : steps ≡ done ++ left
+  pub turns : List Step
+  pub taken : AreTurnsOf left turns
+  pub end : World
+  pub runs : Runs old (done ++ turns) answers end
+  pub right : IsRightOnce end
+
+-- of the one step that is under way
+pub record StartsStep (old : World) (step : Step) (answers : List Told_by) : Type 0 where
+  pub turns : List Step
+  pub taken : AreTurnsOf (step ∷ []) turns
+  pub end : World
+  pub runs : Runs old turns answers end
+  pub right : IsRightOnce end
