@@ -6,7 +6,7 @@ use std::test::Fail;
 
 #[test]
 fn a_frame_is_taken_and_given_back(rt: HostRuntime) -> Result<(), Fail> {
-    let mut pool = Pool::open(rt.alloc(), 1)?;
+    let mut pool = Pool::open(rt.alloc(), 1, 0)?;
     if let Some(mut frame) = pool.take() {
         frame.clear();
         frame.write(5, 7);

@@ -6,11 +6,12 @@ pub record FrameOf : Type 0 where
   pub number : ℕ
   pub bytes : List ℕ
 
--- the numbers of the free frames, how many frames there are, and how many spares are in
+-- the numbers of the free frames, how many frames there are, how many spares are in, and how many were made
 pub record PoolOf : Type 0 where
   pub free : List ℕ
   pub frames : ℕ
   pub spares : ℕ
+  pub most_spares : ℕ
 
 -- how often a frame is among the free ones: 1 or 0
 abbrev pub free_count : List ℕ → ℕ → ℕ
@@ -27,7 +28,7 @@ pub record IsPool (free : List ℕ) (frames room : ℕ) : Type 0 where
   pub all_fit : frames ≤ room
   pub countable : frames < 4294967296
 
--- and of its spares: at most one a frame is in, and there is room for so many
-pub record AreSpares (spares frames room : ℕ) : Type 0 where
-  pub within : spares ≤ frames
-  pub all_fit : frames ≤ room
+-- and of its spares: no more are in than were made, and there is room for so many
+pub record AreSpares (spares most room : ℕ) : Type 0 where
+  pub within : spares ≤ most
+  pub all_fit : most ≤ room

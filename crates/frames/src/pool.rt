@@ -9,14 +9,16 @@ use machine::id::FrameId;
 use std::alloc::{AllocError, Global};
 use std::marker::Model;
 
-/// The frames that no page stands in (kernel: the buddy allocator's free pages), and how many frames
-/// there are in all. It is no `Drop`: it is closed, by [`Pool::close`], once all frames are back.
+/// The frames that no page stands in (kernel: the buddy allocator's free pages), how many frames there
+/// are in all, and spares. It is no `Drop`: it is closed, by [`Pool::close`], once all frames are back.
 #[must_use]
 pub struct Pool {
     free: Vec<Frame>,
     spares: Vec<Spare>,
     /// How many frames there are, free ones and others. Their numbers are those below it.
     frames: u32,
+    /// How many spares were made, those that are in and those that are out.
+    most_spares: u32,
 }
 
 impl Model for Pool {
@@ -25,27 +27,29 @@ impl Model for Pool {
 
     ghost Value = { PoolOf };
 
-    ghost view = { λ p. record { free = numbers_of p.free.items; frames = p.frames; spares = length p.spares.items } };
+    ghost view = { λ p. record { free = numbers_of p.free.items; frames = p.frames; spares = length p.spares.items; most_spares = p.most_spares } };
 
-    ghost invariant = { λ p. IsPool (numbers_of p.free.items) p.frames (vec_capacity p.free) × AreSpares (length p.spares.items) p.frames (vec_capacity p.spares) };
+    ghost invariant = { λ p. IsPool (numbers_of p.free.items) p.frames (vec_capacity p.free) × AreSpares (length p.spares.items) p.most_spares (vec_capacity p.spares) };
 }
 
 impl Pool {
-    /// So many frames, numbered from 0 on, and all of them free. `AllocError` where there is no memory
-    /// for them: what was made of them by then is given back.
-    pub fn open(alloc: Global, frames: u32) -> Result<Pool, AllocError>
+    /// So many frames, numbered from 0 on, and all of them free; and so many spares. `AllocError` where
+    /// there is no memory for them: what was made of them by then is given back.
+    pub fn open(alloc: Global, frames: u32, spares: u32) -> Result<Pool, AllocError>
         ensures once { IfOk result (λ p. (n : ℕ) → n < frames → free_count p.free n ≡ 1) }
         ensures none_beyond { IfOk result (λ p. (n : ℕ) → frames ≤ n → free_count p.free n ≡ 0) }
         ensures all { IfOk result (λ p. length p.free ≡ frames) }
         ensures frames { IfOk result (λ p. p.frames ≡ frames) }
-        ensures spares { IfOk result (λ p. p.spares ≡ frames) }
+        ensures spares { IfOk result (λ p. p.spares ≡ spares) }
+        ensures most_spares { IfOk result (λ p. p.most_spares ≡ spares) }
     {
         let free = new_frames(alloc, frames)?;
-        match new_spares(alloc, frames) {
-            Ok(spares) => Ok(Pool {
+        match new_spares(alloc, spares) {
+            Ok(made) => Ok(Pool {
                 free,
-                spares,
+                spares: made,
                 frames,
+                most_spares: spares,
             }),
             Err(error) => {
                 end_all(free);
@@ -70,6 +74,7 @@ impl Pool {
         ensures fewer { OnSome result (length self.old.free ≡ length self.new.free + 1) }
         ensures frames { self.new.frames ≡ self.old.frames }
         ensures spares { self.new.spares ≡ self.old.spares }
+        ensures most_spares { self.new.most_spares ≡ self.old.most_spares }
 
         // The frame is no longer free, so that no two frames that are out have one number.
         ensures out { IfSome result (λ f. free_count self.new.free f.number ≡ 0) }
@@ -86,6 +91,7 @@ impl Pool {
         ensures more { length self.new.free ≡ length self.old.free + 1 }
         ensures frames { self.new.frames ≡ self.old.frames }
         ensures spares { self.new.spares ≡ self.old.spares }
+        ensures most_spares { self.new.most_spares ≡ self.old.most_spares }
     {
         self.free.push_reserved(frame);
     }
@@ -102,7 +108,7 @@ impl Pool {
 
     /// Takes a spare back, where one is out. This takes no memory.
     pub fn give_spare(&mut self, spare: Spare)
-        requires { self.old.spares < self.old.frames }
+        requires { self.old.spares < self.old.most_spares }
         ensures { self.new ≡ record self.old { spares = self.old.spares + 1 } }
     {
         self.spares.push_reserved(spare);
@@ -116,6 +122,7 @@ impl Pool {
             free,
             spares,
             frames: _,
+            most_spares: _,
         } = self;
         end_all(free);
         discard_all(spares);

@@ -16,7 +16,7 @@ use Rattle.page_state.specs.Holdings.{over_of, IsGranted}
 use Rattle.page_state.specs.Owned.{holdings_of, IsHolding, IsCounted}
 use Rattle.page_state.proofs.BalanceLemmas.{taken-in}
 use Rattle.page_state.proofs.CountLemmas.{root-small, over-counted}
-use Rattle.page_state.proofs.HoldingLemmas.{there-owned, used-split, going-least}
+use Rattle.page_state.proofs.HoldingLemmas.{there-owned, used-split}
 
 -- the group of a page is there
 pub stands-live : (c : Counts) (pages : Pages) (p : ℕ) (label : Label) (r : Residence) → HasResidence pages p label r → IsCounted c pages → is_live c.tree label.group ≡ true
@@ -43,17 +43,15 @@ module _ (h : Inside) (is : IsHolding h) where
       omega (arith, owned, frames, blocks, numbers, some)
 
   -- a page in a frame may come to be in transfer
-  pub room-held : (p : ℕ) (label : Label) (f : ℕ) → HasResidence h.pages.pages p label (Held f) → (length h.moving.numbers < h.moving.room) × (0 < h.pages.tickets) × (0 < h.pool.spares)
+  pub room-held : (p : ℕ) (label : Label) (f : ℕ) → HasResidence h.pages.pages p label (Held f) → (length h.moving.numbers < h.moving.room) × (0 < h.pages.tickets)
   room-held p label f stood =
       let split = used-split h.pages.pages in
       let all = is.kept.frames.all in
       let moving = is.moving.len in
       let moving_room = is.moving_room in
       let tickets = is.tickets in
-      let spares = is.spares in
-      let going = going-least h.pages.pages in
       let one = count_there-some is_held h.pages.pages p (ap (there_and is_held) stood) in
-      (omega arith, omega arith, omega arith)
+      (omega arith, omega arith)
 
   -- the home blocks stand behind the swap blocks
   pub home-same : (file q : ℕ) → home_block h.pages.files.first h.pages.files.sizes file q ≡ home_block (holdings_of h).swap (holdings_of h).files file q

@@ -1,6 +1,6 @@
 -- The parts of the holdings go on to agree after one page changed.
 use Rattle.std.proofs.Common.{◌≡◌, ◌≢◌, inl, inr, ℕ, zero, suc, ◌+◌, ◌<◌, ◌≤◌, ◌==◌, ◌&&◌, ◌||◌, not, Bool, true, false, cond, List, [], ◌∷◌, ◌++◌, length, Option, Some, None, eq-eqb, refl, sym, ap, ◌∙◌, subst, arith}
-use Rattle.std.specs.Prelude.{IfSome, option_map, option_to_list, replicate}
+use Rattle.std.specs.Prelude.{IfSome, option_map, option_to_list, replicate, sum}
 use Rattle.std.proofs.lemmas.Bool.{cases_Bool, ne_eqb}
 use Rattle.std.proofs.lemmas.Bool.Decides.{eqb_tells}
 use Rattle.std.proofs.lemmas.List.{map-append}
@@ -213,6 +213,7 @@ block-out c pool slots pages p label r b stood anon is kept =
 pub record Stays (h h' : Inside) : Type 0 where
   pub groups : SameGroups h.counters h'.counters
   pub frames : h'.pool.frames ≡ h.pool.frames
+  pub most_spares : h'.pool.most_spares ≡ h.pool.most_spares
   pub blocks : h'.slots.blocks ≡ h.slots.blocks
   pub numbers : h'.pages.numbers ≡ h.pages.numbers
   pub page_groups : h'.pages.groups ≡ h.pages.groups
@@ -257,7 +258,9 @@ holding-step h h' p from to moves is =
     let going = changed-count is_going h.pages.pages h'.pages.pages p from to moves.stood moves.changes in
     let moving = changed-count is_in_transfer h.pages.pages h'.pages.pages p from to moves.stood moves.changes in
     let frames = moves.stays.frames in
+    let most = moves.stays.most_spares in
     let blocks = moves.stays.blocks in
+    let sizes = ap (λ (files : FilesOf). sum files.sizes) moves.stays.files in
     let numbers = moves.stays.numbers in
     record {
       kept = moves.kept;
@@ -270,7 +273,8 @@ holding-step h h' p from to moves is =
       moving_room = (let room = moves.stays.moving_room in let fit = is.moving_room in omega (arith, room, fit, frames));
       numbers = (let fit = is.numbers in omega (arith, fit, frames, blocks, numbers));
       homes = ap (λ (files : FilesOf). files.first) moves.stays.files ∙ is.homes ∙ sym blocks;
-      spares = (let k = moves.spares in let before = is.spares in omega (arith, k, before, going, frames));
+      spares = (let k = moves.spares in let before = is.spares in omega (arith, k, before, going, most));
+      most_spares = (let before = is.most_spares in omega (arith, before, most, frames, blocks, sizes));
       tickets = (let k = moves.tickets in let before = is.tickets in omega (arith, k, before, moving, frames));
     }
 
@@ -437,6 +441,7 @@ holding-counted h d held groups room counted lists sized many numbers is =
       numbers = is.numbers;
       homes = is.homes;
       spares = is.spares;
+      most_spares = is.most_spares;
       tickets = is.tickets;
     }
 

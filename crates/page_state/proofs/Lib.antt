@@ -6,6 +6,7 @@ pub mod CountLemmas
 pub mod RemovalLemmas
 pub mod HoldingLemmas
 pub mod GrantLemmas
+pub mod SpareLemmas
 pub mod SettleLemmas
 pub mod ReleaseLemmas
 pub mod NextLemmas

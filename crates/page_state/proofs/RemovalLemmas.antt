@@ -1,6 +1,6 @@
 -- A group goes: its pages become its parent's one by one, and all that is kept by group goes on to agree.
 use Rattle.std.proofs.Common.{◌≡◌, ◌≢◌, ◌⊎◌, inl, inr, ℕ, zero, suc, ◌+◌, ◌<◌, ◌==◌, ◌&&◌, ◌||◌, Bool, true, false, cond, List, [], ◌∷◌, length, length-set, Option, Some, None, eq-eqb, eqb-true, refl, sym, ap, ◌∙◌, subst, arith}
-use Rattle.std.specs.Prelude.{slice_set, slice_index, option_map, min, IfSome}
+use Rattle.std.specs.Prelude.{slice_set, slice_index, option_map, min, IfSome, sum}
 use Rattle.std.proofs.lemmas.List.{get_or-set_other}
 use Rattle.machine.specs.Slots.{at, Changes, there_and, count_there}
 use Rattle.machine.specs.Tree.{Node, node_at, is_live, is_parent, is_child, has_children, under_at, under, share, IsTree, without_group}
@@ -284,6 +284,7 @@ module _ (h : Inside) (is : IsHolding h) (g parent : ℕ) (d e : Counts) (pages 
         held_numbers = is.held_numbers ∙ sym numbers;
         homes = ap (λ (t : PagesOf). t.files.first) others ∙ is.homes;
         spares = (let was = is.spares in omega (arith, was, going));
+        most_spares = (let was = is.most_spares in let sizes = ap (λ (t : PagesOf). sum t.files.sizes) others in omega (arith, was, sizes));
         numbers = (let was = is.numbers in omega (arith, was, numbers));
         tickets = (let was = is.tickets in omega (arith, was, moving, tickets));
       })

@@ -162,6 +162,7 @@ pub record Lands (h h' : Inside) (p : ℕ) (label : Label) (f b n : ℕ) (d : Di
   pub groups : SameGroups h.counters h'.counters
   pub frames : h'.pool.frames ≡ h.pool.frames
   pub spares : h'.pool.spares ≡ h.pool.spares + one_if (is_leaving_at (moving d f b n))
+  pub most_spares : h'.pool.most_spares ≡ h.pool.most_spares
   pub blocks : h'.slots.blocks ≡ h.slots.blocks
   pub held : JoinsAtEnd d end h.held h'.held label.group (kind_at label.content) p
   pub moving : LeavesQueue h.moving h'.moving entry.1.0
@@ -201,7 +202,7 @@ module _ (h h' : Inside) (is : IsHolding h) (p : ℕ) (label : Label) (f b n : �
   )
 
   stays-landed : (end : End) → Lands h h' p label f b n d end entry → Stays h h'
-  stays-landed end lands = record { groups = lands.groups; frames = lands.frames; blocks = lands.blocks; numbers = lands.ended.numbers; page_groups = lands.ended.groups; page_room = lands.ended.room; held_numbers = (held-lands end lands).1; held_room = (held-lands end lands).2; moving_room = lands.moving.room; files = lands.ended.files }
+  stays-landed end lands = record { groups = lands.groups; frames = lands.frames; most_spares = lands.most_spares; blocks = lands.blocks; numbers = lands.ended.numbers; page_groups = lands.ended.groups; page_room = lands.ended.room; held_numbers = (held-lands end lands).1; held_room = (held-lands end lands).2; moving_room = lands.moving.room; files = lands.ended.files }
 
   pub holding-lands : (end : End) → Lands h h' p label f b n d end entry → IsHolding h'
   holding-lands end lands =

@@ -1,6 +1,6 @@
 -- A page is written to: it owns what it owned, and stands where it stood.
 use Rattle.std.proofs.Common.{◌≡◌, inl, inr, ℕ, Bool, true, false, List, Option, Some, None, refl, sym, ap, ◌∙◌, subst, arith}
-use Rattle.std.specs.Prelude.{IfSome, option_map}
+use Rattle.std.specs.Prelude.{IfSome, option_map, sum}
 use Rattle.machine.specs.declared.event.Op.TheVariants.{Write}
 use Rattle.machine.specs.Slots.{Changes, there_and, count_there}
 use Rattle.machine.specs.Tree.{is_live}
@@ -70,6 +70,7 @@ module _ (h : Inside) (is : IsHolding h) (pages : PagesOf) (same : (q : ℕ) →
         held_numbers = is.held_numbers ∙ sym numbers;
         homes = ap (λ (t : PagesOf). t.files.first) others ∙ is.homes;
         spares = (let was = is.spares in omega (arith, was, going));
+        most_spares = (let was = is.most_spares in let sizes = ap (λ (t : PagesOf). sum t.files.sizes) others in omega (arith, was, sizes));
         numbers = (let was = is.numbers in omega (arith, was, numbers));
         tickets = (let was = is.tickets in omega (arith, was, moving, tickets));
       }

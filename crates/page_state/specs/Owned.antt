@@ -1,5 +1,5 @@
 -- What the fields of the holdings mean, and how they agree. No public clause cites it.
-use Rattle.std.specs.Prelude.{◌≡◌, ℕ, ◌+◌, ◌<◌, ◌≤◌, ◌==◌, ◌&&◌, Bool, true, false, if◌then◌else◌, List, length, map, min, Option, option_map, Some, None, IfSome}
+use Rattle.std.specs.Prelude.{◌≡◌, ℕ, ◌+◌, ◌<◌, ◌≤◌, ◌==◌, ◌&&◌, Bool, true, false, if◌then◌else◌, List, length, map, min, Option, option_map, Some, None, IfSome, sum}
 use Rattle.machine.specs.Slots.{Changes, there_and, count_there}
 use Rattle.machine.specs.Tree.{is_live}
 use Rattle.machine.specs.Pages.{Residence, Going, Page, Pages, page_at, is_anon, is_number, block_at, charged, has_frame, has_this_frame, has_swap, is_in_transfer, in_transfer}
@@ -76,8 +76,9 @@ pub record IsHolding (h : Inside) : Type 0 where
   pub held_groups : length h.held.lists.groups ≡ length h.counters.tree
   pub page_groups : h.pages.groups ≡ length h.counters.tree
   pub held_numbers : h.held.numbers ≡ h.pages.numbers
-  -- a page that is being written out has a spare
-  pub spares : h.pool.spares + count_there is_going h.pages.pages ≡ h.pool.frames
+  -- a page that is being written out has a spare, of as many as there can be: each has a frame, and a swap block or its home
+  pub spares : h.pool.spares + count_there is_going h.pages.pages ≡ h.pool.most_spares
+  pub most_spares : h.pool.most_spares ≡ min h.pool.frames (h.slots.blocks + sum h.pages.files.sizes)
   -- each page has a frame or a swap block, and may have a number
   pub numbers : h.pool.frames + h.slots.blocks ≤ h.pages.numbers
   -- home blocks stand behind the swap blocks

@@ -10,6 +10,7 @@ pub record LacksFrame (old new : PoolOf) (f : ℕ) : Type 0 where
   pub fewer : length old.free ≡ length new.free + 1
   pub frames : new.frames ≡ old.frames
   pub spares : new.spares ≡ old.spares
+  pub most_spares : new.most_spares ≡ old.most_spares
   pub out : free_count new.free f ≡ 0
   pub in_range : f < old.frames
 

@@ -87,7 +87,11 @@ impl Holdings {
         let held = HeldPages::open(alloc, frames + swap)?;
         let moving = Queue::open(alloc, frames)?;
         let slots = Slots::open(alloc, swap)?;
-        let Ok(pool) = Pool::open(alloc, frames) else {
+        // Each page that is written out has a frame, and a block of its own that it is written to.
+        files.are_numbered();
+        let homes = files.pages();
+        let spares = frames.min(swap + homes);
+        let Ok(pool) = Pool::open(alloc, frames, spares) else {
             slots.close();
             return Err(AllocError);
         };
@@ -416,6 +420,7 @@ impl Holdings {
     {
         self.pages.are_in_flight();
         self.pages.are_numbered();
+        self.pages.are_filed();
         self.held.are_generations();
         let slot = take_slot(&mut self.slots);
         let spare = take_spare(&mut self.pool);
@@ -433,6 +438,7 @@ impl Holdings {
     {
         self.pages.are_in_flight();
         self.pages.are_numbered();
+        self.pages.are_filed();
         self.held.are_generations();
         let spare = take_spare(&mut self.pool);
         let ticket = self.pages.start_home(page, spare, worker, entry);

@@ -19,6 +19,7 @@ pub fn release(owned: OwnedPage, counters: &mut Counters, pool: &mut Pool, slots
     ensures groups { SameGroups counters.old counters.new }
     ensures frames { pool.new.frames ≡ pool.old.frames }
     ensures spares { pool.new.spares ≡ pool.old.spares }
+    ensures most_spares { pool.new.most_spares ≡ pool.old.most_spares }
     ensures blocks { slots.new.blocks ≡ slots.old.blocks }
 {
     counters.are_counted();

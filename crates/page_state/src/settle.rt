@@ -50,6 +50,7 @@ pub fn end_transfer<B: Carries>(
     ensures groups { SameGroups counters.old counters.new }
     ensures frames { pool.new.frames ≡ pool.old.frames }
     ensures spares { pool.new.spares ≡ pool.old.spares }
+    ensures most_spares { pool.new.most_spares ≡ pool.old.most_spares }
     ensures blocks { slots.new.blocks ≡ slots.old.blocks }
     ensures carried { B.bytes result ≡ ticket.bytes }
 {

@@ -10,5 +10,5 @@ returns c =
       group = c.in-Ok.ensures.group;
       charged = c.in-Ok.ensures.charged;
       counted = λ charges counted. subst (λ g. AreCounts c.try_charge.new.self (g ∷ charges)) (sym c.in-Ok.ensures.group) (c.in-Ok.ensures.counted charges counted);
-      frame = record { counts = taken.counts; fewer = taken.fewer; frames = taken.frames; spares = taken.spares; out = taken.out; in_range = taken.in_range };
+      frame = record { counts = taken.counts; fewer = taken.fewer; frames = taken.frames; spares = taken.spares; most_spares = taken.most_spares; out = taken.out; in_range = taken.in_range };
     }

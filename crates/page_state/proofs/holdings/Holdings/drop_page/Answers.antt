@@ -18,6 +18,7 @@ stays : (c : goal.After-unlist) → Stays c.self.inside (record (c.self.inside) 
 stays c = record {
   groups = c.release.ensures.groups;
   frames = c.release.ensures.frames;
+  most_spares = c.release.ensures.most_spares;
   blocks = c.release.ensures.blocks;
   numbers = ap (λ (t : PagesOf). t.numbers) c.drop_page-owned.ensures.others;
   page_groups = ap (λ (t : PagesOf). t.groups) c.drop_page-owned.ensures.others;

@@ -44,6 +44,7 @@ stays : (c : goal.After-enter) → Stays c.self.inside (record (c.self.inside) {
 stays c = record {
   groups = c.take_room-frame.ensures.charged.groups;
   frames = c.take_room-frame.ensures.frame.frames;
+  most_spares = c.take_room-frame.ensures.frame.most_spares;
   blocks = refl;
   numbers = ap (λ (t : PagesOf). t.numbers) c.make_page-page.ensures.others;
   page_groups = ap (λ (t : PagesOf). t.groups) c.make_page-page.ensures.others;

@@ -1,4 +1,5 @@
 use Rattle.std.proofs.Common.{◌≡◌, ◌∙◌, length, sym, ap, arith}
+use Rattle.std.specs.Prelude.{sum}
 use Rattle.machine.specs.Slots.{count_there}
 use Rattle.machine.specs.Pages.{has_frame, has_this_frame, has_swap, is_in_transfer}
 use Rattle.files.specs.Files.{FilesOf}
@@ -23,6 +24,8 @@ invariant_of-result c =
     let tickets = c.in-Ok-new.ensures.tickets in
     let numbers = c.in-Ok-new.ensures.numbers in
     let blocks = cut.blocks in
+    let sizes : sum pages.files.sizes ≡ sum c.args.files.sizes = ap (λ (files : FilesOf). sum files.sizes) c.in-Ok-new.ensures.files in
+    let most = made.most_spares in
     let going : count_there is_going pages.pages ≡ 0 = ap (count_there is_going) none in
     record {
       kept = record {
@@ -39,6 +42,7 @@ invariant_of-result c =
       page_groups = c.in-Ok-new.ensures.groups ∙ sym (ap length c.in_ok-counters.ensures.tree);
       numbers = omega (arith, frames, blocks, numbers);
       homes = ap (λ (files : FilesOf). files.first) c.in-Ok-new.ensures.files ∙ c.requires.homes ∙ sym blocks;
-      spares = omega (arith, frames, spares, going);
+      spares = omega (arith, spares, most, going);
+      most_spares = (let homes = c.pages-homes.ensures in let least = c.min-spares.ensures in omega (arith, frames, blocks, sizes, most, homes, least));
       tickets = omega (arith, frames, tickets);
     }

@@ -44,6 +44,7 @@ lands c label f b stood =
       kept = settled.kept;
       groups = settled.groups;
       frames = settled.frames;
+      most_spares = settled.most_spares;
       spares = omega (arith, spares);
       blocks = settled.blocks;
       held = subst (λ (kind : Kind). JoinsAtEnd In c.args.end c.self.inside.held c.relist.new.held label.group kind c.args.page.0) (c.kind_of-kind.ensures _ stood)

@@ -39,6 +39,7 @@ lands c label f b stood =
       kept = subst (λ (pool : PoolOf). AreKept c.end_transfer-spare.new.counters pool c.end_transfer-spare.new.slots c.end_transfer-spare.new.pages.pages) (sym c.give_spare.ensures) (record { frames = settled.kept.frames; blocks = settled.kept.blocks; counted = settled.kept.counted });
       groups = settled.groups;
       frames = ap (λ (q : PoolOf). q.frames) c.give_spare.ensures ∙ settled.frames;
+      most_spares = ap (λ (q : PoolOf). q.most_spares) c.give_spare.ensures ∙ settled.most_spares;
       spares = omega (arith, spares, more);
       blocks = settled.blocks;
       held = subst (λ (kind : Kind). JoinsAtEnd Out c.args.end c.self.inside.held c.relist.new.held label.group kind c.args.page.0) (c.kind_of-kind.ensures _ stood)

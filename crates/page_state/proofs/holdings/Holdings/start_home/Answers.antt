@@ -11,13 +11,14 @@ use Rattle.pages.specs.Tickets.{TicketOf}
 use Rattle.page_state.specs.Held.{HeldOf, left}
 use Rattle.page_state.proofs.HoldingLemmas.{Stays, kept-step, holding-step, relists-in, same-view, ticket-free, stands-listed, goes-out}
 use Rattle.page_state.proofs.GrantLemmas.{home-same, stands-live, room-held}
+use Rattle.page_state.proofs.SpareLemmas.{spare-in}
 use Rattle.page_state.proofs.holdings.Holdings.start_home.Goals as goal
 
 pub take_spare-spare-requires : goal.take_spare-spare-requires
 take_spare-spare-requires c =
     let h = c.self.inside in
     let w = rw (← c.self.view_is) at c.requires.held in
-    (room-held h c.self.invariant c.args.page.0 (of_file w.0 w.1 w.2 true) w.3 w.4).2
+    spare-in h c.self.invariant c.are_filed.ensures c.args.page.0 (of_file w.0 w.1 w.2 true) w.3 w.4 (λ memory. absurd cc)
 
 pub start_home-ticket-requires-clause-room : goal.start_home-ticket-requires-clause-room
 start_home-ticket-requires-clause-room c =
@@ -55,6 +56,7 @@ stays : (c : goal.After-push) → c.start_home-ticket.new.self.numbers ≡ c.sel
 stays c numbers groups room files = record {
   groups = record { tree = refl; limits = refl; room = refl };
   frames = sym (ap (λ (q : PoolOf). q.frames) c.take_spare-spare.ensures);
+  most_spares = sym (ap (λ (q : PoolOf). q.most_spares) c.take_spare-spare.ensures);
   blocks = refl;
   numbers = numbers;
   page_groups = groups;

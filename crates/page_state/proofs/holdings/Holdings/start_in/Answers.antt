@@ -38,6 +38,7 @@ stays : (c : goal.After-push) → c.start_in-ticket.new.self.numbers ≡ c.self.
 stays c numbers groups room files = record {
   groups = c.take_room-frame.ensures.charged.groups;
   frames = c.take_room-frame.ensures.frame.frames;
+  most_spares = c.take_room-frame.ensures.frame.most_spares;
   blocks = refl;
   numbers = numbers;
   page_groups = groups;

@@ -37,6 +37,7 @@ stays : (c : goal.After-push) → c.start_in_file-ticket.new.self.numbers ≡ c.
 stays c numbers groups room files = record {
   groups = c.take_room-frame.ensures.charged.groups;
   frames = c.take_room-frame.ensures.frame.frames;
+  most_spares = c.take_room-frame.ensures.frame.most_spares;
   blocks = refl;
   numbers = numbers;
   page_groups = groups;

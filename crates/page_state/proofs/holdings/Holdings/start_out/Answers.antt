@@ -13,13 +13,15 @@ use Rattle.page_state.specs.Held.{HeldOf, left}
 use Rattle.page_state.proofs.BalanceLemmas.{taken-in}
 use Rattle.page_state.proofs.HoldingLemmas.{Stays, kept-step, holding-step, relists-in, same-view, ticket-free, stands-listed, goes-out}
 use Rattle.page_state.proofs.GrantLemmas.{stands-live, room-held}
+use Rattle.page_state.proofs.SpareLemmas.{spare-in}
 use Rattle.page_state.proofs.holdings.Holdings.start_out.Goals as goal
 
 pub take_spare-spare-requires : goal.take_spare-spare-requires
 take_spare-spare-requires c =
     let h = c.self.inside in
     let w = rw (← c.self.view_is) at c.requires.held in
-    (room-held h c.self.invariant c.args.page.0 (memory_of w.0) w.1 w.2).2
+    let swap = rw (← c.self.view_is) at c.requires.swap in
+    spare-in h c.self.invariant c.are_filed.ensures c.args.page.0 (memory_of w.0) w.1 w.2 (λ memory. swap)
 
 pub start_out-ticket-requires-clause-room : goal.start_out-ticket-requires-clause-room
 start_out-ticket-requires-clause-room c =
@@ -57,6 +59,7 @@ stays : (c : goal.After-push) → c.start_out-ticket.new.self.numbers ≡ c.self
 stays c numbers groups room files = record {
   groups = record { tree = refl; limits = refl; room = refl };
   frames = sym (ap (λ (q : PoolOf). q.frames) c.take_spare-spare.ensures);
+  most_spares = sym (ap (λ (q : PoolOf). q.most_spares) c.take_spare-spare.ensures);
   blocks = c.take_slot-slot.ensures.blocks;
   numbers = numbers;
   page_groups = groups;
