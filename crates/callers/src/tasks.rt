@@ -26,8 +26,13 @@ fn a_child_shows_its_parents_pages_and_a_task_changes_its_group(
 ) -> Result<(), Fail> {
     let (parent, child) = (TaskId(7), TaskId(3));
     let (first, last) = (PageId(1), PageId(0));
+    let (home, other) = (GroupId(1), GroupId(2));
     let mut spaces = Spaces::new(rt.alloc(), 2)?;
-    spaces.spawn(parent, GroupId(4))?;
+    spaces.reserve_group()?;
+    spaces.add_group();
+    spaces.reserve_group()?;
+    spaces.add_group();
+    spaces.spawn(parent, home)?;
     spaces.map(parent, 0, first);
     spaces.map(parent, 1023, last);
     assert!(rt; spaces.number_refusal(child).is_none());
@@ -46,16 +51,16 @@ fn a_child_shows_its_parents_pages_and_a_task_changes_its_group(
     );
     assert_eq!(rt; (spaces.mappers(first), spaces.mappers(last)), (2, 2));
     let forked = Task {
-        group: GroupId(4),
+        group: home,
         life: Life::Live,
     };
     assert_eq!(rt;
         (spaces.task(child), spaces.task(parent)),
         (Some(forked), Some(forked))
     );
-    spaces.attach(child, GroupId(5));
+    spaces.attach(child, other);
     let moved = Task {
-        group: GroupId(5),
+        group: other,
         life: Life::Live,
     };
     assert_eq!(rt;
@@ -65,6 +70,35 @@ fn a_child_shows_its_parents_pages_and_a_task_changes_its_group(
     assert_eq!(rt;
         (spaces.page(child, 0), spaces.size(child)),
         (Some(first), 2)
+    );
+    Ok(())
+}
+
+#[test]
+fn a_group_has_tasks_until_the_last_one_moves_or_ends(rt: HostRuntime) -> Result<(), Fail> {
+    let (task, group) = (TaskId(7), GroupId(1));
+    let mut spaces = Spaces::new(rt.alloc(), 0)?;
+    assert!(rt; spaces.number_refusal(task).is_none());
+    spaces.reserve_group()?;
+    spaces.add_group();
+    assert_eq!(rt;
+        (spaces.has_tasks(group), spaces.has_tasks(GroupId(2))),
+        (false, false)
+    );
+    spaces.spawn(task, group)?;
+    assert_eq!(rt;
+        (spaces.has_tasks(group), spaces.has_tasks(GroupId::ROOT)),
+        (true, false)
+    );
+    spaces.attach(task, GroupId::ROOT);
+    assert_eq!(rt;
+        (spaces.has_tasks(group), spaces.has_tasks(GroupId::ROOT)),
+        (false, true)
+    );
+    spaces.exit(task, Life::Exited);
+    assert_eq!(rt;
+        (spaces.has_tasks(group), spaces.has_tasks(GroupId::ROOT)),
+        (false, false)
     );
     Ok(())
 }

@@ -23,11 +23,11 @@ module _ (s : Inside) (is : IsJoined s) (now : HoldingsOf) where
     -- a page that was there, and holds what it held
     pub joined-begun : (page : Page) → page_at s.holdings.stored.pages p ≡ Some page → label.content ≡ page.content → IsJoined (record s { holdings = now })
     joined-begun page stood same =
-        joined-pages s is now s.cursors s.spaces begins.others (mapped-begun s.holdings.stored.pages s.spaces.page_tables is.mapped now.stored.pages p page _ stood begins.placed refl same) refl is.homes refl
+        joined-pages s is now s.cursors s.spaces begins.others (mapped-begun s.holdings.stored.pages s.spaces.page_tables is.mapped now.stored.pages p page _ stood begins.placed refl same) refl refl is.homes refl
 
     -- a number that was free
     pub joined-new : page_at s.holdings.stored.pages p ≡ None → IsJoined (record s { holdings = now })
-    joined-new free = joined-pages s is now s.cursors s.spaces begins.others (mapped-new s.holdings.stored.pages s.spaces.page_tables is.mapped now.stored.pages p _ free begins.placed refl) refl is.homes refl
+    joined-new free = joined-pages s is now s.cursors s.spaces begins.others (mapped-new s.holdings.stored.pages s.spaces.page_tables is.mapped now.stored.pages p _ free begins.placed refl) refl refl is.homes refl
 
     pub begins-read_in : BeginsReadIn (joined_of s) (joined_of (record s { holdings = now })) p label block worker entry ticket
     begins-read_in =
@@ -69,7 +69,7 @@ module _ (s : Inside) (is : IsJoined s) (now : HoldingsOf) where
   module _ (p byte : ℕ) (held : is_held_in s.holdings.stored.pages p ≡ true) (placed : (x : Page) → page_at s.holdings.stored.pages p ≡ Some x → Changes s.holdings.stored.pages now.stored.pages p (Some (touched x (Write byte))))
       (others : now ≡ with_stored s.holdings now.stored) where
     pub joined-written : IsJoined (record s { holdings = now })
-    joined-written = joined-pages s is now s.cursors s.spaces (others ∙ ap (λ (h : HoldingsOf). with_lists s.holdings now.stored h.held) (sym others)) (by_slot (page_at s.holdings.stored.pages p) refl held) refl is.homes refl
+    joined-written = joined-pages s is now s.cursors s.spaces (others ∙ ap (λ (h : HoldingsOf). with_lists s.holdings now.stored h.held) (sym others)) (by_slot (page_at s.holdings.stored.pages p) refl held) refl refl is.homes refl
       where
         by_slot : (slot : Option Page) → page_at s.holdings.stored.pages p ≡ slot → there_and is_held slot ≡ true → AreMapped now.stored.pages s.spaces.page_tables
         by_slot None there e = absurd cc

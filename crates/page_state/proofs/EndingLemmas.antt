@@ -69,7 +69,7 @@ module _ (s : Inside) (is : IsJoined s) (sound : AreGenerations s.holdings.held)
     pub joined-ended : IsJoined (record s { holdings = now })
     joined-ended =
         joined-pages s is now s.cursors s.spaces same
-        (mapped-ended s.holdings.stored.pages s.spaces.page_tables is.mapped now.stored.pages p label (moving d r b n) end r b stood placed) refl is.homes refl
+        (mapped-ended s.holdings.stored.pages s.spaces.page_tables is.mapped now.stored.pages p label (moving d r b n) end r b stood placed) refl refl is.homes refl
 
     transfer-ended : EndsTransfer (joined_of s) (joined_of (record s { holdings = now })) d p n (ended_as end s.spaces.page_tables p (labelled label (moving d r b n)) r b)
     transfer-ended =

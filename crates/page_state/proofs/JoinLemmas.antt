@@ -1,16 +1,18 @@
 -- Constructors of the joined record: what each kind of change leaves of the parts' agreement.
-use Rattle.std.proofs.Common.{◌≡◌, ◌∙◌, ◌<◌, ◌++◌, ◌∷◌, [], ℕ, true, false, List, length, Some, None, refl, sym, ap, subst, arith}
+use Rattle.std.proofs.Common.{◌≡◌, ◌∙◌, ◌+◌, ◌<◌, ◌++◌, ◌∷◌, [], ℕ, true, false, List, length, Some, None, refl, sym, ap, subst, arith}
 use Rattle.std.specs.Prelude.{nat_lt}
 use Rattle.machine.specs.Tree.{Node, is_live, find_group}
 use Rattle.machine.specs.Names.{parent_path}
 use Rattle.machine.specs.Pages.{Pages, used_frames, charged}
 use Rattle.machine.specs.State.{over_in}
 use Rattle.std.proofs.lemmas.Bool.Decides.{nat_tests}
+use Rattle.std.proofs.lemmas.List.{length-append}
 use Rattle.machine.specs.Tasks.{lives, group_of_task}
 use Rattle.machine.specs.Step.{new_node}
 use Rattle.machine.proofs.CursorLemmas.{cursors-push}
 use Rattle.group_tree.specs.Kin.{AreKin}
 use Rattle.group_tree.specs.Lineages.{bare, IsLineage}
+use Rattle.group_tree.proofs.LineageLemmas.{live-within}
 use Rattle.memory_events.specs.Tallies.{Tallies}
 use Rattle.reclaim.specs.Cursors.{CursorsOf}
 use Rattle.spaces.specs.Space.{Space}
@@ -25,10 +27,10 @@ use Rattle.page_state.proofs.KinLemmas.{kin-push, live-push, kin-over, over-live
 
 -- pages changed, and what shows them with them; the cursors of as many groups, and no group
 pub joined-pages : (s : Inside) → IsJoined s → (h : HoldingsOf) (cursors : CursorsOf) (spaces : Space) → h ≡ with_lists s.holdings h.stored h.held
-    → AreMapped h.stored.pages spaces.page_tables → spaces.numbers ≡ s.spaces.numbers → ((t : ℕ) → lives spaces.tasks t ≡ true → is_live s.tree (group_of_task spaces.tasks t) ≡ true)
+    → AreMapped h.stored.pages spaces.page_tables → spaces.numbers ≡ s.spaces.numbers → spaces.groups ≡ s.spaces.groups → ((t : ℕ) → lives spaces.tasks t ≡ true → is_live s.tree (group_of_task spaces.tasks t) ≡ true)
     → length cursors.cursors ≡ length s.cursors.cursors
     → IsJoined (record s { holdings = h; cursors = cursors; spaces = spaces })
-joined-pages s is h cursors spaces same mapped numbers homes numbered =
+joined-pages s is h cursors spaces same mapped numbers groups homes numbered =
     record {
       sized = is.sized;
       frames = ap (λ (h : HoldingsOf). h.frames) same ∙ is.frames;
@@ -41,12 +43,13 @@ joined-pages s is h cursors spaces same mapped numbers homes numbered =
       homes = homes;
       page_numbers = ap (λ (h : HoldingsOf). h.numbers) same ∙ is.page_numbers;
       cursors = numbered ∙ is.cursors;
+      populated = groups ∙ is.populated;
     }
 
 -- tasks began or ended, and what they map is what was mapped
-pub joined-tasks : (s : Inside) → IsJoined s → (spaces : Space) → AreMapped s.holdings.stored.pages spaces.page_tables → spaces.numbers ≡ s.spaces.numbers
+pub joined-tasks : (s : Inside) → IsJoined s → (spaces : Space) → AreMapped s.holdings.stored.pages spaces.page_tables → spaces.numbers ≡ s.spaces.numbers → spaces.groups ≡ s.spaces.groups
     → ((t : ℕ) → lives spaces.tasks t ≡ true → is_live s.tree (group_of_task spaces.tasks t) ≡ true) → IsJoined (record s { spaces = spaces })
-joined-tasks s is spaces mapped numbers homes =
+joined-tasks s is spaces mapped numbers groups homes =
     record {
       sized = is.sized;
       frames = is.frames;
@@ -59,15 +62,16 @@ joined-tasks s is spaces mapped numbers homes =
       homes = homes;
       page_numbers = is.page_numbers;
       cursors = is.cursors;
+      populated = groups ∙ is.populated;
     }
 
 -- a group more, below one that is there
 pub joined-group : (s : Inside) → IsJoined s → (path : List ℕ) (parent : ℕ) → find_group s.tree (parent_path path) ≡ Some parent
-    → (tree : List Node) (h : HoldingsOf) (cursors : CursorsOf) (events : Tallies) → tree ≡ s.tree ++ new_node s.tree path ∷ []
+    → (tree : List Node) (h : HoldingsOf) (cursors : CursorsOf) (events : Tallies) (room : ℕ) → tree ≡ s.tree ++ new_node s.tree path ∷ []
     → h.kin ≡ s.holdings.kin ++ bare (Some parent) ∷ [] → events.tree ≡ s.events.tree ++ bare (Some parent) ∷ []
     → h.stored ≡ s.holdings.stored → h.frames ≡ s.holdings.frames → h.swap ≡ s.holdings.swap → h.numbers ≡ s.holdings.numbers → h.files ≡ s.holdings.files
-    → cursors.cursors ≡ s.cursors.cursors ++ None ∷ [] → IsJoined (record s { tree = tree; holdings = h; cursors = cursors; events = events })
-joined-group s is path parent found tree h cursors events more kin counted stored frames swap numbers files numbered =
+    → cursors.cursors ≡ s.cursors.cursors ++ None ∷ [] → IsJoined (record s { tree = tree; holdings = h; cursors = cursors; events = events; spaces = record (s.spaces) { groups = s.spaces.groups + 1; room = room } })
+joined-group s is path parent found tree h cursors events room more kin counted stored frames swap numbers files numbered =
     record {
       sized = is.sized;
       frames = frames ∙ is.frames;
@@ -80,7 +84,12 @@ joined-group s is path parent found tree h cursors events more kin counted store
       mapped = subst (λ (ps : Pages). AreMapped ps s.spaces.page_tables) (sym (ap (λ (st : Stored). st.pages) stored)) is.mapped;
       homes = λ t alive. rw more (live-push s.tree (new_node s.tree path) (group_of_task s.spaces.tasks t) (is.homes t alive));
       cursors = rw more (cursors-push s.tree (new_node s.tree path) s.cursors.cursors cursors.cursors is.cursors numbered);
+      populated = rw more (let sized = is.populated in let longer = length-append s.tree (new_node s.tree path ∷ []) in omega (arith, sized, longer));
     }
+
+-- the number of a live group's tasks is kept
+pub group-kept : (s : Inside) → IsJoined s → (g : ℕ) → is_live s.tree g ≡ true → g < s.spaces.groups
+group-kept s is g live = let within = live-within s.tree g live in let sized = is.populated in omega (arith, within, sized)
 
 -- ---- room
 

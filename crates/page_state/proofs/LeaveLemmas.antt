@@ -97,7 +97,7 @@ module _ (s : Inside) (is : IsJoined s) (lists : ListsHeld s.holdings.stored.pag
           joined-pages s is now cursors s.spaces (same now cursors moves out.others going out.placed out.order)
           (mapped-begun s.holdings.stored.pages s.spaces.page_tables is.mapped now.stored.pages p (labelled picks.label (Held picks.frame)) (labelled picks.label (Going picks.frame ticket.block ticket.number)) picks.stands
           (changes now cursors moves out.others going out.placed out.order) refl refl)
-          refl is.homes (cursors-set s.cursors.cursors cursors.cursors target g moves)
+          refl refl is.homes (cursors-set s.cursors.cursors cursors.cursors target g moves)
 
       begins-out : BeginsWriteOut (joined_of s) (joined_of (record s { holdings = now; cursors = cursors })) target worker entry ticket
       begins-out =
@@ -129,7 +129,7 @@ module _ (s : Inside) (is : IsJoined s) (lists : ListsHeld s.holdings.stored.pag
       joined-gone =
           joined-pages s is now cursors s.spaces (same now cursors moves drops.others None drops.gone drops.order)
           (mapped-gone s.holdings.stored.pages s.spaces.page_tables is.mapped now.stored.pages p is_file (changes now cursors moves drops.others None drops.gone drops.order))
-          refl is.homes (cursors-set s.cursors.cursors cursors.cursors target g moves)
+          refl refl is.homes (cursors-set s.cursors.cursors cursors.cursors target g moves)
 
       drops-clean : DropsClean (joined_of s) (joined_of (record s { holdings = now; cursors = cursors })) target
       drops-clean =

@@ -20,10 +20,10 @@ shows-again old mid new t v to to' first then = record { changed = then.changed;
 module _ (s : Inside) (is : IsJoined s) (t v p g offset byte : ℕ) (begins : ℕ → ℕ) (h : HoldingsOf) (adds : AddsPage s.holdings h p g begins offset byte)
     (spaces : Space) (shown : Shows s.spaces.page_tables spaces.page_tables t v (Some p)) (tasks : spaces.tasks ≡ s.spaces.tasks) where
   -- the place showed nothing, or a page that others show too
-  pub joined-made : ((q : ℕ) → mapped_at s.spaces.page_tables t v ≡ Some q → 1 < mappers s.spaces.page_tables q) → spaces.numbers ≡ s.spaces.numbers → IsJoined (record s { holdings = h; spaces = spaces })
-  joined-made shared numbers =
+  pub joined-made : ((q : ℕ) → mapped_at s.spaces.page_tables t v ≡ Some q → 1 < mappers s.spaces.page_tables q) → spaces.numbers ≡ s.spaces.numbers → spaces.groups ≡ s.spaces.groups → IsJoined (record s { holdings = h; spaces = spaces })
+  joined-made shared numbers groups =
       joined-pages s is h s.cursors spaces adds.others
-      (mapped-made s.holdings.stored.pages s.spaces.page_tables is.mapped h.stored.pages spaces.page_tables t v p (new_page g adds.frame) refl adds.slot_free adds.placed shared shown) numbers
+      (mapped-made s.holdings.stored.pages s.spaces.page_tables is.mapped h.stored.pages spaces.page_tables t v p (new_page g adds.frame) refl adds.slot_free adds.placed shared shown) numbers groups
       (subst (λ (ts : Tasks). (u : ℕ) → lives ts u ≡ true → is_live s.tree (group_of_task ts u) ≡ true) (sym tasks) is.homes) refl
 
   -- the page begins as what the place showed

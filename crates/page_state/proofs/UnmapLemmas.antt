@@ -78,7 +78,7 @@ kept h tables p order stays =
 -- ---- one place
 
 module _ (s : Inside) (is : IsJoined s) (lists : ListsHeld s.holdings.stored.pages s.holdings.held)
-    (spaces : Space) (t v : ℕ) (shown : Shows s.spaces.page_tables spaces.page_tables t v None) (tasks : spaces.tasks ≡ s.spaces.tasks) (numbers : spaces.numbers ≡ s.spaces.numbers) where
+    (spaces : Space) (t v : ℕ) (shown : Shows s.spaces.page_tables spaces.page_tables t v None) (tasks : spaces.tasks ≡ s.spaces.tasks) (numbers : spaces.numbers ≡ s.spaces.numbers) (groups : spaces.groups ≡ s.spaces.groups) where
   homes : (u : ℕ) → lives spaces.tasks u ≡ true → is_live s.tree (group_of_task spaces.tasks u) ≡ true
   homes = subst (λ (ts : Tasks). (u : ℕ) → lives ts u ≡ true → is_live s.tree (group_of_task ts u) ≡ true) (sym tasks) is.homes
 
@@ -93,7 +93,7 @@ module _ (s : Inside) (is : IsJoined s) (lists : ListsHeld s.holdings.stored.pag
     pub joined-unshown : IsJoined (record s { spaces = spaces })
     joined-unshown =
         joined-tasks s is spaces
-        (mapped-dropped s.holdings.stored.pages s.spaces.page_tables is.mapped s.holdings.stored.pages spaces.page_tables (fewer s.spaces.page_tables spaces.page_tables t v shown) stays) numbers homes
+        (mapped-dropped s.holdings.stored.pages s.spaces.page_tables is.mapped s.holdings.stored.pages spaces.page_tables (fewer s.spaces.page_tables spaces.page_tables t v shown) stays) numbers groups homes
 
     pub unmaps-unshown : Unmaps (joined_of s) (joined_of (record s { spaces = spaces })) t v
     unmaps-unshown =
@@ -128,7 +128,7 @@ module _ (s : Inside) (is : IsJoined s) (lists : ListsHeld s.holdings.stored.pag
     pub joined-unmapped : IsJoined (record s { holdings = now; spaces = spaces })
     joined-unmapped =
         joined-pages s is now s.cursors spaces drops.rest
-        (mapped-dropped s.holdings.stored.pages s.spaces.page_tables is.mapped now.stored.pages spaces.page_tables (fewer s.spaces.page_tables spaces.page_tables t v shown) all) numbers homes refl
+        (mapped-dropped s.holdings.stored.pages s.spaces.page_tables is.mapped now.stored.pages spaces.page_tables (fewer s.spaces.page_tables spaces.page_tables t v shown) all) numbers groups homes refl
 
     pub unmaps-unmapped : Unmaps (joined_of s) (joined_of (record s { holdings = now; spaces = spaces })) t v
     unmaps-unmapped =

@@ -42,3 +42,5 @@ pub record IsJoined (s : Inside) : Type 0 where
   pub homes : (t : ℕ) → lives s.spaces.tasks t ≡ true → is_live s.tree (group_of_task s.spaces.tasks t) ≡ true
   -- each group has its cursor
   pub cursors : length s.cursors.cursors ≡ length s.tree
+  -- and its number of live tasks
+  pub populated : s.spaces.groups ≡ length s.tree

@@ -116,10 +116,12 @@ impl State {
         self.holdings.reserve_group()?;
         self.events.reserve()?;
         self.cursors.reserve()?;
+        self.spaces.reserve_group()?;
         let group = self.tree.mkdir(path)?;
         self.holdings.add_group(group, parent);
         self.events.add_reserved(group, parent);
         self.cursors.add_reserved();
+        self.spaces.add_group();
         Ok(())
     }
 

@@ -1,2 +1,3 @@
+mod GroupLemmas
 mod PlaceLemmas
 mod TaskLemmas

@@ -46,7 +46,7 @@ mappers-le (table ∷ tables) most p few =
 
 -- ---- what always holds
 
-module _ (tasks : Tasks) (tables : PageTables) (live : ℕ) (counts : List ℕ) (h : AreSpaces tasks tables live counts) where
+module _ (tasks : Tasks) (tables : PageTables) (live : ℕ) (by_group counts : List ℕ) (h : AreSpaces tasks tables live by_group counts) where
   length-le : (t : ℕ) → length (table_of tables t) ≤ task_pages
   length-le t = by_life (lives tasks t) (h.whole t)
     where
@@ -141,15 +141,16 @@ shown_once-own q = ap (λ b. cond b 1 0) (eq-eqb q q refl)
 
 -- ---- a page comes, and a page goes
 
-module _ (tasks : Tasks) (tables : PageTables) (live : ℕ) (counts : List ℕ) (h : AreSpaces tasks tables live counts) (t v n : ℕ) (table now : PageTable) (page : PageId) (read : table ≡ get_or tables t table) (count : n ≡ get_or counts page.0 n) where
+module _ (tasks : Tasks) (tables : PageTables) (live : ℕ) (by_group counts : List ℕ) (h : AreSpaces tasks tables live by_group counts) (t v n : ℕ) (table now : PageTable) (page : PageId) (read : table ≡ get_or tables t table) (count : n ≡ get_or counts page.0 n) where
   after : (now : PageTable) (to : Option PageId) (n' : ℕ) → v < length (table_of tables t) → now ≡ slice_set table v to → ((p : ℕ) → mappers (slice_set tables t now) p ≡ slice_index (slice_set counts page.0 n') p)
-      → AreSpaces tasks (slice_set tables t now) live (slice_set counts page.0 n')
+      → AreSpaces tasks (slice_set tables t now) live by_group (slice_set counts page.0 n')
   after now to n' place write counted =
       let there = table_of-within tables t (omega (arith, place)) in
       record {
         within = h.within;
         as_many = length-set tables t now ∙ h.as_many;
         living = h.living;
+        grouped = h.grouped;
         whole = λ u. length-written tables t v table now to there read place write u ∙ h.whole u;
         counted = counted;
       }
@@ -158,7 +159,7 @@ module _ (tasks : Tasks) (tables : PageTables) (live : ℕ) (counts : List ℕ) 
   Shows-mapped place write = Shows-written tables t v table now (Some page) (table_of-within tables t (omega (arith, place))) read place write
 
   pub AreSpaces-mapped : v < length (table_of tables t) → mapped_at tables t v ≡ None → page.0 < length counts → now ≡ slice_set table v (Some page)
-      → AreSpaces tasks (slice_set tables t now) live (slice_set counts page.0 (n + 1))
+      → AreSpaces tasks (slice_set tables t now) live by_group (slice_set counts page.0 (n + 1))
   AreSpaces-mapped place none there write =
       let is = count ∙ get_or_default counts page.0 n 0 there in
       let before : (p : ℕ) → shown_once (mapped_at tables t v) p ≡ 0 = λ p. ap (λ s. shown_once s p) none in
@@ -171,11 +172,11 @@ module _ (tasks : Tasks) (tables : PageTables) (live : ℕ) (counts : List ℕ) 
       let place = mapped_at-within tables t v page.0 some in
       Shows-written tables t v table now None (table_of-within tables t (omega (arith, place))) read place write
 
-  pub AreSpaces-unmapped : mapped_at tables t v ≡ Some page.0 → now ≡ slice_set table v None → AreSpaces tasks (slice_set tables t now) live (slice_set counts page.0 (n - 1))
+  pub AreSpaces-unmapped : mapped_at tables t v ≡ Some page.0 → now ≡ slice_set table v None → AreSpaces tasks (slice_set tables t now) live by_group (slice_set counts page.0 (n - 1))
   AreSpaces-unmapped some write =
-      let there = shown-within tasks tables live counts h t v page.0 some in
+      let there = shown-within tasks tables live by_group counts h t v page.0 some in
       let is = count ∙ get_or_default counts page.0 n 0 there in
-      let more = shown-counted tasks tables live counts h t v page.0 n some count in
+      let more = shown-counted tasks tables live by_group counts h t v page.0 n some count in
       let before : (p : ℕ) → shown_once (mapped_at tables t v) p ≡ shown_once (Some page.0) p = λ p. ap (λ s. shown_once s p) some in
       after now None (n - 1) (mapped_at-within tables t v page.0 some) write
       (counted-written tables (slice_set tables t now) t v page.0 (n - 1) None counts (Shows-unmapped some write) h.counted there (let was = before page.0 in let one = shown_once-own page.0 in omega (arith, was, one, is, more))

@@ -2,14 +2,14 @@
 //!
 //! A task is known by its number, also after it ended, so that no number is given twice. Each live
 //! task has a page table, whose memory it takes as it starts and gives back as it ends. How many
-//! tasks live, and how many virtual pages show a page, is kept beside, so that neither is a walk over
-//! the tasks.
+//! tasks live, in all and of each group, and how many virtual pages show a page, is kept beside, so
+//! that none of these is a walk over the tasks.
 #![tactic(auto)]
 
 ghost use Rattle.std.specs.Prelude.{◌≡◌, ◌≢◌, ℕ, ◌+◌, ◌<◌, ◌≤◌, [], true, false, Some, None, IfOk, OnOk, OnErr, length, max, vec_capacity, vec_len, option_map};
 ghost use Rattle.machine.specs.Access.{task_pages};
-ghost use Rattle.machine.specs.Slots.{Changes, there_and};
-ghost use Rattle.machine.specs.Tasks.{task_at, lives, is_live_in, has_tasks, group_of, group_of_task, is_live_life, SetsTask, table_of, mapped_at, size_of, mappers, Shows, Copies, ShowsNothing};
+ghost use Rattle.machine.specs.Slots.{Changes};
+ghost use Rattle.machine.specs.Tasks.{task_at, lives, has_tasks, group_of, group_of_task, is_live_life, SetsTask, table_of, mapped_at, size_of, mappers, Shows, Copies, ShowsNothing};
 ghost use Rattle.machine.specs.Refusals.{number_refusal};
 
 mod page_table;
@@ -29,6 +29,8 @@ pub struct Spaces {
     tasks: Vec<Option<Task>>,
     /// How many tasks live.
     live: usize,
+    /// By group how many tasks of it live (kernel: `nr_tasks` of a `struct css_set`).
+    by_group: Vec<u32>,
     /// By task number the page table.
     tables: Vec<PageTable>,
     /// By page number how many virtual pages show the page.
@@ -44,22 +46,26 @@ impl Model for Spaces {
 
     ghost view = { space_of };
 
-    ghost invariant = { λ s. AreSpaces s.tasks.items s.tables.items s.live s.mappers.items };
+    ghost invariant = { λ s. AreSpaces s.tasks.items s.tables.items s.live s.by_group.items s.mappers.items };
 }
 
 impl Spaces {
-    /// No task, and so many page numbers, of which none is shown. `AllocError` where there is no
-    /// memory for their counts.
+    /// No task, the root as the only group, and so many page numbers, of which none is shown.
+    /// `AllocError` where there is no memory for their counts.
     pub fn new(alloc: Global, numbers: u32) -> Result<Self, AllocError>
         ensures tasks { IfOk result (λ s. s.tasks ≡ []) }
         ensures page_tables { IfOk result (λ s. s.page_tables ≡ []) }
         ensures numbers { IfOk result (λ s. s.numbers ≡ numbers) }
+        ensures groups { IfOk result (λ s. s.groups ≡ 1) }
     {
+        let mut by_group = Vec::with_capacity(alloc, 1)?;
+        by_group.push_reserved(0);
         let mut mappers = Vec::new(alloc);
         mappers.resize(numbers as usize, 0)?;
         Ok(Spaces {
             tasks: Vec::new(alloc),
             live: 0,
+            by_group,
             tables: Vec::new(alloc),
             mappers,
         })
@@ -92,11 +98,32 @@ impl Spaces {
         None
     }
 
-    /// Whether a live task is of the group. It looks at each task number.
+    /// Whether a live task is of the group (kernel: `cgroup_has_tasks`). A group that is not there has
+    /// none.
     pub fn has_tasks(&self, group: GroupId) -> bool
         ensures { result ≡ has_tasks self.now.tasks group.0 }
     {
-        self.tasks.iter().any(|slot| is_live_in(slot, group))
+        match self.by_group.get(group.0 as usize) {
+            Some(count) => *count > 0,
+            None => false,
+        }
+    }
+
+    /// Asks for the memory of one group more. `AllocError` where there is none; the tasks and what they
+    /// show are the same either way.
+    pub fn reserve_group(&mut self) -> Result<(), AllocError>
+        ensures room { OnOk result (0 < self.new.room) }
+        ensures same { self.new ≡ record self.old { room = self.new.room } }
+    {
+        self.by_group.reserve(1)
+    }
+
+    /// A group more, with no task. Its memory was asked for by [`Spaces::reserve_group`].
+    pub fn add_group(&mut self)
+        requires { 0 < self.old.room }
+        ensures { self.new ≡ record self.old { groups = self.old.groups + 1; room = self.new.room } }
+    {
+        self.by_group.push_reserved(0);
     }
 
     /// How many task numbers there are to go over: every task's number is below.
@@ -110,11 +137,14 @@ impl Spaces {
     /// Starts a task of the group, with a page table of its own (kernel: `copy_process`, `mm_alloc`).
     /// Where memory is wanting, nothing changes.
     pub fn spawn(&mut self, task: TaskId, group: GroupId) -> Result<(), AllocError>
-        requires { number_refusal self.old.tasks task.0 ≡ None }
+        requires number { number_refusal self.old.tasks task.0 ≡ None }
+        requires group { group.0 < self.old.groups }
         ensures starts { OnOk result (SetsTask self.old.tasks task.0 group.0 Life.Live self.new.tasks) }
         ensures shown { OnOk result (ShowsNothing self.old.page_tables self.new.page_tables task.0) }
         ensures same { OnOk result ((u v : ℕ) → mapped_at self.new.page_tables u v ≡ mapped_at self.old.page_tables u v) }
         ensures numbers { OnOk result (self.new.numbers ≡ self.old.numbers) }
+        ensures groups { OnOk result (self.new.groups ≡ self.old.groups) }
+        ensures room { OnOk result (self.new.room ≡ self.old.room) }
         ensures err { OnErr result (self.new ≡ self.old) }
     {
         let index = task.0 as usize;
@@ -126,6 +156,7 @@ impl Spaces {
         put_task(&mut self.tasks, index, Task { group, life });
         put_table(&mut self.tables, index, table, alloc);
         self.live += 1;
+        self.by_group[group.0 as usize] += 1;
         Ok(())
     }
 
@@ -137,6 +168,8 @@ impl Spaces {
         ensures starts { OnOk result (SetsTask self.old.tasks child.0 (group_of_task self.old.tasks parent.0) Life.Live self.new.tasks) }
         ensures shown { OnOk result (Copies self.old.page_tables self.new.page_tables parent.0 child.0) }
         ensures numbers { OnOk result (self.new.numbers ≡ self.old.numbers) }
+        ensures groups { OnOk result (self.new.groups ≡ self.old.groups) }
+        ensures room { OnOk result (self.new.room ≡ self.old.room) }
         ensures err { OnErr result (self.new ≡ self.old) }
     {
         self.owners();
@@ -153,12 +186,18 @@ impl Spaces {
     /// A live task is of another group from now on (kernel: `cgroup_attach_task`).
     pub fn attach(&mut self, task: TaskId, group: GroupId)
         requires there { lives self.old.tasks task.0 ≡ true }
+        requires group { group.0 < self.old.groups }
         ensures moves { SetsTask self.old.tasks task.0 group.0 Life.Live self.new.tasks }
         ensures tables { self.new.page_tables ≡ self.old.page_tables }
         ensures numbers { self.new.numbers ≡ self.old.numbers }
+        ensures groups { self.new.groups ≡ self.old.groups }
+        ensures room { self.new.room ≡ self.old.room }
     {
+        let from = group_of(self.task(task));
         let life = Life::Live;
         self.tasks[task.0 as usize] = Some(Task { group, life });
+        self.by_group[from.0 as usize] -= 1;
+        self.by_group[group.0 as usize] += 1;
     }
 
     /// The page that a virtual page of the task shows (kernel: a walk of the page table).
@@ -202,6 +241,8 @@ impl Spaces {
         ensures shown { Shows self.old.page_tables self.new.page_tables task.0 at (Some page.0) }
         ensures tasks { self.new.tasks ≡ self.old.tasks }
         ensures numbers { self.new.numbers ≡ self.old.numbers }
+        ensures groups { self.new.groups ≡ self.old.groups }
+        ensures room { self.new.room ≡ self.old.room }
     {
         self.tables[task.0 as usize].map(at, page);
         self.mappers[page.0 as usize] += 1;
@@ -214,6 +255,8 @@ impl Spaces {
         ensures shown { Shows self.old.page_tables self.new.page_tables task.0 at None }
         ensures tasks { self.new.tasks ≡ self.old.tasks }
         ensures numbers { self.new.numbers ≡ self.old.numbers }
+        ensures groups { self.new.groups ≡ self.old.groups }
+        ensures room { self.new.room ≡ self.old.room }
     {
         let page = self.page(task, at)?;
         self.tables[task.0 as usize].unmap(at);
@@ -230,39 +273,27 @@ impl Spaces {
         ensures ends { SetsTask self.old.tasks task.0 (group_of_task self.old.tasks task.0) life self.new.tasks }
         ensures same { (u v : ℕ) → mapped_at self.new.page_tables u v ≡ mapped_at self.old.page_tables u v }
         ensures numbers { self.new.numbers ≡ self.old.numbers }
+        ensures groups { self.new.groups ≡ self.old.groups }
+        ensures room { self.new.room ≡ self.old.room }
     {
+        let group = group_of(self.task(task));
         let alloc = *self.tables.allocator();
         end_task(&mut self.tasks, task, life);
         self.tables[task.0 as usize] = PageTable::none(alloc);
         self.live -= 1;
+        self.by_group[group.0 as usize] -= 1;
     }
 
     /// Nothing is done: what always holds. A virtual page that shows a page is one of a live task,
-    /// and its number is below 1,024; the number of the page is one that there is.
+    /// and its number is below 1,024; the number of the page is one that there is, and so is that of a
+    /// live task's group.
     pub fn owners(&self)
         ensures alive { (t v p : ℕ) → mapped_at self.now.page_tables t v ≡ Some p → lives self.now.tasks t ≡ true }
         ensures within { (t v p : ℕ) → mapped_at self.now.page_tables t v ≡ Some p → v < task_pages }
         ensures number { (t v p : ℕ) → mapped_at self.now.page_tables t v ≡ Some p → p < self.now.numbers }
+        ensures group { (t : ℕ) → lives self.now.tasks t ≡ true → group_of_task self.now.tasks t < self.now.groups }
     {
         let _ = &self.tasks;
-    }
-}
-
-fn is_live(life: Life) -> bool
-    ensures { result ≡ is_live_life life }
-{
-    match life {
-        Life::Live => true,
-        Life::Exited | Life::Killed => false,
-    }
-}
-
-fn is_live_in(slot: &Option<Task>, group: GroupId) -> bool
-    ensures { result ≡ there_and (is_live_in group.0) slot.now }
-{
-    match *slot {
-        Some(task) => is_live(task.life) && task.group == group,
-        None => false,
     }
 }
 

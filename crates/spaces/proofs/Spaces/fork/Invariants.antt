@@ -10,4 +10,6 @@ invariant-loop-at l = record {
   above : (v : ℕ) → l.at ≤ v → mapped_at l.self.page_tables l.fn.child.0 v ≡ None;
   others : (u v : ℕ) → u ≢ l.fn.child.0 → mapped_at l.self.page_tables u v ≡ mapped_at l.fn.self.page_tables u v;
   numbers : l.self.numbers ≡ l.fn.self.numbers;
+  groups : l.self.groups ≡ l.fn.self.groups;
+  room : l.self.room ≡ l.fn.self.room;
 }

@@ -24,7 +24,7 @@ invariant_of-self c =
     let shared = shares c in
     joined-made s c.self.invariant c.args.task.0 c.args.at c.hold-page.result.0 c.args.group.0 c.args.offset c.args.byte (byte_shown s.holdings.stored.bytes (Some c.args.from.0)) c.hold-page.new.self c.hold-page.ensures.adds
     c.map.new.self (shown c) (c.map.ensures.tasks ∙ c.unmap.ensures.tasks)
-    (λ q at. subst (λ (p : ℕ). 1 < mappers s.spaces.page_tables p) (some_inj (sym shared.shown ∙ at)) shared.shared) (c.map.ensures.numbers ∙ c.unmap.ensures.numbers)
+    (λ q at. subst (λ (p : ℕ). 1 < mappers s.spaces.page_tables p) (some_inj (sym shared.shown ∙ at)) shared.shared) (c.map.ensures.numbers ∙ c.unmap.ensures.numbers) (c.map.ensures.groups ∙ c.unmap.ensures.groups)
 
 pub returns : goal.returns
 returns c =

@@ -16,7 +16,7 @@ invariant_of-self c =
     let s = c.self.inside in
     let unmapped = subst (λ (s : StateOf). mapped_at s.tables.page_tables c.args.task.0 c.args.at ≡ None) (sym c.self.view_is) c.requires.unmapped in
     joined-made s c.self.invariant c.args.task.0 c.args.at c.hold-page.result.0 c.args.group.0 c.args.offset c.args.byte (byte_shown s.holdings.stored.bytes None) c.hold-page.new.self c.hold-page.ensures.adds c.map.new.self c.map.ensures.shown c.map.ensures.tasks
-    (λ q shown. never_some (mapped_at s.spaces.page_tables c.args.task.0 c.args.at) unmapped shown) c.map.ensures.numbers
+    (λ q shown. never_some (mapped_at s.spaces.page_tables c.args.task.0 c.args.at) unmapped shown) c.map.ensures.numbers c.map.ensures.groups
 
 pub returns : goal.returns
 returns c =

@@ -1,4 +1,4 @@
-use Rattle.std.proofs.Common.{rules, ◌≡◌, ◌∙◌, ◌++◌, ◌∷◌, [], ℕ, List, Option, Some, None, sym, ap, subst}
+use Rattle.std.proofs.Common.{rules, ◌≡◌, ◌∙◌, ◌+◌, ◌++◌, ◌∷◌, [], ℕ, List, Option, Some, None, sym, ap, subst}
 use Rattle.machine.specs.declared.record.Limits.{Limits}
 use Rattle.machine.specs.Names.{parent_path}
 use Rattle.machine.specs.Tree.{Node, find_group}
@@ -6,9 +6,11 @@ use Rattle.machine.specs.Counts.{no_limits}
 use Rattle.machine.specs.Lists.{HeldLists, Order, with_group}
 use Rattle.machine.specs.Step.{new_node}
 use Rattle.group_tree.specs.Lineages.{bare}
+use Rattle.spaces.specs.Space.{Space}
 use Rattle.page_state.specs.Holdings.{HoldingsOf, Stored}
 use Rattle.page_state.specs.States.{StateOf}
-use Rattle.page_state.specs.Joined.{joined_of}
+use Rattle.page_state.specs.Changes.{AddsGroup}
+use Rattle.page_state.specs.Joined.{joined_of, IsJoined}
 use Rattle.page_state.proofs.TallyLemmas.{tells-on}
 use Rattle.page_state.proofs.JoinLemmas.{joined-group}
 use Rattle.page_state.proofs.joined.State.mkdir.Goals as goal
@@ -19,7 +21,9 @@ invariant_of-self-2 c =
     let path = c.args.path.now in
     let parent = subst (λ (s : StateOf). find_group s.tables.tree (parent_path path) ≡ Some c.args.parent.0) (sym c.self.view_is) c.requires.parent in
     let same = c.in_ok-reserve_group.ensures.same in
-    joined-group s c.self.invariant path c.args.parent.0 parent c.mkdir.new.self c.add_group.new.self c.add_reserved-2.new.self c.add_reserved.new.self c.in_ok-group.ensures.ok
+    let spaces = c.add_group-2.ensures ∙ ap (λ (x : Space). record x { groups = x.groups + 1; room = c.add_group-2.new.self.room }) c.in_ok-reserve_group-2.ensures.same in
+    subst (λ (x : Space). IsJoined (record s { tree = c.mkdir.new.self; holdings = c.add_group.new.self; cursors = c.add_reserved-2.new.self; events = c.add_reserved.new.self; spaces = x })) (sym spaces)
+    (joined-group s c.self.invariant path c.args.parent.0 parent c.mkdir.new.self c.add_group.new.self c.add_reserved-2.new.self c.add_reserved.new.self c.add_group-2.new.self.room c.in_ok-group.ensures.ok
     (c.add_group.ensures.kin ∙ ap (λ (h : HoldingsOf). h.kin ++ bare (Some c.args.parent.0) ∷ []) same)
     (c.add_reserved.ensures.tree ∙ ap (λ (t : List Node). t ++ bare (Some c.args.parent.0) ∷ []) c.in_ok-reserve.ensures.tree)
     (c.add_group.ensures.stored ∙ ap (λ (h : HoldingsOf). h.stored) same)
@@ -27,7 +31,7 @@ invariant_of-self-2 c =
     (c.add_group.ensures.swap ∙ ap (λ (h : HoldingsOf). h.swap) same)
     (c.add_group.ensures.numbers ∙ ap (λ (h : HoldingsOf). h.numbers) same)
     (c.add_group.ensures.files ∙ ap (λ (h : HoldingsOf). h.files) same)
-    (search rules)
+    (search rules))
 
 pub returns-clause-adds : goal.returns-clause-adds
 returns-clause-adds c =
@@ -37,7 +41,9 @@ returns-clause-adds c =
     let stored = c.add_group.ensures.stored ∙ ap (λ (h : HoldingsOf). h.stored) same in
     let cursors : c.add_reserved-2.new.self.cursors ≡ s.cursors.cursors ++ None ∷ [] = search rules in
     let limits = c.add_group.ensures.limits ∙ ap (λ (h : HoldingsOf). h.limits ++ no_limits ∷ []) same in
+    let spaces = c.add_group-2.ensures ∙ ap (λ (x : Space). record x { groups = x.groups + 1; room = c.add_group-2.new.self.room }) c.in_ok-reserve_group-2.ensures.same in
     rw (← c.self.view_is)
+    (subst (λ (x : Space). AddsGroup old (joined_of (record s { tree = c.mkdir.new.self; holdings = c.add_group.new.self; cursors = c.add_reserved-2.new.self; events = c.add_reserved.new.self; spaces = x })) c.args.path.now) (sym spaces)
     (record {
       tables = ap (λ (t : List Node). record (old.tables) { tree = t; limits = c.add_group.new.self.limits; pages = c.add_group.new.self.stored.pages }) c.in_ok-group.ensures.ok
           ∙ ap (λ (ls : List Limits). record (old.tables) { tree = s.tree ++ new_node s.tree c.args.path.now ∷ []; limits = ls; pages = c.add_group.new.self.stored.pages }) limits
@@ -47,4 +53,4 @@ returns-clause-adds c =
       bytes = ap (λ (st : Stored). st.bytes) stored;
       flights = ap (λ (st : Stored). st.flights) stored;
       tallied = tells-on s.events c.add_reserved.new.self (λ cs. cs) (λ cs told. c.add_reserved.ensures.told cs (c.in_ok-reserve.ensures.told cs told));
-    })
+    }))

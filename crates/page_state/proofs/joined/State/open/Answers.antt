@@ -1,4 +1,4 @@
-use Rattle.std.proofs.Common.{◌∙◌, refl, ap}
+use Rattle.std.proofs.Common.{◌∙◌, length, refl, sym, ap}
 use Rattle.files.specs.Files.{FilesOf}
 use Rattle.page_state.specs.Holdings.{Stored}
 use Rattle.page_state.proofs.KinLemmas.{kin-root}
@@ -20,4 +20,5 @@ invariant_of-result c =
       numbers = c.in-Ok.ensures.numbers ∙ c.numbers.ensures;
       homes = homes-open c.in_ok-tree.tree c.in-Ok.spaces.tasks c.in-Ok.ensures.tasks;
       cursors = rw (c.in_ok-cursors.ensures, tree) refl;
+      populated = c.in-Ok.ensures.groups ∙ sym (ap length tree);
     }
