@@ -1,6 +1,6 @@
 -- Cutting at spaces, and each part at tabs, is cutting at blanks.
-use Rattle.std.proofs.Common.{◌≡◌, ℕ, Bool, true, false, cond, eqb, List, [], ◌∷◌, ◌++◌, refl, sym, ap, ◌∙◌}
-use Rattle.std.specs.List.{slice_split, onto_first, flat_map}
+use Rattle.std.proofs.Common.{◌≡◌, ℕ, Bool, true, false, ◌||◌, cond, eqb, List, [], ◌∷◌, ◌++◌, refl, sym, ap, ◌∙◌}
+use Rattle.std.specs.List.{slice_split, onto_first, flat_map, list_any}
 use Rattle.scripts.specs.Words.{is_blank}
 
 abbrev pub at_tabs : List ℕ → List (List ℕ)
@@ -49,3 +49,17 @@ step_space x xs ih false false es et =
 pub tabs_in_spaces : (xs : List ℕ) → each (at_spaces xs) ≡ slice_split is_blank xs
 tabs_in_spaces [] = refl
 tabs_in_spaces (x ∷ xs) = step_space x xs (tabs_in_spaces xs) (eqb x 32) (eqb x 9) refl refl
+
+-- one more byte, which is no tab
+no_tab : (x : ℕ) (xs : List ℕ) → slice_split is_blank xs ≡ at_spaces xs → (s : Bool) → eqb x 32 ≡ s → eqb x 9 ≡ false → slice_split is_blank (x ∷ xs) ≡ at_spaces (x ∷ xs)
+no_tab x xs ih true es et = rw es (ap (λ (ps : Parts). [] ∷ ps) ih)
+no_tab x xs ih false es et = rw (es, et) (ap (onto_first x) ih)
+
+-- where there is no tab, cutting at blanks is cutting at spaces
+pub no_tabs : (xs : List ℕ) → list_any (λ b. eqb b 9) xs ≡ false → slice_split is_blank xs ≡ at_spaces xs
+no_tabs [] none = refl
+no_tabs (x ∷ xs) none = let parts = or_parts (eqb x 9) none in no_tab x xs (no_tabs xs parts.1) (eqb x 32) refl parts.0
+  where
+    or_parts : (b : Bool) → (b || list_any (λ c. eqb c 9) xs) ≡ false → (b ≡ false) × (list_any (λ c. eqb c 9) xs ≡ false)
+    or_parts true is = absurd cc
+    or_parts false is = (refl, is)
