@@ -2,6 +2,7 @@
 
 use std::alloc::Global;
 use std::io::{Error, ErrorKind, Write};
+use std::process::Abort;
 use std::{io, str};
 use subcommands::{Options, schedule_with};
 
