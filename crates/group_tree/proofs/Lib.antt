@@ -5,6 +5,7 @@ pub mod WalkLemmas
 pub mod RoomLemmas
 pub mod PushLemmas
 pub mod PreorderLemmas
+pub mod BehindLemmas
 pub mod LineageLemmas
 pub mod RemoveLemmas
 pub mod RemovedTables

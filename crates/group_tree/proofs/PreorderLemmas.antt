@@ -145,7 +145,7 @@ module _ (tree : List Node) (is : IsTree tree) where
       (λ c e. let falls = is.falls c g e in let inside = within tree c g e in preorder_to-steps n m c inside (omega (arith, falls, h)) (omega (arith, falls, k))) (length tree) 0 (omega arith))
       ∙ sym (ap (λ cs. g ∷ flat_map (preorder_to m tree) cs) same)
 
-  preorder-step : (g : ℕ) → g < length tree → preorder tree g ≡ g ∷ flat_map (preorder tree) (children_from tree g (g + 1))
+  pub preorder-step : (g : ℕ) → g < length tree → preorder tree g ≡ g ∷ flat_map (preorder tree) (children_from tree g (g + 1))
   unfolding preorder_to
   preorder-step g lt =
       preorder_to-steps (length tree) (suc (length tree)) g lt (omega arith) (omega arith) ∙ ap (λ cs. g ∷ flat_map (preorder tree) cs) (children-from tree g ∙ children_from-own g (g + 1) 0 lt (omega arith))

@@ -1,5 +1,5 @@
 -- What is left of a walk over a group and those below it, each before those below it.
-use Rattle.std.specs.Prelude.{◌≡◌, ℕ, zero, suc, ◌+◌, ◌≤◌, true, nat_le, if◌then◌else◌, List, [], ◌∷◌, ◌++◌, drop, flat_map, Option, Some, None}
+use Rattle.std.specs.Prelude.{◌≡◌, ℕ, zero, suc, ◌+◌, ◌≤◌, ◌==◌, true, nat_le, if◌then◌else◌, List, [], ◌∷◌, ◌++◌, drop, flat_map, Option, Some, None}
 use Rattle.std.specs.Option.{option_map_or}
 use Rattle.machine.specs.Tree.{Node, node_at, is_live, is_child, preorder}
 
@@ -32,3 +32,8 @@ left tree start (Some g) = preorder tree g ++ after tree start g
 abbrev pub IsWithin : List Node → ℕ → Option ℕ → Type 0
 IsWithin tree start None = Unit {0}
 IsWithin tree start (Some g) = (start ≤ g) × (is_live tree g ≡ true)
+
+-- what is behind a number in a list, and nothing where the list does not have it
+abbrev pub behind : List ℕ → ℕ → List ℕ
+behind [] g = []
+behind (a ∷ rest) g = if a == g then rest else behind rest g

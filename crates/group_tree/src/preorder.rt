@@ -4,7 +4,7 @@ ghost use Rattle.std.specs.Prelude.{◌≡◌, ◌∷◌, true, Some, IsTrue};
 ghost use Rattle.std.specs.Option.{option_map};
 ghost use Rattle.std.specs.Iterator.{YieldsFirstBy, item_count};
 ghost use Rattle.machine.specs.Tree.{is_live, preorder};
-ghost use Rattle.group_tree.specs.Walk.{after, left, IsWithin};
+ghost use Rattle.group_tree.specs.Walk.{after, behind, left, IsWithin};
 
 use crate::Tree;
 use machine::id::GroupId;
@@ -95,6 +95,28 @@ impl Tree {
             tree: self,
             start: group,
             at: Some(group),
+        }
+    }
+
+    /// The groups that a walk over `start` and all below it comes to behind this one. None where it
+    /// does not come to it: where the group is no more, or is not below `start`.
+    pub fn preorder_behind(&self, start: GroupId, group: GroupId) -> Preorder<'_>
+        requires { IsTrue (is_live self.now start.0) }
+        ensures { result ≡ behind (preorder self.now start.0) group.0 }
+    {
+        self.groups_form_a_tree();
+        if !self.is_live(group) || !self.is_under(start, group) {
+            return Preorder {
+                tree: self,
+                start,
+                at: None,
+            };
+        }
+        let next = self.next_in_walk(start, group);
+        Preorder {
+            tree: self,
+            start,
+            at: next,
         }
     }
 }

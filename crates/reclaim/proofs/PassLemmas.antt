@@ -13,10 +13,11 @@ use Rattle.machine.specs.Order.{round_from, place_in, asking_order, served_by}
 use Rattle.machine.specs.Tree.{Node, is_live, under, preorder}
 use Rattle.group_tree.specs.Groups.{IsGroupTree}
 use Rattle.group_tree.specs.Tables.{number}
+use Rattle.group_tree.specs.Walk.{behind}
 use Rattle.group_tree.proofs.PreorderLemmas.{preorder-has}
 use Rattle.page_counter.specs.Counts.{Counts}
 use Rattle.reclaim.specs.Pass.{gives_by_lists, IsGiver, GivesNone}
-use Rattle.reclaim.specs.Walk.{is_at, behind, up_to, AreAsked}
+use Rattle.reclaim.specs.Walk.{is_at, behind_last, up_to, AreAsked}
 use Rattle.reclaim.proofs.WalkLemmas.{up_to-none, parts}
 
 -- ---- the first of a list that passes
@@ -66,11 +67,11 @@ module _ (tree : List Node) (target : ℕ) where
   pub asked-rest : (walk rest : List ℕ) (g : ℕ) → walk ≡ g ∷ rest → AreAsked tree target walk → AreAsked tree target rest
   asked-rest walk rest g e asked = All-tail (λ a. (is_live tree a ≡ true) × (under tree target a ≡ true)) g rest (subst (AreAsked tree target) e asked)
 
-  pub asked-behind : (walk : List ℕ) (last : Option ℕ) → AreAsked tree target walk → AreAsked tree target (behind walk last)
+  pub asked-behind : (walk : List ℕ) (last : ℕ) → AreAsked tree target walk → AreAsked tree target (behind walk last)
   asked-behind [] last asked = asked
   asked-behind (g ∷ rest) last asked =
       let later : AreAsked tree target rest = asked-rest (g ∷ rest) rest g refl asked in
-      elim (is_at last g) as (λ b. AreAsked tree target (if b then rest else behind rest last)) [
+      elim (g == last) as (λ b. AreAsked tree target (if b then rest else behind rest last)) [
         | true ↦ later
         | false ↦ asked-behind rest last later
       ]
@@ -108,26 +109,20 @@ same_some None = refl
 same_some (Some group) = refl
 
 module _ (tree : List Node) (test : ℕ → Bool) (target : ℕ) (last : Option ℕ) where
-  parts-find : served_by tree test target last ≡ option_or (find test (behind (preorder tree target) last)) (find test (up_to (preorder tree target) last))
-  parts-find = ap (find test) (sym (parts (preorder tree target) last)) ∙ find-append test (behind (preorder tree target) last) (up_to (preorder tree target) last)
+  parts-find : served_by tree test target last ≡ option_or (find test (behind_last (preorder tree target) last)) (find test (up_to (preorder tree target) last))
+  parts-find = ap (find test) (sym (parts (preorder tree target) last)) ∙ find-append test (behind_last (preorder tree target) last) (up_to (preorder tree target) last)
 
-  -- what the first part finds
-  behind-find : (rest : List ℕ) (group : Option GroupId) → rest ≡ behind (preorder tree target) last → number group ≡ find test (up_to rest None) → number group ≡ find test (behind (preorder tree target) last)
-  behind-find rest group r e = e ∙ ap (find test) (up_to-none rest ∙ r)
-
-  -- is served
-  pub first_part : (rest : List ℕ) (group : Option GroupId) → rest ≡ behind (preorder tree target) last → number group ≡ find test (up_to rest None) → is_some group ≡ true → number group ≡ served_by tree test target last
-  first_part rest group r e some =
-      let same = behind-find rest group r e in
-      same ∙ sym (parts-find ∙ some_first _ (find test (up_to (preorder tree target) last)) (ap is_some (sym same) ∙ same_some group ∙ some))
+  -- what the first part finds is served
+  pub first_part : (group : Option GroupId) → number group ≡ find test (behind_last (preorder tree target) last) → is_some group ≡ true → number group ≡ served_by tree test target last
+  first_part group e some =
+      e ∙ sym (parts-find ∙ some_first _ (find test (up_to (preorder tree target) last)) (ap is_some (sym e) ∙ same_some group ∙ some))
 
   -- and else what the second part finds
-  pub second_part : (rest walk : List ℕ) (group later : Option GroupId) → rest ≡ behind (preorder tree target) last → walk ≡ preorder tree target → number group ≡ find test (up_to rest None) → is_some group ≡ false
+  pub second_part : (walk : List ℕ) (group later : Option GroupId) → walk ≡ preorder tree target → number group ≡ find test (behind_last (preorder tree target) last) → is_some group ≡ false
       → number later ≡ find test (up_to walk last) → number later ≡ served_by tree test target last
-  second_part rest walk group later r w e none f =
-      let same = behind-find rest group r e in
+  second_part walk group later w e none f =
       f ∙ ap (λ gs. find test (up_to gs last)) w
-      ∙ sym (parts-find ∙ none_first _ (find test (up_to (preorder tree target) last)) (ap is_some (sym same) ∙ same_some group ∙ none))
+      ∙ sym (parts-find ∙ none_first _ (find test (up_to (preorder tree target) last)) (ap is_some (sym e) ∙ same_some group ∙ none))
 
 -- ---- one gives a page wherever one has a page to give
 
@@ -143,17 +138,21 @@ turn_on true false r = refl
 turn_on false b r = refl
 
 -- a test that one of the parts passes, the walk passes
-around : (test : ℕ → Bool) (gs : List ℕ) (last : Option ℕ) → (list_any test (behind gs last) || list_any test (up_to gs last)) ≡ list_any test gs
-around test [] last = refl
-around test (g ∷ gs) last =
-    elim (cases_Bool (is_at last g)) [
+around_place : (test : ℕ → Bool) (gs : List ℕ) (last : ℕ) → (list_any test (behind gs last) || list_any test (up_to gs (Some last))) ≡ list_any test gs
+around_place test [] last = refl
+around_place test (g ∷ gs) last =
+    elim (cases_Bool (g == last)) [
       | inl at ↦
-          ap (λ b. list_any test (if b then gs else behind gs last) || (test g || list_any test (if b then [] else up_to gs last))) at ∙ turn_here (test g) (list_any test gs)
+          ap (λ b. list_any test (if b then gs else behind gs last) || (test g || list_any test (if b then [] else up_to gs (Some last)))) at ∙ turn_here (test g) (list_any test gs)
       | inr past ↦
-          ap (λ b. list_any test (if b then gs else behind gs last) || (test g || list_any test (if b then [] else up_to gs last))) past
-          ∙ turn_on (list_any test (behind gs last)) (test g) (list_any test (up_to gs last))
-          ∙ ap (λ b. test g || b) (around test gs last)
+          ap (λ b. list_any test (if b then gs else behind gs last) || (test g || list_any test (if b then [] else up_to gs (Some last)))) past
+          ∙ turn_on (list_any test (behind gs last)) (test g) (list_any test (up_to gs (Some last)))
+          ∙ ap (λ b. test g || b) (around_place test gs last)
     ]
+
+around : (test : ℕ → Bool) (gs : List ℕ) (last : Option ℕ) → (list_any test (behind_last gs last) || list_any test (up_to gs last)) ≡ list_any test gs
+around test gs None = ap (list_any test) (up_to-none gs)
+around test gs (Some last) = around_place test gs last
 
 module _ (tree : List Node) (counts : Counts) (lists : List Gens) (swap_free : Bool) (target : ℕ) where
   module _ (groups : IsGroupTree tree) (live : is_live tree target ≡ true) (last : Option ℕ) where
@@ -166,7 +165,7 @@ module _ (tree : List Node) (counts : Counts) (lists : List Gens) (swap_free : B
     none_serves nothing g there below =
         among (gives_by_lists tree counts lists swap_free target) g (preorder tree target)
         (preorder-has tree groups target g live ∙ ap (λ b. b && under tree target g) there ∙ below)
-        (sym (around (gives_by_lists tree counts lists swap_free target) (preorder tree target) last) ∙ sym (list_any-append (gives_by_lists tree counts lists swap_free target) (behind (preorder tree target) last) (up_to (preorder tree target) last))
+        (sym (around (gives_by_lists tree counts lists swap_free target) (preorder tree target) last) ∙ sym (list_any-append (gives_by_lists tree counts lists swap_free target) (behind_last (preorder tree target) last) (up_to (preorder tree target) last))
         ∙ ap (list_any (gives_by_lists tree counts lists swap_free target)) (parts (preorder tree target) last) ∙ none-passes (gives_by_lists tree counts lists swap_free target) (asking_order tree target last) nothing)
 
     -- the group that is served has a page to give

@@ -7,16 +7,13 @@ use Rattle.std.specs.Option.{option_eq}
 use Rattle.machine.specs.declared.id.GroupId.{GroupId}
 use Rattle.machine.specs.Order.{round_from, place_in}
 use Rattle.group_tree.specs.Tables.{number}
-use Rattle.reclaim.specs.Walk.{is_at, behind, up_to}
+use Rattle.group_tree.specs.Walk.{behind}
+use Rattle.reclaim.specs.Walk.{is_at, behind_last, up_to}
 
 -- a group is the one that was served last, by any test of equality
 pub is_at-same : (eq : GroupId → GroupId → Bool) → ((a b : GroupId) → eq a b ≡ (a.0 == b.0)) → (g : GroupId) (last : Option GroupId) → is_at (number last) g.0 ≡ option_eq eq (Some g) last
 is_at-same eq same g None = refl
 is_at-same eq same g (Some a) = sym (same g a)
-
-pub behind-none : (gs : List ℕ) → behind gs None ≡ []
-behind-none [] = refl
-behind-none (g ∷ gs) = behind-none gs
 
 pub up_to-none : (gs : List ℕ) → up_to gs None ≡ gs
 up_to-none [] = refl
@@ -25,13 +22,13 @@ up_to-none (g ∷ gs) = ap (λ rest. g ∷ rest) (up_to-none gs)
 -- the list comes to the group at its i-th place, counted from k
 record ComesTo (g k i : ℕ) (gs : List ℕ) : Type 0 where
   pub found : position_from (λ a. a == g) k gs ≡ Some (k + i)
-  pub later : behind gs (Some g) ≡ drop (i + 1) gs
+  pub later : behind gs g ≡ drop (i + 1) gs
   pub sooner : up_to gs (Some g) ≡ take (i + 1) gs
 
 -- or it does not come to it
 record Misses (g k : ℕ) (gs : List ℕ) : Type 0 where
   pub found : position_from (λ a. a == g) k gs ≡ None
-  pub later : behind gs (Some g) ≡ []
+  pub later : behind gs g ≡ []
   pub sooner : up_to gs (Some g) ≡ gs
 
 cases : (g k : ℕ) (gs : List ℕ) → ((i : ℕ) × ComesTo g k i gs) ⊎ Misses g k gs
@@ -43,7 +40,7 @@ cases g k (a ∷ gs) =
             0,
             record {
               found = ap (λ b. if b then Some k else position_from (λ c. c == g) (k + 1) gs) here ∙ ap Some (let same : k ≡ k + 0 = omega arith in same);
-              later = ap (λ b. if b then gs else behind gs (Some g)) here;
+              later = ap (λ b. if b then gs else behind gs g) here;
               sooner = ap (λ b. a ∷ (if b then [] else up_to gs (Some g))) here;
             },
           )
@@ -54,7 +51,7 @@ cases g k (a ∷ gs) =
               record {
                 found =
                     ap (λ b. if b then Some k else position_from (λ c. c == g) (k + 1) gs) other ∙ comes.found ∙ ap Some (let same : k + 1 + i ≡ k + (i + 1) = omega arith in same);
-                later = ap (λ b. if b then gs else behind gs (Some g)) other ∙ comes.later ∙ ap (λ n. drop n (a ∷ gs)) (sym (add-one (i + 1)));
+                later = ap (λ b. if b then gs else behind gs g) other ∙ comes.later ∙ ap (λ n. drop n (a ∷ gs)) (sym (add-one (i + 1)));
                 sooner =
                     ap (λ b. a ∷ (if b then [] else up_to gs (Some g))) other ∙ ap (λ rest. a ∷ rest) comes.sooner ∙ ap (λ n. take n (a ∷ gs)) (sym (add-one (i + 1)));
               },
@@ -63,14 +60,14 @@ cases g k (a ∷ gs) =
             inr
             (record {
               found = ap (λ b. if b then Some k else position_from (λ c. c == g) (k + 1) gs) other ∙ misses.found;
-              later = ap (λ b. if b then gs else behind gs (Some g)) other ∙ misses.later;
+              later = ap (λ b. if b then gs else behind gs g) other ∙ misses.later;
               sooner = ap (λ b. a ∷ (if b then [] else up_to gs (Some g))) other ∙ ap (λ rest. a ∷ rest) misses.sooner;
             })
       ]
     ]
 
-pub parts : (gs : List ℕ) (last : Option ℕ) → behind gs last ++ up_to gs last ≡ round_from gs (place_in gs last)
-parts gs None = ap (λ xs. xs ++ up_to gs None) (behind-none gs) ∙ up_to-none gs
+pub parts : (gs : List ℕ) (last : Option ℕ) → behind_last gs last ++ up_to gs last ≡ round_from gs (place_in gs last)
+parts gs None = up_to-none gs
 parts gs (Some g) =
     elim (cases g 0 gs) [
       | inl (i, comes) ↦

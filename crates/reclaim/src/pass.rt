@@ -3,11 +3,11 @@
 ghost use Rattle.std.specs.Prelude.{◌≡◌, ◌≤◌, ◌&&◌, true, length};
 ghost use Rattle.std.specs.List.{find};
 ghost use Rattle.machine.specs.Order.{served_by};
-ghost use Rattle.machine.specs.Tree.{is_live, under};
+ghost use Rattle.machine.specs.Tree.{is_live, under, preorder};
 ghost use Rattle.group_tree.specs.Kin.{AreKin};
 ghost use Rattle.group_tree.specs.Tables.{number};
 ghost use Rattle.reclaim.specs.Pass.{gives_by_lists};
-ghost use Rattle.reclaim.specs.Walk.{behind, up_to, AreAsked};
+ghost use Rattle.reclaim.specs.Walk.{behind_last, up_to, AreAsked};
 
 use group_tree::{Preorder, Tree};
 use lru_gen::Gens;
@@ -30,9 +30,7 @@ pub fn served(
     ensures { number result ≡ served_by tree.now (gives_by_lists tree.now counters.now gens.now.groups swap_free target.0) target.0 (number last) }
 {
     tree.groups_form_a_tree();
-    let mut rest = tree.preorder(target);
-    go_behind(&mut rest, last);
-    let found = first_to_give(tree, counters, gens, swap_free, target, rest, None);
+    let found = first_behind(tree, counters, gens, swap_free, target, last);
     if found.is_some() {
         return found;
     }
@@ -40,15 +38,24 @@ pub fn served(
     first_to_give(tree, counters, gens, swap_free, target, walk, last)
 }
 
-/// Passes by all groups up to one and by that one, and so by all where the walk does not come to it.
-fn go_behind(walk: &mut Preorder<'_>, last: Option<GroupId>)
-    ensures { walk.new ≡ behind walk.old (number last) }
+/// The first group that has a page to give of those behind the group that was served last. The walk
+/// begins there, however many groups come before it.
+fn first_behind(
+    tree: &Tree,
+    counters: &Counters,
+    gens: &Gens,
+    swap_free: bool,
+    target: GroupId,
+    last: Option<GroupId>,
+) -> Option<GroupId>
+    requires kin { AreKin counters.now.tree tree.now }
+    requires live { is_live tree.now target.0 ≡ true }
+    requires places { length tree.now ≤ length gens.now.groups }
+    ensures { number result ≡ find (gives_by_lists tree.now counters.now gens.now.groups swap_free target.0) (behind_last (preorder tree.now target.0) (number last)) }
 {
-    while let Some(group) = walk.next() {
-        if Some(group) == last {
-            return;
-        }
-    }
+    tree.groups_form_a_tree();
+    let rest = tree.preorder_behind(target, last?);
+    first_to_give(tree, counters, gens, swap_free, target, rest, None)
 }
 
 /// The first group of a walk that has a page to give. The walk ends at the group that was served

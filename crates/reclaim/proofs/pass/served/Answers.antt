@@ -1,16 +1,9 @@
-use Rattle.std.proofs.Common.{sym, ap, ◌∙◌, subst}
-use Rattle.machine.specs.Tree.{preorder}
+use Rattle.std.proofs.Common.{sym, ◌∙◌, subst}
 use Rattle.group_tree.specs.Tables.{number}
 use Rattle.reclaim.specs.Pass.{gives_by_lists}
-use Rattle.reclaim.specs.Walk.{behind, AreAsked}
-use Rattle.reclaim.proofs.PassLemmas.{asked-all, asked-behind, first_part, second_part}
+use Rattle.reclaim.specs.Walk.{AreAsked}
+use Rattle.reclaim.proofs.PassLemmas.{asked-all, first_part, second_part}
 use Rattle.reclaim.proofs.pass.served.Goals as goal
-
-pub first_to_give-found-requires-clause-asked : goal.first_to_give-found-requires-clause-asked
-first_to_give-found-requires-clause-asked c =
-    let all = asked-all c.args.tree.now c.args.target.0 c.groups_form_a_tree.ensures c.requires.live in
-    let rest = c.go_behind.ensures ∙ ap (λ gs. behind gs (number c.args.last)) c.preorder-rest.ensures in
-    subst (AreAsked c.args.tree.now c.args.target.0) (sym rest) (asked-behind c.args.tree.now c.args.target.0 (preorder c.args.tree.now c.args.target.0) (number c.args.last) all)
 
 pub first_to_give-requires-clause-asked : goal.first_to_give-requires-clause-asked
 first_to_give-requires-clause-asked c =
@@ -18,10 +11,9 @@ first_to_give-requires-clause-asked c =
 
 pub returns-then-is_some : goal.returns-then-is_some
 returns-then-is_some c =
-    first_part c.args.tree.now (gives_by_lists c.args.tree.now c.args.counters.now c.args.gens.now.groups c.args.swap_free c.args.target.0) c.args.target.0 (number c.args.last) c.go_behind.new.walk c.first_to_give-found.result
-    (c.go_behind.ensures ∙ ap (λ gs. behind gs (number c.args.last)) c.preorder-rest.ensures) c.first_to_give-found.ensures (sym c.is_some.ensures ∙ c.if-is_some.true)
+    first_part c.args.tree.now (gives_by_lists c.args.tree.now c.args.counters.now c.args.gens.now.groups c.args.swap_free c.args.target.0) c.args.target.0 (number c.args.last) c.first_behind-found.result c.first_behind-found.ensures (sym c.is_some.ensures ∙ c.if-is_some.true)
 
 pub returns : goal.returns
 returns c =
-    second_part c.args.tree.now (gives_by_lists c.args.tree.now c.args.counters.now c.args.gens.now.groups c.args.swap_free c.args.target.0) c.args.target.0 (number c.args.last) c.go_behind.new.walk c.preorder-walk.result c.first_to_give-found.result c.first_to_give.result
-    (c.go_behind.ensures ∙ ap (λ gs. behind gs (number c.args.last)) c.preorder-rest.ensures) c.preorder-walk.ensures c.first_to_give-found.ensures (sym c.is_some.ensures ∙ c.if-is_some.false) c.first_to_give.ensures
+    second_part c.args.tree.now (gives_by_lists c.args.tree.now c.args.counters.now c.args.gens.now.groups c.args.swap_free c.args.target.0) c.args.target.0 (number c.args.last) c.preorder-walk.result c.first_behind-found.result c.first_to_give.result
+    c.preorder-walk.ensures c.first_behind-found.ensures (sym c.is_some.ensures ∙ c.if-is_some.false) c.first_to_give.ensures
