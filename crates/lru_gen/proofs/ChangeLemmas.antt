@@ -1,18 +1,20 @@
 -- What each call makes of a group's lists.
 use Rattle.std.proofs.Common.{◌≡◌, ◌≢◌, ℕ, ◌+◌, ◌<◌, ◌≤◌, List, [], ◌∷◌, ◌++◌, length, map, set, true, false, refl, sym, ap, subst, ◌∙◌, arith, inl, inr, length-set}
-use Rattle.std.proofs.lemmas.List.{get_or-set_same, get_or-set_other, length-map}
+use Rattle.std.proofs.lemmas.List.{get_or-set_same, get_or-set_other, set-get_or, length-map}
 use Rattle.std.proofs.lemmas.Bool.{cases_eq, false_from_ne_true}
 use Rattle.machine.specs.declared.record.Kind.{Kind}
 use Rattle.machine.specs.declared.record.Kind.TheVariants.{Anon, File}
-use Rattle.machine.specs.Generations.{Listed, Row, Gens, on_row, entered, added, isolated, merged, raised, advanced}
+use Rattle.machine.specs.Generations.{Listed, Row, Gens, is_listed, on_row, entered, added, isolated, merged, raised, advanced}
 use Rattle.rings.specs.Rings.{list_at, without, has, AreApart}
 use Rattle.rings.proofs.ListLemmas.{without_none, list_at-map_without}
 use Rattle.lru_gen.specs.declared.numbers.Numbers.{Numbers}
+use Rattle.lru_gen.specs.Gens.{GensOf, gens_of, sets}
 use Rattle.lru_gen.specs.Lists.{slot}
-use Rattle.lru_gen.specs.Rows.{numbers_at, oldest, with_oldest, in_seq, rows_from, gens_from, IsWindow, IsTable}
+use Rattle.lru_gen.specs.Rows.{first_numbers, numbers_at, oldest, with_oldest, in_seq, rows_from, gens_from, groups_from, IsWindow, IsTable}
 use Rattle.lru_gen.proofs.SlotLemmas.{anon_is_no_file, file_is_no_anon, cases_kind, slot_within, slots_apart, slots_near, slot_again, groups_apart, kinds_apart}
 use Rattle.lru_gen.proofs.RowLemmas.{rows_same, rows_more, rows_less, rows_without, rows_taken, rows_merged}
-use Rattle.lru_gen.proofs.GroupLemmas.{same_rows, Changes}
+use Rattle.lru_gen.proofs.GroupLemmas.{same_rows, seen_becomes, Changes}
+use Rattle.lru_gen.proofs.SoundLemmas.{listed_stands}
 
 -- ---- one list is emptied into another
 
@@ -269,3 +271,9 @@ isolated_stays lists new numbers p is becomes = record {
   few = is.few;
   windows = λ g within k. window_without lists new g k (numbers_at numbers g) p (is.windows g within k) (each_loses lists new p becomes);
 }
+
+pub seen_isolated : (lists new : List (List ℕ)) (numbers : List Numbers) (p : ℕ) → IsTable lists numbers → AreApart lists → new ≡ map (without p) lists → (seen : GensOf) (pages room pages_after room_after : ℕ) → record { groups = groups_from lists 0 numbers; pages = pages; room = room } ≡ seen → pages_after ≡ pages → room_after ≡ room → (g : ℕ) → is_listed (gens_of seen g) p ≡ true → record { groups = groups_from new 0 numbers; pages = pages_after; room = room_after } ≡ sets seen g (isolated p (gens_of seen g))
+seen_isolated lists new numbers p is apart becomes seen pages room pages_after room_after view same_pages same_room g listed =
+    let stands = listed_stands lists numbers g p (subst (λ (v : GensOf). is_listed (gens_of v g) p ≡ true) (sym view) listed) in
+    let change = isolated_changes lists numbers is g stands.within p stands.kind stands.seq new apart stands.there becomes in
+    seen_becomes lists new numbers g stands.within (numbers_at numbers g) (isolated p) change numbers (sym (set-get_or numbers g first_numbers)) seen pages room pages_after room_after view same_pages same_room

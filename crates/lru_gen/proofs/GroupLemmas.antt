@@ -4,7 +4,7 @@ use Rattle.std.proofs.lemmas.List.{get_or-set_same, get_or-set_other, ext_get_or
 use Rattle.std.proofs.lemmas.Bool.{cases_eq, cases_lt}
 use Rattle.machine.specs.declared.record.Kind.{Kind}
 use Rattle.machine.specs.declared.record.Kind.TheVariants.{Anon, File}
-use Rattle.machine.specs.Generations.{Listed, Gens, new_gens, gens_at, row_of}
+use Rattle.machine.specs.Generations.{Listed, Row, Gens, new_gens, gens_at, row_of}
 use Rattle.rings.specs.Rings.{list_at}
 use Rattle.lru_gen.specs.declared.numbers.Numbers.{Numbers}
 use Rattle.lru_gen.specs.Gens.{GensOf, gens_of, sets}
@@ -124,10 +124,13 @@ module _ (old new : List (List ℕ)) (numbers : List Numbers) (g : ℕ) (within 
             ∙ sym (get_or-set_other before g i own new_gens other)
       ])
 
+  pub groups_after : groups_from new 0 after ≡ set (groups_from old 0 numbers) g (to (gens_at (groups_from old 0 numbers) g))
+  groups_after = ap (groups_from new 0) renumbered ∙ groups_become
+
   pub seen_becomes : (seen : GensOf) (pages room pages_after room_after : ℕ) → record { groups = groups_from old 0 numbers; pages = pages; room = room } ≡ seen → pages_after ≡ pages → room_after ≡ room → record { groups = groups_from new 0 after; pages = pages_after; room = room_after } ≡ sets seen g (to (gens_of seen g))
   seen_becomes seen pages room pages_after room_after is same_pages same_room =
       subst (λ (v : GensOf). record { groups = groups_from new 0 after; pages = pages_after; room = room_after } ≡ sets v g (to (gens_of v g))) is
-      (same_seen _ _ _ _ _ _ (ap (groups_from new 0) renumbered ∙ groups_become) same_pages same_room)
+      (same_seen _ _ _ _ _ _ groups_after same_pages same_room)
 
 -- ---- what the code reads and writes
 
@@ -149,6 +152,12 @@ raised_number numbers g k least found n read least_of set_to =
 pub row_from : (k : Kind) (lists : List (List ℕ)) (g : ℕ) (n : Numbers) → row_of k (gens_from lists g n) ≡ record { min_seq = oldest k n; pages = rows_from lists g k (oldest k n) 4 }
 row_from Anon lists g n = refl
 row_from File lists g n = refl
+
+-- the pages of a row of the table
+pub row_at : (lists : List (List ℕ)) (numbers : List Numbers) (g : ℕ) (k : Kind) → g < length numbers → (row_of k (gens_at (groups_from lists 0 numbers) g)).pages ≡ rows_from lists g k (oldest k (numbers_at numbers g)) 4
+row_at lists numbers g k within =
+    ap (λ (v : Gens). (row_of k v).pages) (group_at lists numbers g within)
+    ∙ ap (λ (r : Row). r.pages) (row_from k lists g (numbers_at numbers g))
 
 -- ---- a group more
 

@@ -6,3 +6,4 @@ pub mod MoveLemmas
 pub mod SoundLemmas
 pub mod SearchLemmas
 pub mod LinkLemmas
+pub mod FilledLemmas

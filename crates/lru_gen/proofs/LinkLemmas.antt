@@ -6,9 +6,10 @@ use Rattle.std.proofs.lemmas.Bool.{cases_eq, eq-eqb, ne_eqb}
 use Rattle.machine.specs.declared.record.Kind.{Kind}
 use Rattle.machine.specs.declared.record.Kind.TheVariants.{Anon, File}
 use Rattle.machine.specs.Generations.{Listed, of_kind}
+use Rattle.rings.specs.declared.ring_node.Link.{Link}
 use Rattle.rings.specs.declared.ring_node.RingNode.{RingNode}
 use Rattle.rings.specs.RingNodes.{head_node}
-use Rattle.rings.specs.Rings.{list_at, last_node, KeepsLinksBut}
+use Rattle.rings.specs.Rings.{list_at, last_node, IsLinkOf, KeepsLinksBut}
 use Rattle.lru_gen.specs.declared.numbers.Numbers.{Numbers}
 use Rattle.lru_gen.specs.Gens.{GensOf}
 use Rattle.lru_gen.specs.Lists.{slot, on_turn, lists_of, KeepsLinksOfMerge}
@@ -105,6 +106,12 @@ few_of_add page l m a b c d list old new few =
     subst (λ (x : ℕ). KeepsLinksBut (page ∷ head_node x ∷ last_node x (list_at b x) ∷ []) b d) list
     (subst (λ (ls : List (List ℕ)). KeepsLinksBut (page ∷ head_node l ∷ last_node l (list_at ls l) ∷ []) ls d) old
     (subst (λ (ls : List (List ℕ)). KeepsLinksBut (page ∷ head_node l ∷ last_node l (list_at a l) ∷ []) a ls) new few))
+
+pub few_of_isolate : (page : RingNode) (a b c d : List (List ℕ)) → a ≡ b → c ≡ d → ((link : Link) → IsLinkOf a page link → KeepsLinksBut (page ∷ link.prev ∷ link.next ∷ []) a c) → (link : Link) → IsLinkOf b page link → KeepsLinksBut (page ∷ link.prev ∷ link.next ∷ []) b d
+few_of_isolate page a b c d old new few link is =
+    subst (λ (ls : List (List ℕ)). KeepsLinksBut (page ∷ link.prev ∷ link.next ∷ []) ls d) old
+    (subst (λ (ls : List (List ℕ)). KeepsLinksBut (page ∷ link.prev ∷ link.next ∷ []) a ls) new
+    (few link (subst (λ (ls : List (List ℕ)). IsLinkOf ls page link) (sym old) is)))
 
 pub few_of_merge : (l m k n : ℕ) (a b c d : List (List ℕ)) → l ≡ m → k ≡ n → a ≡ b → c ≡ d → KeepsLinksOfMerge a c l k → KeepsLinksOfMerge b d m n
 few_of_merge l m k n a b c d source target old new few =

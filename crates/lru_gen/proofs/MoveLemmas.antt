@@ -171,7 +171,7 @@ module _ (lists mid new : List (List ℕ)) (numbers : List Numbers) (is : IsTabl
       rows_taken to k lists new (rows_from lists from k (oldest k (numbers_at numbers from)) 4) seq q 4 low high (of_type k).taken
       (λ s above below differs. (of_type k).others to s (λ e. apart (sym e)) (slots_near to k q s seq above below low high differs))
 
-  groups_moved : groups_from new 0 numbers ≡ handed_over from to (groups_from lists 0 numbers)
+  pub groups_moved : groups_from new 0 numbers ≡ handed_over from to (groups_from lists 0 numbers)
   groups_moved =
       ext_get_or new_gens (groups_from new 0 numbers) (handed_over from to before) (length_groups new 0 numbers ∙ sym (length_groups lists 0 numbers) ∙ sym (length-set first from gone ∙ length-set before to taken)) (λ i inside.
       let within : i < length numbers = subst (λ (m : ℕ). i < m) (length_groups new 0 numbers) inside in

@@ -1,5 +1,5 @@
 -- The first page from a generation on, and the page behind another.
-use Rattle.std.proofs.Common.{◌≡◌, ℕ, suc, ◌+◌, ◌-◌, ◌%◌, ◌<◌, ◌≤◌, ◌||◌, Bool, true, false, List, [], ◌∷◌, ◌++◌, map, eqb, Option, Some, None, is_some, slice_get, option_map, IfSome, refl, sym, ap, subst, ◌∙◌, arith, append_assoc, inl, inr}
+use Rattle.std.proofs.Common.{◌≡◌, ◌≢◌, ℕ, suc, ◌+◌, ◌-◌, ◌%◌, ◌<◌, ◌≤◌, ◌||◌, Bool, true, false, List, [], ◌∷◌, ◌++◌, map, eqb, Option, Some, None, is_some, slice_get, option_map, IfSome, refl, sym, ap, subst, ◌∙◌, arith, append_assoc, inl, inr}
 use Rattle.std.specs.List.{AllByRecursion, IsDistinct}
 use Rattle.std.proofs.lemmas.List.{map-append}
 use Rattle.std.proofs.lemmas.Bool.{cases_Bool, cases_eq, or_left, or_right, or_parts, false≢true, true≢false, false_from_ne_true, eq-eqb, ne_eqb}
@@ -7,10 +7,15 @@ use Rattle.machine.specs.declared.record.Kind.{Kind}
 use Rattle.machine.specs.declared.record.Kind.TheVariants.{Anon, File}
 use Rattle.machine.specs.declared.id.PageId.{PageId}
 use Rattle.machine.specs.Generations.{Listed, has_page, after_in}
-use Rattle.rings.specs.Rings.{list_at, has, AreApart}
+use Rattle.rings.specs.declared.ring_node.Link.{Link}
+use Rattle.rings.specs.declared.ring_node.ListId.{ListId}
+use Rattle.rings.specs.declared.ring_node.RingNode.TheVariants.{Head}
+use Rattle.rings.specs.RingNodes.{page_node}
+use Rattle.rings.specs.Rings.{list_at, has, first_node, last_from, last_node, AreApart, StandsBetween}
 use Rattle.rings.proofs.ListLemmas.{has_first, has_behind}
 use Rattle.lru_gen.specs.Lists.{slot}
 use Rattle.lru_gen.specs.Rows.{in_seq, rows_from}
+use Rattle.lru_gen.specs.Filled.{has_any}
 use Rattle.lru_gen.proofs.SlotLemmas.{same_slot, slots_apart}
 use Rattle.lru_gen.proofs.RowLemmas.{rows_less, rows_split}
 use Rattle.lru_gen.proofs.SoundLemmas.{has_list, has_append, row_stands}
@@ -61,6 +66,12 @@ module _ (lists : List (List ℕ)) (g : ℕ) (k : Kind) (q : ℕ) where
 pub some_mapped : (found : Option PageId) → is_some (option_map (λ (p : PageId). p.0) found) ≡ is_some found
 some_mapped None = refl
 some_mapped (Some p) = refl
+
+pub first_tells : (xs : List Listed) (first : Option PageId) → option_map (λ (p : PageId). p.0) first ≡ option_map (λ (l : Listed). l.page) (slice_get xs 0) → is_some first ≡ has_any xs
+first_tells [] None is = refl
+first_tells [] (Some p) is = absurd (cc)
+first_tells (x ∷ xs) None is = absurd (cc)
+first_tells (x ∷ xs) (Some p) is = refl
 
 -- ---- the page behind another
 
@@ -143,6 +154,21 @@ module _ (lists : List (List ℕ)) (apart : AreApart lists) (g : ℕ) (k : Kind)
       ap (λ (s : ℕ). option_map (λ (r : Listed). r.page) (slice_get (rows_from lists g k s (4 - turn)) 0)) turn_is
       ∙ ap (λ (n : ℕ). option_map (λ (r : Listed). r.page) (slice_get (rows_from lists g k (found.seq + 1) n) 0)) left
       ∙ sym (at_page found.seq (found.seq - q) (3 - (found.seq - q)) before [] (omega (arith, found.from)) (omega (arith, found.from, found.below)) own)
+
+-- ---- the list on which a page stands alone
+
+last_is_page : (x : ℕ) (xs : List ℕ) (a : ListId) → last_from (page_node x) xs ≢ Head a
+last_is_page x [] a same = cc
+last_is_page x (y ∷ ys) a same = last_is_page y ys a same
+
+-- a page between heads is alone on its list
+pub between_heads : (lists : List (List ℕ)) (p : ℕ) (link : Link) (a b : ListId) → StandsBetween lists p link → link.prev ≡ Head a → link.next ≡ Head b → list_at lists b.0 ≡ p ∷ []
+between_heads lists p link a b is from to = go is.before is.after is.stands (sym is.prev ∙ from) (sym is.next ∙ to)
+  where
+    go : (before after : List ℕ) → list_at lists is.list ≡ before ++ p ∷ after → last_node is.list before ≡ Head a → first_node is.list after ≡ Head b → list_at lists b.0 ≡ p ∷ []
+    go [] [] stands first last = let same : is.list ≡ b.0 = cc in ap (λ (l : ℕ). list_at lists l) (sym same) ∙ stands
+    go [] (x ∷ after) stands first last = absurd (cc)
+    go (x ∷ before) after stands first last = absurd (last_is_page x before a first)
 
 -- ---- what is found is there
 

@@ -11,6 +11,7 @@ use Rattle.rings.specs.Rings.{list_at, has, AreApart}
 use Rattle.rings.specs.Rings as of_rings
 use Rattle.rings.proofs.ListLemmas.{listed_from, listed_in, list_within}
 use Rattle.lru_gen.specs.declared.numbers.Numbers.{Numbers}
+use Rattle.lru_gen.specs.Gens.{GensOf}
 use Rattle.lru_gen.specs.Lists.{slot}
 use Rattle.lru_gen.specs.Rows.{numbers_at, oldest, in_seq, rows_from, gens_from, groups_from, IsWindow, IsTable}
 use Rattle.lru_gen.proofs.SlotLemmas.{slots_apart, groups_apart, kinds_apart, same_slot, anon_is_no_file, slot_of, in_turn}
@@ -230,7 +231,7 @@ module _ (lists : List (List ℕ)) (numbers : List Numbers) where
       (group_stands at.group p at.kind turn.seq within turn.low turn.high
       (subst (λ (l : ℕ). has (list_at lists l) p ≡ true) (at.is ∙ same_slot at.group at.kind at.turn turn.seq turn.same) found.1))
 
-  pub same_listed : IsTable lists numbers → (p : ℕ) → of_rings.is_listed lists p ≡ is_listed_in (groups_from lists 0 numbers) p
+  same_listed : IsTable lists numbers → (p : ℕ) → of_rings.is_listed lists p ≡ is_listed_in (groups_from lists 0 numbers) p
   same_listed is p = same_tests _ _ (in_a_group is p) (in_a_ring p)
 
   pub groups_are : IsTable lists numbers → AreApart lists → AreGens (groups_from lists 0 numbers)
@@ -252,3 +253,7 @@ module _ (lists : List (List ℕ)) (numbers : List Numbers) where
               absurd (groups_apart g h two.kind one.kind two.seq one.seq other (apart.one p (slot h two.kind two.seq) (slot g one.kind one.seq) two.there one.there))
         ];
   }
+
+pub listed_seen : (seen : GensOf) (lists : List (List ℕ)) (numbers : List Numbers) (pages room : ℕ) → record { groups = groups_from lists 0 numbers; pages = pages; room = room } ≡ seen → IsTable lists numbers → (p : ℕ) → of_rings.is_listed lists p ≡ is_listed_in seen.groups p
+listed_seen seen lists numbers pages room view is p =
+    same_listed lists numbers is p ∙ ap (λ (v : GensOf). is_listed_in v.groups p) view

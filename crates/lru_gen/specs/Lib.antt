@@ -1,3 +1,4 @@
 pub mod Gens
 pub mod Rows
 pub mod Lists
+pub mod Filled

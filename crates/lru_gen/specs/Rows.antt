@@ -1,8 +1,9 @@
 -- Which rows the lists of all groups stand for. No public clause cites this.
-use Rattle.std.specs.Prelude.{◌≡◌, ◌≢◌, ℕ, zero, suc, ◌+◌, ◌-◌, ◌*◌, ◌/◌, ◌^◌, ◌<◌, ◌≤◌, min, List, [], ◌∷◌, ◌++◌, map, length, slice_index_or}
+use Rattle.std.specs.Prelude.{◌≡◌, ◌≢◌, ℕ, zero, suc, ◌+◌, ◌-◌, ◌*◌, ◌/◌, ◌^◌, ◌<◌, ◌≤◌, min, List, [], ◌∷◌, ◌++◌, map, length, slice_index_or, Option, Some, None}
 use Rattle.machine.specs.declared.record.Kind.{Kind}
 use Rattle.machine.specs.Generations.{Listed, Gens, of_kind}
 use Rattle.rings.specs.Rings.{list_at}
+use Rattle.rings.specs.declared.ring_node.ListId.{ListId}
 use Rattle.rings.specs.declared.ring_node.RingNode.{RingNode}
 use Rattle.rings.specs.declared.ring_node.RingNode.TheVariants.{Page, Head}
 use Rattle.lru_gen.specs.declared.numbers.Numbers.{Numbers}
@@ -73,6 +74,12 @@ abbrev pub IsBehind : List (List ℕ) → ℕ → RingNode → Type 0
 IsBehind lists p (Page next) =
     (l : ℕ) × (before : List ℕ) × (after : List ℕ) × (list_at lists l ≡ before ++ p ∷ next.0 ∷ after)
 IsBehind lists p (Head l) = (before : List ℕ) × (list_at lists l.0 ≡ before ++ p ∷ [])
+
+-- the page stands alone on this list; or it has a page before it or behind it on its list
+abbrev pub IsAlone : List (List ℕ) → ℕ → Option ListId → Type 0
+IsAlone lists p (Some l) = list_at lists l.0 ≡ p ∷ []
+IsAlone lists p None =
+    (l : ℕ) × (before : List ℕ) × (after : List ℕ) × (list_at lists l ≡ before ++ p ∷ after) × (0 < length (before ++ after))
 
 -- so many generations of one group, from this number on, have no page any more: their pages stand behind those of another group's generation
 pub record HaveMoved (old new : List (List ℕ)) (from to : ℕ) (kind : Kind) (low n seq : ℕ) : Type 0 where

@@ -9,9 +9,10 @@ ghost use Rattle.rings.specs.Rings.{list_at, is_there, last_node, IsLinkOf, Keep
 ghost use Rattle.lru_gen.specs.Gens.{gens_of, sets, IsSound};
 ghost use Rattle.lru_gen.specs.Lists.{slot, lists_of, KeepsLinksOfMerge};
 
+use crate::filled::Filled;
 use crate::moving::move_pages;
-use crate::numbers::{Numbers, list_of};
-use crate::search::{behind, first_from, next_turn};
+use crate::numbers::{Numbers, list_of, type_of};
+use crate::search::{alone_on, behind, first_from, has_any, next_turn};
 use machine::id::{GroupId, PageId};
 use machine::record::Kind;
 use rings::{Link, RingNode, Rings};
@@ -30,23 +31,26 @@ pub struct Gens {
     rings: Rings,
     // By group.
     numbers: Vec<Numbers>,
+    // By group too, and apart from the numbers, so that whoever asks many groups reads two bytes of each.
+    filled: Vec<Filled>,
 }
 
 impl Model for Gens {
-    ghost use Rattle.std.specs.Prelude.{◌-◌, vec_len, vec_capacity};
+    ghost use Rattle.std.specs.Prelude.{◌-◌, min, vec_len, vec_capacity};
     ghost use Rattle.lru_gen.specs.Gens.{GensOf};
 
     ghost Value = { GensOf };
 
-    ghost use Rattle.lru_gen.specs.Rows.{groups_from, room_of, IsTable};
+    ghost use Rattle.lru_gen.specs.Rows.{groups_from, room_of};
+    ghost use Rattle.lru_gen.specs.Filled.{IsKept};
 
     ghost view = { λ s. record {
       groups = groups_from s.rings.lists 0 s.numbers.items;
       pages = s.rings.numbers;
-      room = room_of s.rings.room (vec_capacity s.numbers - vec_len s.numbers) (vec_len s.numbers);
+      room = room_of s.rings.room (min (vec_capacity s.numbers - vec_len s.numbers) (vec_capacity s.filled - vec_len s.filled)) (vec_len s.numbers);
     } };
 
-    ghost invariant = { λ s. IsTable s.rings.lists s.numbers.items };
+    ghost invariant = { λ s. IsKept s.rings.lists s.numbers.items s.filled.items };
 }
 
 impl Gens {
@@ -61,6 +65,7 @@ impl Gens {
         Ok(Gens {
             rings: Rings::open(alloc, numbers)?,
             numbers: Vec::new(alloc),
+            filled: Vec::new(alloc),
         })
     }
 
@@ -78,6 +83,7 @@ impl Gens {
         }
         self.rings.reserve(8)?;
         self.numbers.reserve(1)?;
+        self.filled.reserve(1)?;
         Ok(())
     }
 
@@ -94,6 +100,7 @@ impl Gens {
             anon_min_seq: 0,
             file_min_seq: 0,
         });
+        self.filled.push_reserved(Filled::NONE);
     }
 
     /// How many groups there are.
@@ -167,14 +174,13 @@ impl Gens {
         first_from(&self.rings, group, kind, oldest, 0)
     }
 
-    /// Whether the group has a page that may be taken: a file page, or an anonymous one and a swap block for it. It takes
-    /// constant time.
+    /// Whether the group has a page that may be taken: a file page, or an anonymous one and a swap block for it. It looks
+    /// at what is kept of each type, and at no list.
     pub fn has_usable(&self, group: GroupId, swap_free: bool) -> bool
         requires { group.0 < length self.now.groups }
         ensures { result ≡ has_usable swap_free (gens_of self.now group.0) }
     {
-        self.first(group, Kind::File).is_some()
-            || (swap_free && self.first(group, Kind::Anon).is_some())
+        self.filled[group.0 as usize].has_usable(swap_free)
     }
 
     /// The page that stands behind this one among those of its type: on its list, or the first of a younger
@@ -211,6 +217,8 @@ impl Gens {
             (lists_of self.old.groups) (lists_of self.new.groups) }
     {
         self.rings.push_back(list_of(group, kind, seq), page);
+        let filled = &mut self.filled[group.0 as usize];
+        filled.set(kind, true);
     }
 
     /// A page leaves its list (kernel: lru_gen_del_folio).
@@ -222,7 +230,16 @@ impl Gens {
             → KeepsLinksBut (RingNode.Page page ∷ link.prev ∷ link.next ∷ []) (lists_of self.old.groups) (lists_of self.new.groups) }
     {
         self.rings.lists_are_apart();
+        let emptied = alone_on(&self.rings, page);
         self.rings.remove(page);
+        // A type loses its last page only with one that was alone on its list.
+        if let Some(list) = emptied {
+            let (group, kind) = type_of(list);
+            let oldest = self.numbers[group.0 as usize].min_seq(kind);
+            let still = has_any(&self.rings, group, kind, oldest);
+            let filled = &mut self.filled[group.0 as usize];
+            filled.set(kind, still);
+        }
     }
 
     /// All pages of one group come to another's lists: those of each type to its second youngest generation, behind the
@@ -242,6 +259,10 @@ impl Gens {
         let seq = self.numbers[to.0 as usize].max_seq - 1;
         move_pages(&mut self.rings, from, anon_min_seq, to, seq, Kind::Anon);
         move_pages(&mut self.rings, from, file_min_seq, to, seq, Kind::File);
+        let moved = self.filled[from.0 as usize];
+        let filled = &mut self.filled[to.0 as usize];
+        filled.join(moved);
+        self.filled[from.0 as usize] = Filled::NONE;
     }
 
     /// The oldest generation of a type that has four becomes the front of the next (kernel: inc_min_seq).

@@ -50,3 +50,15 @@ pub fn list_of(group: GroupId, kind: Kind, seq: u64) -> ListId
     };
     ListId(group.0 * 8 + first + (seq % 4) as u32)
 }
+
+/// The group and the type of a list.
+pub fn type_of(list: ListId) -> (GroupId, Kind)
+    ensures { list.0 ≡ slot result.0.0 result.1 list.0 }
+{
+    let kind = if list.0 / 4 % 2 == 0 {
+        Kind::Anon
+    } else {
+        Kind::File
+    };
+    (GroupId(list.0 / 8), kind)
+}

@@ -2,7 +2,8 @@
 
 ghost use Rattle.std.specs.Prelude.{◌≡◌, ◌+◌, ◌-◌, ◌*◌, ◌<◌, ◌≤◌, ◌%◌, ◌^◌, true, length, option_map, slice_get};
 ghost use Rattle.rings.specs.Rings.{is_listed};
-ghost use Rattle.lru_gen.specs.Rows.{rows_from, IsBehind};
+ghost use Rattle.lru_gen.specs.Rows.{rows_from, IsBehind, IsAlone};
+ghost use Rattle.lru_gen.specs.Filled.{has_any};
 
 use crate::numbers::list_of;
 use machine::id::{GroupId, PageId};
@@ -31,6 +32,16 @@ pub fn first_from(
     None
 }
 
+/// Whether a type has a page, where its oldest generation has this number.
+#[tactic(auto, using(crate::proofs::SearchLemmas::first_tells))]
+pub fn has_any(rings: &Rings, group: GroupId, kind: Kind, oldest: u64) -> bool
+    requires group { group.0 < 2 ^ 29 }
+    requires lists { group.0 * 8 + 8 ≤ length rings.now.lists }
+    ensures { result ≡ has_any (rows_from rings.now.lists group.0 kind oldest 4) }
+{
+    first_from(rings, group, kind, oldest, 0).is_some()
+}
+
 /// What comes behind a page on its list.
 pub fn behind(rings: &Rings, page: PageId) -> RingNode
     requires { is_listed rings.now.lists page.0 ≡ true }
@@ -39,6 +50,20 @@ pub fn behind(rings: &Rings, page: PageId) -> RingNode
     match rings.link(RingNode::Page(page)) {
         Some(link) => link.next,
         None => unreachable!(),
+    }
+}
+
+/// The list on which a page stands alone, if it does.
+pub fn alone_on(rings: &Rings, page: PageId) -> Option<ListId>
+    requires { is_listed rings.now.lists page.0 ≡ true }
+    ensures { IsAlone rings.now.lists page.0 result }
+{
+    let Some(link) = rings.link(RingNode::Page(page)) else {
+        unreachable!()
+    };
+    match (link.prev, link.next) {
+        (RingNode::Head(_), RingNode::Head(list)) => Some(list),
+        _ => None,
     }
 }
 

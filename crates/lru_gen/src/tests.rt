@@ -1,6 +1,7 @@
 ghost use Rattle.std.specs.Prelude.{◌≡◌, length, nat_lt};
 
 use super::*;
+use crate::filled::Filled;
 use crate::numbers::Numbers;
 use machine::id::{GroupId, PageId};
 use machine::record::Kind;
@@ -46,10 +47,60 @@ fn anonymous_pages_are_usable_with_a_swap_block(rt: HostRuntime) -> Result<(), F
     Ok(())
 }
 
+// Each call that gives a type its first page or takes its last one, and those that do neither.
+#[test]
+fn a_type_is_usable_while_it_has_a_page(rt: HostRuntime) -> Result<(), Fail> {
+    let mut gens = Gens::open(rt.alloc(), 16)?;
+    for _ in 0..2 {
+        gens.reserve_group()?;
+        gens.add_group_reserved();
+    }
+    let root = GroupId::ROOT;
+    let child = GroupId(1);
+    for kind in [Kind::File, Kind::Anon] {
+        assert!(rt; !is_usable(&gens, root, kind));
+        // Two pages on one list, and then on two.
+        for second in [0, 3] {
+            add(&mut gens, root, PageId(7), kind, 0);
+            add(&mut gens, root, PageId(4), kind, second);
+            isolate(&mut gens, PageId(7));
+            assert!(rt; is_usable(&gens, root, kind));
+            isolate(&mut gens, PageId(4));
+            assert!(rt; !is_usable(&gens, root, kind));
+        }
+        add(&mut gens, root, PageId(7), kind, 0);
+        merge_oldest(&mut gens, root, kind);
+        assert!(rt; is_usable(&gens, root, kind));
+        isolate(&mut gens, PageId(7));
+        assert!(rt; !is_usable(&gens, root, kind));
+        add(&mut gens, root, PageId(7), kind, 3);
+        // What goes over is one group's and then the other's; a group with no page takes none from one that has some.
+        for (from, to) in [(root, child), (root, child), (child, root)] {
+            take_over(&mut gens, from, to);
+            assert!(rt; !is_usable(&gens, from, kind));
+            assert!(rt; is_usable(&gens, to, kind));
+        }
+        add(&mut gens, child, PageId(4), kind, 3);
+        take_over(&mut gens, root, child);
+        isolate(&mut gens, PageId(4));
+        assert!(rt; is_usable(&gens, child, kind));
+        isolate(&mut gens, PageId(7));
+        assert!(rt; !is_usable(&gens, child, kind));
+        raise_min(&mut gens, root, kind);
+        assert!(rt; !is_usable(&gens, root, kind));
+    }
+    add(&mut gens, root, PageId(7), Kind::Anon, 3);
+    advance(&mut gens, root);
+    assert_eq!(rt; max_seq(&gens, root), 4);
+    assert!(rt; is_usable(&gens, root, Kind::Anon));
+    assert!(rt; !is_usable(&gens, root, Kind::File));
+    Ok(())
+}
+
 // What the crate's first lines tell, beside the eight lists of a group, of 16 bytes each.
 #[test]
 fn numbers_are_small(rt: HostRuntime) {
-    assert_eq!(rt; size_of::<Numbers>(), 24);
+    assert_eq!(rt; size_of::<Numbers>() + size_of::<Filled>(), 26);
 }
 
 const GROUPS: u32 = 3;
@@ -116,6 +167,10 @@ fn mixed_calls_match_plain_vectors(rt: HostRuntime) -> Result<(), Fail> {
                 .row(rt.alloc(), group, kind, min_seq(&gens, group, kind), 4)?
                 .as_slice()
         );
+        let files = plain.has_page(rt.alloc(), &gens, group, Kind::File)?;
+        let anon = plain.has_page(rt.alloc(), &gens, group, Kind::Anon)?;
+        assert_eq!(rt; has_usable(&gens, group, false), files);
+        assert_eq!(rt; has_usable(&gens, group, true), files || anon);
     }
     assert!(rt; min_seq(&gens, GroupId(0), Kind::File) > 10);
     Ok(())
@@ -204,6 +259,17 @@ impl Plain {
             pages.extend_from_slice(moved.as_slice())?;
         }
         Ok(())
+    }
+
+    fn has_page(
+        &self,
+        alloc: Global,
+        gens: &Gens,
+        group: GroupId,
+        kind: Kind,
+    ) -> Result<bool, AllocError> {
+        let row = self.row(alloc, group, kind, min_seq(gens, group, kind), 4)?;
+        Ok(!row.is_empty())
     }
 
     fn row(
@@ -306,9 +372,22 @@ fn has_usable(gens: &Gens, group: GroupId, swap_free: bool) -> bool {
     has_group(gens, group) && gens.has_usable(group, swap_free)
 }
 
+// Of a group that has no page of the other type.
+fn is_usable(gens: &Gens, group: GroupId, kind: Kind) -> bool {
+    has_usable(gens, group, kind == Kind::Anon)
+}
+
 fn min_seq(gens: &Gens, group: GroupId, kind: Kind) -> u64 {
     if has_group(gens, group) {
         gens.min_seq(group, kind)
+    } else {
+        0
+    }
+}
+
+fn max_seq(gens: &Gens, group: GroupId) -> u64 {
+    if has_group(gens, group) {
+        gens.max_seq(group)
     } else {
         0
     }

@@ -4,6 +4,7 @@ use Rattle.machine.specs.Generations.{Gens, advanced}
 use Rattle.lru_gen.proofs.GroupLemmas.{within_numbers, seen_at, read_at, seen_becomes, table_stays}
 use Rattle.lru_gen.proofs.ChangeLemmas.{advanced_changes}
 use Rattle.lru_gen.proofs.LinkLemmas.{lists_told, lists_seen}
+use Rattle.lru_gen.proofs.FilledLemmas.{kept_same, advanced_same}
 use Rattle.lru_gen.proofs.gens.Gens.advance.Goals as goal
 
 pub index_mut-requires : goal.index_mut-requires
@@ -31,7 +32,7 @@ invariant_of-self c =
     let seen = seen_at c.args.self.now lists numbers _ _ g c.self.view_is c.requires.group in
     let anon = subst (λ (v : Gens). v.max_seq ≤ v.anon.min_seq + 2) (sym seen) c.requires.anon in
     let file = subst (λ (v : Gens). v.max_seq ≤ v.file.min_seq + 2) (sym seen) c.requires.file in
-    table_stays lists lists numbers g within _ advanced (advanced_changes lists numbers c.self.invariant g within anon file) _ (ap (λ (n : Numbers). set numbers g (record n { max_seq = n.max_seq + 1 })) read) c.self.invariant
+    kept_same lists lists numbers g within _ advanced (advanced_changes lists numbers c.self.invariant.table g within anon file) _ (ap (λ (n : Numbers). set numbers g (record n { max_seq = n.max_seq + 1 })) read) c.self.inside.filled.items c.self.invariant advanced_same
 
 pub returns-clause-groups : goal.returns-clause-groups
 returns-clause-groups c =
@@ -43,7 +44,7 @@ returns-clause-groups c =
     let seen = seen_at c.args.self.now lists numbers _ _ g c.self.view_is c.requires.group in
     let anon = subst (λ (v : Gens). v.max_seq ≤ v.anon.min_seq + 2) (sym seen) c.requires.anon in
     let file = subst (λ (v : Gens). v.max_seq ≤ v.file.min_seq + 2) (sym seen) c.requires.file in
-    seen_becomes lists lists numbers g within _ advanced (advanced_changes lists numbers c.self.invariant g within anon file) _ (ap (λ (n : Numbers). set numbers g (record n { max_seq = n.max_seq + 1 })) read) c.args.self.now _ _ _ _ c.self.view_is refl refl
+    seen_becomes lists lists numbers g within _ advanced (advanced_changes lists numbers c.self.invariant.table g within anon file) _ (ap (λ (n : Numbers). set numbers g (record n { max_seq = n.max_seq + 1 })) read) c.args.self.now _ _ _ _ c.self.view_is refl refl
 
 pub returns-clause-links : goal.returns-clause-links
 returns-clause-links c =
@@ -55,5 +56,5 @@ returns-clause-links c =
     let seen = seen_at c.args.self.now lists numbers _ _ g c.self.view_is c.requires.group in
     let anon = subst (λ (v : Gens). v.max_seq ≤ v.anon.min_seq + 2) (sym seen) c.requires.anon in
     let file = subst (λ (v : Gens). v.max_seq ≤ v.file.min_seq + 2) (sym seen) c.requires.file in
-    sym (lists_told lists _ (table_stays lists lists numbers g within _ advanced (advanced_changes lists numbers c.self.invariant g within anon file) _ (ap (λ (n : Numbers). set numbers g (record n { max_seq = n.max_seq + 1 })) read) c.self.invariant))
-    ∙ lists_seen c.args.self.now lists numbers _ _ c.self.view_is c.self.invariant
+    sym (lists_told lists _ (table_stays lists lists numbers g within _ advanced (advanced_changes lists numbers c.self.invariant.table g within anon file) _ (ap (λ (n : Numbers). set numbers g (record n { max_seq = n.max_seq + 1 })) read) c.self.invariant.table))
+    ∙ lists_seen c.args.self.now lists numbers _ _ c.self.view_is c.self.invariant.table

@@ -16,7 +16,7 @@ first_from-requires c =
     let numbers = c.self.inside.numbers.items in
     let g = c.args.group.0 in
     let within = within_numbers c.args.self.now lists numbers _ _ g c.self.view_is c.requires in
-    record { group = few_groups lists numbers g c.self.invariant within; lists = lists_among lists numbers g c.self.invariant within; turn = omega arith }
+    record { group = few_groups lists numbers g c.self.invariant.table within; lists = lists_among lists numbers g c.self.invariant.table within; turn = omega arith }
 
 pub returns : goal.returns
 returns c =

@@ -22,7 +22,7 @@ list_of-requires c =
     let numbers = c.self.inside.numbers.items in
     let g = c.args.group.0 in
     let within = within_numbers c.args.self.now lists numbers _ _ g c.self.view_is c.requires in
-    few_groups lists numbers g c.self.invariant within
+    few_groups lists numbers g c.self.invariant.table within
 
 pub front-requires : goal.front-requires
 front-requires c =
@@ -31,7 +31,7 @@ front-requires c =
     let g = c.args.group.0 in
     let within = within_numbers c.args.self.now lists numbers _ _ g c.self.view_is c.requires in
     let k = c.args.kind in
-    subst (λ (l : ℕ). l < length lists) (sym c.list_of.ensures) (slot_among lists numbers g k _ c.self.invariant within)
+    subst (λ (l : ℕ). l < length lists) (sym c.list_of.ensures) (slot_among lists numbers g k _ c.self.invariant.table within)
 
 pub returns : goal.returns
 returns c =

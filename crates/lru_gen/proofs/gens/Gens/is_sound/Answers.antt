@@ -8,6 +8,6 @@ returns c =
     let lists = c.self.inside.rings.lists in
     let numbers = c.self.inside.numbers.items in
     subst (λ (v : GensOf). IsSound v) c.self.view_is (record {
-      gens = groups_are lists numbers c.self.invariant c.lists_are_apart.ensures.apart;
+      gens = groups_are lists numbers c.self.invariant.table c.lists_are_apart.ensures.apart;
       numbered = λ p listed. c.lists_are_apart.ensures.within p (in_a_ring lists numbers p listed);
     })
