@@ -9,6 +9,11 @@ pub mod BehindLemmas
 pub mod LineageLemmas
 pub mod RemoveLemmas
 pub mod RemovedTables
-pub mod SiblingLemmas
-pub mod AppendLemmas
-pub mod UnlinkLemmas
+pub mod UnderLemmas
+pub mod SpliceLemmas
+pub mod PushedWalk
+pub mod RemovedWalk
+pub mod SpanLemmas
+pub mod OrderLemmas
+pub mod InsertLemmas
+pub mod TakeOutLemmas

@@ -1,21 +1,17 @@
 -- A walk over a group and those below it, step by step.
-use Rattle.std.proofs.Common.{inl, inr, ◌≡◌, ℕ, zero, suc, ◌+◌, ◌-◌, ◌<◌, ◌≤◌, ◌==◌, Bool, true, false, if◌then◌else◌, ◌&&◌, ◌||◌, List, [], ◌∷◌, ◌++◌, length, drop, get_or, map, filter, Option, Some, None, is_some, refl, sym, ap, ◌∙◌, subst, arith, append_assoc, append-nil, add-one, drop-cons, length-drop}
-use Rattle.std.specs.Prelude.{flat_map, nat_le}
+use Rattle.std.proofs.Common.{inl, inr, ◌≡◌, ℕ, zero, suc, ◌+◌, ◌<◌, ◌≤◌, ◌==◌, Bool, true, false, if◌then◌else◌, ◌&&◌, ◌||◌, List, [], ◌∷◌, ◌++◌, length, drop, get_or, map, filter, Option, Some, None, refl, sym, ap, ◌∙◌, subst, arith, add-one, drop-cons, length-drop}
+use Rattle.std.specs.Prelude.{flat_map}
 use Rattle.std.specs.List.{enumerate_from, list_any}
-use Rattle.std.specs.Option.{option_map_or}
 use Rattle.std.proofs.lemmas.Bool.{cases_lt, cases_Bool, and_from, and_parts, or_left, or_right, or_cases}
 use Rattle.std.proofs.lemmas.Bool.Decides.{nat_tests}
-use Rattle.std.proofs.lemmas.List.Elements.{All-from_get_or}
-use Rattle.std.proofs.lemmas.List.Folds.{list_any-append, list_any_at, list_any_none}
-use Rattle.machine.specs.Tree.{Node, no_node, node_at, is_live, is_child, is_parent, has_children, under, under_at, IsTree, numbers, children, preorder_to, preorder}
+use Rattle.std.proofs.lemmas.List.Folds.{list_any-append}
+use Rattle.machine.specs.Tree.{Node, no_node, node_at, is_live, is_child, is_parent, under, under_at, IsTree, numbers, children, preorder_to, preorder}
 use Rattle.machine.proofs.TreeLemmas.{eq_cases, under_at-None, under_at-step}
 use Rattle.group_tree.specs.Groups.{IsGroupTree}
-use Rattle.group_tree.specs.Siblings.{IsFirstFrom, child_of}
-use Rattle.group_tree.specs.Walk.{children_among, children_from, after_in, after, left}
+use Rattle.group_tree.specs.Walk.{children_among, children_from}
 use Rattle.group_tree.proofs.TreeFacts.{live-within, within}
 use Rattle.group_tree.proofs.LineageLemmas.{under-child}
 use Rattle.group_tree.proofs.WalkLemmas.{under_here}
-use Rattle.group_tree.proofs.SiblingLemmas.{first-later}
 
 nothing_left : (xs : List Node) → length xs ≡ 0 → xs ≡ []
 nothing_left [] h = refl
@@ -64,54 +60,25 @@ child_parent tree p g t = is_parent-same _ p (and_parts (node_at tree g).live _ 
 pub child-from : (tree : List Node) (p g : ℕ) → is_live tree g ≡ true → (node_at tree g).parent ≡ Some p → is_child p (node_at tree g) ≡ true
 child-from tree p g live below = and_from (is_live tree g) _ live (ap (λ at. is_parent at p) below ∙ (let own : (p == p) ≡ true = grind arith in own))
 
--- over numbers that are no children nothing changes
-children_from-skip : (tree : List Node) (p n k m : ℕ) → k + n ≡ m → m ≤ length tree → ((j : ℕ) → k ≤ j → j < m → is_child p (node_at tree j) ≡ false) → children_from tree p k ≡ children_from tree p m
-children_from-skip tree p zero k m sum within none = let same : k ≡ m = omega arith in ap (children_from tree p) same
-children_from-skip tree p (suc n) k m sum within none =
-    children_from-other tree p k (omega arith) (none k (omega arith) (omega arith)) ∙ children_from-skip tree p n (k + 1) m (omega arith) within (λ j from to. none j (omega (arith, from)) to)
-
--- the children from a number on begin with the first of them
-pub first-some : (tree : List Node) (p k c : ℕ) → IsFirstFrom (child_of tree p) k (Some c) → children_from tree p k ≡ c ∷ children_from tree p (c + 1)
-first-some tree p k c first =
-    let from = first.0 in
-    let lt = within tree c p (child_parent tree p c first.1) in
-    children_from-skip tree p (c - k) k c (omega (arith, from)) (omega (arith, lt)) first.2 ∙ children_from-child tree p c lt first.1
-
--- and where none is the first, there is none
-pub first-none : (tree : List Node) (p k : ℕ) → IsFirstFrom (child_of tree p) k None → children_from tree p k ≡ []
-first-none tree p k none =
-    elim (cases_lt k (length tree)) [
-      | inl lt ↦
-          children_from-skip tree p (length tree - k) k (length tree) (omega (arith, lt)) (omega arith) (λ j from to. none j from) ∙ children_from-end tree p (length tree) (omega arith)
-      | inr ge ↦ children_from-end tree p k ge
-    ]
-
-flat_map-child : (tree : List Node) (f h : ℕ → List ℕ) (p : ℕ) → ((c : ℕ) → (node_at tree c).parent ≡ Some p → f c ≡ h c) → (k : ℕ) → k < length tree
+flat_map-child : (tree : List Node) (f h : ℕ → List ℕ) (p k : ℕ) → ((node_at tree k).parent ≡ Some p → f k ≡ h k) → k < length tree
     → flat_map f (children_from tree p (k + 1)) ≡ flat_map h (children_from tree p (k + 1)) → (b : Bool) → is_child p (node_at tree k) ≡ b
     → flat_map f (children_from tree p k) ≡ flat_map h (children_from tree p k)
-flat_map-child tree f h p same k lt rest true t =
+flat_map-child tree f h p k same lt rest true t =
     let step = children_from-child tree p k lt t in
-    ap (flat_map f) step ∙ ap (λ ys. ys ++ flat_map f (children_from tree p (k + 1))) (same k (child_parent tree p k t)) ∙ ap (λ ys. h k ++ ys) rest ∙ sym (ap (flat_map h) step)
-flat_map-child tree f h p same k lt rest false t =
+    ap (flat_map f) step ∙ ap (λ ys. ys ++ flat_map f (children_from tree p (k + 1))) (same (child_parent tree p k t)) ∙ ap (λ ys. h k ++ ys) rest ∙ sym (ap (flat_map h) step)
+flat_map-child tree f h p k same lt rest false t =
     let step = children_from-other tree p k lt t in
     ap (flat_map f) step ∙ rest ∙ sym (ap (flat_map h) step)
 
--- what agrees at each child of a group agrees over them all
-flat_map-children : (tree : List Node) (f h : ℕ → List ℕ) (p : ℕ) → ((c : ℕ) → (node_at tree c).parent ≡ Some p → f c ≡ h c) → (n k : ℕ) → length tree ≤ n + k
+-- what agrees at each child of a group from a number on agrees over them all
+pub flat_map-children : (tree : List Node) (f h : ℕ → List ℕ) (p low : ℕ) → ((c : ℕ) → low ≤ c → (node_at tree c).parent ≡ Some p → f c ≡ h c) → (n k : ℕ) → low ≤ k → length tree ≤ n + k
     → flat_map f (children_from tree p k) ≡ flat_map h (children_from tree p k)
-flat_map-children tree f h p same zero k e = let none = children_from-end tree p k (omega arith) in ap (flat_map f) none ∙ sym (ap (flat_map h) none)
-flat_map-children tree f h p same (suc n) k e =
+flat_map-children tree f h p low same zero k from e = let none = children_from-end tree p k (omega arith) in ap (flat_map f) none ∙ sym (ap (flat_map h) none)
+flat_map-children tree f h p low same (suc n) k from e =
     elim (cases_lt k (length tree)) [
-      | inl lt ↦ flat_map-child tree f h p same k lt (flat_map-children tree f h p same n (k + 1) (omega arith)) (is_child p (node_at tree k)) refl
+      | inl lt ↦ flat_map-child tree f h p k (same k from) lt (flat_map-children tree f h p low same n (k + 1) (omega arith) (omega arith)) (is_child p (node_at tree k)) refl
       | inr ge ↦ (let none = children_from-end tree p k ge in ap (flat_map f) none ∙ sym (ap (flat_map h) none))
     ]
-
--- at the start, nothing comes after
-pub after-start : (tree : List Node) (start g : ℕ) → g ≤ start → after tree start g ≡ []
-unfolding after after_in
-after-start tree start g h =
-    let t : nat_le g start ≡ true = grind (arith, nat_tests, h) in
-    ap (λ b. if b then [] else option_map_or (λ p. flat_map (preorder tree) (children_from tree p (g + 1)) ++ after_in g tree start p) (node_at tree g).parent []) t
 
 module _ (tree : List Node) (is : IsTree tree) where
   no_child : (g k : ℕ) → k ≤ g → is_child g (node_at tree k) ≡ false
@@ -121,12 +88,8 @@ module _ (tree : List Node) (is : IsTree tree) where
         | inr other ↦ other
       ]
 
-  -- so the first of all is the first above it
-  pub first-own : (g : ℕ) (at : Option ℕ) → IsFirstFrom (child_of tree g) 0 at → IsFirstFrom (child_of tree g) (g + 1) at
-  first-own g at first = first-later (child_of tree g) 0 (g + 1) at (omega arith) (λ j lt. no_child g j (omega (arith, lt))) first
-
   -- the children of a group are numbered above it
-  children_from-own : (g n k : ℕ) → g < length tree → k + n ≡ g + 1 → children_from tree g k ≡ children_from tree g (g + 1)
+  pub children_from-own : (g n k : ℕ) → g < length tree → k + n ≡ g + 1 → children_from tree g k ≡ children_from tree g (g + 1)
   children_from-own g zero k lt h = let same : k ≡ g + 1 = omega arith in ap (children_from tree g) same
   children_from-own g (suc n) k lt h =
       let before : k ≤ g = omega arith in
@@ -141,79 +104,14 @@ module _ (tree : List Node) (is : IsTree tree) where
       let same = children-from tree g in
       ap (λ cs. g ∷ flat_map (preorder_to n tree) cs) same
       ∙ ap (λ rest. g ∷ rest)
-      (flat_map-children tree (preorder_to n tree) (preorder_to m tree) g
-      (λ c e. let falls = is.falls c g e in let inside = within tree c g e in preorder_to-steps n m c inside (omega (arith, falls, h)) (omega (arith, falls, k))) (length tree) 0 (omega arith))
+      (flat_map-children tree (preorder_to n tree) (preorder_to m tree) g 0
+      (λ c from e. let falls = is.falls c g e in let inside = within tree c g e in preorder_to-steps n m c inside (omega (arith, falls, h)) (omega (arith, falls, k))) (length tree) 0 (omega arith) (omega arith))
       ∙ sym (ap (λ cs. g ∷ flat_map (preorder_to m tree) cs) same)
 
   pub preorder-step : (g : ℕ) → g < length tree → preorder tree g ≡ g ∷ flat_map (preorder tree) (children_from tree g (g + 1))
   unfolding preorder_to
   preorder-step g lt =
       preorder_to-steps (length tree) (suc (length tree)) g lt (omega arith) (omega arith) ∙ ap (λ cs. g ∷ flat_map (preorder tree) cs) (children-from tree g ∙ children_from-own g (g + 1) 0 lt (omega arith))
-
-  -- what agrees at the parent, if there is one, agrees after the group
-  same_above : (g : ℕ) (f h : ℕ → List ℕ) → ((p : ℕ) → (node_at tree g).parent ≡ Some p → f p ≡ h p) → (at : Option ℕ) → (node_at tree g).parent ≡ at
-      → option_map_or (λ p. flat_map (preorder tree) (children_from tree p (g + 1)) ++ f p) at []
-      ≡ option_map_or (λ p. flat_map (preorder tree) (children_from tree p (g + 1)) ++ h p) at []
-  same_above g f h same None e = refl
-  same_above g f h same (Some p) e = ap (λ rest. flat_map (preorder tree) (children_from tree p (g + 1)) ++ rest) (same p e)
-
-  -- a greater height changes nothing
-  after_in-steps : (n m start g : ℕ) → g < n → g < m → after_in n tree start g ≡ after_in m tree start g
-  unfolding after_in
-  after_in-steps zero m start g h k = absurd (omega arith)
-  after_in-steps (suc n) zero start g h k = absurd (omega arith)
-  after_in-steps (suc n) (suc m) start g h k =
-      ap (λ rest. if nat_le g start then [] else rest)
-      (same_above g (after_in n tree start) (after_in m tree start)
-      (λ p e. let falls = is.falls g p e in after_in-steps n m start p (omega (arith, falls, h)) (omega (arith, falls, k))) (node_at tree g).parent refl)
-
-  pub after-top : (start g : ℕ) → (node_at tree g).parent ≡ None → after tree start g ≡ []
-  unfolding after after_in
-  after-top start g e =
-      ap (λ at. if nat_le g start then [] else option_map_or (λ p. flat_map (preorder tree) (children_from tree p (g + 1)) ++ after_in g tree start p) at []) e ∙ same_either (nat_le g start)
-    where
-      same_either : (b : Bool) → (if b then [] else []) ≡ (let none : List ℕ = [] in none)
-      same_either true = refl
-      same_either false = refl
-
-  pub after-below : (start g p : ℕ) → start < g → (node_at tree g).parent ≡ Some p → after tree start g ≡ flat_map (preorder tree) (children_from tree p (g + 1)) ++ after tree start p
-  unfolding after after_in
-  after-below start g p h e =
-      let t : nat_le g start ≡ false = grind (arith, nat_tests, h) in
-      let falls = is.falls g p e in
-      ap (λ b. if b then [] else option_map_or (λ q. flat_map (preorder tree) (children_from tree q (g + 1)) ++ after_in g tree start q) (node_at tree g).parent []) t
-      ∙ ap (λ at. option_map_or (λ q. flat_map (preorder tree) (children_from tree q (g + 1)) ++ after_in g tree start q) at []) e
-      ∙ ap (λ rest. flat_map (preorder tree) (children_from tree p (g + 1)) ++ rest) (after_in-steps g (suc p) start p (omega (arith, falls)) (omega arith))
-
-  -- from a group that has children to the first of them
-  pub left-child : (start g c : ℕ) → start ≤ g → g < length tree → (node_at tree c).parent ≡ Some g → children_from tree g (g + 1) ≡ c ∷ children_from tree g (c + 1)
-      → left tree start (Some g) ≡ g ∷ left tree start (Some c)
-  left-child start g c from lt e first =
-      let falls = is.falls c g e in
-      ap (λ xs. xs ++ after tree start g) (preorder-step g lt ∙ ap (λ cs. g ∷ flat_map (preorder tree) cs) first)
-      ∙ ap (λ xs. g ∷ xs)
-      (append_assoc (preorder tree c) (flat_map (preorder tree) (children_from tree g (c + 1))) (after tree start g)
-      ∙ ap (λ xs. preorder tree c ++ xs) (sym (after-below start c g (omega (arith, falls, from)) e)))
-
-  -- from a group that has none to what comes after it
-  pub left-leaf : (start g : ℕ) → g < length tree → children_from tree g (g + 1) ≡ [] → left tree start (Some g) ≡ g ∷ after tree start g
-  left-leaf start g lt none = ap (λ xs. xs ++ after tree start g) (preorder-step g lt ∙ ap (λ cs. g ∷ flat_map (preorder tree) cs) none)
-
-  -- after a group come the groups from its next sibling on
-  pub after-sibling : (start g p s : ℕ) → start < g → (node_at tree g).parent ≡ Some p → (node_at tree s).parent ≡ Some p → g < s
-      → children_from tree p (g + 1) ≡ s ∷ children_from tree p (s + 1) → after tree start g ≡ left tree start (Some s)
-  after-sibling start g p s from e f more next =
-      after-below start g p from e ∙ ap (λ cs. flat_map (preorder tree) cs ++ after tree start p) next
-      ∙ append_assoc (preorder tree s) (flat_map (preorder tree) (children_from tree p (s + 1))) (after tree start p)
-      ∙ ap (λ xs. preorder tree s ++ xs) (sym (after-below start s p (omega (arith, from, more)) f))
-
-  -- and after the last of its siblings what comes after the parent
-  pub after-last : (start g p : ℕ) → start < g → (node_at tree g).parent ≡ Some p → children_from tree p (g + 1) ≡ [] → after tree start g ≡ after tree start p
-  after-last start g p from e none = after-below start g p from e ∙ ap (λ cs. flat_map (preorder tree) cs ++ after tree start p) none
-
--- a walk begins with all of it left
-pub left-start : (tree : List Node) (start : ℕ) → left tree start (Some start) ≡ preorder tree start
-left-start tree start = ap (λ xs. preorder tree start ++ xs) (after-start tree start start (omega arith)) ∙ append-nil (preorder tree start)
 
 -- Which groups a walk comes to.
 is_among : ℕ → List ℕ → Bool
@@ -338,8 +236,3 @@ preorder-has tree groups target g live =
     same_tests _ _
     (λ h. let comes = comes_to tree is target there (length tree) target g live (under_here tree target target (let own : (target == target) ≡ true = grind arith in own)) h in and_from _ _ comes.0 comes.1)
     (λ h. reaches tree is target there groups.parents_live (suc g) g (omega arith) (and_parts _ _ h).0 (and_parts _ _ h).1 (node_at tree g).parent refl)
-
--- a group has children exactly where it has a first one
-pub has-first : (tree : List Node) (p : ℕ) (at : Option ℕ) → IsFirstFrom (child_of tree p) 0 at → is_some at ≡ has_children tree p
-has-first tree p (Some c) first = sym (list_any_at (is_child p) tree c no_node (within tree c p (child_parent tree p c first.1)) first.1)
-has-first tree p None first = sym (list_any_none (is_child p) tree (All-from_get_or (λ x. is_child p x ≡ false) tree no_node (λ j lt. first j (omega arith))))

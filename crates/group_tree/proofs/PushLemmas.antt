@@ -155,11 +155,11 @@ root_path : (g : ℕ) → is_live (root ∷ []) g ≡ true → find_group (root 
 root_path zero live = refl
 root_path (suc g) live = absurd (let none : false ≡ true = live in cc)
 
-root_alone : live_groups (root ∷ []) ≡ 1
+pub root_alone : live_groups (root ∷ []) ≡ 1
 root_alone = live_groups-push [] root refl
 
 -- the root alone is a tree of groups
-IsGroupTree-root : IsGroupTree (root ∷ [])
+pub IsGroupTree-root : IsGroupTree (root ∷ [])
 IsGroupTree-root = record {
   earlier_parents = IsTree-root;
   root_first = (omega arith, refl);

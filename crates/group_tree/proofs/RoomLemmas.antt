@@ -80,3 +80,8 @@ chain_length tree p items e =
     let same : length (map (λ g. g.0) items) ≡ length items = length-map _ _ in
     let whole = ap length e in
     omega (arith, same, whole)
+
+-- a number that is some group's
+pub is-found : (at : Option GroupId) (p : ℕ) → number at ≡ Some p → is_some at ≡ true
+is-found None p e = absurd cc
+is-found (Some g) p e = refl

@@ -1,6 +1,6 @@
 pub mod Groups
 pub mod Tables
-pub mod Siblings
+pub mod Places
 pub mod Walk
 pub mod Lineages
 pub mod Kin

@@ -8,8 +8,8 @@ pub use lineage::Lineage;
 pub use preorder::Preorder;
 pub use tree::Tree;
 
-mod children;
 mod lineage;
 mod path;
 mod preorder;
 mod tree;
+mod walk;

@@ -1,17 +1,15 @@
 //! The groups, by number and by path.
 
-ghost use Rattle.std.specs.Prelude.{◌≡◌, ℕ, Bool, ◌+◌, ◌<◌, ◌++◌, ◌∷◌, [], true, false, length, map, IsTrue, IfSome, IfOk, IfErr, OnOk, OnErr};
+ghost use Rattle.std.specs.Prelude.{◌≡◌, ℕ, Bool, ◌<◌, ◌++◌, ◌∷◌, [], true, false, length, map, IsTrue, IfSome, IfOk, IfErr, OnOk, OnErr};
 ghost use Rattle.std.specs.Option.{option_map};
 ghost use Rattle.machine.specs.Tree.{root, node_at, is_live, chain, under, has_children, find_group, without_group};
 ghost use Rattle.machine.specs.Names.{parent_path};
 ghost use Rattle.machine.specs.Refusals.{first_cause, space_refusal, mkdir_refusal};
 ghost use Rattle.machine.specs.Step.{new_node};
 ghost use Rattle.group_tree.specs.Groups.{IsGroupTree};
-ghost use Rattle.group_tree.specs.Tables.{number};
-ghost use Rattle.group_tree.specs.Siblings.{child_of, IsFirstFrom};
 
-use crate::children::Children;
 use crate::path::parent_path;
+use crate::walk::Walk;
 use arrayvec::ArrayVec;
 use indexmap::IndexMap;
 use machine::id::GroupId;
@@ -31,8 +29,8 @@ const MAX_NUMBERS: usize = u32::MAX as usize;
 
 /// A group: what it hangs below, the path that it was made with, and whether it still is.
 #[derive(Drop)]
-struct Group {
-    parent: Option<GroupId>,
+pub struct Group {
+    pub parent: Option<GroupId>,
     /// For the contracts, which see it, and for a removal, which takes it out of the index. The code
     /// finds a group by the index.
     path: String,
@@ -48,8 +46,8 @@ pub struct Tree {
     alloc: Global,
     /// By number. A removed group stays, so that its parent stays known.
     groups: Vec<Group>,
-    /// By number: which children each has.
-    children: Children,
+    /// The live groups in the order of a walk.
+    pub(crate) walk: Walk,
     /// How many groups are live.
     live: usize,
     /// The live group of each path.
@@ -60,13 +58,13 @@ impl Model for Tree {
     ghost use Rattle.std.specs.Prelude.{List};
     ghost use Rattle.machine.specs.Tree.{Node};
     ghost use Rattle.group_tree.specs.Tables.{nodes_of, AreTables};
-    ghost use Rattle.group_tree.specs.Siblings.{AreLinked};
+    ghost use Rattle.group_tree.specs.Places.{IsWalkOf};
 
     ghost Value = { List Node };
 
     ghost view = { λ t. nodes_of t.groups.items };
 
-    ghost invariant = { λ t. AreTables t.groups.items t.live t.by_path.entries × AreLinked (nodes_of t.groups.items) t.children.links.items };
+    ghost invariant = { λ t. AreTables t.groups.items t.live t.by_path.entries × IsWalkOf (nodes_of t.groups.items) t.walk };
 }
 
 impl Tree {
@@ -75,7 +73,7 @@ impl Tree {
         ensures { IfOk result (λ tree. tree ≡ root ∷ []) }
     {
         let mut groups = Vec::with_capacity(alloc, 1)?;
-        let mut children = Children::open(alloc)?;
+        let walk = Walk::open(alloc)?;
         let mut by_path = IndexMap::new(alloc);
         let path = String::from_str(alloc, "/")?;
         by_path.insert(String::from_str(alloc, "/")?, GroupId::ROOT)?;
@@ -84,11 +82,10 @@ impl Tree {
             path,
             live: true,
         });
-        children.append(GroupId::ROOT, None);
         Ok(Tree {
             alloc,
             groups,
-            children,
+            walk,
             live: 1,
             by_path,
         })
@@ -111,18 +108,18 @@ impl Tree {
             return Err(AllocError);
         }
         let id = self.next_id();
-        let parent = self.find(parent_path(path));
+        let parent = self.find(parent_path(path)).unwrap();
         let key = String::from_str(self.alloc, path)?;
         let path = String::from_str(self.alloc, path)?;
         self.groups.reserve(1)?;
-        self.children.reserve()?;
+        self.walk.reserve()?;
         self.by_path.insert(key, id)?;
+        self.walk.insert(&self.groups, id, parent);
         self.groups.push_reserved(Group {
-            parent,
+            parent: Some(parent),
             path,
             live: true,
         });
-        self.children.append(id, parent);
         self.live += 1;
         Ok(id)
     }
@@ -136,10 +133,10 @@ impl Tree {
         requires childless { has_children self.old group.0 ≡ false }
         ensures { self.new ≡ without_group self.old group.0 }
     {
+        self.walk.remove(&self.groups, group);
         let removed = &mut self.groups[group.0 as usize];
         removed.live = false;
         self.by_path.swap_remove(removed.path.as_str());
-        self.children.remove(group, removed.parent);
         self.live -= 1;
     }
 
@@ -198,26 +195,11 @@ impl Tree {
         false
     }
 
-    /// The first of a group's children (kernel: css_next_child of no child).
-    pub(crate) fn first_child(&self, group: GroupId) -> Option<GroupId>
-        ensures { IsFirstFrom (child_of self.now group.0) 0 (number result) }
-    {
-        self.children.first_child(group)
-    }
-
-    /// The next child of what a live group hangs below (kernel: css_next_child).
-    pub(crate) fn next_sibling(&self, group: GroupId) -> Option<GroupId>
-        ensures { (parent : ℕ) → child_of self.now parent group.0 ≡ true
-            → IsFirstFrom (child_of self.now parent) (group.0 + 1) (number result) }
-    {
-        self.children.next_sibling(group)
-    }
-
     /// Whether a live group hangs below this one.
     pub fn has_children(&self, group: GroupId) -> bool
         ensures { result ≡ has_children self.now group.0 }
     {
-        self.first_child(group).is_some()
+        self.is_live(group) && self.walk.spans[group.0 as usize] > 1
     }
 
     /// The group, what it hangs below, and so on up to the root. No group has more than 16 above it.
