@@ -5,7 +5,8 @@ use Rattle.std.proofs.lemmas.Bool.{cases_lt}
 use Rattle.std.proofs.lemmas.Bool.Decides.{eqb_tells}
 use Rattle.std.proofs.lemmas.List.Sums.{sum_by-cons}
 use Rattle.std.specs.List.{list_any}
-use Rattle.block_store.specs.Memory.{is_listed, faults_left}
+use Rattle.block_store.specs.Device.{is_listed}
+use Rattle.block_store.specs.Memory.{faults_left}
 
 faults_left-cons : (x : ℕ) (xs : List ℕ) (calls : ℕ) → faults_left (x ∷ xs) calls ≡ cond (nat_lt calls x) 1 0 + faults_left xs calls
 faults_left-cons x xs calls = sum_by-cons (λ call. cond (nat_lt calls call) 1 0) x xs

@@ -1,23 +1,5 @@
--- What contracts see of a block device in memory.
-use Rattle.std.specs.Prelude.{ℕ, ◌+◌, ◌-◌, ◌<◌, ◌≤◌, ◌==◌, ◌^◌, min, nat_lt, Bool, List, length, count_by}
-use Rattle.std.specs.List.{list_any}
-use Rattle.block_store.specs.Device.{Disk}
-
--- the device, how many reads and writes it has counted, and which of them fail
-pub record MemoryOf : Type 0 where
-  pub disk : Disk
-  pub reads : ℕ
-  pub writes : ℕ
-  pub read_faults : List ℕ
-  pub write_faults : List ℕ
-
--- whether the call after so many is listed
-abbrev pub is_listed : List ℕ → ℕ → Bool
-is_listed faults calls = list_any (λ call. call == calls + 1) faults
-
--- a call more; the greatest count of 64 bits stays
-abbrev pub counted : ℕ → ℕ
-counted calls = min (calls + 1) (2 ^ 64 - 1)
+-- Which calls of a block device in memory are still to fail. No public clause cites this.
+use Rattle.std.specs.Prelude.{ℕ, ◌+◌, ◌<◌, ◌≤◌, nat_lt, List, length, count_by}
 
 -- how many of the list are still to come after so many calls
 abbrev pub faults_left : List ℕ → ℕ → ℕ

@@ -1,8 +1,8 @@
 //! A block device in memory.
 
 ghost use Rattle.std.specs.Prelude.{◌≡◌, ℕ, ◌+◌, ◌<◌, ◌≤◌, ◌↔◌, length, replicate, IfOk, IsErr, OnErr, IsTrue, if◌then◌else◌};
-ghost use Rattle.block_store.specs.Device.{bytes_on, ReadsBlock, WritesBlock};
-ghost use Rattle.block_store.specs.Memory.{is_listed, counted, faults_left};
+ghost use Rattle.block_store.specs.Device.{bytes_on, counted, is_listed, new_disk, ReadsBlock, WritesBlock};
+ghost use Rattle.block_store.specs.Memory.{faults_left};
 
 use crate::device::{BLOCK_BYTES, BlockDevice, Fault};
 use std::alloc::{AllocError, Global};
@@ -27,12 +27,18 @@ pub struct MemDevice {
 }
 
 impl Model for MemDevice {
-    ghost use Rattle.std.specs.Prelude.{◌+◌, length, vec_len};
-    ghost use Rattle.block_store.specs.Memory.{MemoryOf, IsMemory};
+    ghost use Rattle.std.specs.Prelude.{◌+◌, Some, length, vec_len};
+    ghost use Rattle.block_store.specs.Device.{Disk};
+    ghost use Rattle.block_store.specs.Memory.{IsMemory};
 
-    ghost Value = { MemoryOf };
+    ghost Value = { Disk };
 
-    ghost view = { λ d. record { disk = record { contents = d.blocks.items; failures = d.failures; fault_limit = length d.read_faults.items + length d.write_faults.items }; reads = d.reads; writes = d.writes; read_faults = d.read_faults.items; write_faults = d.write_faults.items } };
+    ghost view = { λ d. record {
+      contents = d.blocks.items;
+      failures = d.failures;
+      fault_limit = length d.read_faults.items + length d.write_faults.items;
+      plan = Some (record { reads = d.reads; writes = d.writes; read_faults = d.read_faults.items; write_faults = d.write_faults.items });
+    } };
 
     ghost invariant = { λ d. IsMemory (vec_len d.blocks) d.failures d.reads d.writes d.read_faults.items d.write_faults.items };
 }
@@ -49,13 +55,7 @@ impl MemDevice {
         read_faults: &[u64],
         write_faults: &[u64],
     ) -> Result<MemDevice, AllocError>
-        ensures zeros { IfOk result (λ d. d.disk.contents ≡ replicate blocks (replicate BLOCK_BYTES 0)) }
-        ensures failures { IfOk result (λ d. d.disk.failures ≡ 0) }
-        ensures limit { IfOk result (λ d. d.disk.fault_limit ≡ length read_faults.now + length write_faults.now) }
-        ensures reads { IfOk result (λ d. d.reads ≡ 0) }
-        ensures writes { IfOk result (λ d. d.writes ≡ 0) }
-        ensures read_faults { IfOk result (λ d. d.read_faults ≡ read_faults.now) }
-        ensures write_faults { IfOk result (λ d. d.write_faults ≡ write_faults.now) }
+        ensures { IfOk result (λ d. d ≡ new_disk blocks read_faults.now write_faults.now) }
     {
         let blocks = vec![in alloc; [0; BLOCK_BYTES]; blocks as usize]?;
         let read_faults = read_faults.to_vec(alloc)?;
@@ -72,22 +72,13 @@ impl MemDevice {
 }
 
 impl BlockDevice for MemDevice {
-    ghost disk = { λ d. d.disk };
+    ghost disk = { λ d. d };
 
     fn blocks(&self) -> u32 {
         self.blocks.len() as u32
     }
 
-    fn read(&mut self, block: u32, to: &mut [u8; BLOCK_BYTES]) -> Result<(), Fault>
-        requires { block < length self.old.disk.contents }
-        ensures read { ReadsBlock self.old.disk block result to.new self.new.disk }
-        ensures blocks { length self.new.disk.contents ≡ length self.old.disk.contents }
-        ensures limit { self.new.disk.fault_limit ≡ self.old.disk.fault_limit }
-
-        // Exactly the listed reads fail.
-        ensures fault { IsErr result ↔ IsTrue (is_listed self.old.read_faults self.old.reads) }
-        ensures counted { self.new ≡ record self.old { disk = self.new.disk; reads = counted self.old.reads } }
-    {
+    fn read(&mut self, block: u32, to: &mut [u8; BLOCK_BYTES]) -> Result<(), Fault> {
         if strikes(&mut self.reads, &self.read_faults) {
             self.failures += 1;
             return Err(Fault);
@@ -97,15 +88,12 @@ impl BlockDevice for MemDevice {
     }
 
     fn write(&mut self, block: u32, from: &[u8; BLOCK_BYTES]) -> Result<(), Fault>
-        requires { block < length self.old.disk.contents }
-        ensures write { WritesBlock self.old.disk block from.now result self.new.disk }
-        ensures blocks { length self.new.disk.contents ≡ length self.old.disk.contents }
-        ensures limit { self.new.disk.fault_limit ≡ self.old.disk.fault_limit }
-
-        // Exactly the listed writes fail, and each fills its block with one byte.
-        ensures fault { IsErr result ↔ IsTrue (is_listed self.old.write_faults self.old.writes) }
-        ensures spoiled { OnErr result (bytes_on self.new.disk.contents block ≡ replicate BLOCK_BYTES 255) }
-        ensures counted { self.new ≡ record self.old { disk = self.new.disk; writes = counted self.old.writes } }
+        requires { block < length self.old.contents }
+        ensures write { WritesBlock self.old block from.now result self.new }
+        ensures blocks { length self.new.contents ≡ length self.old.contents }
+        ensures limit { self.new.fault_limit ≡ self.old.fault_limit }
+        // A write that fails fills its block with one byte.
+        ensures spoiled { OnErr result (bytes_on self.new.contents block ≡ replicate BLOCK_BYTES 255) }
     {
         if strikes(&mut self.writes, &self.write_faults) {
             self.blocks[block as usize] = [SPOILED; BLOCK_BYTES];

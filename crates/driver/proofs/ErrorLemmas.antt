@@ -186,15 +186,15 @@ read-cost : (old new : Disk) (access : Access) (ticket : TicketOf) (transition :
 read-cost old new access ticket transition h = by_answer h.answered h.reads h.goes
   where
     by_answer : (answered : Result (Unit {0}) Fault) → ReadsBlock old ticket.block answered h.filled.bytes new → transition ≡ Goes (after_read access answered h.filled) → cost transition + old.failures ≤ new.failures
-    by_answer (Ok done) reads e = let same : new.failures ≡ old.failures = ap (λ (d : Disk). d.failures) reads.1 in rw e (omega (arith, same))
-    by_answer (Err fault) reads e = let more : new.failures ≡ old.failures + 1 = ap (λ (d : Disk). d.failures) reads in rw e (omega (arith, more))
+    by_answer (Ok done) reads e = let same : new.failures ≡ old.failures = ap (λ (d : Disk). d.failures) reads.counts in rw e (omega (arith, same))
+    by_answer (Err fault) reads e = let more : new.failures ≡ old.failures + 1 = ap (λ (d : Disk). d.failures) reads.counts in rw e (omega (arith, more))
 
 write-cost : (old new : Disk) (on : Resume) (ticket : TicketOf) (transition : Transition) → WritesOut old on ticket transition new → cost transition + old.failures ≤ new.failures
 write-cost old new on ticket transition h = by_answer h.answered h.writes h.goes
   where
     by_answer : (answered : Result (Unit {0}) Fault) → WritesBlock old ticket.block ticket.bytes answered new → transition ≡ Goes (after_write on answered ticket) → cost transition + old.failures ≤ new.failures
-    by_answer (Ok done) writes e = let same : new.failures ≡ old.failures = ap (λ (d : Disk). d.failures) writes in rw e (omega (arith, same))
-    by_answer (Err fault) writes e = rw e (omega (arith, writes.1))
+    by_answer (Ok done) writes e = let same : new.failures ≡ old.failures = ap (λ (d : Disk). d.failures) writes.sets in rw e (omega (arith, same))
+    by_answer (Err fault) writes e = let more = writes.counts in rw e (omega (arith, more))
 
 -- ---- one turn
 

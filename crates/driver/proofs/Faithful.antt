@@ -487,9 +487,9 @@ module _ (files : FirstBytes) (opening : Opening) (past : Past) (contents conten
 
 keeps_others : (disk disk' : Disk) (block : ℕ) (bytes : List ℕ) (answered : Result (Unit {0}) Fault) → WritesBlock disk block bytes answered disk' → KeepsOthers disk.contents disk'.contents block
 keeps_others disk disk' block bytes (Ok done) writes =
-    subst (λ (d : Disk). KeepsOthers disk.contents d.contents block) (sym writes)
+    subst (λ (d : Disk). KeepsOthers disk.contents d.contents block) (sym writes.sets)
     (record { blocks = length-set disk.contents block bytes; others = λ k differs. get_or-set_other disk.contents block k bytes [] differs })
-keeps_others disk disk' block bytes (Err fault) writes = writes.0
+keeps_others disk disk' block bytes (Err fault) writes = writes.keeps
 
 module _ (files : FirstBytes) (opening : Opening) (past : Past) (disk disk' : Disk) (h : Holds files opening past disk.contents) where
   writes_faithful : (on : Resume) (ticket : TicketOf) (transition : Transition) → IsGoing past ticket → PageHolds files past ticket.number ticket.bytes → WritesOut disk on ticket transition disk'
@@ -512,7 +512,7 @@ module _ (files : FirstBytes) (opening : Opening) (past : Past) (disk disk' : Di
 
       own : (answered : Result (Unit {0}) Fault) → WritesBlock disk ticket.block ticket.bytes answered disk' → BringsWanted files past disk'.contents (in_hand (after_write on answered ticket))
       own (Ok done) e =
-          let written : bytes_on disk'.contents ticket.block ≡ ticket.bytes = ap (λ (d : Disk). bytes_on d.contents ticket.block) e ∙ get_or-set_same disk.contents ticket.block ticket.bytes [] there in
+          let written : bytes_on disk'.contents ticket.block ≡ ticket.bytes = ap (λ (d : Disk). bytes_on d.contents ticket.block) e.sets ∙ get_or-set_same disk.contents ticket.block ticket.bytes [] there in
           subst (PageHolds files past ticket.number) (sym written) hold
       own (Err fault) e = tt
 
@@ -527,11 +527,11 @@ module _ (files : FirstBytes) (opening : Opening) (past : Past) (disk disk' : Di
       })
     where
       same : (answered : Result (Unit {0}) Fault) → ReadsBlock disk ticket.block answered reads.filled.bytes disk' → disk'.contents ≡ disk.contents
-      same (Ok done) e = ap (λ (d : Disk). d.contents) e.1
-      same (Err fault) e = ap (λ (d : Disk). d.contents) e
+      same (Ok done) e = ap (λ (d : Disk). d.contents) e.counts
+      same (Err fault) e = ap (λ (d : Disk). d.contents) e.counts
 
       own : (answered : Result (Unit {0}) Fault) → ReadsBlock disk ticket.block answered reads.filled.bytes disk' → BringsWanted files past disk.contents (in_hand (after_read access answered reads.filled))
-      own (Ok done) e = e.0 ∙ ap (bytes_on disk.contents) (sym (ap (λ (t : TicketOf). t.block) reads.same))
+      own (Ok done) e = e.gives ∙ ap (bytes_on disk.contents) (sym (ap (λ (t : TicketOf). t.block) reads.same))
       own (Err fault) e = tt
 
 -- ---- a turn

@@ -76,7 +76,7 @@ number = record { 0 = 0 }
 -- what the file has at first is any
 module _ (bytes : List ℕ) where
   abbrev disk : Disk
-  disk = record { contents = bytes ∷ []; failures = 0; fault_limit = 0 }
+  disk = record { contents = bytes ∷ []; failures = 0; fault_limit = 0; plan = None }
 
   abbrev ticket_with : List ℕ → TicketOf
   ticket_with filled = record { number = 0; worker = 0; entry = 1; block = 0; handed = false; bytes = filled }
@@ -164,7 +164,7 @@ module _ (bytes : List ℕ) where
   reads : Turn (world once_fetched (Does (stage.Read access (ticket_with [])))) (actor.Task 1) Goes (world once_fetched (Does (stage.Arrive access (ticket_with bytes))))
   reads = record {
     transition = transition.Goes (stage.Arrive access (ticket_with bytes));
-    turns = (record { answered = Ok tt; filled = ticket_with bytes; reads = (refl, refl); same = refl; goes = refl }, refl);
+    turns = (record { answered = Ok tt; filled = ticket_with bytes; reads = record { planned = tt; gives = refl; counts = refl }; same = refl; goes = refl }, refl);
     shows = refl;
     leaves = refl;
     same = refl;

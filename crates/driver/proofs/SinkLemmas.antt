@@ -1,5 +1,5 @@
 -- What a sink has of a run that is cut short.
-use Rattle.std.proofs.Common.{◌≡◌, ℕ, suc, ◌+◌, ◌<◌, ◌≤◌, true, List, [], ◌∷◌, ◌++◌, length, take, drop, get_or, refl, sym, ap, ◌∙◌, subst, arith, append_assoc}
+use Rattle.std.proofs.Common.{◌≡◌, ℕ, suc, ◌+◌, ◌<◌, ◌≤◌, true, List, [], ◌∷◌, ◌++◌, length, take, drop, get_or, inl, inr, append-nil, length-append, refl, sym, ap, ◌∙◌, subst, arith, append_assoc}
 use Rattle.std.specs.Prelude.{Result, Ok, Err, OnErr}
 use Rattle.std.specs.List.{AllByRecursion}
 use Rattle.std.proofs.lemmas.List.{take-append-drop}
@@ -7,24 +7,25 @@ use Rattle.std.proofs.Math.Seq.{drop-cons}
 use Rattle.machine.specs.declared.config.Config.{Config}
 use Rattle.machine.specs.declared.command.Actor.{Actor}
 use Rattle.machine.specs.declared.command.Step.{Step}
-use Rattle.machine.specs.declared.command.Step.TheVariants.{Begin, Advance, Finish}
+use Rattle.machine.specs.declared.command.Step.TheVariants.{Advance, Finish}
+use Rattle.machine.specs.declared.command.Answer.TheVariants.{Word}
+use Rattle.machine.specs.declared.command.Word.TheVariants.{TurnLimit, Underway}
+use Rattle.machine.specs.declared.command.Command.{Command}
+use Rattle.driver.specs.declared.turn.Activity.{Activity}
+use Rattle.driver.specs.declared.turn.Activity.TheVariants.{Rests, Begun, Does}
+use Rattle.driver.specs.Seats.{is_under_way}
 use Rattle.machine.specs.declared.command.Reply.{Reply}
 use Rattle.machine.specs.History.{at_first, Honest}
 use Rattle.block_store.specs.Device.{Disk}
 use Rattle.driver.specs.declared.turn.Outcome.{Outcome}
-use Rattle.driver.specs.Schedule.{World, first_world, Goings, said_at, all_said, Runs, files_on, fits, most_turns}
-use Rattle.driver.specs.Sinks.{Heard, AreTurnsOf, Starts, IsRightOnce, StartsStep, StartsRun}
+use Rattle.driver.specs.Schedule.{World, first_world, Turn, Begins, Goings, answer_by, said_at, all_said, Stepped, Runs, files_on, fits, most_turns}
+use Rattle.driver.specs.Sinks.{Heard, BeginsWith, Starts, IsRightOnce, StartsStep, StartsRun, CutsStep, CutsRun}
 use Rattle.driver.proofs.Faithful.{runs_are_honest}
 
 -- what holds of a call that failed holds where its result is looked at
 pub on_err : {T E P : Type 0} (r : Result T E) → P → OnErr r P
 on_err (Ok x) p = tt
 on_err (Err e) p = p
-
--- a sink that took some answers took some more
-module _ {S : Type 0} (took : S → S → List Reply → Type 0) (failed : S → S → Type 0) where
-  pub heard-more : ((a b c : S) (xs ys : List Reply) → took a b xs → took b c ys → took a c (xs ++ ys)) → (a b c : S) (xs ys : List Reply) → took a b xs → Heard took failed b c ys → Heard took failed a c (xs ++ ys)
-  heard-more more a b c xs ys first second = record { mid = second.mid; takes = more a b second.mid xs ys first second.takes; fails = second.fails }
 
 -- a run goes on with another
 pub Runs-then : (old : World) (steps : List Step) (answers : List Reply) (mid : World) (more : List Step) (further : List Reply) (new : World)
@@ -58,31 +59,55 @@ single_turns-run old who [] new h = (refl, h)
 single_turns-run old who (outcome ∷ outcomes) new h =
     (said_at who outcome, all_said who outcomes, h.0, (outcome, h.1, refl), single_turns-run h.0 who outcomes new h.3, refl)
 
-pub finish_starts : (old : World) (who : Actor) (outcomes : List Outcome) (end : World) → length outcomes ≤ most_turns → Goings old who outcomes end → IsRightOnce end → StartsStep old (Finish who) (all_said who outcomes)
-finish_starts old who outcomes end few goes right =
+-- one step is a run
+one_step : (old : World) (step : Step) (answers : List Reply) (new : World) → Stepped old step answers new → Runs old (step ∷ []) answers new
+one_step old step answers new h = (answers, [], new, h, (refl, refl), sym (append-nil answers))
+
+-- of a step that was carried out
+whole_starts : (old : World) (step : Step) (answers : List Reply) (end : World) → Stepped old step answers end → IsRightOnce end → StartsStep old step answers
+whole_starts old step answers end stepped right = record { part = step ∷ []; is_part = inr (inl refl); end = end; runs = one_step old step answers end stepped; right = right }
+
+-- of a finish, so many turns
+pub turns_start : (old : World) (who : Actor) (outcomes : List Outcome) (end : World) → length outcomes ≤ most_turns → Goings old who outcomes end → IsRightOnce end → StartsStep old (Finish who) (all_said who outcomes ++ [])
+turns_start old who outcomes end few goes right =
     record {
-      turns = single_turns who outcomes;
-      taken = (let len = single_turns-len who outcomes in omega (arith, len, few), single_turns-all who outcomes);
+      part = single_turns who outcomes;
+      is_part = inr (inr (let len = single_turns-len who outcomes in omega (arith, len, few), single_turns-all who outcomes));
       end = end;
-      runs = single_turns-run old who outcomes end goes;
+      runs = subst (λ (rs : List Reply). Runs old (single_turns who outcomes) rs end) (sym (append-nil (all_said who outcomes))) (single_turns-run old who outcomes end goes);
       right = right;
     }
 
-pub no_turns : (steps : List Step) → AreTurnsOf steps []
-no_turns [] = refl
-no_turns (Begin who what ∷ later) = refl
-no_turns (Advance who ∷ later) = refl
-no_turns (Finish who ∷ later) = (omega arith, tt)
+-- and one turn more
+pub turn_starts : (old : World) (who : Actor) (outcomes : List Outcome) (mid : World) (last : Outcome) (end : World) → length outcomes < most_turns → Goings old who outcomes mid → Turn mid who last end → IsRightOnce end
+    → StartsStep old (Finish who) (all_said who outcomes ++ said_at who last)
+turn_starts old who outcomes mid last end few goes turn right =
+    let earlier = single_turns who outcomes in
+    record {
+      part = earlier ++ Advance who ∷ [];
+      is_part = inr (inr (let len = single_turns-len who outcomes in let more = length-append earlier (Advance who ∷ []) in omega (arith, len, more, few), all-more earlier (single_turns-all who outcomes)));
+      end = end;
+      runs = Runs-then old earlier (all_said who outcomes) mid (Advance who ∷ []) (said_at who last) end (single_turns-run old who outcomes mid goes) (one_step mid (Advance who) (said_at who last) end (last, turn, refl));
+      right = right;
+    }
+  where
+    all-more : (steps : List Step) → AllByRecursion (λ (s : Step). s ≡ Advance who) steps → AllByRecursion (λ (s : Step). s ≡ Advance who) (steps ++ Advance who ∷ [])
+    all-more [] all = (refl, tt)
+    all-more (step ∷ steps) all = (all.0, all-more steps all.1)
+
+-- and the last that it has, behind which it says that there are no more
+pub limit_starts : (old : World) (who : Actor) (outcomes : List Outcome) (end : World) → length outcomes ≡ most_turns → Goings old who outcomes end → IsRightOnce end
+    → StartsStep old (Finish who) (all_said who outcomes ++ answer_by who (Word TurnLimit))
+limit_starts old who outcomes end spent goes right =
+    whole_starts old (Finish who) (all_said who outcomes ++ answer_by who (Word TurnLimit)) end (outcomes, end, goes, inr (record { spent = spent; stays = refl; answers_are = refl })) right
+
+begins_none : (steps : List Step) → BeginsWith steps []
+begins_none [] = refl
+begins_none (step ∷ steps) = inl refl
 
 -- of a step that was cut short before anything was told
-pub nothing_starts : (old : World) (step : Step) → IsRightOnce old → StartsStep old step []
-nothing_starts old step right = record { turns = []; taken = no_turns (step ∷ []); end = old; runs = (refl, refl); right = right }
-
--- what may have been told of a step says nothing of those behind it
-turns_of_first : (step : Step) (later turns : List Step) → AreTurnsOf (step ∷ []) turns → AreTurnsOf (step ∷ later) turns
-turns_of_first (Begin who what) later turns h = h
-turns_of_first (Advance who) later turns h = h
-turns_of_first (Finish who) later turns h = h
+nothing_starts : (old : World) (step : Step) → IsRightOnce old → StartsStep old step []
+nothing_starts old step right = record { part = []; is_part = inl refl; end = old; runs = (refl, refl); right = right }
 
 suc-is : (i : ℕ) → suc i ≡ i + 1
 suc-is i = omega arith
@@ -93,30 +118,56 @@ cut_at steps i step lt is =
     sym (take-append-drop i steps) ∙ ap (λ (ss : List Step). take i steps ++ ss) rest
 
 -- some steps were done, and the next was cut short
-pub step_starts : (old : World) (steps : List Step) (i : ℕ) (step : Step) (answers : List Reply) (mid : World) (added : List Reply) → i < length steps → step ≡ get_or steps i step
+step_starts : (old : World) (steps : List Step) (i : ℕ) (step : Step) (answers : List Reply) (mid : World) (added : List Reply) → i < length steps → step ≡ get_or steps i step
     → Runs old (take i steps) answers mid → StartsStep mid step added → StartsRun old steps (answers ++ added)
 step_starts old steps i step answers mid added lt is ran starts =
     record {
       done = take i steps;
       left = step ∷ drop (i + 1) steps;
       cut = cut_at steps i step lt is;
-      turns = starts.turns;
-      taken = turns_of_first step (drop (i + 1) steps) starts.turns starts.taken;
+      part = starts.part;
+      begins = starts.is_part;
       end = starts.end;
-      runs = Runs-then old (take i steps) answers mid starts.turns added starts.end ran starts.runs;
+      runs = Runs-then old (take i steps) answers mid starts.part added starts.end ran starts.runs;
       right = starts.right;
     }
+
+-- a sink that took some answers took some more
+module _ {S : Type 0} (took failed : S → S → List Reply → Type 0) where
+  heard-more : ((a b c : S) (xs ys : List Reply) → took a b xs → took b c ys → took a c (xs ++ ys)) → (a b c : S) (xs ys begun : List Reply) → took a b xs → Heard took failed b c ys begun → Heard took failed a c (xs ++ ys) begun
+  heard-more more a b c xs ys begun first second = record { mid = second.mid; takes = more a b second.mid xs ys first second.takes; fails = second.fails }
+
+  -- nothing of a step was taken; of one that is carried out an answer may have been begun
+  pub cut_before : ((s : S) → took s s []) → ((s : S) → failed s s []) → (s : S) (before : World) (step : Step) → IsRightOnce before → CutsStep took failed s s before step
+  cut_before nothing stays s before step right =
+      record { answers = []; begun = []; heard = record { mid = s; takes = nothing s; fails = stays s }; starts = nothing_starts before step right }
+
+  pub cut_behind : ((s : S) → took s s []) → (s t : S) (before : World) (step : Step) (begun : List Reply) (end : World) → failed s t begun → Stepped before step begun end → IsRightOnce end → CutsStep took failed s t before step
+  cut_behind nothing s t before step begun end fails stepped right =
+      record { answers = []; begun = begun; heard = record { mid = s; takes = nothing s; fails = fails }; starts = whole_starts before step begun end stepped right }
+
+  -- some steps were done, and the next was cut short
+  pub step_cuts : ((a b c : S) (xs ys : List Reply) → took a b xs → took b c ys → took a c (xs ++ ys)) → (a b c : S) (old : World) (steps : List Step) (i : ℕ) (step : Step) (answers : List Reply) (mid : World) → i < length steps → step ≡ get_or steps i step
+      → took a b answers → Runs old (take i steps) answers mid → CutsStep took failed b c mid step → CutsRun took failed a c old steps
+  step_cuts more a b c old steps i step answers mid lt is takes ran cut =
+      record {
+        answers = answers ++ cut.answers;
+        begun = cut.begun;
+        heard = heard-more more a b c answers cut.answers cut.begun takes cut.heard;
+        starts = (let same : answers ++ (cut.answers ++ cut.begun) ≡ (answers ++ cut.answers) ++ cut.begun = sym (append_assoc answers cut.answers cut.begun) in
+            subst (λ (rs : List Reply). StartsRun old steps rs) same (step_starts old steps i step answers mid (cut.answers ++ cut.begun) lt is ran cut.starts));
+      }
 
 -- from the opening world that is a schedule
 pub run_starts : (config : Config) (before : Disk) (steps : List Step) (answers : List Reply) → fits config before ≡ true → StartsRun (first_world config before) steps answers → Starts config before steps answers
 run_starts config before steps answers fit starts =
-    let honest : Honest (at_first (files_on config before)) starts.end.past.history = runs_are_honest config before (starts.done ++ starts.turns) answers starts.end fit starts.runs in
+    let honest : Honest (at_first (files_on config before)) starts.end.past.history = runs_are_honest config before (starts.done ++ starts.part) answers starts.end fit starts.runs in
     record {
       done = starts.done;
       left = starts.left;
       cut = starts.cut;
-      turns = starts.turns;
-      taken = starts.taken;
+      part = starts.part;
+      begins = starts.begins;
       disk = starts.end.disk;
       schedules = record { end = starts.end; runs = starts.runs; device = refl; honest = honest; right = starts.right (files_on config before) honest };
     }
@@ -125,4 +176,10 @@ run_starts config before steps answers fit starts =
 pub opening_starts : (config : Config) (before : Disk) (steps : List Step) → fits config before ≡ true → Starts config before steps []
 opening_starts config before steps fit =
     let right : IsRightOnce (first_world config before) = λ files honest. tt in
-    run_starts config before steps [] fit (record { done = []; left = steps; cut = refl; turns = []; taken = no_turns steps; end = first_world config before; runs = (refl, refl); right = right })
+    run_starts config before steps [] fit (record { done = []; left = steps; cut = refl; part = []; begins = begins_none steps; end = first_world config before; runs = (refl, refl); right = right })
+
+-- a command that is begun over another is not
+pub begins_over : (old : World) (who : Actor) (what : Command) (activity : Activity) → is_under_way activity ≡ true → Begins old who what activity (answer_by who (Word Underway)) old
+begins_over old who what Rests under_way = absurd cc
+begins_over old who what (Begun command) under_way = (refl, refl)
+begins_over old who what (Does stage) under_way = (refl, refl)

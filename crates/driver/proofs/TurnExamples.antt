@@ -65,7 +65,7 @@ abbrev set_max : Command
 set_max = command.Set (codes "/r") (codes "memory.max") (codes "4096")
 
 abbrev pub disk : Disk
-disk = record { contents = []; failures = 0; fault_limit = 0 }
+disk = record { contents = []; failures = 0; fault_limit = 0; plan = None }
 
 -- the shell is at this, and nobody else has a command
 abbrev world : Past → Activity → World

@@ -1,5 +1,5 @@
 -- What a sink has of a run, and what a run that was cut short had done.
-use Rattle.std.specs.Prelude.{◌≡◌, ℕ, ◌+◌, ◌≤◌, List, [], ◌∷◌, ◌++◌, length}
+use Rattle.std.specs.Prelude.{◌≡◌, ◌⊎◌, ℕ, ◌+◌, ◌≤◌, List, [], ◌∷◌, ◌++◌, length}
 use Rattle.std.specs.List.{AllByRecursion}
 use Rattle.machine.specs.declared.config.Config.{Config}
 use Rattle.machine.specs.declared.command.Step.{Step}
@@ -12,11 +12,11 @@ use Rattle.driver.specs.declared.sink.Stop.{Stop}
 use Rattle.driver.specs.declared.sink.Stop.TheVariants.{Refused, Closed}
 use Rattle.driver.specs.Schedule.{World, Runs, Schedules, errors, most_turns}
 
--- it took these answers, and none behind them
-pub record Heard {S : Type 0} (took : S → S → List Told_by → Type 0) (failed : S → S → Type 0) (old new : S) (answers : List Told_by) : Type 0 where
+-- it took these answers, and of those behind them it may have begun to take the first
+pub record Heard {S : Type 0} (took failed : S → S → List Told_by → Type 0) (old new : S) (answers begun : List Told_by) : Type 0 where
   pub mid : S
   pub takes : took old mid answers
-  pub fails : failed mid new
+  pub fails : failed mid new begun
 
 -- ---- a run that went through
 
@@ -34,28 +34,35 @@ abbrev pub IsCut : Stop → Type 0
 IsCut (Refused why) = why ≡ NoMemory
 IsCut Closed = Unit {0}
 
--- the turns that were taken of the step that was under way: a finish takes them one by one, and of any other step nothing was told
-abbrev pub AreTurnsOf : List Step → List Step → Type 0
-AreTurnsOf [] turns = turns ≡ []
-AreTurnsOf (Begin who what ∷ later) turns = turns ≡ []
-AreTurnsOf (Advance who ∷ later) turns = turns ≡ []
-AreTurnsOf (Finish who ∷ later) turns = (length turns ≤ most_turns) × AllByRecursion (λ (s : Step). s ≡ Advance who) turns
+-- what was carried out of the step that was under way: nothing, or all of it, though not all of its answers were taken; or, of a finish, single turns
+abbrev pub AreTurnsOf : Step → List Step → Type 0
+AreTurnsOf (Begin who what) turns = ⊥
+AreTurnsOf (Advance who) turns = ⊥
+AreTurnsOf (Finish who) turns = (length turns ≤ most_turns) × AllByRecursion (λ (s : Step). s ≡ Advance who) turns
 
--- these answers are those of the plain machine to the first of the steps, and to single turns that the step behind them took before the run was cut short
+abbrev pub ArePartOf : Step → List Step → Type 0
+ArePartOf step part = (part ≡ []) ⊎ ((part ≡ step ∷ []) ⊎ AreTurnsOf step part)
+
+abbrev pub BeginsWith : List Step → List Step → Type 0
+BeginsWith [] part = part ≡ []
+BeginsWith (step ∷ later) part = ArePartOf step part
+
+-- these answers are those of the plain machine to the first of the steps, and to what was carried out of the step behind them before the run was cut short
 pub record Starts (config : Config) (before : Disk) (steps : List Step) (answers : List Told_by) : Type 0 where
   pub done : List Step
   pub left : List Step
   pub cut : steps ≡ done ++ left
-  pub turns : List Step
-  pub taken : AreTurnsOf left turns
+  pub part : List Step
+  pub begins : BeginsWith left part
   pub disk : Disk
-  pub schedules : Schedules config before (done ++ turns) answers disk
+  pub schedules : Schedules config before (done ++ part) answers disk
 
--- the sink took these, and none behind them
-pub record GivesStart {S : Type 0} (took : S → S → List Told_by → Type 0) (failed : S → S → Type 0) (config : Config) (before : Disk) (steps : List Step) (old new : S) : Type 0 where
+-- the sink took some answers, and these, with the one that it may have begun to take, are such
+pub record GivesStart {S : Type 0} (took failed : S → S → List Told_by → Type 0) (config : Config) (before : Disk) (steps : List Step) (old new : S) : Type 0 where
   pub answers : List Told_by
-  pub heard : Heard took failed old new answers
-  pub starts : Starts config before steps answers
+  pub begun : List Told_by
+  pub heard : Heard took failed old new answers begun
+  pub starts : Starts config before steps (answers ++ begun)
 
 -- ---- the same of a desk
 
@@ -67,16 +74,29 @@ pub record StartsRun (old : World) (steps : List Step) (answers : List Told_by) 
   pub done : List Step
   pub left : List Step
   pub cut : steps ≡ done ++ left
-  pub turns : List Step
-  pub taken : AreTurnsOf left turns
+  pub part : List Step
+  pub begins : BeginsWith left part
   pub end : World
-  pub runs : Runs old (done ++ turns) answers end
+  pub runs : Runs old (done ++ part) answers end
   pub right : IsRightOnce end
 
 -- of the one step that is under way
 pub record StartsStep (old : World) (step : Step) (answers : List Told_by) : Type 0 where
-  pub turns : List Step
-  pub taken : AreTurnsOf (step ∷ []) turns
+  pub part : List Step
+  pub is_part : ArePartOf step part
   pub end : World
-  pub runs : Runs old turns answers end
+  pub runs : Runs old part answers end
   pub right : IsRightOnce end
+
+-- the sink took some answers, and these, with the one that it may have begun to take, are of the beginning of the steps, or of one step
+pub record CutsRun {S : Type 0} (took failed : S → S → List Told_by → Type 0) (old new : S) (before : World) (steps : List Step) : Type 0 where
+  pub answers : List Told_by
+  pub begun : List Told_by
+  pub heard : Heard took failed old new answers begun
+  pub starts : StartsRun before steps (answers ++ begun)
+
+pub record CutsStep {S : Type 0} (took failed : S → S → List Told_by → Type 0) (old new : S) (before : World) (step : Step) : Type 0 where
+  pub answers : List Told_by
+  pub begun : List Told_by
+  pub heard : Heard took failed old new answers begun
+  pub starts : StartsStep before step (answers ++ begun)

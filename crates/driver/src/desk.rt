@@ -9,7 +9,7 @@ ghost use Rattle.driver.specs.Schedule.{Asks, WantTurn, StageTurn, wants_at, Tur
 ghost use Rattle.driver.specs.Tickets.{OwnEvent, OwnStage, OwnTransition, OwnSeats};
 ghost use Rattle.driver.specs.Seats.{place_of, is_under_way};
 ghost use Rattle.driver.specs.Desks.{world, blocks_of_desk, AsksFirst, IsOn, IsSame};
-ghost use Rattle.driver.specs.Sinks.{Heard, StartsStep, StartsRun};
+ghost use Rattle.driver.specs.Sinks.{CutsStep, CutsRun};
 
 use crate::automaton::{ask, told};
 use crate::judge::judge;
@@ -159,9 +159,10 @@ impl Desk {
         sink: &mut S,
     ) -> Result<(), Cut>
         ensures begins { OnOk result ((added : List Told_by) × S.took sink.old sink.new added × ((disk : Disk) → Begins (world self.old disk) actor command.now (activity_of actor self.old.seats) added (world self.new disk))) }
-        ensures cut { OnErr result (Heard S.took S.failed sink.old sink.new []) }
+        ensures cut { OnErr result ((disk : Disk) → CutsStep S.took S.failed sink.old sink.new (world self.old disk) (Step.Begin actor command.now)) }
         ensures on { (disk : Disk) → IsOn self.old disk → IsOn self.new disk }
     {
+        self.book.history_is_right();
         if self.seats.is_under_way(actor) {
             seats::answer(sink, at, actor, Answer::Word(Word::Underway))?;
             return Ok(());
@@ -181,11 +182,13 @@ impl Desk {
     ) -> Result<(), Cut>
         requires { IsOn self.old (D.disk device.old) }
         ensures advances { OnOk result ((added : List Told_by) × S.took sink.old sink.new added × Advances (world self.old (D.disk device.old)) actor added (world self.new (D.disk device.new))) }
-        ensures cut { OnErr result (Heard S.took S.failed sink.old sink.new []) }
+        ensures cut { OnErr result (CutsStep S.took S.failed sink.old sink.new (world self.old (D.disk device.old)) (Step.Advance actor)) }
         ensures on { IsOn self.new (D.disk device.new) }
         ensures same { IsSame (D.disk device.old) (D.disk device.new) }
     {
+        self.book.history_is_right();
         let shown = self.turn(device, actor)?;
+        self.book.history_is_right();
         seats::say(sink, at, actor, shown)?;
         Ok(())
     }
@@ -200,13 +203,14 @@ impl Desk {
     ) -> Result<(), Cut>
         requires { IsOn self.old (D.disk device.old) }
         ensures finishes { OnOk result ((added : List Told_by) × S.took sink.old sink.new added × Finishes (world self.old (D.disk device.old)) actor added (world self.new (D.disk device.new))) }
-        ensures cut { OnErr result ((added : List Told_by) × Heard S.took S.failed sink.old sink.new added × StartsStep (world self.old (D.disk device.old)) (Step.Finish actor) added) }
+        ensures cut { OnErr result (CutsStep S.took S.failed sink.old sink.new (world self.old (D.disk device.old)) (Step.Finish actor)) }
         ensures on { IsOn self.new (D.disk device.new) }
         ensures same { IsSame (D.disk device.old) (D.disk device.new) }
     {
         for _turn in 0..MOST_TURNS {
             self.book.history_is_right();
             let outcome = self.turn(device, actor)?;
+            self.book.history_is_right();
             let ends = seats::ends(&outcome);
             seats::say(sink, at, actor, outcome)?;
             if ends {
@@ -228,11 +232,10 @@ impl Desk {
     ) -> Result<(), Cut>
         requires { IsOn self.old (D.disk device.old) }
         ensures step { OnOk result ((added : List Told_by) × S.took sink.old sink.new added × Stepped (world self.old (D.disk device.old)) step.now added (world self.new (D.disk device.new))) }
-        ensures cut { OnErr result ((added : List Told_by) × Heard S.took S.failed sink.old sink.new added × StartsStep (world self.old (D.disk device.old)) step.now added) }
+        ensures cut { OnErr result (CutsStep S.took S.failed sink.old sink.new (world self.old (D.disk device.old)) step.now) }
         ensures on { IsOn self.new (D.disk device.new) }
         ensures same { IsSame (D.disk device.old) (D.disk device.new) }
     {
-        self.book.history_is_right();
         match step {
             Step::Begin(actor, command) => self.begin(at, *actor, command, sink),
             Step::Advance(actor) => self.advance(device, at, *actor, sink),
@@ -249,7 +252,7 @@ impl Desk {
     ) -> Result<(), Cut>
         requires { IsOn self.old (D.disk device.old) }
         ensures runs { OnOk result ((answers : List Told_by) × S.took sink.old sink.new answers × Runs (world self.old (D.disk device.old)) steps.now answers (world self.new (D.disk device.new))) }
-        ensures cut { OnErr result ((answers : List Told_by) × Heard S.took S.failed sink.old sink.new answers × StartsRun (world self.old (D.disk device.old)) steps.now answers) }
+        ensures cut { OnErr result (CutsRun S.took S.failed sink.old sink.new (world self.old (D.disk device.old)) steps.now) }
         ensures on { IsOn self.new (D.disk device.new) }
         ensures same { IsSame (D.disk device.old) (D.disk device.new) }
     {

@@ -220,7 +220,7 @@ pub fn ends(outcome: &Outcome) -> bool
 /// Tells what a turn shows.
 pub fn say<S: Sink>(sink: &mut S, at: usize, actor: Actor, outcome: Outcome) -> Result<(), Closed>
     ensures said { OnOk result (S.took sink.old sink.new (said_at actor outcome)) }
-    ensures failed { OnErr result (S.failed sink.old sink.new) }
+    ensures failed { OnErr result (S.failed sink.old sink.new (said_at actor outcome)) }
 {
     match outcome {
         Outcome::Goes => Ok(()),
@@ -232,7 +232,7 @@ pub fn say<S: Sink>(sink: &mut S, at: usize, actor: Actor, outcome: Outcome) -> 
 /// Tells an answer.
 pub fn answer<S: Sink>(sink: &mut S, at: usize, actor: Actor, answer: Answer) -> Result<(), Closed>
     ensures said { OnOk result (S.took sink.old sink.new (answer_by actor answer)) }
-    ensures failed { OnErr result (S.failed sink.old sink.new) }
+    ensures failed { OnErr result (S.failed sink.old sink.new (answer_by actor answer)) }
 {
     sink.take(at, Reply { actor, answer })
 }

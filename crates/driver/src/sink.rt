@@ -16,20 +16,20 @@ pub trait Sink {
     /// From the one to the other it took these answers, in this order, and no other.
     ghost took: { Self → Self → List Told_by → Type 0 };
 
-    /// From the one to the other it took no answer, though it may have begun to.
-    ghost failed: { Self → Self → Type 0 };
+    /// From the one to the other it took no answer, though it may have begun to take the first of these.
+    ghost failed: { Self → Self → List Told_by → Type 0 };
 
     /// Takes an answer. It came of the step that stands at this place in the list of steps, the first at
     /// 0. `Closed` where it could not, and then it is given no other.
     fn take(&mut self, step: usize, reply: Reply) -> Result<(), Closed>
         ensures took { OnOk result (took self.old self.new (reply ∷ [])) }
-        ensures failed { OnErr result (failed self.old self.new) };
+        ensures failed { OnErr result (failed self.old self.new (reply ∷ [])) };
 
     ghost nothing: { (s : Self) → took s s [] };
 
     ghost more: { (a b c : Self) (xs ys : List Told_by) → took a b xs → took b c ys → took a c (xs ++ ys) };
 
-    ghost stays: { (s : Self) → failed s s };
+    ghost stays: { (s : Self) → failed s s [] };
 }
 
 /// Keeps them in their order, and is closed where memory is wanted and refused.
@@ -38,7 +38,7 @@ impl Sink for Vec<Reply> {
 
     ghost took = { λ a b xs. b.items ≡ a.items ++ xs };
 
-    ghost failed = { λ a b. b.items ≡ a.items };
+    ghost failed = { λ a b begun. b.items ≡ a.items };
 
     fn take(&mut self, _step: usize, reply: Reply) -> Result<(), Closed> {
         self.push(reply).map_err(|_| Closed)

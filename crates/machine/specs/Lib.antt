@@ -22,3 +22,4 @@ pub mod Lists
 pub mod Call
 pub mod Legal
 pub mod Control
+pub mod Printed

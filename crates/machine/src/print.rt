@@ -1,10 +1,19 @@
 //! The lines that answers print.
 
+ghost use Rattle.std.specs.Prelude.{◌≡◌, ◌++◌, OnOk};
+ghost use Rattle.std.specs.String.{string_bytes};
+ghost use Rattle.machine.specs.Printed.{actor_text, answer_text, byte_text, printed};
+
 use crate::command::{Actor, Answer, Reply, Word};
-use std::io::Write;
-use std::{fmt, io};
+use std::alloc::AllocError;
+use std::fmt;
 
 impl fmt::Display for Word {
+    ghost use Rattle.std.specs.Prelude.{Some};
+    ghost use Rattle.machine.specs.Printed.{word_text};
+
+    ghost output = { λ w. Some (word_text w) };
+
     fn fmt<W: fmt::Write>(&self, f: &mut fmt::Formatter<W>) -> fmt::Result {
         match self {
             Word::Killed => f.write_str("killed"),
@@ -20,25 +29,49 @@ impl fmt::Display for Word {
     }
 }
 
+/// Adds what stands before a word of the actor's: a task's number, `error`, or `daemon`.
+fn add_actor(text: &mut String, actor: Actor) -> Result<(), AllocError>
+    ensures { OnOk result (string_bytes text.new ≡ string_bytes text.old ++ actor_text actor) }
+{
+    match actor {
+        Actor::Task(task) => write!(text, "{task}"),
+        Actor::Shell | Actor::Control => text.push_str("error"),
+        Actor::Daemon => text.push_str("daemon"),
+    }
+}
+
+/// Adds the line of a byte that the actor read.
+fn add_byte(text: &mut String, actor: Actor, byte: u8) -> Result<(), AllocError>
+    ensures { OnOk result (string_bytes text.new ≡ string_bytes text.old ++ byte_text actor byte) }
+{
+    match actor {
+        Actor::Task(task) => writeln!(text, "{task} {byte}"),
+        Actor::Shell | Actor::Control | Actor::Daemon => writeln!(text, "{byte}"),
+    }
+}
+
+/// Adds the line of a word to the actor.
+fn add_word(text: &mut String, actor: Actor, word: Word) -> Result<(), AllocError>
+    ensures { OnOk result (string_bytes text.new ≡ string_bytes text.old ++ answer_text actor (Answer.Word word)) }
+{
+    add_actor(text, actor)?;
+    writeln!(text, " {word}")
+}
+
 impl Reply {
-    /// Writes the answer's line: a task's byte or word behind the task's number, a control file's
+    /// Adds what the answer prints: a task's byte or word behind the task's number, a control file's
     /// text as it is, the word of the shell or of control behind `error`, that of the daemon behind
     /// `daemon`, a kill as `killed N`.
-    /// `Done` writes nothing.
-    pub fn print<W: Write>(&self, out: &mut W) -> io::Result<()> {
+    /// `Done` prints nothing.
+    pub fn print(&self, text: &mut String) -> Result<(), AllocError>
+        ensures { OnOk result (string_bytes text.new ≡ string_bytes text.old ++ printed self.now) }
+    {
         match &self.answer {
             Answer::Done => Ok(()),
-            Answer::Text(text) => out.write_all(text.as_str().as_bytes()),
-            Answer::Kill(task) => writeln!(out, "killed {}", task.0),
-            Answer::Byte(byte) => match self.actor {
-                Actor::Task(task) => writeln!(out, "{task} {byte}"),
-                Actor::Shell | Actor::Control | Actor::Daemon => writeln!(out, "{byte}"),
-            },
-            Answer::Word(word) => match self.actor {
-                Actor::Task(task) => writeln!(out, "{task} {word}"),
-                Actor::Shell | Actor::Control => writeln!(out, "error {word}"),
-                Actor::Daemon => writeln!(out, "daemon {word}"),
-            },
+            Answer::Text(said) => text.push_str(said.as_str()),
+            Answer::Kill(task) => writeln!(text, "killed {}", task.0),
+            Answer::Byte(byte) => add_byte(text, self.actor, *byte),
+            Answer::Word(word) => add_word(text, self.actor, *word),
         }
     }
 }

@@ -7,3 +7,4 @@ pub mod Header
 pub mod Lines
 pub mod Script
 pub mod Reading
+pub mod FaultTexts

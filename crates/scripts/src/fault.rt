@@ -4,43 +4,59 @@ ghost use Rattle.std.specs.Prelude.{◌≡◌};
 ghost use Rattle.scripts.specs.declared.fault.LineError.TheVariants.{Memory};
 
 use std::alloc::{AllocError, AllocFailed};
-use thiserror::Error;
+use std::error::Error;
+use std::fmt;
 
 /// What is wrong with a line. Of several causes it is the first in this order.
-#[derive(Clone, Copy, Debug, PartialEq, Eq, Error)]
+#[derive(Clone, Copy, Debug, PartialEq, Eq)]
 pub enum Cause {
     /// The line is not UTF-8.
-    #[error("not text")]
     NotText,
     /// No line begins with the word, or none has it behind a task's number or behind `begin`. Or a
     /// word that has to be an actor, or a call of the device, is none.
-    #[error("unknown word")]
     UnknownWord,
     /// Fewer words than the line's first asks for.
-    #[error("missing argument")]
     MissingArgument,
     /// More words than the line's first asks for.
-    #[error("extra argument")]
     ExtraArgument,
     /// A number has a character that is no decimal digit, or is out of its limits.
-    #[error("bad number")]
     BadNumber,
     /// A path of a group is none, or a name of a file.
-    #[error("bad name")]
     BadName,
     /// A line of the header stands behind one that is not.
-    #[error("header after commands")]
     HeaderAfterCommands,
     /// A word that comes at most once came before, or a file of this name.
-    #[error("header twice")]
     HeaderTwice,
     /// As many files as there can be came before.
-    #[error("too many files")]
     TooManyFiles,
     /// With this line swap and the files ask for more blocks than there can be.
-    #[error("too many blocks")]
     TooManyBlocks,
 }
+
+/// The words that are printed.
+impl fmt::Display for Cause {
+    ghost use Rattle.std.specs.Prelude.{Some};
+    ghost use Rattle.scripts.specs.FaultTexts.{cause_text};
+
+    ghost output = { λ c. Some (cause_text c) };
+
+    fn fmt<W: fmt::Write>(&self, f: &mut fmt::Formatter<W>) -> fmt::Result {
+        f.write_str(match self {
+            Cause::NotText => "not text",
+            Cause::UnknownWord => "unknown word",
+            Cause::MissingArgument => "missing argument",
+            Cause::ExtraArgument => "extra argument",
+            Cause::BadNumber => "bad number",
+            Cause::BadName => "bad name",
+            Cause::HeaderAfterCommands => "header after commands",
+            Cause::HeaderTwice => "header twice",
+            Cause::TooManyFiles => "too many files",
+            Cause::TooManyBlocks => "too many blocks",
+        })
+    }
+}
+
+impl Error for Cause {}
 
 /// Why a line could not be read.
 #[derive(Debug, Drop)]
@@ -66,12 +82,27 @@ impl<T: Drop> From<AllocFailed<T>> for LineError {
 }
 
 /// Why a script could not be read.
-#[derive(Clone, Copy, Debug, PartialEq, Eq, Error)]
+#[derive(Clone, Copy, Debug, PartialEq, Eq)]
 pub enum ScriptFault {
     /// The first faulty line, counted from 1, and what is wrong with it.
-    #[error("line {line}: {cause}")]
     At { line: usize, cause: Cause },
     /// There was no memory for what the script says.
-    #[error("out of memory")]
     Memory,
 }
+
+/// The line that is printed, without its end.
+impl fmt::Display for ScriptFault {
+    ghost use Rattle.std.specs.Prelude.{Some};
+    ghost use Rattle.scripts.specs.FaultTexts.{fault_text};
+
+    ghost output = { λ f. Some (fault_text f) };
+
+    fn fmt<W: fmt::Write>(&self, f: &mut fmt::Formatter<W>) -> fmt::Result {
+        match self {
+            ScriptFault::At { line, cause } => write!(f, "line {line}: {cause}"),
+            ScriptFault::Memory => f.write_str("out of memory"),
+        }
+    }
+}
+
+impl Error for ScriptFault {}

@@ -1,4 +1,4 @@
-use Rattle.std.proofs.Common.{◌≡◌, inr, [], true, refl, subst, arith}
+use Rattle.std.proofs.Common.{◌≡◌, ◌++◌, inr, [], true, refl, subst, arith}
 use Rattle.machine.specs.History.{at_first, Honest}
 use Rattle.block_store.specs.Device.{Disk}
 use Rattle.driver.specs.Schedule.{World, first_world, Runs, files_on, fits}
@@ -14,6 +14,7 @@ pub returns-in-Err-clause-starts : goal.returns-in-Err-clause-starts
 returns-in-Err-clause-starts g c =
     λ fit. record {
       answers = [];
+      begun = [];
       heard = record { mid = c.args.sink.now; takes = g.met.S.Sink.nothing _; fails = g.met.S.Sink.stays _ };
       starts = opening_starts c.args.config (g.D.BlockDevice.disk c.args.device.now) c.args.steps.now fit;
     }
@@ -47,8 +48,13 @@ returns-in-Err-ran-clause-starts g c =
     λ fit.
     let before : Disk = g.D.BlockDevice.disk c.args.device.now in
     let told = c.in-Err-ran.ensures.cut in
-    let From : World → Type 0 = λ w. StartsRun w c.args.steps.now told.0 in
-    record { answers = told.0; heard = told.1; starts = run_starts c.args.config before c.args.steps.now told.0 fit (subst From (c.in-Ok.ensures.opens before) told.2) }
+    let From : World → Type 0 = λ w. StartsRun w c.args.steps.now (told.answers ++ told.begun) in
+    record {
+      answers = told.answers;
+      begun = told.begun;
+      heard = told.heard;
+      starts = run_starts c.args.config before c.args.steps.now (told.answers ++ told.begun) fit (subst From (c.in-Ok.ensures.opens before) told.starts);
+    }
 
 pub returns-in-Err-ran-clause-err : goal.returns-in-Err-ran-clause-err
 returns-in-Err-ran-clause-err g c = inr (c.stop_of.ensures, fitting c.args.config (g.D.BlockDevice.disk c.args.device.now) c.in-Ok.ensures.sized (omega (arith, c.if-blocks.false, c.blocks-2.ensures, blocks_known c.args.config c.in-Some.blocks c.in-Some.ensures)))

@@ -1,5 +1,13 @@
-use Rattle.driver.proofs.SinkLemmas.{on_err}
+use Rattle.std.proofs.Common.{refl}
+use Rattle.driver.specs.Desks.{world}
+use Rattle.driver.proofs.SinkLemmas.{on_err, cut_before, cut_behind}
 use Rattle.driver.proofs.desk.Desk.advance.Goals as goal
 
 pub returns-in_err-shown-clause-cut : goal.returns-in_err-shown-clause-cut
-returns-in_err-shown-clause-cut g c = on_err c.from_residual.result (record { mid = c.args.sink.now; takes = g.met.S.Sink.nothing _; fails = g.met.S.Sink.stays _ })
+returns-in_err-shown-clause-cut g c =
+    on_err c.from_residual.result (cut_before g.S.Sink.took g.S.Sink.failed g.met.S.Sink.nothing g.met.S.Sink.stays c.args.sink.now _ _ c.history_is_right.ensures.right)
+
+pub returns-in_err-say-clause-cut : goal.returns-in_err-say-clause-cut
+returns-in_err-say-clause-cut g c =
+    on_err c.from_residual-in_err-say.result
+    (cut_behind g.S.Sink.took g.S.Sink.failed g.met.S.Sink.nothing c.args.sink.now c.say.new.sink _ _ _ (world c.turn.new.self (g.D.BlockDevice.disk c.turn.new.device)) c.in_err-say.ensures.failed (c.in_ok-shown.shown, c.in_ok-shown.ensures.turn, refl) c.history_is_right-2.ensures.right)

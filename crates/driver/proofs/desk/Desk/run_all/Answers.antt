@@ -4,7 +4,7 @@ use Rattle.machine.specs.declared.command.Step.{Step}
 use Rattle.driver.specs.Schedule.{Runs}
 use Rattle.driver.specs.Desks.{world}
 use Rattle.driver.proofs.Runs.{Runs-more, same-refl, same-more}
-use Rattle.driver.proofs.SinkLemmas.{on_err, heard-more, step_starts}
+use Rattle.driver.proofs.SinkLemmas.{on_err, step_cuts}
 use Rattle.driver.proofs.desk.Desk.run_all.Goals as goal
 
 pub loop-at-init : goal.loop-at-init
@@ -27,12 +27,7 @@ loop-at-preserved g c =
 pub returns-in_err-step-clause-cut : goal.returns-in_err-step-clause-cut
 returns-in_err-step-clause-cut g c =
     let ran = c.loop-at.invariant.ran in
-    let cut = c.in_err-step.ensures.cut in
-    on_err c.from_residual.result (
-      ran.0 ++ cut.0,
-      heard-more g.S.Sink.took g.S.Sink.failed g.met.S.Sink.more _ _ _ ran.0 cut.0 ran.1 cut.1,
-      step_starts _ c.args.steps.now c.loop-at.at c.index-steps-at.result ran.0 _ cut.0 c.loop-at-test.true c.index-steps-at.is ran.2 cut.2,
-    )
+    on_err c.from_residual.result (step_cuts g.S.Sink.took g.S.Sink.failed g.met.S.Sink.more c.args.sink.now c.loop-at.sink c.step.new.sink _ c.args.steps.now c.loop-at.at c.index-steps-at.result ran.0 _ c.loop-at-test.true c.index-steps-at.is ran.1 ran.2 c.in_err-step.ensures.cut)
 
 pub returns-clause-runs : goal.returns-clause-runs
 returns-clause-runs g c =
