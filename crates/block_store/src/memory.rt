@@ -1,7 +1,7 @@
 //! A block device in memory.
 
-ghost use Rattle.std.specs.Prelude.{◌≡◌, ℕ, ◌+◌, ◌<◌, ◌≤◌, ◌↔◌, length, replicate, IfOk, IsErr, OnErr, IsTrue, if◌then◌else◌};
-ghost use Rattle.block_store.specs.Device.{bytes_on, counted, is_listed, new_disk, ReadsBlock, WritesBlock};
+ghost use Rattle.std.specs.Prelude.{◌≡◌, ℕ, ◌+◌, ◌<◌, ◌≤◌, length, replicate, IfOk, OnErr, if◌then◌else◌};
+ghost use Rattle.block_store.specs.Device.{bytes_on, counted, is_listed, new_disk, WritesBlock};
 ghost use Rattle.block_store.specs.Memory.{faults_left};
 
 use crate::device::{BLOCK_BYTES, BlockDevice, Fault};

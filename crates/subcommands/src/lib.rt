@@ -3,18 +3,27 @@
 
 mod fault;
 mod options;
+mod output;
 mod printer;
 
-ghost use Rattle.std.specs.Prelude.{◌≤◌};
+ghost use Rattle.std.specs.Prelude.{◌≡◌, ℕ, ◌≤◌, true, false, IfSome, IfOk, IfErr, OnOk, OnErr};
+ghost use Rattle.std.specs.Io.KnownBytes.{Keeps};
+ghost use Rattle.std.specs.Str.Lines.{lines};
+ghost use Rattle.machine.specs.State.{blocks_of, is_config};
+ghost use Rattle.block_store.specs.Device.{new_disk};
+ghost use Rattle.scripts.specs.declared.fault.Cause.{Cause};
+ghost use Rattle.scripts.specs.Script.{IsFirstFault, NamesFirstFault};
+ghost use Rattle.subcommands.specs.Prints.{PrintsRun, PrintsStart, PrintsScript, PrintsPart};
+ghost use Rattle.subcommands.specs.Reasons.{Explains, TellsWhy, IsRunFault};
 
 use block_store::MemDevice;
-use driver::{Stop, run_into};
+use driver::Stop;
 use fault::{Fault, Wanted};
 use files::blocks_for;
 use machine::refusal::Refusal;
 pub use options::Options;
-use printer::Printer;
-use scripts::{Mode, Script, ScriptFault};
+use printer::{Ended, print_run};
+use scripts::{Mode, Script, ScriptFault, one_answer};
 use std::alloc::Global;
 use std::io;
 use std::io::{ErrorKind, Read, Write};
@@ -25,24 +34,40 @@ pub const SCRIPT_BYTES: u64 = 1 << 26;
 
 const FAILED: u8 = 1;
 
-fn read_bytes<R: Read>(alloc: Global, script: &mut R) -> Result<Vec<u8>, Fault> {
+fn read_bytes<R: Read>(alloc: Global, options: Options, script: &mut R) -> Result<Vec<u8>, Fault>
+    ensures bytes { IfOk result (λ bytes. IfSome (R.remaining script.old) (λ all. bytes.items ≡ all)) }
+    ensures why { IfErr result (λ why. IfSome (R.remaining script.old) (λ all. Explains options all why)) }
+{
     let mut bytes = Vec::new(alloc);
     // One byte more is asked for, so that a script that is too long is never cut off and run.
-    let read = script
-        .take(SCRIPT_BYTES + 1)
-        .read_to_end(&mut bytes)
-        .map_err(Fault::Unreadable)?;
-    if read as u64 > SCRIPT_BYTES {
-        return Err(Fault::TooLong);
+    match script.take(SCRIPT_BYTES + 1).read_to_end(&mut bytes) {
+        Err(error) => Err(Fault::Unreadable(error)),
+        Ok(read) => {
+            if read as u64 > SCRIPT_BYTES {
+                return Err(Fault::TooLong);
+            }
+            Ok(bytes)
+        }
     }
-    Ok(bytes)
 }
 
 /// Why a run gave no answers.
-fn refused(wanted: Wanted, refusal: Refusal) -> Fault {
+fn refused(wanted: Wanted, refusal: Refusal) -> Fault
+    ensures { IsRunFault result }
+{
     match refusal {
         Refusal::NoMemory => Fault::Memory(wanted),
         refusal => Fault::Run(refusal),
+    }
+}
+
+/// Why an answer could not be written: its bytes want memory too.
+fn unwritten(wanted: Wanted, error: io::Error) -> Fault
+    ensures { IsRunFault result }
+{
+    match error.kind() {
+        ErrorKind::OutOfMemory => refused(wanted, Refusal::NoMemory),
+        _ => Fault::Unwritable(error),
     }
 }
 
@@ -54,7 +79,13 @@ fn run<O: Write, E: Write>(
     script: Script,
     out: &mut O,
     err: &mut E,
-) -> Result<(), Fault> {
+) -> Result<(), Fault>
+    requires limits { is_config script.config ≡ true }
+    ensures whole { OnOk result (options.lines ≡ false → PrintsRun script.config (new_disk (blocks_of script.config) script.read_faults.items script.write_faults.items) script.steps.items (O.contents out.old) (O.contents out.new)) }
+    ensures start { OnErr result (options.lines ≡ false → PrintsStart script.config (new_disk (blocks_of script.config) script.read_faults.items script.write_faults.items) script.steps.items (O.contents out.old) (O.contents out.new)) }
+    ensures why { IfErr result IsRunFault }
+    ensures quiet { options.progress ≡ false → options.summary ≡ false → E.contents err.new ≡ E.contents err.old }
+{
     let Script {
         config,
         read_faults,
@@ -66,33 +97,39 @@ fn run<O: Write, E: Write>(
         return Err(Fault::Run(Refusal::Invalid));
     };
     let wanted = Wanted::of(&config, blocks);
-    let mut device = MemDevice::new(alloc, blocks, &read_faults, &write_faults).map_err(|_| {
-        refused(wanted, Refusal::NoMemory)
-    })?;
-    let mut printer = Printer::new(alloc, options, &steps, &lines, out, err);
-    let ran = run_into(alloc, config, &mut device, &steps, &mut printer);
-    let written = printer.end(ran.is_ok());
+    let mut device = match MemDevice::new(alloc, blocks, &read_faults, &write_faults) {
+        Ok(device) => device,
+        Err(_) => return Err(Fault::Memory(wanted)),
+    };
+    let Ended { ran, written } = print_run(
+        alloc,
+        options,
+        config,
+        &mut device,
+        &steps,
+        &lines,
+        out,
+        err,
+    );
     match ran {
-        Ok(()) => written.map_err(|error| unwritten(wanted, error)),
+        Ok(()) => match written {
+            Ok(()) => Ok(()),
+            Err(error) => Err(unwritten(wanted, error)),
+        },
         Err(Stop::Refused(refusal)) => Err(refused(wanted, refusal)),
-        Err(Stop::Closed) => {
-            written.map_err(|error| unwritten(wanted, error))?;
+        Err(Stop::Closed) => match written {
             // Not reached: a sink is closed only where an answer could not be written.
-            Err(Fault::Unwritable(ErrorKind::Other.into()))
-        }
-    }
-}
-
-/// Why an answer could not be written: its bytes want memory too.
-fn unwritten(wanted: Wanted, error: io::Error) -> Fault {
-    match error.kind() {
-        ErrorKind::OutOfMemory => refused(wanted, Refusal::NoMemory),
-        _ => Fault::Unwritable(error),
+            Ok(()) => Err(Fault::Unwritable(ErrorKind::Other.into())),
+            Err(error) => Err(unwritten(wanted, error)),
+        },
     }
 }
 
 /// The fault of a script. Where there is no memory to say more of it, its line is said alone.
-fn faulty(alloc: Global, options: Options, bytes: &[u8], fault: ScriptFault) -> Fault {
+fn faulty(alloc: Global, options: Options, bytes: &[u8], fault: ScriptFault) -> Fault
+    requires { NamesFirstFault fault (lines bytes.now) }
+    ensures { Explains options bytes.now result }
+{
     if !options.explain {
         return Fault::Script(fault);
     }
@@ -108,8 +145,13 @@ fn schedule_or_fault<R: Read, O: Write, E: Write>(
     script: &mut R,
     out: &mut O,
     err: &mut E,
-) -> Result<(), Fault> {
-    let bytes = read_bytes(alloc, script)?;
+) -> Result<(), Fault>
+    ensures whole { OnOk result (options.lines ≡ false → IfSome (R.remaining script.old) (λ all. PrintsScript all (O.contents out.old) (O.contents out.new))) }
+    ensures start { OnErr result (options.lines ≡ false → IfSome (R.remaining script.old) (λ all. PrintsPart all (O.contents out.old) (O.contents out.new))) }
+    ensures why { IfErr result (λ why. IfSome (R.remaining script.old) (λ all. Explains options all why)) }
+    ensures quiet { options.progress ≡ false → options.summary ≡ false → E.contents err.new ≡ E.contents err.old }
+{
+    let bytes = read_bytes(alloc, options, script)?;
     match scripts::read(alloc, &bytes, Mode::Schedule) {
         Ok(script) => run(alloc, options, script, out, err),
         Err(fault) => Err(faulty(alloc, options, &bytes, fault)),
@@ -123,6 +165,8 @@ fn schedule_or_fault<R: Read, O: Write, E: Write>(
 /// Then `err` gets one line, which for a faulty line is `line L: CAUSE`; but none where `out` is a
 /// pipe that nobody reads any more. Nothing is run, and `out` gets nothing, unless the script as a
 /// whole is sound; a run that fails later has written what it had answered.
+///
+/// The clauses speak of readers whose bytes are known, and of writers that tell what they hold.
 pub fn schedule<R: Read, O: Write, E: Write>(
     alloc: Global,
     script: &mut R,
@@ -130,6 +174,14 @@ pub fn schedule<R: Read, O: Write, E: Write>(
     err: &mut E,
 ) -> u8
     ensures success_or_failure { result ≤ 1 }
+    // Where it is 0, `out` got what all of the script prints, and `err` nothing.
+    ensures sound { result ≡ 0 → IfSome (R.remaining script.old) (λ all. PrintsScript all (O.contents out.old) (O.contents out.new)) }
+    ensures silent { result ≡ 0 → Keeps (E.contents err.old) (E.contents err.new) }
+    // Of a script with a faulty line it is 1, and `out` got nothing.
+    ensures faulty { IfSome (R.remaining script.old) (λ all. (n : ℕ) (cause : Cause) → IsFirstFault (lines all) n cause → (result ≡ 1) × Keeps (O.contents out.old) (O.contents out.new)) }
+    // Where it is 1, `out` got the beginning of what the script prints, or nothing, and `err` the line that says why.
+    ensures failed { result ≡ 1 → IfSome (R.remaining script.old) (λ all. PrintsPart all (O.contents out.old) (O.contents out.new)) }
+    ensures told { result ≡ 1 → IfSome (R.remaining script.old) (λ all. TellsWhy all (E.contents err.old) (E.contents err.new)) }
 {
     schedule_with(alloc, Options::default(), script, out, err)
 }
@@ -144,13 +196,17 @@ pub fn schedule_with<R: Read, O: Write, E: Write>(
     err: &mut E,
 ) -> u8
     ensures success_or_failure { result ≤ 1 }
+    ensures sound { options.lines ≡ false → result ≡ 0 → IfSome (R.remaining script.old) (λ all. PrintsScript all (O.contents out.old) (O.contents out.new)) }
+    ensures silent { options.progress ≡ false → options.summary ≡ false → result ≡ 0 → Keeps (E.contents err.old) (E.contents err.new) }
+    ensures faulty { options.lines ≡ false → IfSome (R.remaining script.old) (λ all. (n : ℕ) (cause : Cause) → IsFirstFault (lines all) n cause → (result ≡ 1) × Keeps (O.contents out.old) (O.contents out.new)) }
+    ensures failed { options.lines ≡ false → result ≡ 1 → IfSome (R.remaining script.old) (λ all. PrintsPart all (O.contents out.old) (O.contents out.new)) }
+    ensures told { options.explain ≡ false → options.progress ≡ false → options.summary ≡ false → result ≡ 1 → IfSome (R.remaining script.old) (λ all. TellsWhy all (E.contents err.old) (E.contents err.new)) }
 {
+    one_answer();
     let Err(fault) = schedule_or_fault(alloc, options, script, out, err) else {
         return 0;
     };
-    if !fault.is_silent() {
-        // The status tells of the failure even where its line can't be written.
-        let _ = writeln!(err, "{fault}");
-    }
+    // The status tells of the failure even where its line can't be written.
+    fault.report(err);
     FAILED
 }

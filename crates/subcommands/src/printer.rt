@@ -1,7 +1,16 @@
 //! Prints the answers of a run as they come.
 
+ghost use Rattle.std.specs.Prelude.{◌≡◌, OnOk, OnErr, true, false, None};
+ghost use Rattle.std.specs.Io.KnownBytes.{Keeps};
+ghost use Rattle.driver.specs.Schedule.{fits};
+ghost use Rattle.machine.specs.Printed.{printed};
+ghost use Rattle.subcommands.specs.Prints.{texts, PrintsRun, PrintsStart};
+ghost use Rattle.subcommands.specs.Sinks.{OutTakes, OutBegins, IsQuiet};
+
 use crate::options::Options;
-use driver::{Answer, Closed, Reply, Sink, Step, Word};
+use crate::output::write_bytes;
+use block_store::BlockDevice;
+use driver::{Answer, Closed, Config, Reply, Sink, Step, Stop, Word, run_into};
 use std::alloc::Global;
 use std::io;
 use std::io::Write;
@@ -47,47 +56,29 @@ fn bump(count: &mut u64) {
 }
 
 /// Where the answers of a run go. Each is written as it comes, in one piece.
+///
+/// It owns no memory: the proof of [`print_run`] knows what the writers behind it hold only where none stands
+/// beside them.
 #[derive(Drop)]
-pub struct Printer<'a, O: Write, E: Write> {
-    out: &'a mut O,
-    err: &'a mut E,
+struct Printer<'o, 'e, 's, 'l, 't, 'f, O: Write, E: Write> {
+    out: &'o mut O,
+    err: &'e mut E,
     options: Options,
-    steps: &'a [Step],
+    steps: &'s [Step],
     /// For each of the steps the number of its line.
-    lines: &'a [usize],
+    lines: &'l [usize],
     /// What is written next.
-    text: Vec<u8>,
+    text: &'t mut String,
     /// What a terminal shows of how many lines are done, in hundredths, if it shows any.
     shown: Option<usize>,
     /// How many of the steps are done, as far as is known.
     done: usize,
     tally: Tally,
-    fault: Option<io::Error>,
+    /// Why an answer could not be written.
+    fault: &'f mut Option<io::Error>,
 }
 
-impl<'a, O: Write, E: Write> Printer<'a, O, E> {
-    pub fn new(
-        alloc: Global,
-        options: Options,
-        steps: &'a [Step],
-        lines: &'a [usize],
-        out: &'a mut O,
-        err: &'a mut E,
-    ) -> Self {
-        Printer {
-            out,
-            err,
-            options,
-            steps,
-            lines,
-            text: Vec::new(alloc),
-            shown: None,
-            done: 0,
-            tally: Tally::default(),
-            fault: None,
-        }
-    }
-
+impl<'o, 'e, 's, 'l, 't, 'f, O: Write, E: Write> Printer<'o, 'e, 's, 'l, 't, 'f, O, E> {
     /// The number of the line of the step that stands there; 0 where there is none.
     fn line_of(&self, step: usize) -> usize {
         self.lines.get(step).copied().unwrap_or(0)
@@ -99,31 +90,40 @@ impl<'a, O: Write, E: Write> Printer<'a, O, E> {
     }
 
     /// Writes the answer, if it prints anything.
-    fn write(&mut self, step: usize, reply: &Reply) -> io::Result<()> {
+    fn write(&mut self, step: usize, reply: &Reply) -> io::Result<()>
+        ensures out { self.new.out.ghost_name ≡ self.old.out.ghost_name }
+        ensures err { self.new.err.ghost_name ≡ self.old.err.ghost_name }
+        ensures options { self.new.options ≡ self.old.options }
+        ensures whole { OnOk result (OutTakes self.old.options (O.contents self.old.out.now) (O.contents self.new.out.now) (printed reply.now)) }
+        ensures start { OnErr result (OutBegins self.old.options (O.contents self.old.out.now) (O.contents self.new.out.now) (printed reply.now)) }
+        ensures quiet { IsQuiet self.old.options self.old.shown self.new.shown (E.contents self.old.err.now) (E.contents self.new.err.now) }
+    {
         self.text.clear();
-        reply.print(&mut self.text)?;
+        reply.print(self.text)?;
         if self.text.is_empty() {
             return Ok(());
         }
         self.hide();
         if !self.options.lines {
-            return self.out.write_all(&self.text);
+            return write_bytes(self.out, self.text.as_bytes());
         }
         let number = self.line_of(step);
         let alloc = *self.text.allocator();
-        let mut numbered = Vec::new(alloc);
-        for line in self.text.split(|byte| *byte == b'\n') {
-            if !line.is_empty() {
-                write!(&mut numbered, "{number}: ")?;
-                numbered.write_all(line)?;
-                numbered.write_all(b"\n")?;
-            }
+        let mut numbered = String::new(alloc);
+        for line in self.text.lines() {
+            writeln!(numbered, "{number}: {line}")?;
         }
-        self.out.write_all(&numbered)
+        write_bytes(self.out, numbered.as_bytes())
     }
 
     /// Takes back what a terminal shows.
-    fn hide(&mut self) {
+    fn hide(&mut self)
+        ensures out { self.new.out ≡ self.old.out }
+        ensures err { self.new.err.ghost_name ≡ self.old.err.ghost_name }
+        ensures options { self.new.options ≡ self.old.options }
+        ensures text { self.new.text.now ≡ self.old.text.now }
+        ensures quiet { IsQuiet self.old.options self.old.shown self.new.shown (E.contents self.old.err.now) (E.contents self.new.err.now) }
+    {
         if self.shown.take().is_some() {
             // Nothing hangs on it: the run goes on where it can't be written.
             let _ = self.err.write_all(ERASE);
@@ -131,7 +131,11 @@ impl<'a, O: Write, E: Write> Printer<'a, O, E> {
     }
 
     /// Shows on a terminal how many lines are done, where that is a hundredth more than it shows.
-    fn show(&mut self, step: usize) {
+    fn show(&mut self, step: usize)
+        ensures out { self.new.out ≡ self.old.out }
+        ensures err { self.new.err.ghost_name ≡ self.old.err.ghost_name }
+        ensures options { self.new.options ≡ self.old.options }
+    {
         let done = self.line_of(step);
         let last = self.last_line();
         let hundredth = done.saturating_mul(100).checked_div(last).unwrap_or(100);
@@ -156,38 +160,97 @@ impl<'a, O: Write, E: Write> Printer<'a, O, E> {
 
     /// The run has come to its end, or was cut short: what is left to say is said. The error is why an
     /// answer could not be written.
-    pub fn end(mut self, is_whole: bool) -> io::Result<()> {
+    fn end(&mut self, is_whole: bool) -> io::Result<()>
+        ensures out { self.new.out.ghost_name ≡ self.old.out.ghost_name }
+        ensures err { self.new.err.ghost_name ≡ self.old.err.ghost_name }
+        ensures kept { Keeps (O.contents self.old.out.now) (O.contents self.new.out.now) }
+        ensures quiet { self.old.options.summary ≡ false → IsQuiet self.old.options self.old.shown self.new.shown (E.contents self.old.err.now) (E.contents self.new.err.now) }
+    {
         self.hide();
-        if is_whole {
-            self.done = self.steps.len();
-        }
         if self.options.summary {
-            let lines = if is_whole {
-                self.last_line()
-            } else {
-                self.line_of(self.done.saturating_sub(1))
-            };
-            let Tally { kills, refused, .. } = self.tally;
-            let unfinished = self.unfinished();
-            let _ = writeln!(
-                self.err,
-                "lines {lines}, kills {kills}, refused {refused}, unfinished {unfinished}"
-            );
+            self.sum_up(is_whole);
         }
-        match self.fault {
+        match self.fault.take() {
             Some(error) => Err(error),
             None => self.out.flush(),
         }
     }
+
+    /// Says how much was done.
+    fn sum_up(&mut self, is_whole: bool)
+        ensures out { self.new.out ≡ self.old.out }
+        ensures err { self.new.err.ghost_name ≡ self.old.err.ghost_name }
+    {
+        if is_whole {
+            self.done = self.steps.len();
+        }
+        let lines = if is_whole {
+            self.last_line()
+        } else {
+            let last = self.done.saturating_sub(1);
+            self.line_of(last)
+        };
+        let Tally { kills, refused, .. } = self.tally;
+        let unfinished = self.unfinished();
+        let _ = writeln!(
+            self.err,
+            "lines {lines}, kills {kills}, refused {refused}, unfinished {unfinished}"
+        );
+    }
 }
 
-impl<'a, O: Write, E: Write> Sink for Printer<'a, O, E> {
-    ghost use Rattle.std.specs.Prelude.{⊤};
+/// How a run went, and whether all that it answered was written.
+#[derive(Drop)]
+pub struct Ended {
+    pub ran: Result<(), Stop>,
+    pub written: io::Result<()>,
+}
 
-    // What the writers hold is said nowhere.
-    ghost took = { λ a b xs. ⊤ };
+/// Runs steps over a device. Each answer is written to `out` as it comes; what the options ask for goes to
+/// `err`, and nothing else.
+pub fn print_run<D: BlockDevice, O: Write, E: Write>(
+    alloc: Global,
+    options: Options,
+    config: Config,
+    device: &mut D,
+    steps: &[Step],
+    lines: &[usize],
+    out: &mut O,
+    err: &mut E,
+) -> Ended
+    requires { fits config (D.disk device.old) ≡ true }
+    ensures whole { OnOk result.ran (options.lines ≡ false → PrintsRun config (D.disk device.old) steps.now (O.contents out.old) (O.contents out.new)) }
+    ensures start { OnErr result.ran (options.lines ≡ false → PrintsStart config (D.disk device.old) steps.now (O.contents out.old) (O.contents out.new)) }
+    ensures quiet { options.progress ≡ false → options.summary ≡ false → E.contents err.new ≡ E.contents err.old }
+{
+    let mut text = String::new(alloc);
+    let mut fault = None;
+    let mut printer = Printer {
+        out,
+        err,
+        options,
+        steps,
+        lines,
+        text: &mut text,
+        shown: None,
+        done: 0,
+        tally: Tally::default(),
+        fault: &mut fault,
+    };
+    let ran = run_into(alloc, config, device, steps, &mut printer);
+    let written = printer.end(ran.is_ok());
+    Ended { ran, written }
+}
 
-    ghost failed = { λ a b. ⊤ };
+impl<'o, 'e, 's, 'l, 't, 'f, O: Write, E: Write> Sink for Printer<'o, 'e, 's, 'l, 't, 'f, O, E> {
+    // What is said of the one and of the other writer. Both stay the writers that they are.
+    ghost took = { λ a b xs. (b.out.ghost_name ≡ a.out.ghost_name) × (b.err.ghost_name ≡ a.err.ghost_name) × (b.options ≡ a.options)
+        × OutTakes a.options (O.contents a.out.now) (O.contents b.out.now) (texts xs)
+        × IsQuiet a.options a.shown b.shown (E.contents a.err.now) (E.contents b.err.now) };
+
+    ghost failed = { λ a b begun. (b.out.ghost_name ≡ a.out.ghost_name) × (b.err.ghost_name ≡ a.err.ghost_name) × (b.options ≡ a.options)
+        × OutBegins a.options (O.contents a.out.now) (O.contents b.out.now) (texts begun)
+        × IsQuiet a.options a.shown b.shown (E.contents a.err.now) (E.contents b.err.now) };
 
     fn take(&mut self, step: usize, reply: Reply) -> Result<(), Closed> {
         self.tally.count(&reply.answer);
@@ -200,15 +263,24 @@ impl<'a, O: Write, E: Write> Sink for Printer<'a, O, E> {
                 Ok(())
             }
             Err(error) => {
-                self.fault = Some(error);
+                *self.fault = Some(error);
                 Err(Closed)
             }
         }
     }
 
-    ghost nothing = { λ s. tt };
+    ghost use Rattle.std.proofs.Common.{refl, ◌∙◌};
+    ghost use Rattle.subcommands.specs.SinkLaws.{out_takes-nil, out_takes-more, out_begins-nil, quiet-refl, quiet-more};
 
-    ghost more = { λ a b c xs ys first second. tt };
+    ghost nothing = { λ s. (refl, refl, refl, out_takes-nil s.options (O.contents s.out.now), quiet-refl s.options s.shown (E.contents s.err.now)) };
 
-    ghost stays = { λ s. tt };
+    ghost more = { λ a b c xs ys first second. (
+      second.0 ∙ first.0,
+      second.1 ∙ first.1,
+      second.2 ∙ first.2,
+      out_takes-more a.options b.options first.2 (O.contents a.out.now) (O.contents b.out.now) (O.contents c.out.now) xs ys first.3 second.3,
+      quiet-more a.options b.options first.2 a.shown b.shown c.shown (E.contents a.err.now) (E.contents b.err.now) (E.contents c.err.now) first.4 second.4,
+    ) };
+
+    ghost stays = { λ s. (refl, refl, refl, out_begins-nil s.options (O.contents s.out.now), quiet-refl s.options s.shown (E.contents s.err.now)) };
 }

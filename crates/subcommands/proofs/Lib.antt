@@ -1,0 +1,4 @@
+pub mod ByteLemmas
+pub mod ReasonLemmas
+pub mod ResultLemmas
+pub mod StartLemmas

@@ -1,0 +1,4 @@
+pub mod Prints
+pub mod Reasons
+pub mod SinkLaws
+pub mod Sinks
