@@ -17,6 +17,8 @@ mod killed;
 #[cfg(test)]
 mod memory;
 #[cfg(test)]
+mod printed;
+#[cfg(test)]
 mod shared;
 #[cfg(test)]
 mod tasks;
