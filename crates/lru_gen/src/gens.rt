@@ -1,6 +1,6 @@
 //! The generations of all groups.
 
-ghost use Rattle.std.specs.Prelude.{◌≡◌, ◌≢◌, ◌+◌, ◌<◌, ◌≤◌, ◌^◌, ◌∷◌, ◌++◌, [], ℕ, true, false, None, length, slice_get, is_some, option_map, option_copied, IfSome, IfOk, OnOk, IsOk};
+ghost use Rattle.std.specs.Prelude.{◌≡◌, ◌≢◌, ◌+◌, ◌<◌, ◌≤◌, ◌^◌, ◌∷◌, ◌++◌, [], ℕ, true, false, None, length, slice_get, is_some, option_map, IfSome, IfOk, OnOk, IsOk};
 ghost use Rattle.machine.specs.Generations.{new_gens, row_of, on_row, has_page, is_listed, is_listed_in, after_in, added, isolated, front_of, merged, raised, advanced, handed_over};
 ghost use Rattle.machine.specs.Eviction.{has_usable};
 ghost use Rattle.rings.specs.declared.ring_node.Link.{Link};
@@ -133,9 +133,9 @@ impl Gens {
 
     /// The stored link of a page, or of the head of a list. `None` for a page that is on no list, and for a list that is
     /// not there. The list of a generation has the number that [`list_of`] gives.
-    pub fn link(&self, node: RingNode) -> Option<&Link>
+    pub fn link(&self, node: RingNode) -> Option<Link>
         ensures there { is_some result ≡ is_there (lists_of self.now.groups) node }
-        ensures link { IfSome (option_copied result) (λ link. IsLinkOf (lists_of self.now.groups) node link) }
+        ensures link { IfSome result (λ link. IsLinkOf (lists_of self.now.groups) node link) }
     {
         self.rings.link(node)
     }

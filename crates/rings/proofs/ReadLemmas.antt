@@ -1,5 +1,5 @@
 -- What a read of the links says of the lists.
-use Rattle.std.proofs.Common.{◌≡◌, ℕ, ◌<◌, true, List, [], ◌∷◌, ◌++◌, length, Option, Some, None, is_some, slice_get, refl, sym, ap, subst, ◌∙◌, inl, inr, arith, nat_lt, eqb, Bor, option_copied}
+use Rattle.std.proofs.Common.{◌≡◌, ℕ, ◌<◌, true, List, [], ◌∷◌, ◌++◌, length, Option, Some, None, is_some, slice_get, refl, sym, ap, subst, ◌∙◌, inl, inr, arith, nat_lt, eqb}
 use Rattle.std.proofs.lemmas.Bool.{false≢true, cases_Bool, cases_lt, lt-ltb, le-ltb, false_from_ne_true}
 use Rattle.std.proofs.lemmas.List.{get_or_past}
 use Rattle.std.proofs.lemmas.Option.{slice_get-get_or, slice_get_past, slice_get_within, none-some, same_Some}
@@ -17,10 +17,6 @@ use Rattle.rings.proofs.LinkLemmas.{prev_is, next_is}
 use Rattle.rings.proofs.ListLemmas.{listed_from, listed_in, list_within, nothing_twice, has_behind, has_first}
 use Rattle.rings.proofs.ChainLemmas.{placed, joined_before, chain_is_distinct, first_is, last_is, chain_at, page_within}
 use Rattle.rings.proofs.RingLemmas.{one_list}
-
-pub some_copied : (o : Option (Bor Link)) → is_some o ≡ is_some (option_copied o)
-some_copied None = refl
-some_copied (Some link) = refl
 
 pub joined_there : (t : Links) (a b : RingNode) → IsJoined t a b → is_some (link_at t b) ≡ true
 joined_there t a b k = by_link (link_at t b) k.prev

@@ -1,5 +1,5 @@
 -- What stands in a ring, by its number.
-use Rattle.std.specs.Prelude.{ℕ, Option, Some, None}
+use Rattle.std.specs.Prelude.{ℕ, Bool, true, false, Option, Some, None}
 use Rattle.rings.specs.declared.ring_node.RingNode.{RingNode}
 use Rattle.rings.specs.declared.ring_node.RingNode.TheVariants.{Page, Head}
 
@@ -13,3 +13,8 @@ head_node l = Head (record { 0 = l })
 abbrev pub page_of : RingNode → Option ℕ
 page_of (Page p) = Some p.0
 page_of (Head l) = None
+
+-- a node by its number among its like
+abbrev pub node_of : ℕ → Bool → RingNode
+node_of n false = page_node n
+node_of n true = head_node n

@@ -3,7 +3,7 @@
 //! `include/linux/list.h`).
 //!
 //! Each list is a ring: it goes from its head through its pages back to the head. A page is in one
-//! list at most. The links take 20 bytes for each page number, from the opening on, and 16 bytes for
+//! list at most. The links take 12 bytes for each page number, from the opening on, and 16 bytes for
 //! each list.
 #![tactic(auto)]
 
@@ -11,6 +11,7 @@ pub use ring_node::{Link, ListId, RingNode};
 pub use table::Rings;
 
 mod links;
+mod page_link;
 mod ring_node;
 mod table;
 #[cfg(test)]

@@ -1,9 +1,10 @@
 //! The links of all rings, with the three changes that keep them rings (kernel: `__list_add`,
 //! `__list_del`, `__list_splice`).
 
-ghost use Rattle.std.specs.Prelude.{◌≡◌, ◌≢◌, ◌<◌, Some, None, option_copied, IsSome, length};
+ghost use Rattle.std.specs.Prelude.{◌≡◌, ◌≢◌, ◌<◌, Some, None, IsSome, length};
 ghost use Rattle.rings.specs.Links.{link_at, IsJoined, WritesLink, SetsNext, SetsPrev, Joins, Adds, Removes, Splices};
 
+use crate::page_link::PageLink;
 use crate::ring_node::{Link, RingNode};
 use machine::id::PageId;
 
@@ -11,22 +12,22 @@ use machine::id::PageId;
 #[derive(Drop)]
 pub struct Links {
     /// By page: its link, or `None` where it is in no list.
-    pub pages: Vec<Option<Link>>,
+    pub pages: Vec<PageLink>,
     /// By list: the link of its head.
     pub heads: Vec<Link>,
 }
 
 impl Links {
     /// The link of the node, if it has one.
-    pub fn get(&self, node: RingNode) -> Option<&Link>
-        ensures { option_copied result ≡ link_at self.now node }
+    pub fn get(&self, node: RingNode) -> Option<Link>
+        ensures { result ≡ link_at self.now node }
     {
         match node {
             RingNode::Page(page) => match self.pages.get(page.0 as usize) {
-                Some(link) => link.as_ref(),
+                Some(link) => link.get(),
                 None => None,
             },
-            RingNode::Head(list) => self.heads.get(list.0 as usize),
+            RingNode::Head(list) => self.heads.get(list.0 as usize).copied(),
         }
     }
 
@@ -36,7 +37,7 @@ impl Links {
         ensures { link_at self.now node ≡ Some result }
     {
         match self.get(node) {
-            Some(link) => *link,
+            Some(link) => link,
             None => unreachable!(),
         }
     }
@@ -46,7 +47,7 @@ impl Links {
         ensures { WritesLink self.old self.new node (Some link) }
     {
         match node {
-            RingNode::Page(page) => self.pages[page.0 as usize] = Some(link),
+            RingNode::Page(page) => self.put(page, Some(link)),
             RingNode::Head(list) => self.heads[list.0 as usize] = link,
         }
     }
@@ -81,7 +82,7 @@ impl Links {
         requires { page.0 < length self.old.pages.items }
         ensures { WritesLink self.old self.new (RingNode.Page page) link }
     {
-        self.pages[page.0 as usize] = link;
+        self.pages[page.0 as usize] = PageLink::new(link);
     }
 
     /// A page that is in no ring comes in front of the node (kernel: `list_add_tail`).

@@ -1,7 +1,7 @@
 //! What stands in a ring, and the link that it has there.
 
 ghost use Rattle.std.specs.Prelude.{◌≡◌, option_map};
-ghost use Rattle.rings.specs.RingNodes.{page_of};
+ghost use Rattle.rings.specs.RingNodes.{page_of, node_of};
 
 use machine::id::PageId;
 
@@ -25,6 +25,27 @@ impl RingNode {
         match self {
             RingNode::Page(page) => Some(page),
             RingNode::Head(_) => None,
+        }
+    }
+
+    /// The number of the page or of the list, and whether it is a list's.
+    pub(crate) fn parts(self) -> (u32, bool)
+        ensures { self ≡ node_of result.0 result.1 }
+    {
+        match self {
+            RingNode::Page(page) => (page.0, false),
+            RingNode::Head(list) => (list.0, true),
+        }
+    }
+
+    /// The page of this number, or the head of the list of this number.
+    pub(crate) fn of_parts(number: u32, is_head: bool) -> RingNode
+        ensures { result ≡ node_of number is_head }
+    {
+        if is_head {
+            RingNode::Head(ListId(number))
+        } else {
+            RingNode::Page(PageId(number))
         }
     }
 }

@@ -1,10 +1,11 @@
 //! The lists of pages.
 
-ghost use Rattle.std.specs.Prelude.{◌≡◌, ◌≢◌, ℕ, ◌+◌, ◌<◌, ◌≤◌, ◌^◌, ◌==◌, ◌++◌, ◌∷◌, [], not, map, true, false, length, option_map, option_copied, slice_get, slice_set, is_none, is_some, None, replicate, IfSome, IfOk, OnOk, IsOk};
+ghost use Rattle.std.specs.Prelude.{◌≡◌, ◌≢◌, ℕ, ◌+◌, ◌<◌, ◌≤◌, ◌^◌, ◌==◌, ◌++◌, ◌∷◌, [], not, map, true, false, length, option_map, slice_get, slice_set, is_none, is_some, None, replicate, IfSome, IfOk, OnOk, IsOk};
 ghost use Rattle.rings.specs.declared.ring_node.Link.{Link};
 ghost use Rattle.rings.specs.Rings.{list_at, is_listed, without, is_there, AreApart, IsLinkOf, IsAfter, IsBefore, KeepsLinksBut, first_node, last_node};
 
 use crate::links::Links;
+use crate::page_link::PageLink;
 use crate::ring_node::{Link, ListId, RingNode};
 use machine::id::PageId;
 use std::alloc::{AllocError, Global};
@@ -36,10 +37,14 @@ impl Model for Rings {
     ghost invariant = { λ r. IsRings r.links (lists_of r.links) };
 }
 
-fn no_links(alloc: Global, numbers: usize) -> Result<Vec<Option<Link>>, AllocError>
+fn no_links(alloc: Global, numbers: usize) -> Result<Vec<PageLink>, AllocError>
     ensures { IfOk result (λ links. links.items ≡ replicate numbers None) }
 {
-    vec![in alloc; None; numbers]
+    let mut links = Vec::with_capacity(alloc, numbers)?;
+    for _ in 0..numbers {
+        links.push_reserved(PageLink::new(None));
+    }
+    Ok(links)
 }
 
 impl Rings {
@@ -112,9 +117,9 @@ impl Rings {
 
     /// The stored link of a page, or of the head of a list. `None` for a page that is in no list, and
     /// for a list that is not there.
-    pub fn link(&self, node: RingNode) -> Option<&Link>
+    pub fn link(&self, node: RingNode) -> Option<Link>
         ensures there { is_some result ≡ is_there self.now.lists node }
-        ensures link { IfSome (option_copied result) (λ link. IsLinkOf self.now.lists node link) }
+        ensures link { IfSome result (λ link. IsLinkOf self.now.lists node link) }
     {
         self.links.get(node)
     }

@@ -1,4 +1,5 @@
 use super::*;
+use crate::page_link::PageLink;
 use machine::id::PageId;
 use std::alloc::{AllocError, Global};
 use std::mem::size_of;
@@ -30,7 +31,7 @@ fn the_older_pages_come_first(rt: HostRuntime) -> Result<(), Fail> {
 fn links_are_small(rt: HostRuntime) {
     assert_eq!(rt; size_of::<RingNode>(), 8);
     assert_eq!(rt; size_of::<Link>(), 16);
-    assert_eq!(rt; size_of::<Option<Link>>(), 20);
+    assert_eq!(rt; size_of::<PageLink>(), 12);
 }
 
 const LISTS: u32 = 4;
