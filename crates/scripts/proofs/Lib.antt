@@ -1,4 +1,5 @@
 pub mod WordLemmas
+pub mod NumeralLemmas
 pub mod Splits
 pub mod LineCuts
 pub mod Loop

@@ -82,6 +82,7 @@ fn read_begun(alloc: Global, context: &Context, words: &[Token<'_>]) -> Result<I
     Ok(only_begun(item))
 }
 
+#[tactic(auto, using(crate::proofs::NumeralLemmas::no_line))]
 fn read_words(alloc: Global, context: &Context, words: &[Token<'_>]) -> Result<Item, LineError>
     ensures { Reads result
         (first_of (line_faults (around context.now) words.now))
@@ -93,12 +94,13 @@ fn read_words(alloc: Global, context: &Context, words: &[Token<'_>]) -> Result<I
     if first.text().starts_with('#') {
         return Ok(Item::Nothing);
     }
+    // Most lines are a task's, whose number is no word to look for.
+    if first.is_digits() {
+        return read_task(alloc, context, Manner::Whole, first, more);
+    }
     let word = word_named(Speaker::Shell, first.text());
     if takes_line(word) {
         return read_begun(alloc, context, more);
-    }
-    if first.is_digits() {
-        return read_task(alloc, context, Manner::Whole, first, more);
     }
     read_named(alloc, context, Manner::Whole, None, word, more)
 }
