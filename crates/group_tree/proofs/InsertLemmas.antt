@@ -1,5 +1,5 @@
 -- The list of live groups with a group more, behind all at and below its parent.
-use Rattle.std.proofs.Common.{inl, inr, ◌≡◌, ◌≢◌, ℕ, ◌+◌, ◌-◌, ◌<◌, ◌≤◌, ◌==◌, true, false, if◌then◌else◌, List, [], ◌∷◌, ◌++◌, length, drop, get_or, slice_index, Some, sym, ap, ◌∙◌, subst, arith, append_assoc, length-append, nat_lt}
+use Rattle.std.proofs.Common.{inl, inr, ◌≡◌, ◌≢◌, ℕ, ◌+◌, ◌-◌, ◌<◌, ◌≤◌, ◌==◌, Bool, true, false, if◌then◌else◌, List, [], ◌∷◌, ◌++◌, length, drop, get_or, slice_index, Some, sym, ap, ◌∙◌, subst, arith, append_assoc, length-append, nat_lt}
 use Rattle.std.specs.List.{insert}
 use Rattle.std.proofs.lemmas.Bool.{cases_Bool}
 use Rattle.std.proofs.lemmas.Bool.Decides.{nat_tests}
@@ -20,6 +20,10 @@ use Rattle.group_tree.proofs.TableLemmas.{live_groups-push}
 use Rattle.group_tree.proofs.SpliceLemmas.{swaps-length}
 use Rattle.group_tree.proofs.PushedWalk.{preorder-new, swaps-pushed, same-pushed}
 use Rattle.group_tree.proofs.OrderLemmas.{part-placed, ends-within, live-at, place-read, span-at}
+
+-- what a call that succeeded left
+pub succeeded : {X : Type 0} (done : Bool) (left new old : X) → left ≡ (if done then new else old) → done ≡ true → left ≡ new
+succeeded done left new old is so = is ∙ ap (λ b. if b then new else old) so
 
 -- ---- a list with a number more
 

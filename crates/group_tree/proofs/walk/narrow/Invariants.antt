@@ -1,13 +1,13 @@
-use Rattle.std.proofs.Common.{◌≡◌, ℕ, ◌+◌, slice_index}
-use Rattle.machine.specs.Tree.{share, rank}
+use Rattle.machine.specs.Tree.{rank}
 use Rattle.group_tree.specs.Tables.{number, nodes_of}
 use Rattle.group_tree.specs.Places.{IsLiveAt}
+use Rattle.group_tree.proofs.SpanLemmas.{AgreeUp}
 use Rattle.group_tree.proofs.walk.narrow.Given as goal
 
 abbrev pub invariant-loop-at : goal.invariant-loop-at
 invariant-loop-at l = record {
   live : IsLiveAt (nodes_of l.groups) (number l.at);
-  counts : (g : ℕ) → slice_index l.spans g + share (nodes_of l.groups) g (number l.fn.from) ≡ slice_index l.fn.spans g + share (nodes_of l.groups) g (number l.at);
+  counts : AgreeUp (nodes_of l.groups) l.fn.spans (number l.at) l.spans (number l.fn.from);
 }
 
 abbrev pub decreases-loop-at : goal.decreases-loop-at

@@ -1,46 +1,34 @@
-use Rattle.std.proofs.Common.{◌≡◌, ℕ, ◌+◌, true, slice_index, Some, sym, ap, subst, arith}
-use Rattle.machine.specs.Tree.{is_live, share, rank}
-use Rattle.machine.proofs.TreeLemmas.{share-None, rank-parent}
-use Rattle.group_tree.specs.Places.{IsLiveAt}
+use Rattle.std.proofs.Common.{◌≡◌, true, Some, arith, ap}
+use Rattle.machine.specs.Tree.{is_live}
 use Rattle.group_tree.specs.Tables.{number, nodes_of}
-use Rattle.group_tree.proofs.SpanLemmas.{in-table, parent-read, live-parent, one-more, counted-once}
+use Rattle.group_tree.proofs.SpanLemmas.{in-table, parent-read, parent-live, parent-nearer, AgreeUp, all-counted, counted-once, one-more}
 use Rattle.group_tree.proofs.walk.widen.Goals as goal
 
 pub overflow_add-spans : goal.overflow_add-spans
 overflow_add-spans c =
     let live : is_live (nodes_of c.args.groups.now) c.in-Some.here.0 ≡ true = rw c.in-Some.is at c.loop-at.invariant.live in
-    let counts : (g : ℕ) → slice_index c.loop-at.spans g + share (nodes_of c.args.groups.now) g (Some c.in-Some.here.0) ≡ slice_index c.args.spans.now g + share (nodes_of c.args.groups.now) g (number c.args.from) = rw c.in-Some.is at c.loop-at.invariant.counts in
-    let once = counted-once (nodes_of c.args.groups.now) c.requires.tree.earlier_parents c.loop-at.spans c.args.spans.now (number c.args.from) c.in-Some.here.0 counts in
+    let agree : AgreeUp (nodes_of c.args.groups.now) c.loop-at.spans (Some c.in-Some.here.0) c.args.spans.now (number c.args.from) = rw c.in-Some.is at c.loop-at.invariant.counts in
+    let once = counted-once (nodes_of c.args.groups.now) c.requires.tree.earlier_parents c.loop-at.spans c.args.spans.now (number c.args.from) c.in-Some.here.0 agree in
     let few = c.requires.few c.in-Some.here.0 live in
     omega (arith, once, few)
 
 pub loop-at-smaller : goal.loop-at-smaller
 loop-at-smaller c =
     let live : is_live (nodes_of c.args.groups.now) c.in-Some.here.0 ≡ true = rw c.in-Some.is at c.loop-at.invariant.live in
-    let read = parent-read c.args.groups.now c.in-Some.here.0 c.index-groups-here.result (in-table c.args.groups.now c.in-Some.here.0 live) in
-    let lower = rank-parent (nodes_of c.args.groups.now) c.requires.tree.earlier_parents c.in-Some.here.0 in
-    let before : rank (number c.loop-at.at) ≡ rank (Some c.in-Some.here.0) = ap (λ at. rank (number at)) c.in-Some.is in
-    let after = ap rank read in
-    omega (arith, lower, before, after)
+    rw c.in-Some.is (parent-nearer c.args.groups.now c.requires.tree.earlier_parents c.in-Some.here.0 c.index-groups-here.result live)
 
 pub loop-at-preserved : goal.loop-at-preserved
 loop-at-preserved c =
     let live : is_live (nodes_of c.args.groups.now) c.in-Some.here.0 ≡ true = rw c.in-Some.is at c.loop-at.invariant.live in
-    let read = parent-read c.args.groups.now c.in-Some.here.0 c.index-groups-here.result (in-table c.args.groups.now c.in-Some.here.0 live) in
-    let counts : (g : ℕ) → slice_index c.loop-at.spans g + share (nodes_of c.args.groups.now) g (Some c.in-Some.here.0) ≡ slice_index c.args.spans.now g + share (nodes_of c.args.groups.now) g (number c.args.from) = rw c.in-Some.is at c.loop-at.invariant.counts in
+    let agree : AgreeUp (nodes_of c.args.groups.now) c.loop-at.spans (Some c.in-Some.here.0) c.args.spans.now (number c.args.from) = rw c.in-Some.is at c.loop-at.invariant.counts in
     let inside = in-table c.args.groups.now c.in-Some.here.0 live in
     record {
-      live = subst (IsLiveAt (nodes_of c.args.groups.now)) (sym read) (live-parent (nodes_of c.args.groups.now) c.requires.tree c.in-Some.here.0 live);
+      live = parent-live c.args.groups.now c.requires.tree c.in-Some.here.0 c.index-groups-here.result live;
       counts =
-          λ g.
-          let more = one-more (nodes_of c.args.groups.now) c.requires.tree.earlier_parents c.loop-at.spans c.args.spans.now (number c.args.from) c.in-Some.here.0 (omega arith) counts g in
-          let above = ap (share (nodes_of c.args.groups.now) g) read in
-          omega (arith, more, above);
+          rw (parent-read c.args.groups.now c.in-Some.here.0 c.index-groups-here.result inside)
+          (one-more (nodes_of c.args.groups.now) c.requires.tree.earlier_parents c.loop-at.spans c.args.spans.now (number c.args.from) c.in-Some.here.0 (omega arith) agree);
     }
 
 pub returns-clause-spans : goal.returns-clause-spans
-returns-clause-spans c g =
-    let e = c.loop-at.invariant.counts g in
-    let none = share-None (nodes_of c.args.groups.now) c.requires.tree.earlier_parents g in
-    let at_end : share (nodes_of c.args.groups.now) g (number c.loop-at.at) ≡ 0 = rw c.in_default.is none in
-    omega (arith, e, at_end)
+returns-clause-spans c =
+    all-counted (nodes_of c.args.groups.now) c.requires.tree.earlier_parents c.loop-at.spans c.args.spans.now (number c.args.from) 0 (number c.loop-at.at) (ap number c.in_default.is) c.loop-at.invariant.counts

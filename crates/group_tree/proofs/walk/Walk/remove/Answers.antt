@@ -1,9 +1,9 @@
-use Rattle.std.proofs.Common.{ℕ, ◌++◌, List, length, slice_index, sym, ap, ◌∙◌, subst, arith, take, drop}
+use Rattle.std.proofs.Common.{ℕ, List, length, slice_index, ap, ◌∙◌, subst, arith}
 use Rattle.machine.specs.declared.id.GroupId.{GroupId}
-use Rattle.machine.specs.Tree.{share, without_group}
-use Rattle.group_tree.specs.Places.{numbers_of, ArePlaced, IsLiveAt, IsWalk}
+use Rattle.machine.specs.Tree.{share}
+use Rattle.group_tree.specs.Places.{numbers_of, ArePlaced}
 use Rattle.group_tree.specs.Tables.{nodes_of}
-use Rattle.group_tree.proofs.SpanLemmas.{in-table, parent-read, live-parent, whole}
+use Rattle.group_tree.proofs.SpanLemmas.{in-table, parent-read, parent-live, whole}
 use Rattle.group_tree.proofs.OrderLemmas.{some-span}
 use Rattle.group_tree.proofs.TakeOutLemmas.{order-has, order-within, order-once, order-before, walk-removed}
 use Rattle.group_tree.proofs.walk.Walk.remove.Goals as goal
@@ -37,8 +37,7 @@ place_from-requires-clause-before c =
 
 pub narrow-requires-clause-from : goal.narrow-requires-clause-from
 narrow-requires-clause-from c =
-    subst (IsLiveAt (nodes_of c.args.groups.now)) (sym (parent-read c.args.groups.now c.args.group.0 c.index-groups-group.result (in-table c.args.groups.now c.args.group.0 c.requires.live)))
-    (live-parent (nodes_of c.args.groups.now) c.requires.tree c.args.group.0 c.requires.live)
+    parent-live c.args.groups.now c.requires.tree c.args.group.0 c.index-groups-group.result c.requires.live
 
 pub narrow-requires-clause-some : goal.narrow-requires-clause-some
 narrow-requires-clause-some c g live =
@@ -55,9 +54,7 @@ returns c =
     let parent = parent-read c.args.groups.now c.args.group.0 c.index-groups-group.result (in-table c.args.groups.now c.args.group.0 c.requires.live) in
     let places_whole = whole c.args.self.now.places.len c.place_from.new.places c.args.self.now.places.items (places_len ∙ places_read) (omega arith) in
     let spans_whole = whole c.args.self.now.spans.len c.narrow.new.spans c.args.self.now.spans.items (spans_len ∙ spans_read) (omega arith) in
-    subst (λ (xs : List ℕ). IsWalk (without_group (nodes_of c.args.groups.now) c.args.group.0) (numbers_of c.remove.new.self.items) xs (take c.args.self.now.spans.len (c.narrow.new.spans ++ drop (length c.narrow.new.spans) c.args.self.now.spans.items)))
-    (sym places_whole)
-    (subst (λ (xs : List ℕ). IsWalk (without_group (nodes_of c.args.groups.now) c.args.group.0) (numbers_of c.remove.new.self.items) c.place_from.new.places xs) (sym spans_whole)
+    rw (places_whole, spans_whole)
     (walk-removed (nodes_of c.args.groups.now) c.args.self.now (c.requires.tree, c.requires.walk) c.args.group.0 c.requires.below c.requires.live c.requires.childless c.index-place.result.now c.index-place.ensures
     c.remove.new.self.items c.remove.ensures.items c.place_from.new.places c.narrow.new.spans
     (subst (λ (xs : List GroupId). ArePlaced (numbers_of xs) c.place_from.new.places (length xs)) c.deref.ensures.value c.place_from.ensures.placed) (places_len ∙ places_read)
@@ -66,4 +63,4 @@ returns c =
     let counts = c.narrow.ensures.spans h in
     let was = ap (λ (xs : List ℕ). slice_index xs h) c.deref_mut-2.ensures.value in
     omega (arith, above, counts, was))
-    (spans_len ∙ spans_read)))
+    (spans_len ∙ spans_read))
