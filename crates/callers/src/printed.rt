@@ -1,6 +1,6 @@
 //! A caller of `subcommands`: what a script prints, as its clauses say it.
 
-ghost use Rattle.std.specs.Prelude.{◌≡◌, ℕ, List, IfSome, IfNone};
+ghost use Rattle.std.specs.Prelude.{◌≡◌, List, IfSome};
 ghost use Rattle.std.specs.Str.Lines.{lines};
 ghost use Rattle.machine.specs.declared.command.Reply.{Reply};
 ghost use Rattle.block_store.specs.Device.{Disk};

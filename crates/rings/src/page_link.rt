@@ -1,6 +1,6 @@
 //! The link of a page as it is stored.
 
-ghost use Rattle.std.specs.Prelude.{◌≡◌, None};
+ghost use Rattle.std.specs.Prelude.{◌≡◌};
 
 use crate::ring_node::{Link, RingNode};
 use std::marker::Model;
