@@ -25,7 +25,7 @@ live_at : (tree : List Node) → IsGroupTree tree → (g : ℕ) → is_live tree
 live_at tree groups g live None e = tt
 live_at tree groups g live (Some p) e = groups.parents_live g p live e
 
--- the table says of a group that is live what it hangs below: that is live, and nearer to the root
+-- what the table says a live group hangs below is live, and nearer to the root
 pub parent-live : (groups : List Group) → IsGroupTree (nodes_of groups) → (g : ℕ) (d : Group) → is_live (nodes_of groups) g ≡ true → IsLiveAt (nodes_of groups) (number (get_or groups g d).parent)
 parent-live groups tree g d live = subst (IsLiveAt (nodes_of groups)) (sym (parent-read groups g d (in-table groups g live))) (live_at (nodes_of groups) tree g live (node_at (nodes_of groups) g).parent refl)
 
@@ -39,29 +39,12 @@ parent-nearer groups is g d live =
 abbrev pub AgreeUp : List Node → List ℕ → Option ℕ → List ℕ → Option ℕ → Type 0
 AgreeUp tree xs at ys from = (g : ℕ) → slice_index xs g + share tree g at ≡ slice_index ys g + share tree g from
 
-module _ (tree : List Node) (is : IsTree tree) (xs ys : List ℕ) (from : Option ℕ) (here : ℕ) where
-  -- a walk up counts each group once
-  pub counted-once : AgreeUp tree xs (Some here) ys from → slice_index xs here ≤ slice_index ys here
-  counted-once agree =
-      let e = agree here in
-      let own = share-own tree is here in
-      let le = share-le tree is here from in
-      omega (arith, e, own, le)
-
-  -- a walk goes on from a group to what it hangs below, as one table has one more there, or the other has one less
-  pub goes-up : (us vs : List ℕ) → ((g : ℕ) → slice_index us g + slice_index ys g ≡ slice_index xs g + slice_index vs g + (if g == here then 1 else 0)) → AgreeUp tree xs (Some here) ys from → AgreeUp tree us (node_at tree here).parent vs from
-  goes-up us vs moved agree g =
-      let step = share-step tree is g here in
-      let m = moved g in
-      let e = agree g in
-      omega (arith, step, m, e)
-
-  -- at its end the one table has what the other lacks
-  pub all-counted : (at : Option ℕ) → at ≡ None → AgreeUp tree xs at ys from → (g : ℕ) → slice_index xs g ≡ slice_index ys g + share tree g from
-  all-counted at none agree g =
-      let e = agree g in
-      let zero : share tree g at ≡ 0 = rw none (share-None tree is g) in
-      omega (arith, e, zero)
+-- at its end a walk has counted all: the one table has what the other lacks
+pub all-counted : (tree : List Node) → IsTree tree → (xs ys : List ℕ) (at from : Option ℕ) → at ≡ None → AgreeUp tree xs at ys from → (g : ℕ) → slice_index xs g ≡ slice_index ys g + share tree g from
+all-counted tree is xs ys at from none agree g =
+    let e = agree g in
+    let zero : share tree g at ≡ 0 = rw none (share-None tree is g) in
+    omega (arith, e, zero)
 
 -- a table in which one number was written, at each place
 one-written : (xs : List ℕ) (here v : ℕ) → here < length xs → (g : ℕ) → slice_index (slice_set xs here v) g + (if g == here then slice_index xs here else 0) ≡ slice_index xs g + (if g == here then v else 0)
@@ -79,11 +62,27 @@ one-written xs here v within g =
     ]
 
 module _ (tree : List Node) (is : IsTree tree) (xs ys : List ℕ) (from : Option ℕ) (here : ℕ) where
+  -- a walk up counts each group once
+  pub counted-once : AgreeUp tree xs (Some here) ys from → slice_index xs here ≤ slice_index ys here
+  counted-once agree =
+      let e = agree here in
+      let own = share-own tree is here in
+      let le = share-le tree is here from in
+      omega (arith, e, own, le)
+
+  -- a walk goes on from a group to what it hangs below, as one table has one more there, or the other has one less
+  goes-up : (us vs : List ℕ) → ((g : ℕ) → slice_index us g + slice_index ys g ≡ slice_index xs g + slice_index vs g + (if g == here then 1 else 0)) → AgreeUp tree xs (Some here) ys from → AgreeUp tree us (node_at tree here).parent vs from
+  goes-up us vs moved agree g =
+      let step = share-step tree is g here in
+      let m = moved g in
+      let e = agree g in
+      omega (arith, step, m, e)
+
   pub one-more : here < length xs → AgreeUp tree xs (Some here) ys from → AgreeUp tree (slice_set xs here (slice_index xs here + 1)) (node_at tree here).parent ys from
-  one-more within agree = goes-up tree is xs ys from here _ ys (λ g. let set = one-written xs here (slice_index xs here + 1) within g in grind (arith, set)) agree
+  one-more within agree = goes-up _ ys (λ g. let set = one-written xs here (slice_index xs here + 1) within g in grind (arith, set)) agree
 
   pub one-less : here < length ys → 1 ≤ slice_index ys here → AgreeUp tree xs (Some here) ys from → AgreeUp tree xs (node_at tree here).parent (slice_set ys here (slice_index ys here - 1)) from
-  one-less within some agree = goes-up tree is xs ys from here xs _ (λ g. let set = one-written ys here (slice_index ys here - 1) within g in grind (arith, set, some)) agree
+  one-less within some agree = goes-up xs _ (λ g. let set = one-written ys here (slice_index ys here - 1) within g in grind (arith, set, some)) agree
 
 -- one group more stands where the places say
 pub one-placed : (walk places : List ℕ) (n : ℕ) → IsOnceEach walk → n < length walk → slice_index walk n < length places → ArePlaced walk places n → ArePlaced walk (slice_set places (slice_index walk n) n) (n + 1)

@@ -33,4 +33,4 @@ loop-at-preserved c =
 
 pub returns-clause-spans : goal.returns-clause-spans
 returns-clause-spans c g =
-    sym (all-counted (nodes_of c.args.groups.now) c.requires.tree.earlier_parents c.args.spans.now c.loop-at.spans (number c.args.from) 0 (number c.loop-at.at) (ap number c.in_default.is) c.loop-at.invariant.counts g)
+    sym (all-counted (nodes_of c.args.groups.now) c.requires.tree.earlier_parents c.args.spans.now c.loop-at.spans (number c.loop-at.at) (number c.args.from) (ap number c.in_default.is) c.loop-at.invariant.counts g)

@@ -31,4 +31,4 @@ loop-at-preserved c =
 
 pub returns-clause-spans : goal.returns-clause-spans
 returns-clause-spans c =
-    all-counted (nodes_of c.args.groups.now) c.requires.tree.earlier_parents c.loop-at.spans c.args.spans.now (number c.args.from) 0 (number c.loop-at.at) (ap number c.in_default.is) c.loop-at.invariant.counts
+    all-counted (nodes_of c.args.groups.now) c.requires.tree.earlier_parents c.loop-at.spans c.args.spans.now (number c.loop-at.at) (number c.args.from) (ap number c.in_default.is) c.loop-at.invariant.counts
