@@ -1,5 +1,6 @@
 //! What is written while a run goes on, and beside its answers.
 
+use crate::case::status_of;
 use std::alloc::Global;
 use std::io::{Error, ErrorKind, Write};
 use std::process::Abort;
@@ -56,7 +57,8 @@ fn answers_are_written_as_they_come(rt: HostRuntime) {
         };
         let mut err = Vec::new(alloc);
         let mut script = OVER_LIMIT.as_bytes();
-        let status = schedule_with(alloc, Options::default(), &mut script, &mut out, &mut err);
+        let ran = schedule_with(alloc, Options::default(), &mut script, &mut out, &mut err);
+        let status = status_of(ran, &mut err);
         assert_eq!(rt; status, if writes == 4 { 0 } else { 1 }, "{writes} writes");
         let Limited { kept, writes: _ } = out;
         let mut wanted = Vec::new(alloc);
@@ -77,7 +79,8 @@ fn writes<R: Abort + AllocGlobal>(rt: &R, options: Options, script: &str, out: &
     let mut script = script.as_bytes();
     let mut printed = Vec::new(alloc);
     let mut said = Vec::new(alloc);
-    let status = schedule_with(alloc, options, &mut script, &mut printed, &mut said);
+    let ran = schedule_with(alloc, options, &mut script, &mut printed, &mut said);
+    let status = status_of(ran, &mut said);
     assert_eq!(rt; str::from_utf8(&said), Ok(err), "standard error");
     assert_eq!(rt; str::from_utf8(&printed), Ok(out), "standard output");
     assert_eq!(rt; status, 0, "status");
@@ -136,6 +139,46 @@ fn a_summary_counts_what_was_done(rt: HostRuntime) {
     writes(&rt, options, script, "1 Underway\n", err);
 }
 
+// Keeps back what it takes, until it is to pass it on. Both streams of a program, in the order in which
+// somebody sees them.
+struct KeepsBack {
+    kept: Vec<u8>,
+    passed_on: bool,
+}
+
+impl Write for KeepsBack {
+    fn write(&mut self, buf: &[u8]) -> io::Result<usize> {
+        self.passed_on = false;
+        self.kept.write(buf)
+    }
+
+    fn flush(&mut self) -> io::Result<()> {
+        self.passed_on = true;
+        Ok(())
+    }
+}
+
+#[test]
+fn all_answers_are_passed_on_at_the_end(rt: HostRuntime) {
+    let alloc = rt.alloc();
+    for summary in [false, true] {
+        let mut out = KeepsBack {
+            kept: Vec::new(alloc),
+            passed_on: false,
+        };
+        let mut err = Vec::new(alloc);
+        let mut script = OVER_LIMIT.as_bytes();
+        let options = Options {
+            summary,
+            ..Options::default()
+        };
+        assert!(rt; schedule_with(alloc, options, &mut script, &mut out, &mut err).is_ok());
+        let KeepsBack { kept, passed_on } = out;
+        assert!(rt; passed_on);
+        assert_eq!(rt; str::from_utf8(&kept), Ok(PRINTED));
+    }
+}
+
 #[test]
 fn a_terminal_sees_how_many_lines_are_done(rt: HostRuntime) {
     let options = Options {
@@ -169,10 +212,8 @@ fn a_run_that_is_cut_short_says_how_far_it_came(rt: HostRuntime) {
     };
     let mut err = Vec::new(alloc);
     let mut script = OVER_LIMIT.as_bytes();
-    assert_eq!(rt;
-        schedule_with(alloc, options, &mut script, &mut out, &mut err),
-        1
-    );
+    let ran = schedule_with(alloc, options, &mut script, &mut out, &mut err);
+    assert_eq!(rt; status_of(ran, &mut err), 1);
     let Limited { kept, writes: _ } = out;
     assert_eq!(rt; str::from_utf8(&kept), Ok("killed 1\n1 killed\n"));
     let wanted =

@@ -12,7 +12,7 @@ use std::process::Abort;
 use std::test::Fail;
 
 /// Two frames, one swap block, and a file of two pages, whose homes are blocks 1 and 2.
-fn machine<R: AllocGlobal>(rt: &R) -> Result<Config, AllocError> {
+pub fn machine<R: AllocGlobal>(rt: &R) -> Result<Config, AllocError> {
     let mut files = FileList::new(rt.alloc());
     let name = text(rt, "log")?;
     files.push(File { name, pages: 2 })?;
@@ -38,13 +38,13 @@ fn add(steps: &mut Vec<Step>, actor: Actor, command: Command) -> Result<(), Allo
 }
 
 /// Task 1 of the root begins.
-fn begin<R: AllocGlobal>(rt: &R, steps: &mut Vec<Step>) -> Result<(), AllocError> {
+pub fn begin<R: AllocGlobal>(rt: &R, steps: &mut Vec<Step>) -> Result<(), AllocError> {
     let path = text(rt, "/")?;
     add(steps, Actor::Shell, Command::Task { task: 1, path })
 }
 
 /// It reaches for byte 5 of the file's second page.
-fn reach(steps: &mut Vec<Step>, op: Op) -> Result<(), AllocError> {
+pub fn reach(steps: &mut Vec<Step>, op: Op) -> Result<(), AllocError> {
     let place = Place::File {
         file: 0,
         page: 1,

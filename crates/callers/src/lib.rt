@@ -11,6 +11,8 @@ mod charges;
 #[cfg(test)]
 mod counted;
 #[cfg(test)]
+mod cut_short;
+#[cfg(test)]
 mod groups;
 #[cfg(test)]
 mod killed;

@@ -82,7 +82,13 @@ impl Case {
         let mut script = self.script.as_bytes();
         let mut out = Vec::new(alloc);
         let mut err = Vec::new(alloc);
-        let status = schedule_with(alloc, self.options, &mut script, &mut out, &mut err);
+        let status = match schedule_with(alloc, self.options, &mut script, &mut out, &mut err) {
+            Ok(()) => 0,
+            Err(fault) => {
+                fault.report(&mut err)?;
+                1
+            }
+        };
         if self.is_met(status, &out, &err) {
             return Ok(());
         }

@@ -64,23 +64,25 @@ one_step : (old : World) (step : Step) (answers : List Reply) (new : World) → 
 one_step old step answers new h = (answers, [], new, h, (refl, refl), sym (append-nil answers))
 
 -- of a step that was carried out
-whole_starts : (old : World) (step : Step) (answers : List Reply) (end : World) → Stepped old step answers end → IsRightOnce end → StartsStep old step answers
-whole_starts old step answers end stepped right = record { part = step ∷ []; is_part = inr (inl refl); end = end; runs = one_step old step answers end stepped; right = right }
+whole_starts : (old : World) (step : Step) (answers : List Reply) (end : World) → Stepped old step answers end → IsRightOnce end → StartsStep old step answers end.disk
+whole_starts old step answers end stepped right = record { part = step ∷ []; is_part = inr (inl refl); end = end; runs = one_step old step answers end stepped; device = refl; right = right }
 
 -- of a finish, so many turns
-pub turns_start : (old : World) (who : Actor) (outcomes : List Outcome) (end : World) → length outcomes ≤ most_turns → Goings old who outcomes end → IsRightOnce end → StartsStep old (Finish who) (all_said who outcomes ++ [])
-turns_start old who outcomes end few goes right =
+pub turns_start : (old : World) (who : Actor) (outcomes : List Outcome) (end : World) (after : Disk) → length outcomes ≤ most_turns → Goings old who outcomes end → end.disk ≡ after → IsRightOnce end
+    → StartsStep old (Finish who) (all_said who outcomes ++ []) after
+turns_start old who outcomes end after few goes device right =
     record {
       part = single_turns who outcomes;
       is_part = inr (inr (let len = single_turns-len who outcomes in omega (arith, len, few), single_turns-all who outcomes));
       end = end;
       runs = subst (λ (rs : List Reply). Runs old (single_turns who outcomes) rs end) (sym (append-nil (all_said who outcomes))) (single_turns-run old who outcomes end goes);
+      device = device;
       right = right;
     }
 
 -- and one turn more
 pub turn_starts : (old : World) (who : Actor) (outcomes : List Outcome) (mid : World) (last : Outcome) (end : World) → length outcomes < most_turns → Goings old who outcomes mid → Turn mid who last end → IsRightOnce end
-    → StartsStep old (Finish who) (all_said who outcomes ++ said_at who last)
+    → StartsStep old (Finish who) (all_said who outcomes ++ said_at who last) end.disk
 turn_starts old who outcomes mid last end few goes turn right =
     let earlier = single_turns who outcomes in
     record {
@@ -88,6 +90,7 @@ turn_starts old who outcomes mid last end few goes turn right =
       is_part = inr (inr (let len = single_turns-len who outcomes in let more = length-append earlier (Advance who ∷ []) in omega (arith, len, more, few), all-more earlier (single_turns-all who outcomes)));
       end = end;
       runs = Runs-then old earlier (all_said who outcomes) mid (Advance who ∷ []) (said_at who last) end (single_turns-run old who outcomes mid goes) (one_step mid (Advance who) (said_at who last) end (last, turn, refl));
+      device = refl;
       right = right;
     }
   where
@@ -97,7 +100,7 @@ turn_starts old who outcomes mid last end few goes turn right =
 
 -- and the last that it has, behind which it says that there are no more
 pub limit_starts : (old : World) (who : Actor) (outcomes : List Outcome) (end : World) → length outcomes ≡ most_turns → Goings old who outcomes end → IsRightOnce end
-    → StartsStep old (Finish who) (all_said who outcomes ++ answer_by who (Word TurnLimit))
+    → StartsStep old (Finish who) (all_said who outcomes ++ answer_by who (Word TurnLimit)) end.disk
 limit_starts old who outcomes end spent goes right =
     whole_starts old (Finish who) (all_said who outcomes ++ answer_by who (Word TurnLimit)) end (outcomes, end, goes, inr (record { spent = spent; stays = refl; answers_are = refl })) right
 
@@ -106,8 +109,8 @@ begins_none [] = refl
 begins_none (step ∷ steps) = inl refl
 
 -- of a step that was cut short before anything was told
-nothing_starts : (old : World) (step : Step) → IsRightOnce old → StartsStep old step []
-nothing_starts old step right = record { part = []; is_part = inl refl; end = old; runs = (refl, refl); right = right }
+nothing_starts : (old : World) (step : Step) (after : Disk) → old.disk ≡ after → IsRightOnce old → StartsStep old step [] after
+nothing_starts old step after device right = record { part = []; is_part = inl refl; end = old; runs = (refl, refl); device = device; right = right }
 
 suc-is : (i : ℕ) → suc i ≡ i + 1
 suc-is i = omega arith
@@ -118,9 +121,9 @@ cut_at steps i step lt is =
     sym (take-append-drop i steps) ∙ ap (λ (ss : List Step). take i steps ++ ss) rest
 
 -- some steps were done, and the next was cut short
-step_starts : (old : World) (steps : List Step) (i : ℕ) (step : Step) (answers : List Reply) (mid : World) (added : List Reply) → i < length steps → step ≡ get_or steps i step
-    → Runs old (take i steps) answers mid → StartsStep mid step added → StartsRun old steps (answers ++ added)
-step_starts old steps i step answers mid added lt is ran starts =
+step_starts : (old : World) (steps : List Step) (i : ℕ) (step : Step) (answers : List Reply) (mid : World) (added : List Reply) (after : Disk) → i < length steps → step ≡ get_or steps i step
+    → Runs old (take i steps) answers mid → StartsStep mid step added after → StartsRun old steps (answers ++ added) after
+step_starts old steps i step answers mid added after lt is ran starts =
     record {
       done = take i steps;
       left = step ∷ drop (i + 1) steps;
@@ -129,6 +132,7 @@ step_starts old steps i step answers mid added lt is ran starts =
       begins = starts.is_part;
       end = starts.end;
       runs = Runs-then old (take i steps) answers mid starts.part added starts.end ran starts.runs;
+      device = starts.device;
       right = starts.right;
     }
 
@@ -138,29 +142,29 @@ module _ {S : Type 0} (took failed : S → S → List Reply → Type 0) where
   heard-more more a b c xs ys begun first second = record { mid = second.mid; takes = more a b second.mid xs ys first second.takes; fails = second.fails }
 
   -- nothing of a step was taken; of one that is carried out an answer may have been begun
-  pub cut_before : ((s : S) → took s s []) → ((s : S) → failed s s []) → (s : S) (before : World) (step : Step) → IsRightOnce before → CutsStep took failed s s before step
-  cut_before nothing stays s before step right =
-      record { answers = []; begun = []; heard = record { mid = s; takes = nothing s; fails = stays s }; starts = nothing_starts before step right }
+  pub cut_before : ((s : S) → took s s []) → ((s : S) → failed s s []) → (s : S) (before : World) (step : Step) (after : Disk) → before.disk ≡ after → IsRightOnce before → CutsStep took failed s s before step after
+  cut_before nothing stays s before step after device right =
+      record { answers = []; begun = []; heard = record { mid = s; takes = nothing s; fails = stays s }; starts = nothing_starts before step after device right }
 
-  pub cut_behind : ((s : S) → took s s []) → (s t : S) (before : World) (step : Step) (begun : List Reply) (end : World) → failed s t begun → Stepped before step begun end → IsRightOnce end → CutsStep took failed s t before step
+  pub cut_behind : ((s : S) → took s s []) → (s t : S) (before : World) (step : Step) (begun : List Reply) (end : World) → failed s t begun → Stepped before step begun end → IsRightOnce end → CutsStep took failed s t before step end.disk
   cut_behind nothing s t before step begun end fails stepped right =
       record { answers = []; begun = begun; heard = record { mid = s; takes = nothing s; fails = fails }; starts = whole_starts before step begun end stepped right }
 
   -- some steps were done, and the next was cut short
-  pub step_cuts : ((a b c : S) (xs ys : List Reply) → took a b xs → took b c ys → took a c (xs ++ ys)) → (a b c : S) (old : World) (steps : List Step) (i : ℕ) (step : Step) (answers : List Reply) (mid : World) → i < length steps → step ≡ get_or steps i step
-      → took a b answers → Runs old (take i steps) answers mid → CutsStep took failed b c mid step → CutsRun took failed a c old steps
-  step_cuts more a b c old steps i step answers mid lt is takes ran cut =
+  pub step_cuts : ((a b c : S) (xs ys : List Reply) → took a b xs → took b c ys → took a c (xs ++ ys)) → (a b c : S) (old : World) (steps : List Step) (i : ℕ) (step : Step) (answers : List Reply) (mid : World) (after : Disk) → i < length steps → step ≡ get_or steps i step
+      → took a b answers → Runs old (take i steps) answers mid → CutsStep took failed b c mid step after → CutsRun took failed a c old steps after
+  step_cuts more a b c old steps i step answers mid after lt is takes ran cut =
       record {
         answers = answers ++ cut.answers;
         begun = cut.begun;
         heard = heard-more more a b c answers cut.answers cut.begun takes cut.heard;
         starts = (let same : answers ++ (cut.answers ++ cut.begun) ≡ (answers ++ cut.answers) ++ cut.begun = sym (append_assoc answers cut.answers cut.begun) in
-            subst (λ (rs : List Reply). StartsRun old steps rs) same (step_starts old steps i step answers mid (cut.answers ++ cut.begun) lt is ran cut.starts));
+            subst (λ (rs : List Reply). StartsRun old steps rs after) same (step_starts old steps i step answers mid (cut.answers ++ cut.begun) after lt is ran cut.starts));
       }
 
 -- from the opening world that is a schedule
-pub run_starts : (config : Config) (before : Disk) (steps : List Step) (answers : List Reply) → fits config before ≡ true → StartsRun (first_world config before) steps answers → Starts config before steps answers
-run_starts config before steps answers fit starts =
+pub run_starts : (config : Config) (before : Disk) (steps : List Step) (answers : List Reply) (after : Disk) → fits config before ≡ true → StartsRun (first_world config before) steps answers after → Starts config before steps answers after
+run_starts config before steps answers after fit starts =
     let honest : Honest (at_first (files_on config before)) starts.end.past.history = runs_are_honest config before (starts.done ++ starts.part) answers starts.end fit starts.runs in
     record {
       done = starts.done;
@@ -168,15 +172,14 @@ run_starts config before steps answers fit starts =
       cut = starts.cut;
       part = starts.part;
       begins = starts.begins;
-      disk = starts.end.disk;
-      schedules = record { end = starts.end; runs = starts.runs; device = refl; honest = honest; right = starts.right (files_on config before) honest };
+      schedules = record { end = starts.end; runs = starts.runs; device = starts.device; honest = honest; right = starts.right (files_on config before) honest };
     }
 
 -- nothing was done
-pub opening_starts : (config : Config) (before : Disk) (steps : List Step) → fits config before ≡ true → Starts config before steps []
+pub opening_starts : (config : Config) (before : Disk) (steps : List Step) → fits config before ≡ true → Starts config before steps [] before
 opening_starts config before steps fit =
     let right : IsRightOnce (first_world config before) = λ files honest. tt in
-    run_starts config before steps [] fit (record { done = []; left = steps; cut = refl; part = []; begins = begins_none steps; end = first_world config before; runs = (refl, refl); right = right })
+    run_starts config before steps [] before fit (record { done = []; left = steps; cut = refl; part = []; begins = begins_none steps; end = first_world config before; runs = (refl, refl); device = refl; right = right })
 
 -- a command that is begun over another is not
 pub begins_over : (old : World) (who : Actor) (what : Command) (activity : Activity) → is_under_way activity ≡ true → Begins old who what activity (answer_by who (Word Underway)) old

@@ -47,22 +47,22 @@ abbrev pub BeginsWith : List Step → List Step → Type 0
 BeginsWith [] part = part ≡ []
 BeginsWith (step ∷ later) part = ArePartOf step part
 
--- these answers are those of the plain machine to the first of the steps, and to what was carried out of the step behind them before the run was cut short
-pub record Starts (config : Config) (before : Disk) (steps : List Step) (answers : List Told_by) : Type 0 where
+-- these answers are those of the plain machine to the first of the steps, and to what was carried out of the step behind them before the run was cut short;
+-- and the device is left as it is behind them. (Excludes a run that asks the device for what is to be answered later, and so one that keeps its answers to its end.)
+pub record Starts (config : Config) (before : Disk) (steps : List Step) (answers : List Told_by) (after : Disk) : Type 0 where
   pub done : List Step
   pub left : List Step
   pub cut : steps ≡ done ++ left
   pub part : List Step
   pub begins : BeginsWith left part
-  pub disk : Disk
-  pub schedules : Schedules config before (done ++ part) answers disk
+  pub schedules : Schedules config before (done ++ part) answers after
 
 -- the sink took some answers, and these, with the one that it may have begun to take, are such
-pub record GivesStart {S : Type 0} (took failed : S → S → List Told_by → Type 0) (config : Config) (before : Disk) (steps : List Step) (old new : S) : Type 0 where
+pub record GivesStart {S : Type 0} (took failed : S → S → List Told_by → Type 0) (config : Config) (before : Disk) (steps : List Step) (old new : S) (after : Disk) : Type 0 where
   pub answers : List Told_by
   pub begun : List Told_by
   pub heard : Heard took failed old new answers begun
-  pub starts : Starts config before steps (answers ++ begun)
+  pub starts : Starts config before steps (answers ++ begun) after
 
 -- ---- the same of a desk
 
@@ -70,7 +70,7 @@ pub record GivesStart {S : Type 0} (took failed : S → S → List Told_by → T
 abbrev pub IsRightOnce : World → Type 0
 IsRightOnce w = (files : ℕ → ℕ → ℕ → ℕ) → Honest (at_first files) w.past.history → Right (at_first files) w.past.history
 
-pub record StartsRun (old : World) (steps : List Step) (answers : List Told_by) : Type 0 where
+pub record StartsRun (old : World) (steps : List Step) (answers : List Told_by) (after : Disk) : Type 0 where
   pub done : List Step
   pub left : List Step
   pub cut : steps ≡ done ++ left
@@ -78,25 +78,27 @@ pub record StartsRun (old : World) (steps : List Step) (answers : List Told_by) 
   pub begins : BeginsWith left part
   pub end : World
   pub runs : Runs old (done ++ part) answers end
+  pub device : end.disk ≡ after
   pub right : IsRightOnce end
 
 -- of the one step that is under way
-pub record StartsStep (old : World) (step : Step) (answers : List Told_by) : Type 0 where
+pub record StartsStep (old : World) (step : Step) (answers : List Told_by) (after : Disk) : Type 0 where
   pub part : List Step
   pub is_part : ArePartOf step part
   pub end : World
   pub runs : Runs old part answers end
+  pub device : end.disk ≡ after
   pub right : IsRightOnce end
 
 -- the sink took some answers, and these, with the one that it may have begun to take, are of the beginning of the steps, or of one step
-pub record CutsRun {S : Type 0} (took failed : S → S → List Told_by → Type 0) (old new : S) (before : World) (steps : List Step) : Type 0 where
+pub record CutsRun {S : Type 0} (took failed : S → S → List Told_by → Type 0) (old new : S) (before : World) (steps : List Step) (after : Disk) : Type 0 where
   pub answers : List Told_by
   pub begun : List Told_by
   pub heard : Heard took failed old new answers begun
-  pub starts : StartsRun before steps (answers ++ begun)
+  pub starts : StartsRun before steps (answers ++ begun) after
 
-pub record CutsStep {S : Type 0} (took failed : S → S → List Told_by → Type 0) (old new : S) (before : World) (step : Step) : Type 0 where
+pub record CutsStep {S : Type 0} (took failed : S → S → List Told_by → Type 0) (old new : S) (before : World) (step : Step) (after : Disk) : Type 0 where
   pub answers : List Told_by
   pub begun : List Told_by
   pub heard : Heard took failed old new answers begun
-  pub starts : StartsStep before step (answers ++ begun)
+  pub starts : StartsStep before step (answers ++ begun) after

@@ -97,6 +97,7 @@ impl Desk {
         ensures opening { self.new.book.state.opening ≡ self.old.book.state.opening }
         ensures seats { self.new.seats ≡ self.old.seats }
         ensures same { IsSame (D.disk device.old) (D.disk device.new) }
+        ensures unmoved { OnErr result (D.disk device.new ≡ D.disk device.old) }
     {
         match self.want(stage) {
             Want::Call(pending, event) => self.ask_book(pending, event),
@@ -120,6 +121,7 @@ impl Desk {
         ensures turn { IfOk result (λ outcome. StageTurn (world self.old (D.disk device.old)) actor stage outcome (world self.new (D.disk device.new))) }
         ensures on { IsOn self.new (D.disk device.new) }
         ensures same { IsSame (D.disk device.old) (D.disk device.new) }
+        ensures unmoved { OnErr result (D.disk device.new ≡ D.disk device.old) }
     {
         let transition = self.serve(device, stage)?;
         let (outcome, left) = seats::settle(transition);
@@ -137,6 +139,7 @@ impl Desk {
         ensures turn { IfOk result (λ outcome. Turn (world self.old (D.disk device.old)) actor outcome (world self.new (D.disk device.new))) }
         ensures on { IsOn self.new (D.disk device.new) }
         ensures same { IsSame (D.disk device.old) (D.disk device.new) }
+        ensures unmoved { OnErr result (D.disk device.new ≡ D.disk device.old) }
     {
         match self.seats.take(actor) {
             Activity::Rests => Ok(seats::word(Word::Idle)),
@@ -159,7 +162,7 @@ impl Desk {
         sink: &mut S,
     ) -> Result<(), Cut>
         ensures begins { OnOk result ((added : List Told_by) × S.took sink.old sink.new added × ((disk : Disk) → Begins (world self.old disk) actor command.now (activity_of actor self.old.seats) added (world self.new disk))) }
-        ensures cut { OnErr result ((disk : Disk) → CutsStep S.took S.failed sink.old sink.new (world self.old disk) (Step.Begin actor command.now)) }
+        ensures cut { OnErr result ((disk : Disk) → CutsStep S.took S.failed sink.old sink.new (world self.old disk) (Step.Begin actor command.now) disk) }
         ensures on { (disk : Disk) → IsOn self.old disk → IsOn self.new disk }
     {
         self.book.history_is_right();
@@ -182,7 +185,7 @@ impl Desk {
     ) -> Result<(), Cut>
         requires { IsOn self.old (D.disk device.old) }
         ensures advances { OnOk result ((added : List Told_by) × S.took sink.old sink.new added × Advances (world self.old (D.disk device.old)) actor added (world self.new (D.disk device.new))) }
-        ensures cut { OnErr result (CutsStep S.took S.failed sink.old sink.new (world self.old (D.disk device.old)) (Step.Advance actor)) }
+        ensures cut { OnErr result (CutsStep S.took S.failed sink.old sink.new (world self.old (D.disk device.old)) (Step.Advance actor) (D.disk device.new)) }
         ensures on { IsOn self.new (D.disk device.new) }
         ensures same { IsSame (D.disk device.old) (D.disk device.new) }
     {
@@ -203,7 +206,7 @@ impl Desk {
     ) -> Result<(), Cut>
         requires { IsOn self.old (D.disk device.old) }
         ensures finishes { OnOk result ((added : List Told_by) × S.took sink.old sink.new added × Finishes (world self.old (D.disk device.old)) actor added (world self.new (D.disk device.new))) }
-        ensures cut { OnErr result (CutsStep S.took S.failed sink.old sink.new (world self.old (D.disk device.old)) (Step.Finish actor)) }
+        ensures cut { OnErr result (CutsStep S.took S.failed sink.old sink.new (world self.old (D.disk device.old)) (Step.Finish actor) (D.disk device.new)) }
         ensures on { IsOn self.new (D.disk device.new) }
         ensures same { IsSame (D.disk device.old) (D.disk device.new) }
     {
@@ -232,7 +235,7 @@ impl Desk {
     ) -> Result<(), Cut>
         requires { IsOn self.old (D.disk device.old) }
         ensures step { OnOk result ((added : List Told_by) × S.took sink.old sink.new added × Stepped (world self.old (D.disk device.old)) step.now added (world self.new (D.disk device.new))) }
-        ensures cut { OnErr result (CutsStep S.took S.failed sink.old sink.new (world self.old (D.disk device.old)) step.now) }
+        ensures cut { OnErr result (CutsStep S.took S.failed sink.old sink.new (world self.old (D.disk device.old)) step.now (D.disk device.new)) }
         ensures on { IsOn self.new (D.disk device.new) }
         ensures same { IsSame (D.disk device.old) (D.disk device.new) }
     {
@@ -252,7 +255,7 @@ impl Desk {
     ) -> Result<(), Cut>
         requires { IsOn self.old (D.disk device.old) }
         ensures runs { OnOk result ((answers : List Told_by) × S.took sink.old sink.new answers × Runs (world self.old (D.disk device.old)) steps.now answers (world self.new (D.disk device.new))) }
-        ensures cut { OnErr result (CutsRun S.took S.failed sink.old sink.new (world self.old (D.disk device.old)) steps.now) }
+        ensures cut { OnErr result (CutsRun S.took S.failed sink.old sink.new (world self.old (D.disk device.old)) steps.now (D.disk device.new)) }
         ensures on { IsOn self.new (D.disk device.new) }
         ensures same { IsSame (D.disk device.old) (D.disk device.new) }
     {

@@ -53,7 +53,7 @@ pub fn run_into<D: BlockDevice, S: Sink>(
     sink: &mut S,
 ) -> Result<(), Stop>
     ensures gives { OnOk result (Gives S.took config (D.disk device.old) steps.now sink.old sink.new (D.disk device.new)) }
-    ensures starts { OnErr result (fits config (D.disk device.old) ≡ true → GivesStart S.took S.failed config (D.disk device.old) steps.now sink.old sink.new) }
+    ensures starts { OnErr result (fits config (D.disk device.old) ≡ true → GivesStart S.took S.failed config (D.disk device.old) steps.now sink.old sink.new (D.disk device.new)) }
     ensures sized { OnOk result (fits config (D.disk device.old) ≡ true) }
     ensures err { IfErr result (λ stop. (stop ≡ Stop.Refused Refusal.Invalid) × (fits config (D.disk device.old) ≡ false) ⊎ IsCut stop × (fits config (D.disk device.old) ≡ true)) }
     ensures untouched { fits config (D.disk device.old) ≡ false → D.disk device.new ≡ D.disk device.old }

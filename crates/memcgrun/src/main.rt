@@ -6,8 +6,9 @@ mod words;
 
 ghost use Rattle.std.specs.Prelude.{◌≡◌, ◌≤◌};
 
+use std::alloc::Global;
 use std::fs::{File, OpenFile};
-use std::io::{ErrorKind, IsTerminal, Write};
+use std::io::{BufWriter, ErrorKind, IsTerminal, Read, Write};
 use std::process::ExitCode;
 use std::rt::{Env, Files};
 use std::{env, io};
@@ -35,11 +36,42 @@ fn open<R: Files, E: Write>(rt: &R, name: &str, err: &mut E) -> Option<R::File> 
     }
 }
 
-/// What is shown of how far a run has come is shown on a terminal alone.
+/// Which of the standard streams are terminals.
+#[derive(Clone, Copy)]
+struct Terminals {
+    out: bool,
+    err: bool,
+}
+
+/// Runs the script. Why it was not run to its end, is told.
+fn run<R: Read, O: Write, E: Write>(
+    alloc: Global,
+    request: Request<'_>,
+    script: &mut R,
+    out: &mut O,
+    err: &mut E,
+) -> u8
+    ensures success_or_failure { result ≤ 1 }
+{
+    let ran = match request.subcommand {
+        Subcommand::Schedule => {
+            subcommands::schedule_with(alloc, request.options, script, out, err)
+        }
+    };
+    let Err(fault) = ran else {
+        return 0;
+    };
+    // The status tells of the failure even where its line can't be written.
+    let _ = fault.report(err);
+    FAILED
+}
+
+/// What is shown of how far a run has come is shown on a terminal alone. Answers go out in blocks, all of them
+/// before anything is told; but as they come to a terminal, and where somebody watches the run.
 fn serve<R: Files + AllocGlobal, O: Write, E: Write>(
     rt: &R,
-    request: Request<'_>,
-    is_terminal: bool,
+    mut request: Request<'_>,
+    terminals: Terminals,
     out: &mut O,
     err: &mut E,
 ) -> u8
@@ -48,13 +80,15 @@ fn serve<R: Files + AllocGlobal, O: Write, E: Write>(
     let Some(mut script) = open(rt, request.file, err) else {
         return FAILED;
     };
-    let mut options = request.options;
-    options.progress = options.progress && is_terminal;
-    match request.subcommand {
-        Subcommand::Schedule => {
-            subcommands::schedule_with(rt.alloc(), options, &mut script, out, err)
+    let as_they_come = terminals.out || request.is_unbuffered || request.options.progress;
+    request.options.progress = request.options.progress && terminals.err;
+    if !as_they_come {
+        // With no memory for a block they go out as they come, too.
+        if let Ok(mut blocks) = BufWriter::new(rt.alloc(), &mut *out) {
+            return run(rt.alloc(), request, &mut script, &mut blocks, err);
         }
     }
+    run(rt.alloc(), request, &mut script, out, err)
 }
 
 fn given_words<R: Env + AllocGlobal>(rt: &R) -> io::Result<Vec<String>> {
@@ -78,7 +112,7 @@ fn show<O: Write, E: Write>(out: &mut O, err: &mut E, text: &clap::Error) -> u8
 /// run, 2 for words that ask for nothing.
 fn start<R: Env + Files + AllocGlobal, O: Write, E: Write>(
     rt: &R,
-    is_terminal: bool,
+    terminals: Terminals,
     out: &mut O,
     err: &mut E,
 ) -> u8
@@ -96,7 +130,7 @@ fn start<R: Env + Files + AllocGlobal, O: Write, E: Write>(
         }
     };
     match words::read_words(rt.alloc(), &words) {
-        Ok(request) => serve(rt, request, is_terminal, out, err),
+        Ok(request) => serve(rt, request, terminals, out, err),
         Err(Refused::Text(text)) if !text.use_stderr() => show(out, err, &text),
         Err(Refused::Text(text)) => {
             // The status tells of the failure even where its text can't be written.
@@ -111,6 +145,9 @@ fn start<R: Env + Files + AllocGlobal, O: Write, E: Write>(
 }
 
 fn main(rt: HostRuntime) -> ExitCode {
-    let is_terminal = rt.stderr().is_terminal();
-    ExitCode::from(start(&rt, is_terminal, &mut rt.stdout(), &mut rt.stderr()))
+    let terminals = Terminals {
+        out: rt.stdout().is_terminal(),
+        err: rt.stderr().is_terminal(),
+    };
+    ExitCode::from(start(&rt, terminals, &mut rt.stdout(), &mut rt.stderr()))
 }

@@ -5,9 +5,9 @@ use clap::{Arg, ArgAction, Command, Error};
 use std::alloc::{AllocError, Global};
 use subcommands::Options;
 
-/// The program's version, and the toolchain that proves and builds it, as `rt version` says.
-/// `docs/check_commands` compares the two.
-const VERSION: &str = "0.1.0 (rattle-kit-13f logic dac8208d650f15bf)";
+/// The program's version, and the logic in which it is proved, which `rt version` says of a toolchain. What is
+/// proved hangs on the logic, and not on the toolchain's number. `docs/check_commands` compares the logic.
+const VERSION: &str = "0.1.0 (logic dac8208d650f15bf)";
 
 /// What the words ask for.
 #[derive(Clone, Copy, Debug, PartialEq, Eq)]
@@ -22,6 +22,8 @@ pub struct Request<'a> {
     pub subcommand: Subcommand,
     pub file: &'a str,
     pub options: Options,
+    /// Each answer is to be written as it comes, wherever the answers go.
+    pub is_unbuffered: bool,
 }
 
 /// Why there is no request.
@@ -57,6 +59,8 @@ const PROGRESS: &str = "progress";
 
 const SUMMARY: &str = "summary";
 
+const UNBUFFERED: &str = "unbuffered";
+
 /// An option that is given or not.
 fn flag<'a>(alloc: Global, name: &'a str, help: &'a str) -> Arg<'a> {
     Arg::new(alloc, name)
@@ -90,13 +94,19 @@ fn command<'a>(alloc: Global) -> Result<Command<'a>, AllocError> {
         SUMMARY,
         "Say at the end how much was done, on standard error",
     );
+    let unbuffered = flag(
+        alloc,
+        UNBUFFERED,
+        "Write each answer as it comes, to a file or a pipe too",
+    );
     let schedule = Command::new(alloc, "schedule")
         .about("Runs a script, one turn after another")
         .arg(file)?
         .arg(explain)?
         .arg(lines)?
         .arg(progress)?
-        .arg(summary)?;
+        .arg(summary)?
+        .arg(unbuffered)?;
     Command::new(alloc, "memcgrun")
         .about("Runs scripts of memory control groups")
         .version(VERSION)
@@ -109,7 +119,7 @@ fn command<'a>(alloc: Global) -> Result<Command<'a>, AllocError> {
 pub fn read_words<'a>(alloc: Global, words: &'a [String]) -> Result<Request<'a>, Refused> {
     let matches = command(alloc)?.try_get_matches_from(words)?;
     // The subcommand and its FILE are required, so clap has found both.
-    let (file, options) = match matches.subcommand() {
+    let (file, options, is_unbuffered) = match matches.subcommand() {
         Some((_, schedule)) => (
             schedule.get_str("FILE").unwrap_or(""),
             Options {
@@ -118,13 +128,15 @@ pub fn read_words<'a>(alloc: Global, words: &'a [String]) -> Result<Request<'a>,
                 progress: schedule.get_flag(PROGRESS),
                 summary: schedule.get_flag(SUMMARY),
             },
+            schedule.get_flag(UNBUFFERED),
         ),
-        None => ("", Options::default()),
+        None => ("", Options::default(), false),
     };
     Ok(Request {
         subcommand: Subcommand::Schedule,
         file,
         options,
+        is_unbuffered,
     })
 }
 
@@ -144,26 +156,42 @@ mod tests {
     #[test]
     fn a_script_is_asked_for(rt: HostRuntime) -> Result<(), Fail> {
         let rows = [
-            ("memcgrun schedule a", [false, false, false, false]),
-            ("memcgrun schedule -- a", [false, false, false, false]),
-            ("memcgrun schedule --explain a", [true, false, false, false]),
-            ("memcgrun schedule a --explain", [true, false, false, false]),
+            ("memcgrun schedule a", [false; 5]),
+            ("memcgrun schedule -- a", [false; 5]),
+            (
+                "memcgrun schedule --explain a",
+                [true, false, false, false, false],
+            ),
+            (
+                "memcgrun schedule a --explain",
+                [true, false, false, false, false],
+            ),
             (
                 "memcgrun schedule --explain -- a",
-                [true, false, false, false],
+                [true, false, false, false, false],
             ),
-            ("memcgrun schedule --lines a", [false, true, false, false]),
+            (
+                "memcgrun schedule --lines a",
+                [false, true, false, false, false],
+            ),
             (
                 "memcgrun schedule --progress a",
-                [false, false, true, false],
+                [false, false, true, false, false],
             ),
-            ("memcgrun schedule a --summary", [false, false, false, true]),
+            (
+                "memcgrun schedule a --summary",
+                [false, false, false, true, false],
+            ),
             (
                 "memcgrun schedule --summary --lines a",
-                [false, true, false, true],
+                [false, true, false, true, false],
+            ),
+            (
+                "memcgrun schedule --unbuffered a",
+                [false, false, false, false, true],
             ),
         ];
-        for (line, [explain, lines, progress, summary]) in rows {
+        for (line, [explain, lines, progress, summary, unbuffered]) in rows {
             let words = words_of(rt.alloc(), line)?;
             let request = read_words(rt.alloc(), &words).ok().ok_or("refused")?;
             let options = Options {
@@ -175,6 +203,7 @@ mod tests {
             assert_eq!(rt; request.subcommand, Subcommand::Schedule, "{line}");
             assert_eq!(rt; request.file, "a", "{line}");
             assert_eq!(rt; request.options, options, "{line}");
+            assert_eq!(rt; request.is_unbuffered, unbuffered, "{line}");
         }
         Ok(())
     }
@@ -216,11 +245,11 @@ mod tests {
     }
 
     #[test]
-    fn the_version_is_one_line_with_the_toolchain(rt: HostRuntime) -> Result<(), Fail> {
+    fn the_version_is_one_line_with_the_logic(rt: HostRuntime) -> Result<(), Fail> {
         for line in ["memcgrun --version", "memcgrun -V"] {
             let (text, asked) = text_of(rt.alloc(), line)?;
             let shown = text.as_str();
-            assert!(rt; shown.starts_with("memcgrun 0.1.0 (rattle-kit-"), "{shown}");
+            assert!(rt; shown.starts_with("memcgrun 0.1.0 (logic "), "{shown}");
             assert!(rt; shown.ends_with(")\n"), "{shown}");
             assert!(rt; asked, "{line}");
         }

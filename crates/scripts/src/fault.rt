@@ -4,8 +4,8 @@ ghost use Rattle.std.specs.Prelude.{◌≡◌};
 ghost use Rattle.scripts.specs.declared.fault.LineError.TheVariants.{Memory};
 
 use std::alloc::{AllocError, AllocFailed};
-use std::error::Error;
 use std::fmt;
+use thiserror::Error;
 
 /// What is wrong with a line. Of several causes it is the first in this order.
 #[derive(Clone, Copy, Debug, PartialEq, Eq)]
@@ -56,8 +56,6 @@ impl fmt::Display for Cause {
     }
 }
 
-impl Error for Cause {}
-
 /// Why a line could not be read.
 #[derive(Debug, Drop)]
 pub enum LineError {
@@ -82,7 +80,8 @@ impl<T: Drop> From<AllocFailed<T>> for LineError {
 }
 
 /// Why a script could not be read.
-#[derive(Clone, Copy, Debug, PartialEq, Eq)]
+#[derive(Clone, Copy, Debug, PartialEq, Eq, Error)]
+#[error("{}", self.text())]
 pub enum ScriptFault {
     /// The first faulty line, counted from 1, and what is wrong with it.
     At { line: usize, cause: Cause },
@@ -90,19 +89,31 @@ pub enum ScriptFault {
     Memory,
 }
 
-/// The line that is printed, without its end.
-impl fmt::Display for ScriptFault {
+impl ScriptFault {
+    /// The line that is printed, without its end.
+    pub fn text(self) -> FaultText
+        ensures { result.fault ≡ self }
+    {
+        FaultText { fault: self }
+    }
+}
+
+/// What is said of a fault. Its bytes are known, as those of a derived message are not.
+#[derive(Clone, Copy, Debug, PartialEq, Eq)]
+pub struct FaultText {
+    pub fault: ScriptFault,
+}
+
+impl fmt::Display for FaultText {
     ghost use Rattle.std.specs.Prelude.{Some};
     ghost use Rattle.scripts.specs.FaultTexts.{fault_text};
 
-    ghost output = { λ f. Some (fault_text f) };
+    ghost output = { λ t. Some (fault_text t.fault) };
 
     fn fmt<W: fmt::Write>(&self, f: &mut fmt::Formatter<W>) -> fmt::Result {
-        match self {
+        match self.fault {
             ScriptFault::At { line, cause } => write!(f, "line {line}: {cause}"),
             ScriptFault::Memory => f.write_str("out of memory"),
         }
     }
 }
-
-impl Error for ScriptFault {}

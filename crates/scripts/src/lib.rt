@@ -20,6 +20,6 @@ mod why;
 mod words;
 
 pub use explanation::explain;
-pub use fault::{Cause, ScriptFault};
+pub use fault::{Cause, FaultText, ScriptFault};
 pub use forms::{DeviceCall, Form, Kind, Speaker, Word, each_word_is_found};
 pub use script::{Mode, Script, frames_line_has_its_own_fault, one_answer, read};

@@ -1,4 +1,4 @@
 pub mod ByteLemmas
-pub mod ReasonLemmas
+pub mod ToldLemmas
 pub mod ResultLemmas
 pub mod StartLemmas

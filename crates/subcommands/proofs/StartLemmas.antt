@@ -1,5 +1,5 @@
 -- Runs that were begun, as what a writer got of them.
-use Rattle.std.proofs.Common.{◌≡◌, ℕ, true, List, [], Option, length, replicate, refl, sym, ap, subst, append-nil, arith}
+use Rattle.std.proofs.Common.{◌≡◌, ℕ, true, List, [], Option, length, replicate, refl, sym, subst, append-nil, arith}
 use Rattle.std.proofs.lemmas.List.{length-replicate}
 use Rattle.machine.specs.declared.config.Config.{Config}
 use Rattle.machine.specs.declared.command.Step.{Step}
@@ -20,19 +20,19 @@ new_fits config reads writes limits =
 
 -- nothing was printed
 pub nothing_prints : (config : Config) (before : Disk) (steps : List Step) (old : Option (List ℕ)) → fits config before ≡ true → PrintsStart config before steps old old
-nothing_prints config before steps old fit = record { answers = []; starts = opening_starts config before steps fit; prints = starts-nil old (texts []) }
+nothing_prints config before steps old fit = record { answers = []; after = before; starts = opening_starts config before steps fit; prints = starts-nil old (texts []) }
 
 -- all was
 pub whole_prints : (config : Config) (before : Disk) (steps : List Step) (old new : Option (List ℕ)) → PrintsRun config before steps old new → PrintsStart config before steps old new
 whole_prints config before steps old new run = record {
   answers = run.answers;
+  after = run.after;
   starts = record {
     done = steps;
     left = [];
     cut = sym (append-nil steps);
     part = [];
     begins = refl;
-    disk = run.after;
     schedules = subst (λ (ss : List Step). Schedules config before ss run.answers run.after) (sym (append-nil steps)) run.schedules;
   };
   prints = starts-whole old new (texts run.answers) run.prints;

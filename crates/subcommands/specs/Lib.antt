@@ -1,4 +1,4 @@
 pub mod Prints
-pub mod Reasons
+pub mod Told
 pub mod SinkLaws
 pub mod Sinks

@@ -35,7 +35,8 @@ pub record PrintsRun (config : Config) (before : Disk) (steps : List Step) (old 
 -- a writer got the beginning of what the answers print to the first of these steps, and to what was carried out of the step behind them
 pub record PrintsStart (config : Config) (before : Disk) (steps : List Step) (old new : Option (List ℕ)) : Type 0 where
   pub answers : List Reply
-  pub starts : Starts config before steps answers
+  pub after : Disk
+  pub starts : Starts config before steps answers after
   pub prints : AppendsStart old new (texts answers)
 
 -- the device that a script is run over: blocks of zeros, as many as its header asks for, of whose calls exactly those fail that it lists

@@ -1,102 +1,139 @@
-//! Why a subcommand ends with status 1.
+//! Why a script was not run to its end, and the lines that say so.
 
-ghost use Rattle.std.specs.Prelude.{◌≡◌, List, ℕ, Some};
+ghost use Rattle.std.specs.Prelude.{◌≡◌, ◌↔◌, IsTrue, OnOk};
+ghost use Rattle.std.specs.Io.KnownBytes.{Appends};
 ghost use Rattle.machine.specs.Control.{line};
 ghost use Rattle.subcommands.specs.Prints.{AppendsStart};
-ghost use Rattle.subcommands.specs.Reasons.{Tells, TellsBehind};
+ghost use Rattle.subcommands.specs.Told.{front_of, rest_of, behind_of, IsSilent, Reports, StartsReport, Behind};
 
 use crate::output::write_bytes;
 use arrayvec::ArrayVec;
 use machine::bytes::PAGE_BYTES;
 use machine::config::Config;
-use machine::refusal::Refusal;
 use scripts::ScriptFault;
 use std::io::{ErrorKind, Write};
 use std::{fmt, io};
+use thiserror::Error;
 
-/// The most bytes of an error's own text that are told.
-const TEXT_BYTES: usize = 512;
+/// The most bytes that stand in a line behind its first words.
+const REST_BYTES: usize = 512;
 
 /// The most bytes of a line.
-const LINE_BYTES: usize = 2 * TEXT_BYTES;
+const LINE_BYTES: usize = 2 * REST_BYTES;
 
-#[derive(Debug, Drop)]
+/// Why a script was not run to its end.
+#[derive(Debug, Drop, Error)]
+#[error("{}{}", self.front(), self.rest())]
 pub enum Fault {
+    /// The reader failed, or there was no memory for what it gave.
     Unreadable(io::Error),
     /// The script has more bytes than [`crate::SCRIPT_BYTES`].
     TooLong,
+    /// A line is faulty, or there was no memory for what the script says.
     Script(ScriptFault),
-    /// A line that says more of the fault stands behind its own.
+    /// The same, and behind its line stands one that says more of it.
     Explained(ScriptFault, String),
-    Run(Refusal),
+    /// Memory was wanted for the run, for what is no command's answer.
     Memory(Wanted),
+    /// An answer could not be written.
     Unwritable(io::Error),
 }
 
 impl Fault {
-    /// Nobody wants to hear of it: who read the answers has closed the pipe, as `head` does.
-    fn is_silent(&self) -> bool {
+    /// What its line begins with, whatever else it says.
+    fn front(&self) -> &'static str
+        ensures { result.now ≡ front_of self.now }
+    {
+        match self {
+            Fault::Unreadable(_) => "the script can't be read: ",
+            Fault::Memory(_) => "the run can't be made: ",
+            Fault::Unwritable(_) => "the answers can't be written: ",
+            Fault::TooLong | Fault::Script(_) | Fault::Explained(_, _) => "",
+        }
+    }
+
+    /// What its line says behind that.
+    fn rest(&self) -> Rest<'_>
+        ensures { result.fault.now ≡ self.now }
+    {
+        Rest { fault: self }
+    }
+
+    /// Whether nobody wants to hear of it: who read the answers has closed the pipe, as `head` does.
+    pub fn is_silent(&self) -> bool
+        ensures { IsTrue result ↔ IsSilent self.now }
+    {
         match self {
             Fault::Unwritable(error) => error.kind() == ErrorKind::BrokenPipe,
             _ => false,
         }
     }
 
-    /// Writes the line of the fault, if somebody wants to hear of it. Where it can't be written, nothing more
-    /// is done. It takes no memory.
-    pub fn report<E: Write>(&self, err: &mut E)
-        ensures { Tells self.now (E.contents err.old) (E.contents err.new) }
+    /// Writes the line that says why, and what is said behind it; nothing where nobody wants to hear of it.
+    /// It takes no memory. The error is the writer's, which took no more than the beginning.
+    pub fn report<E: Write>(&self, err: &mut E) -> io::Result<()>
+        ensures whole { OnOk result (Reports self.now (E.contents err.old) (E.contents err.new)) }
+        ensures start { StartsReport self.now (E.contents err.old) (E.contents err.new) }
     {
-        if !self.is_silent() {
-            let _ = self.tell(err);
+        if self.is_silent() {
+            return Ok(());
         }
+        tell_line(err, self.front(), self.rest())?;
+        self.tell_behind(err)
     }
 
-    /// Writes the line of the fault.
-    fn tell<E: Write>(&self, err: &mut E) -> io::Result<()>
-        ensures { Tells self.now (E.contents err.old) (E.contents err.new) }
+    /// Writes what is said behind the line, if anything is.
+    fn tell_behind<E: Write>(&self, err: &mut E) -> io::Result<()>
+        ensures whole { OnOk result (Appends (E.contents err.old) (E.contents err.new) (behind_of self.now)) }
+        ensures start { AppendsStart (E.contents err.old) (E.contents err.new) (behind_of self.now) }
     {
         match self {
-            Fault::Unreadable(error) => tell_behind(err, "the script can't be read: ", error),
-            Fault::TooLong => tell_line(err, "the script has more than 64 MiB"),
-            Fault::Script(fault) => tell_line(err, fault),
-            Fault::Explained(fault, more) => {
-                tell_line(err, fault)?;
-                write_bytes(err, more.as_bytes())?;
-                write_bytes(err, b"\n")
-            }
-            Fault::Run(refusal) => tell_behind(err, "the run can't be made: ", refusal),
-            Fault::Memory(wanted) => tell_behind(err, "the run can't be made: ", wanted),
-            Fault::Unwritable(error) => tell_behind(err, "the answers can't be written: ", error),
+            Fault::Explained(_, more) => write_line(err, more.as_bytes()),
+            _ => Ok(()),
         }
     }
 }
 
-/// Writes a text and the end of its line, in one piece.
-fn tell_line<E: Write, D: fmt::Display + Drop>(err: &mut E, text: D) -> io::Result<()>
-    ensures { (bs : List ℕ) → D.output text ≡ Some bs → AppendsStart (E.contents err.old) (E.contents err.new) (line bs) }
+/// Writes bytes and the end of their line.
+fn write_line<E: Write>(err: &mut E, bytes: &[u8]) -> io::Result<()>
+    ensures whole { OnOk result (Appends (E.contents err.old) (E.contents err.new) (line bytes.now)) }
+    ensures start { AppendsStart (E.contents err.old) (E.contents err.new) (line bytes.now) }
 {
+    write_bytes(err, bytes)?;
+    write_bytes(err, b"\n")
+}
+
+/// Writes a line of two texts, in one piece.
+fn tell_line<E: Write, D: fmt::Display + Drop>(err: &mut E, front: &str, rest: D) -> io::Result<()>
+    ensures whole { OnOk result (Behind (Appends (E.contents err.old) (E.contents err.new)) front.now (D.output rest)) }
+    ensures start { Behind (AppendsStart (E.contents err.old) (E.contents err.new)) front.now (D.output rest) }
+{
+    let mut text = ArrayVec::<u8, REST_BYTES>::new();
+    write!(text, "{rest}")?;
     let mut line = ArrayVec::<u8, LINE_BYTES>::new();
-    writeln!(line, "{text}")?;
+    line.write_all(front.as_bytes())?;
+    line.write_all(text.as_slice())?;
+    line.write_all(b"\n")?;
     write_bytes(err, line.as_slice())
 }
 
-/// The same of a text behind another.
-fn tell_behind<E: Write, D: fmt::Display + Drop>(
-    err: &mut E,
-    front: &str,
-    text: D,
-) -> io::Result<()>
-    ensures { TellsBehind front.now (E.contents err.old) (E.contents err.new) }
-{
-    let mut rest = ArrayVec::<u8, TEXT_BYTES>::new();
-    // What has no room is left out.
-    let _ = write!(rest, "{text}");
-    let mut line = ArrayVec::<u8, LINE_BYTES>::new();
-    line.write_all(front.as_bytes())?;
-    line.write_all(rest.as_slice())?;
-    line.write_all(b"\n")?;
-    write_bytes(err, line.as_slice())
+/// What the line of a fault says behind its first words. Where these are not the system's, its bytes are known.
+#[derive(Clone, Copy)]
+struct Rest<'a> {
+    fault: &'a Fault,
+}
+
+impl fmt::Display for Rest<'_> {
+    ghost output = { λ r. rest_of r.fault.now };
+
+    fn fmt<W: fmt::Write>(&self, f: &mut fmt::Formatter<W>) -> fmt::Result {
+        match self.fault {
+            Fault::TooLong => f.write_str("the script has more than 64 MiB"),
+            Fault::Script(fault) | Fault::Explained(fault, _) => write!(f, "{}", fault.text()),
+            Fault::Memory(wanted) => write!(f, "{wanted}"),
+            Fault::Unreadable(error) | Fault::Unwritable(error) => write!(f, "{error}"),
+        }
+    }
 }
 
 /// What the frames of a machine and the blocks of its device take: 4,096 bytes each. The machine wants

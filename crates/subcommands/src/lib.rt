@@ -6,7 +6,7 @@ mod options;
 mod output;
 mod printer;
 
-ghost use Rattle.std.specs.Prelude.{◌≡◌, ℕ, ◌≤◌, true, false, IfSome, IfOk, IfErr, OnOk, OnErr};
+ghost use Rattle.std.specs.Prelude.{◌≡◌, ◌⊎◌, ℕ, ◌≤◌, ◌<◌, true, false, IsErr, IfSome, IfOk, IfErr, OnOk, OnErr};
 ghost use Rattle.std.specs.Io.KnownBytes.{Keeps};
 ghost use Rattle.std.specs.Str.Lines.{lines};
 ghost use Rattle.machine.specs.State.{blocks_of, is_config};
@@ -14,13 +14,12 @@ ghost use Rattle.block_store.specs.Device.{new_disk};
 ghost use Rattle.scripts.specs.declared.fault.Cause.{Cause};
 ghost use Rattle.scripts.specs.Script.{IsFirstFault, NamesFirstFault};
 ghost use Rattle.subcommands.specs.Prints.{PrintsRun, PrintsStart, PrintsScript, PrintsPart};
-ghost use Rattle.subcommands.specs.Reasons.{Explains, TellsWhy, IsRunFault};
+ghost use Rattle.subcommands.specs.Told.{IsUnread, Explains, TellsWhy, IsRunFault};
 
 use block_store::MemDevice;
 use driver::Stop;
-use fault::{Fault, Wanted};
+pub use fault::{Fault, Wanted};
 use files::blocks_for;
-use machine::refusal::Refusal;
 pub use options::Options;
 use printer::{Ended, print_run};
 use scripts::{Mode, Script, ScriptFault, one_answer};
@@ -34,9 +33,11 @@ pub const SCRIPT_BYTES: u64 = 1 << 26;
 
 const FAILED: u8 = 1;
 
-fn read_bytes<R: Read>(alloc: Global, options: Options, script: &mut R) -> Result<Vec<u8>, Fault>
+/// All bytes of a script. The error says that the reader failed, that there was no memory for what it gave, or
+/// that it gave more than [`SCRIPT_BYTES`].
+pub fn read_script<R: Read>(alloc: Global, script: &mut R) -> Result<Vec<u8>, Fault>
     ensures bytes { IfOk result (λ bytes. IfSome (R.remaining script.old) (λ all. bytes.items ≡ all)) }
-    ensures why { IfErr result (λ why. IfSome (R.remaining script.old) (λ all. Explains options all why)) }
+    ensures why { IfErr result (λ why. IfSome (R.remaining script.old) (λ all. IsUnread all why)) }
 {
     let mut bytes = Vec::new(alloc);
     // One byte more is asked for, so that a script that is too long is never cut off and run.
@@ -51,22 +52,12 @@ fn read_bytes<R: Read>(alloc: Global, options: Options, script: &mut R) -> Resul
     }
 }
 
-/// Why a run gave no answers.
-fn refused(wanted: Wanted, refusal: Refusal) -> Fault
-    ensures { IsRunFault result }
-{
-    match refusal {
-        Refusal::NoMemory => Fault::Memory(wanted),
-        refusal => Fault::Run(refusal),
-    }
-}
-
 /// Why an answer could not be written: its bytes want memory too.
 fn unwritten(wanted: Wanted, error: io::Error) -> Fault
     ensures { IsRunFault result }
 {
     match error.kind() {
-        ErrorKind::OutOfMemory => refused(wanted, Refusal::NoMemory),
+        ErrorKind::OutOfMemory => Fault::Memory(wanted),
         _ => Fault::Unwritable(error),
     }
 }
@@ -94,7 +85,7 @@ fn run<O: Write, E: Write>(
         lines,
     } = script;
     let Some(blocks) = blocks_for(&config) else {
-        return Err(Fault::Run(Refusal::Invalid));
+        unreachable!()
     };
     let wanted = Wanted::of(&config, blocks);
     let mut device = match MemDevice::new(alloc, blocks, &read_faults, &write_faults) {
@@ -116,7 +107,8 @@ fn run<O: Write, E: Write>(
             Ok(()) => Ok(()),
             Err(error) => Err(unwritten(wanted, error)),
         },
-        Err(Stop::Refused(refusal)) => Err(refused(wanted, refusal)),
+        // Over a device that has the blocks it is refused for want of memory alone.
+        Err(Stop::Refused(_)) => Err(Fault::Memory(wanted)),
         Err(Stop::Closed) => match written {
             // Not reached: a sink is closed only where an answer could not be written.
             Ok(()) => Err(Fault::Unwritable(ErrorKind::Other.into())),
@@ -139,7 +131,37 @@ fn faulty(alloc: Global, options: Options, bytes: &[u8], fault: ScriptFault) -> 
     }
 }
 
-fn schedule_or_fault<R: Read, O: Write, E: Write>(
+/// Runs a script that was read, one turn after another, and writes the line of each answer to `out` as it
+/// comes. What the options ask for beside that goes to `err` but for the lines' numbers, and nothing else does.
+///
+/// The error says why it was not run to its end: its first faulty line with its first cause, or that memory was
+/// wanted or an answer could not be written. Nothing is run, and `out` gets nothing, unless the script as a
+/// whole is sound; a run that fails later has written what it had answered.
+pub fn run_script<O: Write, E: Write>(
+    alloc: Global,
+    options: Options,
+    script: &[u8],
+    out: &mut O,
+    err: &mut E,
+) -> Result<(), Fault>
+    ensures whole { OnOk result (options.lines ≡ false → PrintsScript script.now (O.contents out.old) (O.contents out.new)) }
+    ensures start { OnErr result (options.lines ≡ false → PrintsPart script.now (O.contents out.old) (O.contents out.new)) }
+    ensures faulty { (n : ℕ) (cause : Cause) → IsFirstFault (lines script.now) n cause → IsErr result × (O.contents out.new ≡ O.contents out.old) }
+    ensures why { IfErr result (Explains options script.now) }
+    ensures quiet { options.progress ≡ false → options.summary ≡ false → E.contents err.new ≡ E.contents err.old }
+{
+    one_answer();
+    match scripts::read(alloc, script, Mode::Schedule) {
+        Ok(script) => run(alloc, options, script, out, err),
+        Err(fault) => Err(faulty(alloc, options, script, fault)),
+    }
+}
+
+/// Reads a script, and runs it as [`run_script`] does. This is what the program does; it then has the fault
+/// reported ([`Fault::report`]), if there is one.
+///
+/// The clauses speak of readers whose bytes are known, and of writers that tell what they hold.
+pub fn schedule_with<R: Read, O: Write, E: Write>(
     alloc: Global,
     options: Options,
     script: &mut R,
@@ -148,14 +170,12 @@ fn schedule_or_fault<R: Read, O: Write, E: Write>(
 ) -> Result<(), Fault>
     ensures whole { OnOk result (options.lines ≡ false → IfSome (R.remaining script.old) (λ all. PrintsScript all (O.contents out.old) (O.contents out.new))) }
     ensures start { OnErr result (options.lines ≡ false → IfSome (R.remaining script.old) (λ all. PrintsPart all (O.contents out.old) (O.contents out.new))) }
-    ensures why { IfErr result (λ why. IfSome (R.remaining script.old) (λ all. Explains options all why)) }
+    ensures faulty { IfSome (R.remaining script.old) (λ all. (n : ℕ) (cause : Cause) → IsFirstFault (lines all) n cause → IsErr result × Keeps (O.contents out.old) (O.contents out.new)) }
+    ensures why { IfErr result (λ why. IfSome (R.remaining script.old) (λ all. IsUnread all why ⊎ Explains options all why)) }
     ensures quiet { options.progress ≡ false → options.summary ≡ false → E.contents err.new ≡ E.contents err.old }
 {
-    let bytes = read_bytes(alloc, options, script)?;
-    match scripts::read(alloc, &bytes, Mode::Schedule) {
-        Ok(script) => run(alloc, options, script, out, err),
-        Err(fault) => Err(faulty(alloc, options, &bytes, fault)),
-    }
+    let bytes = read_script(alloc, script)?;
+    run_script(alloc, options, &bytes, out, err)
 }
 
 /// Runs a script, one turn after another, and writes the line of each answer to `out` as it comes.
@@ -163,10 +183,8 @@ fn schedule_or_fault<R: Read, O: Write, E: Write>(
 /// The exit status is 0, or 1 where the run fails: the script can't be read or has more than
 /// [`SCRIPT_BYTES`], a line of it is faulty, the run wants memory, or an answer can't be written.
 /// Then `err` gets one line, which for a faulty line is `line L: CAUSE`; but none where `out` is a
-/// pipe that nobody reads any more. Nothing is run, and `out` gets nothing, unless the script as a
-/// whole is sound; a run that fails later has written what it had answered.
-///
-/// The clauses speak of readers whose bytes are known, and of writers that tell what they hold.
+/// pipe that nobody reads any more. It is [`schedule_with`] and [`Fault::report`], whose contracts say more: a status
+/// tells neither which fault there was nor whether its line could be written.
 pub fn schedule<R: Read, O: Write, E: Write>(
     alloc: Global,
     script: &mut R,
@@ -179,34 +197,14 @@ pub fn schedule<R: Read, O: Write, E: Write>(
     ensures silent { result ≡ 0 → Keeps (E.contents err.old) (E.contents err.new) }
     // Of a script with a faulty line it is 1, and `out` got nothing.
     ensures faulty { IfSome (R.remaining script.old) (λ all. (n : ℕ) (cause : Cause) → IsFirstFault (lines all) n cause → (result ≡ 1) × Keeps (O.contents out.old) (O.contents out.new)) }
-    // Where it is 1, `out` got the beginning of what the script prints, or nothing, and `err` the line that says why.
+    // Where it is 1, `out` got the beginning of what the script prints, or nothing, and `err` the line that says why, or its beginning.
     ensures failed { result ≡ 1 → IfSome (R.remaining script.old) (λ all. PrintsPart all (O.contents out.old) (O.contents out.new)) }
     ensures told { result ≡ 1 → IfSome (R.remaining script.old) (λ all. TellsWhy all (E.contents err.old) (E.contents err.new)) }
 {
-    schedule_with(alloc, Options::default(), script, out, err)
-}
-
-/// The same, with what the options ask for: more of a faulty line, how many lines are done, and how
-/// much was done go to `err`, the number of a line stands in `out`.
-pub fn schedule_with<R: Read, O: Write, E: Write>(
-    alloc: Global,
-    options: Options,
-    script: &mut R,
-    out: &mut O,
-    err: &mut E,
-) -> u8
-    ensures success_or_failure { result ≤ 1 }
-    ensures sound { options.lines ≡ false → result ≡ 0 → IfSome (R.remaining script.old) (λ all. PrintsScript all (O.contents out.old) (O.contents out.new)) }
-    ensures silent { options.progress ≡ false → options.summary ≡ false → result ≡ 0 → Keeps (E.contents err.old) (E.contents err.new) }
-    ensures faulty { options.lines ≡ false → IfSome (R.remaining script.old) (λ all. (n : ℕ) (cause : Cause) → IsFirstFault (lines all) n cause → (result ≡ 1) × Keeps (O.contents out.old) (O.contents out.new)) }
-    ensures failed { options.lines ≡ false → result ≡ 1 → IfSome (R.remaining script.old) (λ all. PrintsPart all (O.contents out.old) (O.contents out.new)) }
-    ensures told { options.explain ≡ false → options.progress ≡ false → options.summary ≡ false → result ≡ 1 → IfSome (R.remaining script.old) (λ all. TellsWhy all (E.contents err.old) (E.contents err.new)) }
-{
-    one_answer();
-    let Err(fault) = schedule_or_fault(alloc, options, script, out, err) else {
+    let Err(fault) = schedule_with(alloc, Options::default(), script, out, err) else {
         return 0;
     };
     // The status tells of the failure even where its line can't be written.
-    fault.report(err);
+    let _ = fault.report(err);
     FAILED
 }

@@ -48,12 +48,13 @@ returns-in-Err-ran-clause-starts g c =
     λ fit.
     let before : Disk = g.D.BlockDevice.disk c.args.device.now in
     let told = c.in-Err-ran.ensures.cut in
-    let From : World → Type 0 = λ w. StartsRun w c.args.steps.now (told.answers ++ told.begun) in
+    let after : Disk = g.D.BlockDevice.disk c.run_all-ran.new.device in
+    let From : World → Type 0 = λ w. StartsRun w c.args.steps.now (told.answers ++ told.begun) after in
     record {
       answers = told.answers;
       begun = told.begun;
       heard = told.heard;
-      starts = run_starts c.args.config before c.args.steps.now (told.answers ++ told.begun) fit (subst From (c.in-Ok.ensures.opens before) told.starts);
+      starts = run_starts c.args.config before c.args.steps.now (told.answers ++ told.begun) after fit (subst From (c.in-Ok.ensures.opens before) told.starts);
     }
 
 pub returns-in-Err-ran-clause-err : goal.returns-in-Err-ran-clause-err

@@ -13,4 +13,4 @@ returns-clause-start g c =
     let printed = out_begins-behind c.args.options heard.mid.options heard.takes.2 _ _ _ cut.answers cut.begun heard.takes.3 heard.fails.3 plain in
     let kept = starts-kept _ _ _ (texts (cut.answers ++ cut.begun)) printed c.end-written.ensures.kept in
     let same = c.end-written.ensures.out ∙ heard.fails.0 ∙ heard.takes.0 in
-    record { answers = cut.answers ++ cut.begun; starts = cut.starts; prints = search (rules, kept, same) })
+    record { answers = cut.answers ++ cut.begun; after = _; starts = cut.starts; prints = search (rules, kept, same) })

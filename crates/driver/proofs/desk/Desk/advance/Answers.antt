@@ -1,11 +1,11 @@
-use Rattle.std.proofs.Common.{refl}
+use Rattle.std.proofs.Common.{refl, sym}
 use Rattle.driver.specs.Desks.{world}
 use Rattle.driver.proofs.SinkLemmas.{on_err, cut_before, cut_behind}
 use Rattle.driver.proofs.desk.Desk.advance.Goals as goal
 
 pub returns-in_err-shown-clause-cut : goal.returns-in_err-shown-clause-cut
 returns-in_err-shown-clause-cut g c =
-    on_err c.from_residual.result (cut_before g.S.Sink.took g.S.Sink.failed g.met.S.Sink.nothing g.met.S.Sink.stays c.args.sink.now _ _ c.history_is_right.ensures.right)
+    on_err c.from_residual.result (cut_before g.S.Sink.took g.S.Sink.failed g.met.S.Sink.nothing g.met.S.Sink.stays c.args.sink.now _ _ _ (sym c.in_err-shown.ensures.unmoved) c.history_is_right.ensures.right)
 
 pub returns-in_err-say-clause-cut : goal.returns-in_err-say-clause-cut
 returns-in_err-say-clause-cut g c =

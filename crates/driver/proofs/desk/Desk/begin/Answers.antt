@@ -1,4 +1,4 @@
-use Rattle.std.proofs.Common.{◌∙◌, sym}
+use Rattle.std.proofs.Common.{◌∙◌, refl, sym}
 use Rattle.driver.specs.Desks.{world, blocks_of_desk}
 use Rattle.driver.proofs.SinkLemmas.{on_err, cut_before, cut_behind, begins_over}
 use Rattle.driver.proofs.desk.Desk.begin.Goals as goal
@@ -14,7 +14,7 @@ returns-in_err-answer-clause-cut g c =
     (begins_over (world c.args.self.now disk) c.args.actor c.args.command.now _ (sym c.is_under_way.ensures ∙ c.if-is_under_way.true)) c.history_is_right.ensures.right)
 
 pub returns-in_err-command-clause-cut : goal.returns-in_err-command-clause-cut
-returns-in_err-command-clause-cut g c = on_err c.from_residual-in_err-command.result (λ disk. cut_before g.S.Sink.took g.S.Sink.failed g.met.S.Sink.nothing g.met.S.Sink.stays c.args.sink.now _ _ c.history_is_right.ensures.right)
+returns-in_err-command-clause-cut g c = on_err c.from_residual-in_err-command.result (λ disk. cut_before g.S.Sink.took g.S.Sink.failed g.met.S.Sink.nothing g.met.S.Sink.stays c.args.sink.now _ _ disk refl c.history_is_right.ensures.right)
 
 pub returns-in_err-seat-clause-cut : goal.returns-in_err-seat-clause-cut
-returns-in_err-seat-clause-cut g c = on_err c.from_residual-in_err-seat.result (λ disk. cut_before g.S.Sink.took g.S.Sink.failed g.met.S.Sink.nothing g.met.S.Sink.stays c.args.sink.now _ _ c.history_is_right.ensures.right)
+returns-in_err-seat-clause-cut g c = on_err c.from_residual-in_err-seat.result (λ disk. cut_before g.S.Sink.took g.S.Sink.failed g.met.S.Sink.nothing g.met.S.Sink.stays c.args.sink.now _ _ disk refl c.history_is_right.ensures.right)

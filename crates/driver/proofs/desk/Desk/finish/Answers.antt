@@ -63,7 +63,7 @@ returns-in_err-outcome-clause-cut g c =
       answers = all_said c.args.actor k.0;
       begun = [];
       heard = record { mid = c.loop-turn.sink; takes = k.2; fails = g.met.S.Sink.stays _ };
-      starts = turns_start _ c.args.actor k.0 (world c.loop-turn.self (g.D.BlockDevice.disk c.loop-turn.device)) (omega (arith, k.1, c.loop-turn-test.true)) k.3 c.history_is_right.ensures.right;
+      starts = turns_start _ c.args.actor k.0 (world c.loop-turn.self (g.D.BlockDevice.disk c.loop-turn.device)) (g.D.BlockDevice.disk c.turn.new.device) (omega (arith, k.1, c.loop-turn-test.true)) k.3 (sym c.in_err-outcome.ensures.unmoved) c.history_is_right.ensures.right;
     })
 
 pub returns-in_err-say-clause-cut : goal.returns-in_err-say-clause-cut

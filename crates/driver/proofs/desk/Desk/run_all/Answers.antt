@@ -27,7 +27,7 @@ loop-at-preserved g c =
 pub returns-in_err-step-clause-cut : goal.returns-in_err-step-clause-cut
 returns-in_err-step-clause-cut g c =
     let ran = c.loop-at.invariant.ran in
-    on_err c.from_residual.result (step_cuts g.S.Sink.took g.S.Sink.failed g.met.S.Sink.more c.args.sink.now c.loop-at.sink c.step.new.sink _ c.args.steps.now c.loop-at.at c.index-steps-at.result ran.0 _ c.loop-at-test.true c.index-steps-at.is ran.1 ran.2 c.in_err-step.ensures.cut)
+    on_err c.from_residual.result (step_cuts g.S.Sink.took g.S.Sink.failed g.met.S.Sink.more c.args.sink.now c.loop-at.sink c.step.new.sink _ c.args.steps.now c.loop-at.at c.index-steps-at.result ran.0 _ _ c.loop-at-test.true c.index-steps-at.is ran.1 ran.2 c.in_err-step.ensures.cut)
 
 pub returns-clause-runs : goal.returns-clause-runs
 returns-clause-runs g c =
