@@ -1,6 +1,6 @@
 -- Extents of files, one behind the other.
 use Rattle.std.proofs.Common.{◌≡◌, ℕ, ◌+◌, ◌<◌, ◌≤◌, List, [], ◌∷◌, ◌++◌, length, take, get_or, true, inl, inr, refl, sym, ap, ◌∙◌, arith, length-append}
-use Rattle.std.specs.Prelude.{sum, nat_lt, Some}
+use Rattle.std.specs.Prelude.{slice_index, sum, nat_lt, Some}
 use Rattle.std.proofs.lemmas.Bool.{cases_lt}
 use Rattle.std.proofs.lemmas.Bool.Decides.{nat_tests}
 use Rattle.std.proofs.lemmas.Grind.{common_steps}
@@ -10,8 +10,9 @@ use Rattle.std.proofs.Math.Seq.{get_or-append_seam, take-append_seam}
 use Rattle.machine.specs.declared.config.File.{File}
 use Rattle.machine.specs.State.{sizes_of}
 use Rattle.machine.specs.Pages.{home_block}
+use Rattle.machine.proofs.FileLemmas.{home_above, home_below, homes_differ}
 use Rattle.files.specs.declared.Extent.{Extent}
-use Rattle.files.specs.Files.{AreExtents, lengths, home_in}
+use Rattle.files.specs.Files.{FilesOf, AreExtents, lengths, home_in}
 
 -- ---- sums of the files' pages
 
@@ -96,3 +97,32 @@ module _ (first : ℕ) (extents : List Extent) (end file page : ℕ) (e : Extent
       let there : nat_lt page (get_or (lengths extents) file 0) ≡ true = rw size_is (grind (arith, nat_tests)) in
       let same : e.start + page ≡ home_block first (lengths extents) file page = omega (arith, start_is) in
       rw (there, same) refl
+
+-- ---- homes
+
+module _ (files : FilesOf) where
+  -- a home is of a page that its file has
+  home_of : (file page block : ℕ) → home_in files file page ≡ Some block → (page < slice_index files.sizes file) × (home_block files.first files.sizes file page ≡ block)
+  home_of file page block home =
+      elim (cases_lt page (slice_index files.sizes file)) [
+        | inl less ↦ (less, grind (arith, nat_tests))
+        | inr le ↦ absurd (grind (arith, nat_tests))
+      ]
+
+  pub homes_apart : (file page file' page' block : ℕ) → home_in files file page ≡ Some block → home_in files file' page' ≡ Some block → (file ≡ file') × (page ≡ page')
+  homes_apart file page file' page' block home home' =
+      let one = home_of file page block home in
+      let other = home_of file' page' block home' in
+      homes_differ files.first files.sizes file page file' page' one.0 other.0 (one.1 ∙ sym other.1)
+
+  pub home_behind : (file page block : ℕ) → home_in files file page ≡ Some block → files.first ≤ block
+  home_behind file page block home =
+      let one = home_of file page block home in
+      let above = home_above files.first files.sizes file page in
+      omega (arith, one, above)
+
+  pub home_before_end : (file page block : ℕ) → home_in files file page ≡ Some block → block < files.first + sum files.sizes
+  home_before_end file page block home =
+      let one = home_of file page block home in
+      let below = home_below files.first files.sizes file page one.0 in
+      omega (arith, one, below)

@@ -4,7 +4,7 @@
 //! page (kernel: a file system that never moves a block).
 #![tactic(auto)]
 
-ghost use Rattle.std.specs.Prelude.{◌≡◌, ◌+◌, ◌≤◌, ◌<◌, ◌^◌, IfOk, Some, None, sum, if◌then◌else◌};
+ghost use Rattle.std.specs.Prelude.{◌≡◌, ℕ, ◌+◌, ◌≤◌, ◌<◌, ◌^◌, IfOk, Some, None, sum, if◌then◌else◌};
 ghost use Rattle.machine.specs.State.{sizes_of, blocks_of, is_config};
 ghost use Rattle.files.specs.Files.{home_in};
 
@@ -96,6 +96,16 @@ impl Files {
     /// Nothing is done: all home blocks have numbers.
     pub fn are_numbered(&self)
         ensures { self.now.first + sum self.now.sizes < 2 ^ 32 }
+    {
+        let _ = &self.extents;
+    }
+
+    /// Nothing is done: no two pages of files have one home, and all homes are at or behind the first one
+    /// and before the end of the last file.
+    pub fn homes_are_apart(&self)
+        ensures apart { (file page file' page' block : ℕ) → home_in self.now file page ≡ Some block → home_in self.now file' page' ≡ Some block → (file ≡ file') × (page ≡ page') }
+        ensures behind { (file page block : ℕ) → home_in self.now file page ≡ Some block → self.now.first ≤ block }
+        ensures within { (file page block : ℕ) → home_in self.now file page ≡ Some block → block < self.now.first + sum self.now.sizes }
     {
         let _ = &self.extents;
     }
