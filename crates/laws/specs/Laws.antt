@@ -27,7 +27,7 @@ use Rattle.machine.specs.Amounts.{exceeds}
 use Rattle.machine.specs.Counts.{limits_at, local, total}
 use Rattle.machine.specs.Tree.{Node, node_at, is_live, under}
 use Rattle.machine.specs.Pages.{OfFile, Page, page_at, is_anon, is_held, frame_at, block_at, ticket_at, is_in_transfer, is_charged, in_transfer, IsFiled}
-use Rattle.machine.specs.Tasks.{lives, group_of_task, mapped_at}
+use Rattle.machine.specs.Tasks.{lives, group_of_task, mapped_at, size_of}
 use Rattle.machine.specs.State.{Opening, State, page_numbers, usage, effective_min, is_swap_free, opening_of, blocks_of}
 use Rattle.machine.specs.Reclaim.{is_idle, target_of}
 use Rattle.machine.specs.Generations.{row_of, listed, gens_at, AreDistinct}
@@ -116,6 +116,15 @@ abbrev pub KillsComeLast : Type 0
 KillsComeLast =
     (before after : State) (why : Cause) (t : ℕ) → Step before (event.Relieve why) (reply.KilledTask (record { 0 = t })) after
     → (is_idle before (target_of why) ≡ true) × (is_candidate before.tree before.tasks (target_of why) t ≡ true)
+
+-- the task that is killed is a live one of a group at or under the limit group. Of all these none has more mappings, and none that has as many has a lesser number.
+-- (Excludes a kill of a smaller task, of one outside the limit group though it is larger, and of the younger of two that are equally large.)
+abbrev pub VictimsHaveTheMostPages : Type 0
+VictimsHaveTheMostPages =
+    (before after : State) (why : Cause) (victim : ℕ) → Step before (event.Relieve why) (reply.KilledTask (record { 0 = victim })) after
+    → (is_candidate before.tree before.tasks (target_of why) victim ≡ true)
+    × ((t : ℕ) → is_candidate before.tree before.tasks (target_of why) t ≡ true → size_of before.page_tables t ≤ size_of before.page_tables victim)
+    × ((t : ℕ) → is_candidate before.tree before.tasks (target_of why) t ≡ true → size_of before.page_tables t ≡ size_of before.page_tables victim → victim ≤ t)
 
 -- the target of a reclaim, where a page was taken for it
 abbrev pub took_for : Event → Reply → Option ℕ

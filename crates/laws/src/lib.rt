@@ -2,7 +2,7 @@
 //! a function that does nothing.
 #![tactic(auto)]
 
-ghost use Rattle.laws.specs.Laws.{RunsAreLegal, RunsAreHonest, NoStrangers, ErrorsAreFailures, CurrentCountsPages, EventsAreThoseCounted, ChargesStayWithinMax, OnlyAccessesCharge, KillsComeLast, ReadsGiveLastWrites, PagesShareNoFrame, PagesShareNoBlock, BlocksAreThere, PagesShareNoTicket, FilePagesStayAtHome, FilePagesAreOne, OnlyCleanPagesAreDropped, StatAddsUpToCurrent, MappingsShowPages, MemoryWithoutAMappingIsGone, SharedBytesAgree, ForksShare, MovesTakeNoCharge, RemovalsKeepAncestorsCounts, RemovedGroupsHaveNoPages, TraceHasRoom, TransfersAreBegunLessEnded, TransfersStayCharged, RepliesAreSettled, OrdersAreSettled, WriteOutsStayCharged, ReclaimsSpareTheProtected, ReclaimsGiveUpLast, ReclaimsKillNobody, HeldPagesAreListed, GenerationsHold, GroupsHaveCursors, HeldPagesGoOn, OnlyTakesAge, HitsMark, OnlyHitsMark, PagesLeaveInOrder, MarkedPagesStay, GroupsAreThere};
+ghost use Rattle.laws.specs.Laws.{RunsAreLegal, RunsAreHonest, NoStrangers, ErrorsAreFailures, CurrentCountsPages, EventsAreThoseCounted, ChargesStayWithinMax, OnlyAccessesCharge, KillsComeLast, VictimsHaveTheMostPages, ReadsGiveLastWrites, PagesShareNoFrame, PagesShareNoBlock, BlocksAreThere, PagesShareNoTicket, FilePagesStayAtHome, FilePagesAreOne, OnlyCleanPagesAreDropped, StatAddsUpToCurrent, MappingsShowPages, MemoryWithoutAMappingIsGone, SharedBytesAgree, ForksShare, MovesTakeNoCharge, RemovalsKeepAncestorsCounts, RemovedGroupsHaveNoPages, TraceHasRoom, TransfersAreBegunLessEnded, TransfersStayCharged, RepliesAreSettled, OrdersAreSettled, WriteOutsStayCharged, ReclaimsSpareTheProtected, ReclaimsGiveUpLast, ReclaimsKillNobody, HeldPagesAreListed, GenerationsHold, GroupsHaveCursors, HeldPagesGoOn, OnlyTakesAge, HitsMark, OnlyHitsMark, PagesLeaveInOrder, MarkedPagesStay, GroupsAreThere};
 
 /// The history of every run leads from the opening to the run's state, one step of the plain machine
 /// an entry.
@@ -64,6 +64,12 @@ pub fn only_accesses_charge()
 /// of a group at or under it.
 pub fn kills_come_last()
     ensures { KillsComeLast }
+{}
+
+/// Of the live tasks of groups at or under the limit group the one that is killed has the most mappings,
+/// and of those that have as many the least number.
+pub fn victims_have_the_most_pages()
+    ensures { VictimsHaveTheMostPages }
 {}
 
 /// A page that is taken was its reclaim's target's own, or of a group below the target that used more
