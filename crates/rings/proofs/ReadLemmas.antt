@@ -1,5 +1,5 @@
 -- What a read of the links says of the lists.
-use Rattle.std.proofs.Common.{◌≡◌, ℕ, ◌<◌, true, List, [], ◌∷◌, ◌++◌, length, Option, Some, None, is_some, slice_get, refl, sym, ap, subst, ◌∙◌, inl, inr, arith, nat_lt, eqb}
+use Rattle.std.proofs.Common.{◌≡◌, ℕ, ◌<◌, true, List, [], ◌∷◌, ◌++◌, length, Option, Some, None, is_some, slice_get, refl, sym, ap, subst, ◌∙◌, inl, inr, arith, nat_lt, eqb, Bor, option_copied}
 use Rattle.std.proofs.lemmas.Bool.{false≢true, cases_Bool, cases_lt, lt-ltb, le-ltb, false_from_ne_true}
 use Rattle.std.proofs.lemmas.List.{get_or_past}
 use Rattle.std.proofs.lemmas.Option.{slice_get-get_or, slice_get_past, slice_get_within, none-some, same_Some}
@@ -17,6 +17,10 @@ use Rattle.rings.proofs.LinkLemmas.{prev_is, next_is}
 use Rattle.rings.proofs.ListLemmas.{listed_from, listed_in, list_within, nothing_twice, has_behind, has_first}
 use Rattle.rings.proofs.ChainLemmas.{placed, joined_before, chain_is_distinct, first_is, last_is, chain_at, page_within}
 use Rattle.rings.proofs.RingLemmas.{one_list}
+
+pub some_copied : (o : Option (Bor Link)) → is_some o ≡ is_some (option_copied o)
+some_copied None = refl
+some_copied (Some link) = refl
 
 pub joined_there : (t : Links) (a b : RingNode) → IsJoined t a b → is_some (link_at t b) ≡ true
 joined_there t a b k = by_link (link_at t b) k.prev
@@ -137,15 +141,15 @@ module _ (t : Links) (lists : List (List ℕ)) (r : IsRings t lists) where
       ∙ last_page_is (head_node l) before
 
   -- a head is joined with what its link names
-  pub joined_ahead : (l : ℕ) (link : Link) → l < length lists → link_at t (head_node l) ≡ Some link → IsJoined t (head_node l) link.next
-  joined_ahead l link within read =
+  pub joined_ahead : (l : ℕ) (link : Link) (next : RingNode) → l < length lists → link_at t (head_node l) ≡ Some link → next ≡ link.next → IsJoined t (head_node l) next
+  joined_ahead l link next within read named =
       let first = first_is t l (list_at lists l) (r.rings l within) in
-      subst (λ (n : RingNode). IsJoined t (head_node l) n) (next_is t (head_node l) _ link read first) first
+      subst (λ (n : RingNode). IsJoined t (head_node l) n) (next_is t (head_node l) _ link read first ∙ sym named) first
 
-  pub joined_behind : (l : ℕ) (link : Link) → l < length lists → link_at t (head_node l) ≡ Some link → IsJoined t link.prev (head_node l)
-  joined_behind l link within read =
+  pub joined_behind : (l : ℕ) (link : Link) (prev : RingNode) → l < length lists → link_at t (head_node l) ≡ Some link → prev ≡ link.prev → IsJoined t prev (head_node l)
+  joined_behind l link prev within read named =
       let last = last_is t (head_node l) (head_node l) (list_at lists l) (r.rings l within) in
-      subst (λ (n : RingNode). IsJoined t n (head_node l)) (prev_is t _ (head_node l) link read last) last
+      subst (λ (n : RingNode). IsJoined t n (head_node l)) (prev_is t _ (head_node l) link read last ∙ sym named) last
 
 -- ---- what the lists say is what is stored
 

@@ -28,8 +28,8 @@ module _ (old new : Links) (P : RingNode → Type 0) (pages : (p : ℕ) → P (p
 -- tables that are as long as others are as countable
 still_countable : (old new : Links) → SameSize old new → AreCountable old → AreCountable new
 still_countable old new size is = record {
-  pages = subst (λ (n : ℕ). n < 4294967296) (sym size.pages) is.pages;
-  heads = subst (λ (n : ℕ). n < 4294967296) (sym size.heads) is.heads;
+  pages = subst (λ (n : ℕ). n < 2147483648) (sym size.pages) is.pages;
+  heads = subst (λ (n : ℕ). n < 2147483648) (sym size.heads) is.heads;
 }
 
 -- ---- lists after one of them changed

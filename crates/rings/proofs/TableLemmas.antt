@@ -16,7 +16,7 @@ use Rattle.rings.proofs.ListLemmas.{list_within}
 use Rattle.rings.proofs.RingLemmas.{chain_stays}
 
 -- no page has a link, and there is no list
-pub no_rings : (t : Links) (n : ℕ) → n < 4294967296 → t.pages.items ≡ replicate n None → t.heads.items ≡ [] → IsRings t []
+pub no_rings : (t : Links) (n : ℕ) → n < 2147483648 → t.pages.items ≡ replicate n None → t.heads.items ≡ [] → IsRings t []
 no_rings t n fits pages heads =
     record {
       countable = record {
@@ -65,8 +65,8 @@ module _ (old new : Links) (pages : new.pages.items ≡ old.pages.items) where
   pub same_rings : new.heads.items ≡ old.heads.items → (lists : List (List ℕ)) → IsRings old lists → IsRings new lists
   same_rings heads lists r = record {
     countable = record {
-      pages = subst (λ (items : List (Option Link)). length items < 4294967296) (sym pages) r.countable.pages;
-      heads = subst (λ (items : List Link). length items < 4294967296) (sym heads) r.countable.heads;
+      pages = subst (λ (items : List (Option Link)). length items < 2147483648) (sym pages) r.countable.pages;
+      heads = subst (λ (items : List Link). length items < 2147483648) (sym heads) r.countable.heads;
     };
     count = r.count ∙ sym (ap length heads);
     rings = λ l within. stays same_link l (list_at lists l) (r.rings l within);
@@ -88,11 +88,11 @@ slice_get_next (x ∷ xs) y i at =
     ap (slice_get (x ∷ (xs ++ y ∷ []))) at ∙ slice_get_next xs y (length xs) refl
 
 -- one head more, linked with itself, is one empty list more
-pub one_more : (old new : Links) (lists : List (List ℕ)) (n : ℕ) → length lists + 1 < 4294967296 → new.pages.items ≡ old.pages.items → n ≡ length old.heads.items → new.heads.items ≡ old.heads.items ++ record { prev = head_node n; next = head_node n } ∷ [] → IsRings old lists → IsRings new (lists ++ [] ∷ [])
+pub one_more : (old new : Links) (lists : List (List ℕ)) (n : ℕ) → length lists + 1 < 2147483648 → new.pages.items ≡ old.pages.items → n ≡ length old.heads.items → new.heads.items ≡ old.heads.items ++ record { prev = head_node n; next = head_node n } ∷ [] → IsRings old lists → IsRings new (lists ++ [] ∷ [])
 one_more old new lists n fits pages number heads r =
     record {
       countable = record {
-        pages = subst (λ (items : List (Option Link)). length items < 4294967296) (sym pages) r.countable.pages;
+        pages = subst (λ (items : List (Option Link)). length items < 2147483648) (sym pages) r.countable.pages;
         heads = omega (arith, ap length heads, length_push old.heads.items alone, r.count);
       };
       count = length_push lists [] ∙ ap (λ (k : ℕ). k + 1) r.count ∙ sym (ap length heads ∙ length_push old.heads.items alone);

@@ -12,10 +12,10 @@ abbrev pub IsChain : Links → RingNode → List ℕ → RingNode → Type 0
 IsChain links a [] b = IsJoined links a b
 IsChain links a (p ∷ ps) b = IsJoined links a (page_node p) × IsChain links (page_node p) ps b
 
--- numbers of 32 bits count both tables
+-- numbers of 31 bits count both tables
 pub record AreCountable (links : Links) : Type 0 where
-  pub pages : length links.pages.items < 4294967296
-  pub heads : length links.heads.items < 4294967296
+  pub pages : length links.pages.items < 2147483648
+  pub heads : length links.heads.items < 2147483648
 
 -- the links stand for these lists
 pub record IsRings (links : Links) (lists : List (List ℕ)) : Type 0 where

@@ -1,5 +1,5 @@
 pub mod RingNodes
+pub mod Ends
 pub mod Rings
 pub mod Links
-pub mod PageLinks
 pub mod Chains

@@ -3,15 +3,15 @@
 //! `include/linux/list.h`).
 //!
 //! Each list is a ring: it goes from its head through its pages back to the head. A page is in one
-//! list at most. The links take 12 bytes for each page number, from the opening on, and 16 bytes for
-//! each list.
+//! list at most. The links take 12 bytes for each page number, from the opening on, and 8 bytes for
+//! each list. There are fewer than 2^31 page numbers, and fewer than 2^31 lists.
 #![tactic(auto)]
 
 pub use ring_node::{Link, ListId, RingNode};
 pub use table::Rings;
 
+mod end;
 mod links;
-mod page_link;
 mod ring_node;
 mod table;
 #[cfg(test)]

@@ -1,10 +1,10 @@
 //! The links of all rings, with the three changes that keep them rings (kernel: `__list_add`,
 //! `__list_del`, `__list_splice`).
 
-ghost use Rattle.std.specs.Prelude.{◌≡◌, ◌≢◌, ◌<◌, Some, None, IsSome, length};
+ghost use Rattle.std.specs.Prelude.{◌≡◌, ◌≢◌, ◌<◌, Some, None, option_copied, IsSome, length};
+ghost use Rattle.rings.specs.RingNodes.{IsCounted};
 ghost use Rattle.rings.specs.Links.{link_at, IsJoined, WritesLink, SetsNext, SetsPrev, Joins, Adds, Removes, Splices};
 
-use crate::page_link::PageLink;
 use crate::ring_node::{Link, RingNode};
 use machine::id::PageId;
 
@@ -12,29 +12,29 @@ use machine::id::PageId;
 #[derive(Drop)]
 pub struct Links {
     /// By page: its link, or `None` where it is in no list.
-    pub pages: Vec<PageLink>,
+    pub pages: Vec<Option<Link>>,
     /// By list: the link of its head.
     pub heads: Vec<Link>,
 }
 
 impl Links {
     /// The link of the node, if it has one.
-    pub fn get(&self, node: RingNode) -> Option<Link>
-        ensures { result ≡ link_at self.now node }
+    pub fn get(&self, node: RingNode) -> Option<&Link>
+        ensures { option_copied result ≡ link_at self.now node }
     {
         match node {
             RingNode::Page(page) => match self.pages.get(page.0 as usize) {
-                Some(link) => link.get(),
+                Some(link) => link.as_ref(),
                 None => None,
             },
-            RingNode::Head(list) => self.heads.get(list.0 as usize).copied(),
+            RingNode::Head(list) => self.heads.get(list.0 as usize),
         }
     }
 
     /// The link of a node that has one.
-    pub fn link(&self, node: RingNode) -> Link
+    pub fn link(&self, node: RingNode) -> &Link
         requires { IsSome (link_at self.now node) }
-        ensures { link_at self.now node ≡ Some result }
+        ensures { link_at self.now node ≡ Some result.now }
     {
         match self.get(node) {
             Some(link) => link,
@@ -47,31 +47,35 @@ impl Links {
         ensures { WritesLink self.old self.new node (Some link) }
     {
         match node {
-            RingNode::Page(page) => self.put(page, Some(link)),
+            RingNode::Page(page) => self.pages[page.0 as usize] = Some(link),
             RingNode::Head(list) => self.heads[list.0 as usize] = link,
         }
     }
 
     fn set_next(&mut self, node: RingNode, to: RingNode)
-        requires { IsSome (link_at self.old node) }
+        requires there { IsSome (link_at self.old node) }
+        requires counted { IsCounted to }
         ensures { SetsNext self.old self.new node to }
     {
-        let link = self.link(node);
-        self.write(node, Link { next: to, ..link });
+        let prev = self.link(node).prev();
+        self.write(node, Link::new(prev, to));
     }
 
     fn set_prev(&mut self, node: RingNode, to: RingNode)
-        requires { IsSome (link_at self.old node) }
+        requires there { IsSome (link_at self.old node) }
+        requires counted { IsCounted to }
         ensures { SetsPrev self.old self.new node to }
     {
-        let link = self.link(node);
-        self.write(node, Link { prev: to, ..link });
+        let next = self.link(node).next();
+        self.write(node, Link::new(to, next));
     }
 
     // From now on b comes behind a.
     fn join(&mut self, a: RingNode, b: RingNode)
         requires a_there { IsSome (link_at self.old a) }
         requires b_there { IsSome (link_at self.old b) }
+        requires a_counted { IsCounted a }
+        requires b_counted { IsCounted b }
         ensures { Joins self.old self.new a b }
     {
         self.set_next(a, b);
@@ -82,19 +86,21 @@ impl Links {
         requires { page.0 < length self.old.pages.items }
         ensures { WritesLink self.old self.new (RingNode.Page page) link }
     {
-        self.pages[page.0 as usize] = PageLink::new(link);
+        self.pages[page.0 as usize] = link;
     }
 
     /// A page that is in no ring comes in front of the node (kernel: `list_add_tail`).
     pub fn add_before(&mut self, page: PageId, node: RingNode)
         requires within { page.0 < length self.old.pages.items }
+        requires page_counted { IsCounted (RingNode.Page page) }
+        requires node_counted { IsCounted node }
         requires out { link_at self.old (RingNode.Page page) ≡ None }
         requires ring { (last : RingNode) × IsJoined self.old last node }
         ensures { Adds self.old self.new (RingNode.Page page) node }
     {
-        let prev = self.link(node).prev;
+        let prev = self.link(node).prev();
         let added = RingNode::Page(page);
-        self.put(page, Some(Link { prev, next: node }));
+        self.put(page, Some(Link::new(prev, node)));
         self.set_next(prev, added);
         self.set_prev(node, added);
     }
@@ -106,13 +112,17 @@ impl Links {
         ensures { Removes self.old self.new (RingNode.Page page) }
     {
         let link = self.link(RingNode::Page(page));
-        self.join(link.prev, link.next);
+        let (prev, next) = (link.prev(), link.next());
+        self.join(prev, next);
         self.put(page, None);
     }
 
     /// All that is in a ring that is not empty comes between two nodes that are joined (kernel:
     /// `__list_splice`).
     pub fn splice(&mut self, source: RingNode, before: RingNode, after: RingNode)
+        requires source_counted { IsCounted source }
+        requires before_counted { IsCounted before }
+        requires after_counted { IsCounted after }
         requires before { before ≢ source }
         requires after { after ≢ source }
         requires joined { IsJoined self.old before after }
@@ -121,8 +131,9 @@ impl Links {
         ensures { Splices self.old self.new source before after }
     {
         let moved = self.link(source);
-        self.join(before, moved.next);
-        self.join(moved.prev, after);
+        let (last, first) = (moved.prev(), moved.next());
+        self.join(before, first);
+        self.join(last, after);
         self.join(source, source);
     }
 }

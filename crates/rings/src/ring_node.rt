@@ -1,9 +1,11 @@
 //! What stands in a ring, and the link that it has there.
 
 ghost use Rattle.std.specs.Prelude.{◌≡◌, option_map};
-ghost use Rattle.rings.specs.RingNodes.{page_of, node_of};
+ghost use Rattle.rings.specs.RingNodes.{page_of, IsCounted};
 
+use crate::end::End;
 use machine::id::PageId;
+use std::marker::Model;
 
 /// A list. Lists are numbered from 0 on, in the order in which they were added.
 #[derive(Clone, Copy, Debug, PartialEq, Eq)]
@@ -27,34 +29,52 @@ impl RingNode {
             RingNode::Head(_) => None,
         }
     }
-
-    /// The number of the page or of the list, and whether it is a list's.
-    pub(crate) fn parts(self) -> (u32, bool)
-        ensures { self ≡ node_of result.0 result.1 }
-    {
-        match self {
-            RingNode::Page(page) => (page.0, false),
-            RingNode::Head(list) => (list.0, true),
-        }
-    }
-
-    /// The page of this number, or the head of the list of this number.
-    pub(crate) fn of_parts(number: u32, is_head: bool) -> RingNode
-        ensures { result ≡ node_of number is_head }
-    {
-        if is_head {
-            RingNode::Head(ListId(number))
-        } else {
-            RingNode::Page(PageId(number))
-        }
-    }
 }
 
-/// The neighbours of a node in its ring (kernel: what a `struct list_head` has). From a head, `next`
-/// is the first page of the list and `prev` the last, and both are the head itself where there is
-/// none.
-#[derive(Clone, Copy, Debug, PartialEq, Eq)]
+/// The neighbours of a node in its ring (kernel: what a `struct list_head` has), in 8 bytes. It is
+/// neither copied nor made outside this crate, so a link that is lent is the stored one.
+#[derive(Drop)]
 pub struct Link {
-    pub prev: RingNode,
-    pub next: RingNode,
+    prev: End,
+    next: End,
+}
+
+impl Model for Link {
+    ghost use Rattle.rings.specs.RingNodes.{LinkOf};
+
+    ghost Value = { LinkOf };
+
+    ghost view = { λ l. record { prev = l.prev; next = l.next } };
+}
+
+impl Link {
+    /// The link of a node between these two.
+    pub(crate) fn new(prev: RingNode, next: RingNode) -> Link
+        requires prev { IsCounted prev }
+        requires next { IsCounted next }
+        ensures { result ≡ record { prev = prev; next = next } }
+    {
+        Link {
+            prev: End::new(prev),
+            next: End::new(next),
+        }
+    }
+
+    /// What comes just before the node. Before a head it is the last page of the list, or the head
+    /// itself where there is none.
+    pub fn prev(&self) -> RingNode
+        ensures node { result ≡ self.now.prev }
+        ensures counted { IsCounted result }
+    {
+        self.prev.node()
+    }
+
+    /// What comes next behind the node. Behind a head it is the first page of the list, or the head
+    /// itself where there is none.
+    pub fn next(&self) -> RingNode
+        ensures node { result ≡ self.now.next }
+        ensures counted { IsCounted result }
+    {
+        self.next.node()
+    }
 }

@@ -1,11 +1,11 @@
 //! The lists of pages.
 
-ghost use Rattle.std.specs.Prelude.{◌≡◌, ◌≢◌, ℕ, ◌+◌, ◌<◌, ◌≤◌, ◌^◌, ◌==◌, ◌++◌, ◌∷◌, [], not, map, true, false, length, option_map, slice_get, slice_set, is_none, is_some, None, replicate, IfSome, IfOk, OnOk, IsOk};
+ghost use Rattle.std.specs.Prelude.{◌≡◌, ◌≢◌, ℕ, ◌+◌, ◌<◌, ◌≤◌, ◌^◌, ◌==◌, ◌++◌, ◌∷◌, [], not, map, true, false, length, option_map, option_copied, slice_get, slice_set, is_none, is_some, None, replicate, IfSome, IfOk, OnOk, IsOk};
 ghost use Rattle.rings.specs.declared.ring_node.Link.{Link};
 ghost use Rattle.rings.specs.Rings.{list_at, is_listed, without, is_there, AreApart, IsLinkOf, IsAfter, IsBefore, KeepsLinksBut, first_node, last_node};
 
+use crate::end::FIRST_HEAD;
 use crate::links::Links;
-use crate::page_link::PageLink;
 use crate::ring_node::{Link, ListId, RingNode};
 use machine::id::PageId;
 use std::alloc::{AllocError, Global};
@@ -37,22 +37,26 @@ impl Model for Rings {
     ghost invariant = { λ r. IsRings r.links (lists_of r.links) };
 }
 
-fn no_links(alloc: Global, numbers: usize) -> Result<Vec<PageLink>, AllocError>
+fn no_links(alloc: Global, numbers: usize) -> Result<Vec<Option<Link>>, AllocError>
     ensures { IfOk result (λ links. links.items ≡ replicate numbers None) }
 {
     let mut links = Vec::with_capacity(alloc, numbers)?;
     for _ in 0..numbers {
-        links.push_reserved(PageLink::new(None));
+        links.push_reserved(None);
     }
     Ok(links)
 }
 
 impl Rings {
-    /// No list, and links for so many page numbers. `AllocError` where there is no memory for them.
+    /// No list, and links for so many page numbers. `AllocError` where there is no memory for them, or
+    /// where they are 2^31 or more.
     pub fn open(alloc: Global, numbers: u32) -> Result<Self, AllocError>
         ensures lists { IfOk result (λ r. r.lists ≡ []) }
         ensures numbers { IfOk result (λ r. r.numbers ≡ numbers) }
     {
+        if numbers >= FIRST_HEAD {
+            return Err(AllocError);
+        }
         Ok(Rings {
             links: Links {
                 pages: no_links(alloc, numbers as usize)?,
@@ -76,7 +80,7 @@ impl Rings {
     /// [`Rings::reserve`].
     pub fn add(&mut self, lists: u32)
         requires room { lists ≤ self.old.room }
-        requires fits { length self.old.lists + lists < 2 ^ 32 }
+        requires fits { length self.old.lists + lists < 2 ^ 31 }
         ensures lists { self.new.lists ≡ self.old.lists ++ replicate lists [] }
         ensures numbers { self.new.numbers ≡ self.old.numbers }
         ensures room { self.new.room + lists ≡ self.old.room }
@@ -88,17 +92,14 @@ impl Rings {
 
     fn add_list(&mut self)
         requires room { 0 < self.old.room }
-        requires fits { length self.old.lists + 1 < 2 ^ 32 }
+        requires fits { length self.old.lists + 1 < 2 ^ 31 }
         ensures lists { self.new.lists ≡ self.old.lists ++ [] ∷ [] }
         ensures numbers { self.new.numbers ≡ self.old.numbers }
         ensures room { self.new.room + 1 ≡ self.old.room }
     {
         let list = ListId(self.links.heads.len() as u32);
         let head = RingNode::Head(list);
-        self.links.heads.push_reserved(Link {
-            prev: head,
-            next: head,
-        });
+        self.links.heads.push_reserved(Link::new(head, head));
     }
 
     /// How many lists there are.
@@ -115,11 +116,11 @@ impl Rings {
         self.links.pages.len() as u32
     }
 
-    /// The stored link of a page, or of the head of a list. `None` for a page that is in no list, and
-    /// for a list that is not there.
-    pub fn link(&self, node: RingNode) -> Option<Link>
+    /// The stored link of a page, or of the head of a list, which is lent. `None` for a page that is in
+    /// no list, and for a list that is not there.
+    pub fn link(&self, node: RingNode) -> Option<&Link>
         ensures there { is_some result ≡ is_there self.now.lists node }
-        ensures link { IfSome result (λ link. IsLinkOf self.now.lists node link) }
+        ensures link { IfSome (option_copied result) (λ link. IsLinkOf self.now.lists node link) }
     {
         self.links.get(node)
     }
@@ -136,7 +137,7 @@ impl Rings {
         requires { list.0 < length self.now.lists }
         ensures { option_map (λ page. page.0) result ≡ slice_get (list_at self.now.lists list.0) 0 }
     {
-        self.links.link(RingNode::Head(list)).next.page()
+        self.links.link(RingNode::Head(list)).next().page()
     }
 
     /// Whether a list has no page (kernel: `list_empty`).
@@ -153,7 +154,7 @@ impl Rings {
         requires { is_listed self.now.lists page.0 ≡ true }
         ensures { IsAfter self.now.lists page.0 (option_map (λ page. page.0) result) }
     {
-        self.links.link(RingNode::Page(page)).next.page()
+        self.links.link(RingNode::Page(page)).next().page()
     }
 
     /// The page that comes just before this one in its list, if there is one (kernel:
@@ -162,7 +163,7 @@ impl Rings {
         requires { is_listed self.now.lists page.0 ≡ true }
         ensures { IsBefore self.now.lists page.0 (option_map (λ page. page.0) result) }
     {
-        self.links.link(RingNode::Page(page)).prev.page()
+        self.links.link(RingNode::Page(page)).prev().page()
     }
 
     /// A page that is in no list comes to the end of this one (kernel: `list_add_tail`). The links of
@@ -211,7 +212,7 @@ impl Rings {
             return;
         }
         let head = RingNode::Head(target);
-        let first = self.links.link(head).next;
+        let first = self.links.link(head).next();
         self.links.splice(RingNode::Head(source), head, first);
     }
 
@@ -235,16 +236,16 @@ impl Rings {
             return;
         }
         let head = RingNode::Head(target);
-        let last = self.links.link(head).prev;
+        let last = self.links.link(head).prev();
         self.links.splice(RingNode::Head(source), last, head);
     }
 
     /// Nothing is done: what always holds. No page is in two lists, or twice in one; the number of each
-    /// that is in one is among the page numbers; and a number of 32 bits counts the lists.
+    /// that is in one is among the page numbers; and a number of 31 bits counts the lists.
     pub fn lists_are_apart(&self)
         ensures apart { AreApart self.now.lists }
         ensures within { (p : ℕ) → is_listed self.now.lists p ≡ true → p < self.now.numbers }
-        ensures countable { length self.now.lists < 2 ^ 32 }
+        ensures countable { length self.now.lists < 2 ^ 31 }
     {
         let _ = &self.links;
     }

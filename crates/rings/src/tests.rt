@@ -1,5 +1,4 @@
 use super::*;
-use crate::page_link::PageLink;
 use machine::id::PageId;
 use std::alloc::{AllocError, Global};
 use std::mem::size_of;
@@ -30,8 +29,14 @@ fn the_older_pages_come_first(rt: HostRuntime) -> Result<(), Fail> {
 #[test]
 fn links_are_small(rt: HostRuntime) {
     assert_eq!(rt; size_of::<RingNode>(), 8);
-    assert_eq!(rt; size_of::<Link>(), 16);
-    assert_eq!(rt; size_of::<PageLink>(), 12);
+    assert_eq!(rt; size_of::<Link>(), 8);
+    assert_eq!(rt; size_of::<Option<Link>>(), 12);
+}
+
+// There are fewer page numbers than a link can name.
+#[test]
+fn too_many_page_numbers_are_refused(rt: HostRuntime) {
+    assert!(rt; Rings::open(rt.alloc(), 1 << 31).is_err());
 }
 
 const LISTS: u32 = 4;
@@ -149,7 +154,7 @@ fn back(alloc: Global, rings: &Rings, list: ListId) -> Result<Vec<u32>, AllocErr
     let Some(head) = rings.link(RingNode::Head(list)) else {
         return Ok(pages);
     };
-    let mut prev = head.prev.page();
+    let mut prev = head.prev().page();
     for _ in 0..rings.numbers() {
         let Some(page) = prev else {
             break;

@@ -1,4 +1,4 @@
-use Rattle.std.proofs.Common.{◌≢◌, subst}
+use Rattle.std.proofs.Common.{◌≢◌, subst, sym, ◌∙◌}
 use Rattle.rings.specs.declared.ring_node.RingNode.{RingNode}
 use Rattle.rings.specs.Links.{IsJoined}
 use Rattle.rings.proofs.LinkLemmas.{splices, prev_is, next_is}
@@ -10,8 +10,8 @@ returns c =
     let source = c.args.source in
     let last = c.requires.last in
     let first = c.requires.first in
-    let last_is = prev_is old last.0 source c.link-moved.result c.link-moved.ensures last.2 in
-    let first_is = next_is old source first.0 c.link-moved.result c.link-moved.ensures first.2 in
+    let last_is = prev_is old last.0 source c.link-moved.result.now c.link-moved.ensures last.2 ∙ sym c.prev-last.ensures.node in
+    let first_is = next_is old source first.0 c.link-moved.result.now c.link-moved.ensures first.2 ∙ sym c.next-first.ensures.node in
     splices
     old
     c.join.new.self
@@ -20,8 +20,8 @@ returns c =
     source
     c.args.before
     c.args.after
-    c.link-moved.result.next
-    c.link-moved.result.prev
+    c.next-first.result
+    c.prev-last.result
     c.requires.before
     c.requires.after
     (subst (λ (n : RingNode). n ≢ source) last_is last.1)

@@ -24,4 +24,4 @@ returns-clause-countable c =
     let t = c.self.inside.links in
     let lists = c.args.self.now.lists in
     let r = as_seen t c.args.self.now _ _ c.self.view_is c.self.invariant in
-    subst (λ (n : ℕ). n < 4294967296) (sym r.count) r.countable.heads
+    subst (λ (n : ℕ). n < 2147483648) (sym r.count) r.countable.heads

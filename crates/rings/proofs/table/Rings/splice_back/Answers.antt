@@ -16,11 +16,11 @@ splice-requires-clause-before c =
     let lists = c.args.self.now.lists in
     let r = as_seen t c.args.self.now _ _ c.self.view_is c.self.invariant in
     let l = c.args.target.0 in
-    let gap = joined_behind t lists r l c.link-last.result c.requires.target c.link-last.ensures in
+    let gap = joined_behind t lists r l c.link.result.now c.prev-last.result c.requires.target c.link.ensures c.prev-last.ensures.node in
     let s = c.args.source.0 in
     let some = some_from_test (list_at lists s) (sym c.is_empty.ensures ∙ c.if-is_empty.false) in
     let first = first_page t s (list_at lists s) some (r.rings s c.requires.source) in
-    λ same. head_is_no_page l first.0 (same_next t c.link-last.result.prev (head_node s) (head_node l) (page_node first.0) same gap first.1)
+    λ same. head_is_no_page l first.0 (same_next t c.prev-last.result (head_node s) (head_node l) (page_node first.0) same gap first.1)
 
 pub splice-requires-clause-after : goal.splice-requires-clause-after
 splice-requires-clause-after c =
@@ -31,7 +31,7 @@ splice-requires-clause-joined c =
     let t = c.self.inside.links in
     let lists = c.args.self.now.lists in
     let r = as_seen t c.args.self.now _ _ c.self.view_is c.self.invariant in
-    joined_behind t lists r c.args.target.0 c.link-last.result c.requires.target c.link-last.ensures
+    joined_behind t lists r c.args.target.0 c.link.result.now c.prev-last.result c.requires.target c.link.ensures c.prev-last.ensures.node
 
 pub splice-requires-clause-last : goal.splice-requires-clause-last
 splice-requires-clause-last c =
@@ -61,7 +61,7 @@ invariant_of-self c =
     let s = c.args.source.0 in
     let some = some_from_test (list_at lists s) (sym c.is_empty.ensures ∙ c.if-is_empty.false) in
     let l = c.args.target.0 in
-    let gap = joined_behind t lists r l c.link-last.result c.requires.target c.link-last.ensures in
+    let gap = joined_behind t lists r l c.link.result.now c.prev-last.result c.requires.target c.link.ensures c.prev-last.ensures.node in
     hold_as_found c.splice.new.self _ (spliced_back t c.splice.new.self lists s l _ r c.requires.source c.requires.target c.requires.apart some gap c.splice.ensures)
 
 pub returns-clause-lists : goal.returns-clause-lists
@@ -72,7 +72,7 @@ returns-clause-lists c =
     let s = c.args.source.0 in
     let some = some_from_test (list_at lists s) (sym c.is_empty.ensures ∙ c.if-is_empty.false) in
     let l = c.args.target.0 in
-    let gap = joined_behind t lists r l c.link-last.result c.requires.target c.link-last.ensures in
+    let gap = joined_behind t lists r l c.link.result.now c.prev-last.result c.requires.target c.link.ensures c.prev-last.ensures.node in
     lists_are c.splice.new.self _ (spliced_back t c.splice.new.self lists s l _ r c.requires.source c.requires.target c.requires.apart some gap c.splice.ensures)
 
 pub returns-clause-few : goal.returns-clause-few
@@ -86,7 +86,7 @@ returns-clause-few c =
     let ring = r.rings s c.requires.source in
     let first = first_is t s (list_at lists s) ring in
     let last = last_is t (head_node s) (head_node s) (list_at lists s) ring in
-    let behind = prev_is t _ (head_node l) c.link-last.result c.link-last.ensures (last_is t (head_node l) (head_node l) (list_at lists l) (r.rings l c.requires.target)) in
+    let behind = prev_is t _ (head_node l) c.link.result.now c.link.ensures (last_is t (head_node l) (head_node l) (list_at lists l) (r.rings l c.requires.target)) ∙ sym c.prev-last.ensures.node in
     let nodes : List RingNode = head_node s ∷ head_node l ∷ first_node s (list_at lists s) ∷ last_node s (list_at lists s) ∷ last_node l (list_at lists l) ∷ [] in
     links_kept t new lists (lists_of new) nodes r (invariant_of-self c) (λ n other.
     c.splice.ensures.few n other.0 (λ same. other.1.1.1.1.0 (same ∙ sym behind)) other.1.0

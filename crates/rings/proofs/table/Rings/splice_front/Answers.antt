@@ -20,18 +20,18 @@ splice-requires-clause-after c =
     let lists = c.args.self.now.lists in
     let r = as_seen t c.args.self.now _ _ c.self.view_is c.self.invariant in
     let l = c.args.target.0 in
-    let gap = joined_ahead t lists r l c.link-first.result c.requires.target c.link-first.ensures in
+    let gap = joined_ahead t lists r l c.link.result.now c.next-first.result c.requires.target c.link.ensures c.next-first.ensures.node in
     let s = c.args.source.0 in
     let some = some_from_test (list_at lists s) (sym c.is_empty.ensures ∙ c.if-is_empty.false) in
     let last = last_page t s (list_at lists s) some (r.rings s c.requires.source) in
-    λ same. head_is_no_page l last.0 (same_prev t (head_node l) (page_node last.0) c.link-first.result.next (head_node s) same gap last.1)
+    λ same. head_is_no_page l last.0 (same_prev t (head_node l) (page_node last.0) c.next-first.result (head_node s) same gap last.1)
 
 pub splice-requires-clause-joined : goal.splice-requires-clause-joined
 splice-requires-clause-joined c =
     let t = c.self.inside.links in
     let lists = c.args.self.now.lists in
     let r = as_seen t c.args.self.now _ _ c.self.view_is c.self.invariant in
-    joined_ahead t lists r c.args.target.0 c.link-first.result c.requires.target c.link-first.ensures
+    joined_ahead t lists r c.args.target.0 c.link.result.now c.next-first.result c.requires.target c.link.ensures c.next-first.ensures.node
 
 pub splice-requires-clause-last : goal.splice-requires-clause-last
 splice-requires-clause-last c =
@@ -61,7 +61,7 @@ invariant_of-self c =
     let s = c.args.source.0 in
     let some = some_from_test (list_at lists s) (sym c.is_empty.ensures ∙ c.if-is_empty.false) in
     let l = c.args.target.0 in
-    let gap = joined_ahead t lists r l c.link-first.result c.requires.target c.link-first.ensures in
+    let gap = joined_ahead t lists r l c.link.result.now c.next-first.result c.requires.target c.link.ensures c.next-first.ensures.node in
     hold_as_found c.splice.new.self _ (spliced_front t c.splice.new.self lists s l _ r c.requires.source c.requires.target c.requires.apart some gap c.splice.ensures)
 
 pub returns-clause-lists : goal.returns-clause-lists
@@ -72,7 +72,7 @@ returns-clause-lists c =
     let s = c.args.source.0 in
     let some = some_from_test (list_at lists s) (sym c.is_empty.ensures ∙ c.if-is_empty.false) in
     let l = c.args.target.0 in
-    let gap = joined_ahead t lists r l c.link-first.result c.requires.target c.link-first.ensures in
+    let gap = joined_ahead t lists r l c.link.result.now c.next-first.result c.requires.target c.link.ensures c.next-first.ensures.node in
     lists_are c.splice.new.self _ (spliced_front t c.splice.new.self lists s l _ r c.requires.source c.requires.target c.requires.apart some gap c.splice.ensures)
 
 pub returns-clause-few : goal.returns-clause-few
@@ -86,7 +86,7 @@ returns-clause-few c =
     let ring = r.rings s c.requires.source in
     let first = first_is t s (list_at lists s) ring in
     let last = last_is t (head_node s) (head_node s) (list_at lists s) ring in
-    let before = next_is t (head_node l) _ c.link-first.result c.link-first.ensures (first_is t l (list_at lists l) (r.rings l c.requires.target)) in
+    let before = next_is t (head_node l) _ c.link.result.now c.link.ensures (first_is t l (list_at lists l) (r.rings l c.requires.target)) ∙ sym c.next-first.ensures.node in
     let nodes : List RingNode = head_node s ∷ head_node l ∷ first_node s (list_at lists s) ∷ last_node s (list_at lists s) ∷ first_node l (list_at lists l) ∷ [] in
     links_kept t new lists (lists_of new) nodes r (invariant_of-self c) (λ n other.
     c.splice.ensures.few n other.0 other.1.0 (λ same. other.1.1.1.1.0 (same ∙ sym before))
