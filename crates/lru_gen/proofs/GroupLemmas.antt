@@ -79,7 +79,7 @@ module _ (old new : List (List ℕ)) (numbers : List Numbers) (g : ℕ) (within 
       let long = length-set numbers g n in
       record {
         count = change.size ∙ is.count ∙ ap (λ (m : ℕ). m * 8) (sym long);
-        few = subst (λ (m : ℕ). m < 536870912) (sym long) is.few;
+        few = subst (λ (m : ℕ). m < 268435456) (sym long) is.few;
         windows = λ h inside k.
             elim (cases_eq h g) [
               | inl same ↦
@@ -138,7 +138,7 @@ module _ (old new : List (List ℕ)) (numbers : List Numbers) (g : ℕ) (within 
 pub read_at : (numbers : List Numbers) (g : ℕ) (found : Numbers) → g < length numbers → found ≡ get_or numbers g found → found ≡ numbers_at numbers g
 read_at numbers g found within read = get_or_read numbers g found within read first_numbers
 
-pub few_groups : (lists : List (List ℕ)) (numbers : List Numbers) (g : ℕ) → IsTable lists numbers → g < length numbers → g < 536870912
+pub few_groups : (lists : List (List ℕ)) (numbers : List Numbers) (g : ℕ) → IsTable lists numbers → g < length numbers → g < 268435456
 few_groups lists numbers g is within = omega (arith, is.few)
 
 pub slot_among : (lists : List (List ℕ)) (numbers : List Numbers) (g : ℕ) (k : Kind) (seq : ℕ) → IsTable lists numbers → g < length numbers → slot g k seq < length lists

@@ -53,9 +53,9 @@ abbrev pub groups_from : List (List ℕ) → ℕ → List Numbers → List Gens
 groups_from lists g [] = []
 groups_from lists g (numbers ∷ more) = gens_from lists g numbers ∷ groups_from lists (g + 1) more
 
--- for how many groups more there is memory: for eight lists each, and for their numbers, as far as the lists can be counted in 32 bits
+-- for how many groups more there is memory: for eight lists each, and for their numbers, as far as the lists can be counted in 31 bits
 abbrev pub room_of : ℕ → ℕ → ℕ → ℕ
-room_of lists numbers groups = min (min (lists / 8) numbers) (2 ^ 29 - 1 - groups)
+room_of lists numbers groups = min (min (lists / 8) numbers) (2 ^ 28 - 1 - groups)
 
 -- a type has two to four generations, and the lists of none are empty
 pub record IsWindow (lists : List (List ℕ)) (g : ℕ) (kind : Kind) (numbers : Numbers) : Type 0 where
@@ -66,7 +66,7 @@ pub record IsWindow (lists : List (List ℕ)) (g : ℕ) (kind : Kind) (numbers :
 -- what always holds of the lists and the numbers
 pub record IsTable (lists : List (List ℕ)) (numbers : List Numbers) : Type 0 where
   pub count : length lists ≡ length numbers * 8
-  pub few : length numbers < 2 ^ 29
+  pub few : length numbers < 2 ^ 28
   pub windows : (g : ℕ) → g < length numbers → (kind : Kind) → IsWindow lists g kind (numbers_at numbers g)
 
 -- this comes behind the page on its list: another page, or the head of the list again

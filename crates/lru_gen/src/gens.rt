@@ -1,6 +1,6 @@
 //! The generations of all groups.
 
-ghost use Rattle.std.specs.Prelude.{◌≡◌, ◌≢◌, ◌+◌, ◌<◌, ◌≤◌, ◌^◌, ◌∷◌, ◌++◌, [], ℕ, true, false, None, length, slice_get, is_some, option_map, IfSome, IfOk, OnOk, IsOk};
+ghost use Rattle.std.specs.Prelude.{◌≡◌, ◌≢◌, ◌+◌, ◌<◌, ◌≤◌, ◌^◌, ◌∷◌, ◌++◌, [], ℕ, true, false, None, length, slice_get, is_some, option_map, option_copied, IfSome, IfOk, OnOk, IsOk};
 ghost use Rattle.machine.specs.Generations.{new_gens, row_of, on_row, has_page, is_listed, is_listed_in, after_in, added, isolated, front_of, merged, raised, advanced, handed_over};
 ghost use Rattle.machine.specs.Eviction.{has_usable};
 ghost use Rattle.rings.specs.declared.ring_node.Link.{Link};
@@ -19,8 +19,8 @@ use rings::{Link, RingNode, Rings};
 use std::alloc::{AllocError, Global};
 use std::marker::Model;
 
-// Lists are counted in 32 bits, and each group has eight.
-const MAX_GROUPS: usize = (1 << 29) - 1;
+// Lists are counted in 31 bits, and each group has eight.
+const MAX_GROUPS: usize = (1 << 28) - 1;
 
 /// The pages of all groups, on a list for each group, type and generation (kernel: `struct lru_gen_folio`).
 ///
@@ -55,7 +55,7 @@ impl Model for Gens {
 
 impl Gens {
     /// No group, and pages with numbers below this. `AllocError` where there is no memory for their links, or where
-    /// they are 2^32 or more.
+    /// they are 2^31 or more.
     pub fn open(alloc: Global, pages: usize) -> Result<Self, AllocError>
         ensures { IfOk result (λ s. s ≡ record { groups = []; pages = pages; room = 0 }) }
     {
@@ -69,7 +69,7 @@ impl Gens {
         })
     }
 
-    /// Asks for the memory of one group more. `AllocError` where there is none, or where there are 2^29 - 1 groups; the
+    /// Asks for the memory of one group more. `AllocError` where there is none, or where there are 2^28 - 1 groups; the
     /// lists are the same either way.
     pub fn reserve_group(&mut self) -> Result<(), AllocError>
         ensures room { OnOk result (0 < self.new.room) }
@@ -131,11 +131,11 @@ impl Gens {
         self.rings.is_listed(page)
     }
 
-    /// The stored link of a page, or of the head of a list. `None` for a page that is on no list, and for a list that is
-    /// not there. The list of a generation has the number that [`list_of`] gives.
-    pub fn link(&self, node: RingNode) -> Option<Link>
+    /// The stored link of a page, or of the head of a list, which is lent. `None` for a page that is on no list, and for a
+    /// list that is not there. The list of a generation has the number that [`list_of`] gives.
+    pub fn link(&self, node: RingNode) -> Option<&Link>
         ensures there { is_some result ≡ is_there (lists_of self.now.groups) node }
-        ensures link { IfSome result (λ link. IsLinkOf (lists_of self.now.groups) node link) }
+        ensures link { IfSome (option_copied result) (λ link. IsLinkOf (lists_of self.now.groups) node link) }
     {
         self.rings.link(node)
     }

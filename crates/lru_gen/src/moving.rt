@@ -11,9 +11,9 @@ use rings::Rings;
 /// The pages of a type's four generations of one group, from its oldest on, come behind those of another group's
 /// generation.
 pub fn move_pages(rings: &mut Rings, from: GroupId, oldest: u64, to: GroupId, seq: u64, kind: Kind)
-    requires from { from.0 < 2 ^ 29 }
+    requires from { from.0 < 2 ^ 28 }
     requires from_lists { from.0 * 8 + 8 ≤ length rings.old.lists }
-    requires to { to.0 < 2 ^ 29 }
+    requires to { to.0 < 2 ^ 28 }
     requires to_lists { to.0 * 8 + 8 ≤ length rings.old.lists }
     requires apart { from.0 ≢ to.0 }
     ensures lists { HaveMoved rings.old.lists rings.new.lists from.0 to.0 kind oldest 4 seq }

@@ -41,7 +41,7 @@ impl Numbers {
 
 /// The list of a generation. Each type of each group has four, which its generations take in turn.
 pub fn list_of(group: GroupId, kind: Kind, seq: u64) -> ListId
-    requires { group.0 < 2 ^ 29 }
+    requires { group.0 < 2 ^ 28 }
     ensures { result.0 ≡ slot group.0 kind seq }
 {
     let first = match kind {

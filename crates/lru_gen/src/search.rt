@@ -18,7 +18,7 @@ pub fn first_from(
     oldest: u64,
     turn: u64,
 ) -> Option<PageId>
-    requires group { group.0 < 2 ^ 29 }
+    requires group { group.0 < 2 ^ 28 }
     requires lists { group.0 * 8 + 8 ≤ length rings.now.lists }
     requires turn { turn ≤ 4 }
     ensures { option_map (λ p. p.0) result ≡ option_map (λ l. l.page) (slice_get (rows_from rings.now.lists group.0 kind (oldest + turn) (4 - turn)) 0) }
@@ -35,7 +35,7 @@ pub fn first_from(
 /// Whether a type has a page, where its oldest generation has this number.
 #[tactic(auto, using(crate::proofs::SearchLemmas::first_tells))]
 pub fn has_any(rings: &Rings, group: GroupId, kind: Kind, oldest: u64) -> bool
-    requires group { group.0 < 2 ^ 29 }
+    requires group { group.0 < 2 ^ 28 }
     requires lists { group.0 * 8 + 8 ≤ length rings.now.lists }
     ensures { result ≡ has_any (rows_from rings.now.lists group.0 kind oldest 4) }
 {
@@ -48,7 +48,7 @@ pub fn behind(rings: &Rings, page: PageId) -> RingNode
     ensures { IsBehind rings.now.lists page.0 result }
 {
     match rings.link(RingNode::Page(page)) {
-        Some(link) => link.next,
+        Some(link) => link.next(),
         None => unreachable!(),
     }
 }
@@ -61,7 +61,7 @@ pub fn alone_on(rings: &Rings, page: PageId) -> Option<ListId>
     let Some(link) = rings.link(RingNode::Page(page)) else {
         unreachable!()
     };
-    match (link.prev, link.next) {
+    match (link.prev(), link.next()) {
         (RingNode::Head(_), RingNode::Head(list)) => Some(list),
         _ => None,
     }

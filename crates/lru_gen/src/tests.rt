@@ -7,6 +7,7 @@ use machine::id::{GroupId, PageId};
 use machine::record::Kind;
 use std::alloc::{AllocError, Global};
 use std::mem::size_of;
+use std::process::Abort;
 use std::test::Fail;
 
 // The example of the README.
@@ -97,7 +98,7 @@ fn a_type_is_usable_while_it_has_a_page(rt: HostRuntime) -> Result<(), Fail> {
     Ok(())
 }
 
-// What the crate's first lines tell, beside the eight lists of a group, of 16 bytes each.
+// What the crate's first lines tell, beside the eight lists of a group, of 8 bytes each.
 #[test]
 fn numbers_are_small(rt: HostRuntime) {
     assert_eq!(rt; size_of::<Numbers>() + size_of::<Filled>(), 26);
@@ -110,8 +111,22 @@ const PAGES: usize = 64;
 // No generation of the next test has a number from this on.
 const SEQS: u64 = 200;
 
-// After each of so many calls the pages of a type stand as in plain vectors, one for each generation that ever was,
-// after the same calls.
+// How many calls the next test makes.
+const CALLS: usize = 10_000;
+
+// What a call of the next test is.
+#[derive(Clone, Copy, PartialEq)]
+enum Call {
+    Add,
+    Isolate,
+    MergeOldest,
+    RaiseMin,
+    Advance,
+    TakeOver,
+}
+
+// After each of so many calls the pages stand as in plain vectors, one for each generation that ever was, after the same
+// calls: as `first` and `after` tell them, and along the stored links of each list both ways.
 #[test]
 fn mixed_calls_match_plain_vectors(rt: HostRuntime) -> Result<(), Fail> {
     let mut gens = Gens::open(rt.alloc(), PAGES)?;
@@ -125,55 +140,164 @@ fn mixed_calls_match_plain_vectors(rt: HostRuntime) -> Result<(), Fail> {
             plain.lists.push(Vec::new(rt.alloc()))?;
         }
     }
+    let mut made: Vec<Call> = Vec::new(rt.alloc());
     let mut seed: u64 = 1;
-    for _ in 0..4_000 {
+    for _ in 0..5 * CALLS {
+        if made.len() == CALLS {
+            break;
+        }
         seed = seed
             .wrapping_mul(6364136223846793005)
             .wrapping_add(1442695040888963407);
-        let page = PageId(((seed >> 40) % 64) as u32);
-        let group = GroupId(((seed >> 30) % 3) as u32);
-        let kind = kind_of(seed >> 33);
-        let oldest = min_seq(&gens, group, kind);
-        match seed >> 60 {
-            0 => {
-                if merge_oldest(&mut gens, group, kind) {
-                    plain.merge(rt.alloc(), group, kind, oldest)?;
-                }
-            }
-            1 => raise_min(&mut gens, group, kind),
-            2 => advance(&mut gens, group),
-            3 => {
-                let from = GroupId(group.0.wrapping_add(1) % GROUPS);
-                if let Some(seq) = take_over(&mut gens, from, group) {
-                    for kind in [Kind::Anon, Kind::File] {
-                        let oldest = min_seq(&gens, from, kind);
-                        plain.take_over(rt.alloc(), from, oldest, group, seq, kind)?;
-                    }
-                }
-            }
-            _ => {
-                let seq = oldest.wrapping_add((seed >> 50) % 4);
-                if gens.is_listed(page) {
-                    isolate(&mut gens, page);
-                    plain.remove(page);
-                } else if add(&mut gens, group, page, kind, seq) {
-                    plain.push(group, kind, seq, page)?;
-                }
-            }
+        if let Some(call) = call_both(rt.alloc(), &mut gens, &mut plain, seed)? {
+            made.push(call)?;
+            rows_match(&rt, rt.alloc(), &gens, &plain)?;
+            links_match(&rt, rt.alloc(), &gens, &plain)?;
         }
-        assert_eq!(rt;
-            walk(rt.alloc(), &gens, group, kind)?.as_slice(),
-            plain
-                .row(rt.alloc(), group, kind, min_seq(&gens, group, kind), 4)?
-                .as_slice()
-        );
-        let files = plain.has_page(rt.alloc(), &gens, group, Kind::File)?;
-        let anon = plain.has_page(rt.alloc(), &gens, group, Kind::Anon)?;
-        assert_eq!(rt; has_usable(&gens, group, false), files);
-        assert_eq!(rt; has_usable(&gens, group, true), files || anon);
+    }
+    assert_eq!(rt; made.len(), CALLS);
+    for call in [
+        Call::Add,
+        Call::Isolate,
+        Call::MergeOldest,
+        Call::RaiseMin,
+        Call::Advance,
+        Call::TakeOver,
+    ] {
+        assert!(rt; made.iter().filter(|other| **other == call).count() > 100);
     }
     assert!(rt; min_seq(&gens, GroupId(0), Kind::File) > 10);
     Ok(())
+}
+
+// The call that these bits name, made of both where it may be made.
+fn call_both(
+    alloc: Global,
+    gens: &mut Gens,
+    plain: &mut Plain,
+    bits: u64,
+) -> Result<Option<Call>, AllocError> {
+    let page = PageId(((bits >> 40) % 64) as u32);
+    let group = GroupId(((bits >> 30) % 3) as u32);
+    let kind = kind_of(bits >> 33);
+    let oldest = min_seq(gens, group, kind);
+    match bits >> 60 {
+        0 => {
+            if !merge_oldest(gens, group, kind) {
+                return Ok(None);
+            }
+            plain.merge(alloc, group, kind, oldest)?;
+            Ok(Some(Call::MergeOldest))
+        }
+        1 => Ok(raise_min(gens, group, kind).then_some(Call::RaiseMin)),
+        2 => Ok(advance(gens, group).then_some(Call::Advance)),
+        3 => {
+            let from = GroupId(group.0.wrapping_add(1) % GROUPS);
+            let Some(seq) = take_over(gens, from, group) else {
+                return Ok(None);
+            };
+            for kind in [Kind::Anon, Kind::File] {
+                let oldest = min_seq(gens, from, kind);
+                plain.take_over(alloc, from, oldest, group, seq, kind)?;
+            }
+            Ok(Some(Call::TakeOver))
+        }
+        _ => {
+            let seq = oldest.wrapping_add((bits >> 50) % 4);
+            if gens.is_listed(page) {
+                isolate(gens, page);
+                plain.remove(page);
+                return Ok(Some(Call::Isolate));
+            }
+            if !add(gens, group, page, kind, seq) {
+                return Ok(None);
+            }
+            plain.push(group, kind, seq, page)?;
+            Ok(Some(Call::Add))
+        }
+    }
+}
+
+// Each type of each group has the pages of the plain vectors, and may give one where they have one.
+fn rows_match(
+    rt: &impl Abort,
+    alloc: Global,
+    gens: &Gens,
+    plain: &Plain,
+) -> Result<(), AllocError> {
+    for group in 0..GROUPS {
+        let group = GroupId(group);
+        for kind in [Kind::Anon, Kind::File] {
+            assert_eq!(rt;
+                walk(alloc, gens, group, kind)?.as_slice(),
+                plain
+                    .row(alloc, group, kind, min_seq(gens, group, kind), 4)?
+                    .as_slice()
+            );
+        }
+        let files = plain.has_page(alloc, gens, group, Kind::File)?;
+        let anon = plain.has_page(alloc, gens, group, Kind::Anon)?;
+        assert_eq!(rt; has_usable(gens, group, false), files);
+        assert_eq!(rt; has_usable(gens, group, true), files || anon);
+    }
+    Ok(())
+}
+
+// The stored links go round each list, and name its pages in order both ways.
+fn links_match(rt: &impl Abort, alloc: Global, gens: &Gens, plain: &Plain) -> Result<(), Fail> {
+    for group in 0..GROUPS {
+        let group = GroupId(group);
+        for kind in [Kind::Anon, Kind::File] {
+            let oldest = min_seq(gens, group, kind);
+            for turn in 0..4 {
+                let seq = oldest.wrapping_add(turn);
+                let list = list_of(group, kind, seq);
+                let pages = plain
+                    .lists
+                    .get(place(group, kind, seq))
+                    .ok_or("no such vector")?;
+                let forth = round(alloc, gens, list, Way::Forth)?.ok_or("no ring")?;
+                assert_eq!(rt; forth.as_slice(), pages.as_slice());
+                let mut back = round(alloc, gens, list, Way::Back)?.ok_or("no ring")?;
+                back.reverse();
+                assert_eq!(rt; back.as_slice(), pages.as_slice());
+            }
+        }
+    }
+    Ok(())
+}
+
+// Which neighbour of each node comes next in a walk round a list.
+#[derive(Clone, Copy)]
+enum Way {
+    Forth,
+    Back,
+}
+
+// The pages that the stored links name from the head of a list on, if they lead back to it.
+fn round(
+    alloc: Global,
+    gens: &Gens,
+    list: ListId,
+    way: Way,
+) -> Result<Option<Vec<u32>>, AllocError> {
+    let mut pages = Vec::new(alloc);
+    let mut node = RingNode::Head(list);
+    for _ in 0..2 * PAGES {
+        let Some(link) = gens.link(node) else {
+            return Ok(None);
+        };
+        node = match way {
+            Way::Forth => link.next(),
+            Way::Back => link.prev(),
+        };
+        match node {
+            RingNode::Page(page) => pages.push(page.0)?,
+            RingNode::Head(end) if end == list => return Ok(Some(pages)),
+            RingNode::Head(_) => return Ok(None),
+        }
+    }
+    Ok(None)
 }
 
 fn kind_of(bits: u64) -> Kind {
@@ -338,34 +462,36 @@ fn take_over(gens: &mut Gens, from: GroupId, to: GroupId) -> Option<u64> {
     Some(gens.max_seq(to).wrapping_sub(1))
 }
 
-fn raise_min(gens: &mut Gens, group: GroupId, kind: Kind) {
+fn raise_min(gens: &mut Gens, group: GroupId, kind: Kind) -> bool {
     if !has_group(gens, group) {
-        return;
+        return false;
     }
     let youngest = gens.max_seq(group);
     if youngest < 2
         || gens.min_seq(group, kind) > youngest - 2
         || gens.front(group, kind).is_some()
     {
-        return;
+        return false;
     }
     gens.raise_min(group, kind);
+    true
 }
 
-fn advance(gens: &mut Gens, group: GroupId) {
+fn advance(gens: &mut Gens, group: GroupId) -> bool {
     if !has_group(gens, group) {
-        return;
+        return false;
     }
     let youngest = gens.max_seq(group);
     if youngest < 2 || youngest >= SEQS - 1 {
-        return;
+        return false;
     }
     if gens.min_seq(group, Kind::Anon) < youngest - 2
         || gens.min_seq(group, Kind::File) < youngest - 2
     {
-        return;
+        return false;
     }
     gens.advance(group);
+    true
 }
 
 fn has_usable(gens: &Gens, group: GroupId, swap_free: bool) -> bool {

@@ -1,4 +1,4 @@
-use Rattle.std.proofs.Common.{ℕ, List, IfSome, subst, ap, ◌∙◌}
+use Rattle.std.proofs.Common.{ℕ, List, IfSome, option_copied, subst, ap, ◌∙◌}
 use Rattle.rings.specs.declared.ring_node.Link.{Link}
 use Rattle.rings.specs.Rings.{is_there, IsLinkOf}
 use Rattle.lru_gen.proofs.LinkLemmas.{lists_seen}
@@ -11,6 +11,6 @@ returns-clause-there c =
 
 pub returns-clause-link : goal.returns-clause-link
 returns-clause-link c =
-    subst (λ (ls : List (List ℕ)). IfSome c.link.result (λ (link : Link). IsLinkOf ls c.args.node link))
+    subst (λ (ls : List (List ℕ)). IfSome (option_copied c.link.result) (λ (link : Link). IsLinkOf ls c.args.node link))
     (lists_seen c.args.self.now c.self.inside.rings.lists c.self.inside.numbers.items _ _ c.self.view_is c.self.invariant.table)
     c.link.ensures.link

@@ -53,6 +53,14 @@ list_of-requires c =
     let within = within_numbers c.args.self.now lists numbers _ _ g c.self.view_is c.requires.group in
     few_groups lists numbers g c.self.invariant.table within
 
+pub list_of-requires-2 : goal.list_of-requires-2
+list_of-requires-2 c =
+    let lists = c.self.inside.rings.lists in
+    let numbers = c.self.inside.numbers.items in
+    let g = c.args.group.0 in
+    let within = within_numbers c.args.self.now lists numbers _ _ g c.self.view_is c.requires.group in
+    few_groups lists numbers g c.self.invariant.table within
+
 pub splice_front-requires-clause-source : goal.splice_front-requires-clause-source
 splice_front-requires-clause-source c =
     let lists = c.self.inside.rings.lists in
