@@ -57,9 +57,9 @@ is_of g slot = there_and (λ page. page.group == g) slot
 abbrev pub AreMembers : List (List ℕ) → Pages → Type 0
 AreMembers lists pages = (g p : ℕ) → has (list_at lists g) p ≡ is_of g (page_at pages p)
 
--- for how many groups more there is memory, as far as the lists can be counted in 32 bits
+-- for how many groups more there is memory, as far as the lists can be counted in 31 bits
 abbrev pub room_of : ℕ → ℕ → ℕ
-room_of lists groups = min lists (2 ^ 32 - 1 - groups)
+room_of lists groups = min lists (2 ^ 31 - 1 - groups)
 
 -- the page of a file that a page holds, if it holds one
 abbrev pub file_at : Content → Option FilePage

@@ -54,6 +54,9 @@ use table::{
     take_at, unlist, write_at,
 };
 
+// Each group has a list, and lists are counted in 31 bits.
+const MAX_GROUPS: u32 = (1 << 31) - 1;
+
 /// The pages by their numbers, the transfers in flight by theirs, and the pages of each group. It must be
 /// spent, by [`Pages::into_owned`].
 #[must_use]
@@ -86,7 +89,8 @@ impl Model for Pages {
 
 impl Pages {
     /// No page, so many page numbers, the root as the only group, memory for so many transfers in flight at
-    /// once, and the files. `AllocError` where there is no memory.
+    /// once, and the files. `AllocError` where there is no memory, or where there are 2^31 page numbers or
+    /// more.
     pub fn new(
         alloc: Global,
         numbers: u32,
@@ -130,13 +134,13 @@ impl Pages {
         self.numbers.capacity() as u32
     }
 
-    /// Asks for the memory of one group more. `AllocError` where there is none, or where there are 2^32 - 1
+    /// Asks for the memory of one group more. `AllocError` where there is none, or where there are 2^31 - 1
     /// groups; the pages are the same either way.
     pub fn reserve_group(&mut self) -> Result<(), AllocError>
         ensures room { OnOk result (0 < self.new.room) }
         ensures same { self.new ≡ record self.old { room = self.new.room } }
     {
-        if self.members.len() == u32::MAX {
+        if self.members.len() >= MAX_GROUPS {
             return Err(AllocError);
         }
         self.members.reserve(1)

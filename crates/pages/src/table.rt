@@ -415,7 +415,7 @@ pub(crate) fn open_numbers<T: Drop>(alloc: Global, many: u32) -> Result<Slab<T>,
 }
 
 /// The list of the root's pages, with none, and links for so many page numbers. `AllocError` where there
-/// is no memory.
+/// is no memory, or where there are 2^31 page numbers or more.
 pub(crate) fn open_members(alloc: Global, numbers: u32) -> Result<Rings, AllocError>
     ensures lists { IfOk result (λ r. r.lists ≡ [] ∷ []) }
     ensures numbers { IfOk result (λ r. r.numbers ≡ numbers) }
