@@ -24,28 +24,3 @@ pub mod RemovedCounts
 pub mod PicksLemmas
 pub mod OrdersLemmas
 pub mod StepLemmas
-mod ExampleStates
-mod TreeExamples
-mod AccessExamples
-mod FileExamples
-mod ProtectionExamples
-mod ReclaimExamples
-mod StepExamples
-mod CallExamples
-mod TurnExamples
-mod ReliefExamples
-mod LegalExamples
-mod HistoryExamples
-mod FileHistoryExamples
-mod SharingExamples
-mod SharedHistoryExamples
-mod RemovalExamples
-mod RemovalHistoryExamples
-mod ConfigExamples
-mod ControlExamples
-mod GenerationExamples
-mod HeldExamples
-mod UsedExamples
-mod ListedExamples
-mod FileListedExamples
-mod MarkedExamples

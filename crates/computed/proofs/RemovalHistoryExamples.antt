@@ -21,8 +21,8 @@ use Rattle.machine.specs.Access.{page_size}
 use Rattle.machine.specs.Step.{regrouped}
 use Rattle.machine.specs.History.{InTask, last, Right, Honest, entries_by, Numbered}
 use Rattle.machine.specs.Legal.{Extends, Legal}
-use Rattle.machine.proofs.ExampleStates.{first_bytes, group, task, frame, ticket, shows, below, memory}
-use Rattle.machine.proofs.LegalExamples.{entry, access, bytes, small, made, going, away, coming, back}
+use Rattle.computed.proofs.ExampleStates.{first_bytes, group, task, frame, ticket, shows, below, memory}
+use Rattle.computed.proofs.LegalExamples.{entry, access, bytes, small, made, going, away, coming, back}
 
 -- ---- the history
 

@@ -9,7 +9,7 @@ use Rattle.machine.specs.Tasks.{mapped_at, size_of, mappers}
 use Rattle.machine.specs.State.{over_in}
 use Rattle.machine.specs.Access.{is_place, Unmapped, Hits, Transferring, NeedsPage, NeedsCopy, NeedsSwapIn, Dangling, meets, charges}
 use Rattle.machine.specs.Step.{still}
-use Rattle.machine.proofs.ExampleStates.{shows, memory, of_file, pages, tables, opening, busy}
+use Rattle.computed.proofs.ExampleStates.{shows, memory, of_file, pages, tables, opening, busy}
 
 -- ---- page tables
 

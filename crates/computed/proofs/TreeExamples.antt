@@ -5,7 +5,7 @@ use Rattle.machine.specs.Names.{is_name, is_path, parent_path}
 use Rattle.machine.specs.Tree.{chain_up, chain, under_at, under, chain_below, children, find_group, preorder_to, preorder}
 use Rattle.machine.specs.Order.{asking_order}
 use Rattle.machine.specs.State.{usage}
-use Rattle.machine.proofs.ExampleStates.{tree, busy}
+use Rattle.computed.proofs.ExampleStates.{tree, busy}
 
 -- ---- paths
 

@@ -24,8 +24,8 @@ use Rattle.machine.specs.Lists.{Order, seen_of, with_seen, is_fresh}
 use Rattle.machine.specs.Call.{Past, Called}
 use Rattle.machine.proofs.Values.{unlike}
 use Rattle.machine.proofs.OrdersLemmas.{taken_is_picked}
-use Rattle.machine.proofs.ExampleStates.{group, task, frame, ticket, shows, below, max_of, memory, listed_at, young, searched}
-use Rattle.machine.proofs.CallExamples.{caller, past, after, not_new, other_number, stay_unmarked}
+use Rattle.computed.proofs.ExampleStates.{group, task, frame, ticket, shows, below, max_of, memory, listed_at, young, searched}
+use Rattle.computed.proofs.CallExamples.{caller, past, after, not_new, other_number, stay_unmarked}
 
 -- ---- the states
 

@@ -8,8 +8,8 @@ use Rattle.machine.specs.State.{Opening, first_state}
 use Rattle.machine.specs.Generations.{Listed, Gens, row_of, has_page, new_gens, gens_at, IsGens, IsRow}
 use Rattle.machine.specs.Lists.{first_order, is_held_of, ListsHeld, AreGenerations}
 use Rattle.machine.proofs.Values.{unlike}
-use Rattle.machine.proofs.ExampleStates.{memory, pages, listed_at, young, lists_of, ordered, busy_order, stuck, stuck_order}
-use Rattle.machine.proofs.CallExamples.{none_marked, other_number}
+use Rattle.computed.proofs.ExampleStates.{memory, pages, listed_at, young, lists_of, ordered, busy_order, stuck, stuck_order}
+use Rattle.computed.proofs.CallExamples.{none_marked, other_number}
 
 -- ---- sound lists
 

@@ -15,10 +15,10 @@ use Rattle.machine.specs.Aging.{is_marked}
 use Rattle.machine.specs.Eviction.{old_pages, aged_times}
 use Rattle.machine.specs.Lists.{Order, HeldLists, is_held_of, seen_of, PicksOf, ListsHeld, Orders}
 use Rattle.machine.proofs.Values.{unlike}
-use Rattle.machine.proofs.ExampleStates.{task, frame, listed_at, lists_of, no_marks, none_served, ordered}
-use Rattle.machine.proofs.CallExamples.{not_new, none_marked, other_number, stay_unmarked}
-use Rattle.machine.proofs.FileExamples.{kept, caching}
-use Rattle.machine.proofs.HeldExamples.{unlike_mark, set_is_not_clear}
+use Rattle.computed.proofs.ExampleStates.{task, frame, listed_at, lists_of, no_marks, none_served, ordered}
+use Rattle.computed.proofs.CallExamples.{not_new, none_marked, other_number, stay_unmarked}
+use Rattle.computed.proofs.FileExamples.{kept, caching}
+use Rattle.computed.proofs.HeldExamples.{unlike_mark, set_is_not_clear}
 
 -- ---- just the pages that are held
 

@@ -11,8 +11,8 @@ use Rattle.machine.specs.Order.{cursor_at}
 use Rattle.machine.specs.Lists.{Order, served, seen_of, with_seen, is_fresh, TakesNext}
 use Rattle.machine.proofs.Values.{unlike}
 use Rattle.machine.proofs.OrdersLemmas.{taken_is_picked, takes_next_alike}
-use Rattle.machine.proofs.ExampleStates.{memory, pages, listed_at, young, searched, lists_of, ordered, no_marks, none_served, busy, busy_order}
-use Rattle.machine.proofs.CallExamples.{not_new, stay_unmarked}
+use Rattle.computed.proofs.ExampleStates.{memory, pages, listed_at, young, searched, lists_of, ordered, no_marks, none_served, busy, busy_order}
+use Rattle.computed.proofs.CallExamples.{not_new, stay_unmarked}
 
 -- ---- a reclaim under /p takes page 1 of /p/a, which came into its frame before page 0
 

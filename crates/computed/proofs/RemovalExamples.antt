@@ -34,9 +34,9 @@ use Rattle.machine.specs.Lists.{Order, served, is_fresh, Orders}
 use Rattle.machine.specs.Call.{Past, is_full_for, Called, grows}
 use Rattle.machine.proofs.Values.{some_inj, never_some, unlike}
 use Rattle.machine.proofs.RemovedLemmas.{usage-removed}
-use Rattle.machine.proofs.ExampleStates.{group, task, ticket, shows, below, tree, memory, of_file, max_of, opening, busy, listed_at, young, searched, none_served}
-use Rattle.machine.proofs.HeldExamples.{page_standing, unlike_number, unlike_mark, unlike_cursor, set_is_not_clear}
-use Rattle.machine.proofs.CallExamples.{caller, past, after, not_new, other_number, stay_unmarked}
+use Rattle.computed.proofs.ExampleStates.{group, task, ticket, shows, below, tree, memory, of_file, max_of, opening, busy, listed_at, young, searched, none_served}
+use Rattle.computed.proofs.HeldExamples.{page_standing, unlike_number, unlike_mark, unlike_cursor, set_is_not_clear}
+use Rattle.computed.proofs.CallExamples.{caller, past, after, not_new, other_number, stay_unmarked}
 
 abbrev rmdir : ℕ → Event
 rmdir g = event.Rmdir (group g)

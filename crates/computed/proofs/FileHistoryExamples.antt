@@ -20,9 +20,9 @@ use Rattle.machine.specs.State.{Opening, State, first_state, usage, stat_of}
 use Rattle.machine.specs.Access.{page_size}
 use Rattle.machine.specs.History.{Spot, InTask, InFile, at_first, last, Right, Honest, fetch_of, entries_by, Numbered}
 use Rattle.machine.specs.Legal.{Extends, Legal}
-use Rattle.machine.proofs.LegalExamples.{entry}
-use Rattle.machine.proofs.FileExamples.{cached}
-use Rattle.machine.proofs.ExampleStates.{group, task, frame, ticket, below}
+use Rattle.computed.proofs.LegalExamples.{entry}
+use Rattle.computed.proofs.FileExamples.{cached}
+use Rattle.computed.proofs.ExampleStates.{group, task, frame, ticket, below}
 
 -- ---- the history
 

@@ -4,7 +4,7 @@ use Rattle.std.specs.Prelude.{◌==◌, if◌then◌else◌}
 use Rattle.machine.specs.declared.amount.Amount.TheVariants.{Pages}
 use Rattle.machine.specs.Tree.{chain_up, chain, chain_below}
 use Rattle.machine.specs.Protection.{effective, effective_along}
-use Rattle.machine.proofs.ExampleStates.{tree}
+use Rattle.computed.proofs.ExampleStates.{tree}
 
 -- the settings, or the uses, of /p, /p/a and /p/b
 abbrev these : {A : Type 0} → A → A → A → ℕ → A

@@ -20,9 +20,9 @@ use Rattle.machine.specs.Access.{page_size, Hits, NeedsCopy, NeedsSwapIn, meets}
 use Rattle.machine.specs.Step.{still, Step}
 use Rattle.machine.specs.History.{InTask, last, Right, IsHonest, Honest, fetch_of, entries_by, Numbered}
 use Rattle.machine.specs.Legal.{Extends, Legal}
-use Rattle.machine.proofs.ExampleStates.{first_bytes, task, frame, ticket, shows, memory}
-use Rattle.machine.proofs.LegalExamples.{entry, bytes, h2, h4, h5, small, spawned, with_page, made, away, coming, back, spawns, writes, reclaims, leaves}
-use Rattle.machine.proofs.SharingExamples.{fork, free, attach}
+use Rattle.computed.proofs.ExampleStates.{first_bytes, task, frame, ticket, shows, memory}
+use Rattle.computed.proofs.LegalExamples.{entry, bytes, h2, h4, h5, small, spawned, with_page, made, away, coming, back, spawns, writes, reclaims, leaves}
+use Rattle.computed.proofs.SharingExamples.{fork, free, attach}
 
 -- ---- bytes
 

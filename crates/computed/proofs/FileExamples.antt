@@ -25,7 +25,7 @@ use Rattle.machine.specs.Call.{need}
 use Rattle.machine.specs.Lists.{hit_of, shown_at}
 use Rattle.machine.specs.Step.{in_frame, on_block, touched, shown_of, LeavesFrom, Step}
 use Rattle.machine.proofs.Values.{some_inj}
-use Rattle.machine.proofs.ExampleStates.{group, task, frame, shows, tree, max_of, memory, opening}
+use Rattle.computed.proofs.ExampleStates.{group, task, frame, shows, tree, max_of, memory, opening}
 
 -- ---- a state
 

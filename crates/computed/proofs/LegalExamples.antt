@@ -17,7 +17,7 @@ use Rattle.machine.specs.Tasks.{task_of, mapped_at}
 use Rattle.machine.specs.Protection.{effective_along}
 use Rattle.machine.specs.State.{Opening, State, first_state}
 use Rattle.machine.specs.Legal.{Extends, Legal}
-use Rattle.machine.proofs.ExampleStates.{group, task, frame, ticket, shows, memory}
+use Rattle.computed.proofs.ExampleStates.{group, task, frame, ticket, shows, memory}
 
 -- ---- the history
 

@@ -14,8 +14,8 @@ use Rattle.machine.specs.Access.{page_size}
 use Rattle.machine.specs.History.{InTask, last, Right, Honest, fetch_of, taker, Numbered}
 use Rattle.machine.specs.Call.{knows_pass, need, is_full_for}
 use Rattle.machine.specs.Legal.{Extends}
-use Rattle.machine.proofs.ExampleStates.{first_bytes, group, task, frame, ticket}
-use Rattle.machine.proofs.LegalExamples.{entry, access, bytes, h2, h3, h4, h5, h6, h7, small, with_page, made, going, away, coming, back}
+use Rattle.computed.proofs.ExampleStates.{first_bytes, group, task, frame, ticket}
+use Rattle.computed.proofs.LegalExamples.{entry, access, bytes, h2, h3, h4, h5, h6, h7, small, with_page, made, going, away, coming, back}
 
 -- ---- what is not legal
 

@@ -24,7 +24,7 @@ use Rattle.machine.specs.State.{State}
 use Rattle.machine.specs.Refusals.{refusal}
 use Rattle.machine.specs.History.{IsRight}
 use Rattle.machine.specs.Step.{in_frame, on_block, new_node, shown_of, Step}
-use Rattle.machine.proofs.ExampleStates.{first_bytes, group, task, frame, shows, below, tree, memory, of_file, tables, busy, max_of, opening}
+use Rattle.computed.proofs.ExampleStates.{first_bytes, group, task, frame, shows, below, tree, memory, of_file, tables, busy, max_of, opening}
 
 -- ---- tasks
 

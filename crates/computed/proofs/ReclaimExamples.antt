@@ -10,7 +10,7 @@ use Rattle.machine.specs.Reclaim.{is_unprotected, is_takeable, has_takeable, is_
 use Rattle.machine.specs.Victim.{is_candidate, is_worse}
 use Rattle.machine.specs.Eviction.{old_pages, aged_times}
 use Rattle.machine.specs.Lists.{Order, served, seen_of, PicksOf}
-use Rattle.machine.proofs.ExampleStates.{group, tree, max_of, min_of, memory, of_file, opening, listed_at, young, searched, ordered, busy, busy_order, stuck, stuck_order}
+use Rattle.computed.proofs.ExampleStates.{group, tree, max_of, min_of, memory, of_file, opening, listed_at, young, searched, ordered, busy, busy_order, stuck, stuck_order}
 
 -- ---- what is takeable
 

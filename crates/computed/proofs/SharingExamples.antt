@@ -29,9 +29,9 @@ use Rattle.machine.specs.Call.{Past, is_full_for, Called, grows}
 use Rattle.machine.proofs.Values.{some_inj, never_some}
 use Rattle.machine.proofs.MappingLemmas.{shown_once, mappers-shows}
 use Rattle.machine.proofs.SlotLemmas.{one_if}
-use Rattle.machine.proofs.ExampleStates.{group, task, frame, ticket, shows, memory, pages, tables, max_of, opening, busy, busy_order, listed_at, young, ordered, no_marks, none_served}
-use Rattle.machine.proofs.HeldExamples.{marks_of, one_marked}
-use Rattle.machine.proofs.CallExamples.{caller, past, after, not_new, other_number, stay_unmarked}
+use Rattle.computed.proofs.ExampleStates.{group, task, frame, ticket, shows, memory, pages, tables, max_of, opening, busy, busy_order, listed_at, young, ordered, no_marks, none_served}
+use Rattle.computed.proofs.HeldExamples.{marks_of, one_marked}
+use Rattle.computed.proofs.CallExamples.{caller, past, after, not_new, other_number, stay_unmarked}
 
 -- ---- events, on the busy state: tasks 1 of /p/a and 2 of /p/b run, 3 was killed, and 4 exited
 

@@ -9,9 +9,9 @@ use Rattle.machine.specs.declared.reply.Reply.TheVariants as reply
 use Rattle.machine.specs.Pages.{is_held_in}
 use Rattle.machine.specs.Generations.{new_gens}
 use Rattle.machine.specs.Lists.{Order, hit_of, with_mark, Orders}
-use Rattle.machine.proofs.ExampleStates.{group, task, frame, ticket, pages, busy, listed_at, searched, ordered}
-use Rattle.machine.proofs.CallExamples.{not_new}
-use Rattle.machine.proofs.HeldExamples.{page_standing, youngest, unlike_number, unlike_mark, unlike_cursor, set_is_not_clear, marks_of, two_stay, one_marked, aged_lists, before, write, arrival}
+use Rattle.computed.proofs.ExampleStates.{group, task, frame, ticket, pages, busy, listed_at, searched, ordered}
+use Rattle.computed.proofs.CallExamples.{not_new}
+use Rattle.computed.proofs.HeldExamples.{page_standing, youngest, unlike_number, unlike_mark, unlike_cursor, set_is_not_clear, marks_of, two_stay, one_marked, aged_lists, before, write, arrival}
 
 -- ---- a page that is used
 

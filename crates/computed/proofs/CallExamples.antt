@@ -17,7 +17,7 @@ use Rattle.machine.specs.Step.{count_of}
 use Rattle.machine.specs.Aging.{is_marked}
 use Rattle.machine.specs.Lists.{Order}
 use Rattle.machine.specs.Call.{Past, Caller, Called, entries_of}
-use Rattle.machine.proofs.ExampleStates.{group, task, shows, pages, busy, busy_order}
+use Rattle.computed.proofs.ExampleStates.{group, task, shows, pages, busy, busy_order}
 
 abbrev pub caller : Caller
 caller = record { worker = 1 }

@@ -20,9 +20,9 @@ use Rattle.machine.specs.Victim.{is_candidate, is_worse}
 use Rattle.machine.specs.Lists.{Order, is_fresh}
 use Rattle.machine.proofs.Values.{unlike}
 use Rattle.machine.specs.Call.{Past, Called}
-use Rattle.machine.proofs.ExampleStates.{group, task, ticket, tree, shows, memory, pages, listed_at, young, lists_of, busy, busy_order, stuck, stuck_order}
-use Rattle.machine.proofs.CallExamples.{caller, past, after, stay_unmarked}
-use Rattle.machine.proofs.TurnExamples.{taken, taken_order, takes, takes-not_newer}
+use Rattle.computed.proofs.ExampleStates.{group, task, ticket, tree, shows, memory, pages, listed_at, young, lists_of, busy, busy_order, stuck, stuck_order}
+use Rattle.computed.proofs.CallExamples.{caller, past, after, stay_unmarked}
+use Rattle.computed.proofs.TurnExamples.{taken, taken_order, takes, takes-not_newer}
 
 -- no reply but those two says that a page is taken
 abbrev is_taking : Reply → Bool
