@@ -31,7 +31,7 @@ use Rattle.machine.specs.Call.{is_full_for, knows_pass, entry_of}
 use Rattle.machine.proofs.TreeLemmas.{eq_cases}
 use Rattle.machine.proofs.Values.{unlike}
 use Rattle.machine.proofs.FileLemmas.{file_page-there}
-use Rattle.machine.proofs.SharedLemmas.{FetchedSo, legal-fetched}
+use Rattle.legal.proofs.SharedLemmas.{FetchedSo, legal-fetched}
 use Rattle.pages.specs.PagesOf.{labelled}
 use Rattle.pages.specs.declared.flight.Flight.{Flight}
 use Rattle.memory_events.specs.Tallies.{Tells}

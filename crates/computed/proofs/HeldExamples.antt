@@ -18,7 +18,7 @@ use Rattle.machine.specs.Order.{cursor_at}
 use Rattle.machine.specs.Generations.{Listed, Gens, new_gens, gens_at}
 use Rattle.machine.specs.Aging.{is_marked}
 use Rattle.machine.specs.Lists.{HeldLists, Order, Youngest, SecondYoungest, is_fresh, GoesOn, Orders}
-use Rattle.machine.proofs.OrdersLemmas.{goes_on_alike, orders_alike}
+use Rattle.legal.proofs.OrdersLemmas.{goes_on_alike, orders_alike}
 use Rattle.computed.proofs.ExampleStates.{task, ticket, memory, of_file, pages, busy, listed_at, young, searched, lists_of, ordered, none_served, stuck}
 use Rattle.computed.proofs.CallExamples.{not_new, other_number, none_marked, stay_unmarked}
 

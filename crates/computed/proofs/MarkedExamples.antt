@@ -23,7 +23,7 @@ use Rattle.machine.specs.Eviction.{old_pages, passed_by, aged_times, Picks}
 use Rattle.machine.specs.Lists.{Order, seen_of, with_seen, is_fresh}
 use Rattle.machine.specs.Call.{Past, Called}
 use Rattle.machine.proofs.Values.{unlike}
-use Rattle.machine.proofs.OrdersLemmas.{taken_is_picked}
+use Rattle.legal.proofs.OrdersLemmas.{taken_is_picked}
 use Rattle.computed.proofs.ExampleStates.{group, task, frame, ticket, shows, below, max_of, memory, listed_at, young, searched}
 use Rattle.computed.proofs.CallExamples.{caller, past, after, not_new, other_number, stay_unmarked}
 

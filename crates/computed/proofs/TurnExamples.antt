@@ -10,7 +10,7 @@ use Rattle.machine.specs.Eviction.{old_pages, passed_by, aged_times, Picks}
 use Rattle.machine.specs.Order.{cursor_at}
 use Rattle.machine.specs.Lists.{Order, served, seen_of, with_seen, is_fresh, TakesNext}
 use Rattle.machine.proofs.Values.{unlike}
-use Rattle.machine.proofs.OrdersLemmas.{taken_is_picked, takes_next_alike}
+use Rattle.legal.proofs.OrdersLemmas.{taken_is_picked, takes_next_alike}
 use Rattle.computed.proofs.ExampleStates.{memory, pages, listed_at, young, searched, lists_of, ordered, no_marks, none_served, busy, busy_order}
 use Rattle.computed.proofs.CallExamples.{not_new, stay_unmarked}
 

@@ -49,11 +49,11 @@ use Rattle.driver.specs.Turns.{ReadsIn, WritesOut, after_read, after_write}
 use Rattle.driver.specs.Tickets.{blocks_in}
 use Rattle.driver.specs.Schedule.{World, first_caller, first_world, activity_of, with_activity, left_of, Asks, WantTurn, wants_at, StageTurn, Runs, files_on, fits}
 use Rattle.machine.proofs.FileLemmas.{file_page-is, home_above, homes_differ}
-use Rattle.machine.proofs.FileSteps.{slot_in, slot_of, slot_of-is, is_home_at, is_home, is_written, LeftHome, home-unwritten, transfer-unwritten}
-use Rattle.machine.proofs.ShownLemmas.{shows_pages-legal}
-use Rattle.machine.proofs.Effects.{ComesFrom, Fetches, ReadsIn as ReadsHome, EndsOnBlock, Stood, InFrame, ItStays, ItFetches, ItReads, ItLeaves, OnBlock, Effect}
-use Rattle.machine.proofs.SharedLemmas.{fetch_other}
-use Rattle.machine.proofs.SoundLemmas.{IsFit, legal-sound, pages_share_no_block, pages_share_no_ticket, block_below, legal-fit, legal-single}
+use Rattle.legal.proofs.FileSteps.{slot_in, slot_of, slot_of-is, is_home_at, is_home, is_written, LeftHome, home-unwritten, transfer-unwritten}
+use Rattle.legal.proofs.ShownLemmas.{shows_pages-legal}
+use Rattle.legal.proofs.Effects.{ComesFrom, Fetches, ReadsIn as ReadsHome, EndsOnBlock, Stood, InFrame, ItStays, ItFetches, ItReads, ItLeaves, OnBlock, Effect}
+use Rattle.legal.proofs.SharedLemmas.{fetch_other}
+use Rattle.legal.proofs.SoundLemmas.{IsFit, legal-sound, pages_share_no_block, pages_share_no_ticket, block_below, legal-fit, legal-single}
 use Rattle.driver.proofs.Keeps.{number_pending, number_wanted, in_hand, Alike, Same, Ticketless, wants_alike, number_at, is_idle, idle_none, FineOutcome, IsAt, runs_keep}
 use Rattle.driver.proofs.CallCases.{IsRefused, IsServed, Comes, ByRefusal, ByEntry, called_comes, Next, Handless, Reads, Writes, told_next}
 use Rattle.driver.proofs.Tickets.{IsGoing, KeepsPending, KeepsWanted, KeepsAt, at_flies, flies_taken, pending_known, not_out, still_known, LegalPast, served_effect, served_legal, Tickets, seats_all, tickets_rest, first_turns, tickets_turn, tickets_first, own_keeps, others_differ}

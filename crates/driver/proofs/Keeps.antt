@@ -36,7 +36,7 @@ use Rattle.driver.specs.declared.turn.Activity.TheVariants.{Rests, Begun, Does}
 use Rattle.driver.specs.declared.turn.Seat.{Seat}
 use Rattle.driver.specs.Turns.{wants, wants_pages, wants_balance, wants_watch, done, Judged, judged, task_judged, shell_judged, daemon_judged, with_group, with_file, with_amount, reads_file, writes_file, reclaims}
 use Rattle.driver.specs.Schedule.{number_of, is_of, activity_of, with_activity, World, wants_at, StageTurn, JudgedTurn, ActivityTurn, said_at, all_said, answer_by, Goings, EndsIn, RunsOut, Begins, Stepped, Runs}
-use Rattle.machine.proofs.Effects.{ends}
+use Rattle.legal.proofs.Effects.{ends}
 
 -- ---- seats
 

@@ -35,7 +35,7 @@ use Rattle.driver.specs.declared.turn.Transition.{Transition}
 use Rattle.driver.specs.declared.turn.Transition.TheVariants.{Goes}
 use Rattle.driver.specs.Turns.{done, wants_pages, wants_balance, wants, ends_with, resumes_at, Tried, MadeRoom, MaxSet, Lowered, Reclaimed, Balanced, Made, TaskDid, WasShown, Closed, Told, Judged, judged, task_judged, shell_judged, daemon_judged, with_group, with_file, with_amount, reads_file, reclaims, writes_file}
 use Rattle.driver.specs.Schedule.{wants_at}
-use Rattle.machine.proofs.SoundLemmas.{block_below}
+use Rattle.legal.proofs.SoundLemmas.{block_below}
 use Rattle.driver.specs.Tickets.{blocks_in, IsOwn, OwnEvent, OwnReply, OwnStage, OwnTransition}
 
 pub gives_own : (past : Past) (worker : ℕ) → worker ≡ 0 → Legal past.state.opening past.history past.state

@@ -42,10 +42,10 @@ use Rattle.driver.specs.declared.turn.Activity.TheVariants.{Rests, Begun, Does}
 use Rattle.driver.specs.declared.turn.Seat.{Seat}
 use Rattle.driver.specs.Turns.{ReadsIn, WritesOut, after_read, after_write}
 use Rattle.driver.specs.Schedule.{number_of, activity_of, with_activity, World, first_caller, first_world, Asks, WantTurn, wants_at, StageTurn, outcome_of, left_of}
-use Rattle.machine.proofs.Effects.{ends, Effect, step_effect}
-use Rattle.machine.proofs.SoundLemmas.{legal-files}
-use Rattle.machine.proofs.ShownLemmas.{shows_pages-legal}
-use Rattle.machine.proofs.SharedLemmas.{legal-live, ticket_taken}
+use Rattle.legal.proofs.Effects.{ends, Effect, step_effect}
+use Rattle.legal.proofs.SoundLemmas.{legal-files}
+use Rattle.legal.proofs.ShownLemmas.{shows_pages-legal}
+use Rattle.legal.proofs.SharedLemmas.{legal-live, ticket_taken}
 use Rattle.driver.proofs.Keeps.{activity_of-own, activity_of-other, number_pending, number_wanted, in_hand, Alike, Same, Ticketless, wants_alike, wanted_in_hand, number_at, is_idle, idle_none, Fine, FineOutcome, FineWant, wants_fine, IsAt}
 use Rattle.driver.proofs.CallCases.{IsRefused, IsServed, Comes, ByRefusal, ByEntry, called_comes, Next, Handless, Reads, Writes, told_next}
 

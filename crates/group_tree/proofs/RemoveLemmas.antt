@@ -10,7 +10,7 @@ use Rattle.machine.specs.Tree.{Node, node_at, is_live, is_parent, is_child, has_
 use Rattle.machine.proofs.Values.{unlike}
 use Rattle.machine.proofs.TreeLemmas.{eq_cases}
 use Rattle.machine.proofs.RemovedLemmas.{without-parent, without-dead, without-other, without-falls, without-chain}
-use Rattle.machine.proofs.SoundLemmas.{no_child}
+use Rattle.machine.proofs.RemovedLemmas.{no_child}
 use Rattle.group_tree.specs.Groups.{IsGroupTree}
 
 -- ---- paths

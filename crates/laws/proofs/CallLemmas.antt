@@ -32,13 +32,13 @@ use Rattle.machine.specs.Legal.{Legal}
 use Rattle.machine.proofs.Values.{some_inj, unlike}
 use Rattle.machine.proofs.TreeLemmas.{eq_cases}
 use Rattle.machine.proofs.CursorLemmas.{cursors-push, cursors-set}
-use Rattle.machine.proofs.Did.{is_rmdir, changes_groups}
-use Rattle.machine.proofs.OpeningLemmas.{tree_after, step_opening, step_tree}
+use Rattle.legal.proofs.Did.{is_rmdir, changes_groups}
+use Rattle.legal.proofs.OpeningLemmas.{tree_after, step_opening, step_tree}
 use Rattle.machine.proofs.HeldLemmas.{held-go_on, held-marked, gens_at-more, held-group, generations-group, goes_length, goes-max, goes-min, generations-go_on, first-held, first-generations}
-use Rattle.machine.proofs.StepLemmas.{step-places, mkdir-pages, legal-lists, legal-numbered, access-hits, step-hit}
-use Rattle.machine.proofs.RemovedCounts.{removal, SameNumbers, numbers-handed, length-handed, handed, held-removed, generations-removed}
-use Rattle.machine.proofs.OrdersLemmas.{orders_alike}
-use Rattle.machine.proofs.SoundLemmas.{legal-sound}
+use Rattle.legal.proofs.StepLemmas.{step-places, mkdir-pages, legal-lists, legal-numbered, access-hits, step-hit}
+use Rattle.legal.proofs.RemovedCounts.{removal, SameNumbers, numbers-handed, length-handed, handed, held-removed, generations-removed}
+use Rattle.legal.proofs.OrdersLemmas.{orders_alike}
+use Rattle.legal.proofs.SoundLemmas.{legal-sound}
 use Rattle.eviction.proofs.SoundLemmas.{picked-length, picked-generations, picked-size, picked-held, picked-of, picked-marked, picked-unmarked}
 use Rattle.laws.specs.Laws.{took_for, TakesUnprotected, ListsGoOn, HeldPagesGoOn, KeepNumbers, OnlyTakesAge, OnlyHitsMark, LeavesInOrder, OrdersAreSettled}
 use Rattle.laws.proofs.LawLemmas.{by_test}

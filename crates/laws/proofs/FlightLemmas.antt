@@ -26,10 +26,11 @@ use Rattle.machine.specs.Reclaim.{has_takeable, has_transfer, stands, target_of}
 use Rattle.machine.specs.Call.{is_granted, meeting_fetches, life_fetches, task_fetches, fetches, need}
 use Rattle.machine.specs.Step.{ChargeStep, TriesCharge, MakesPage, StartsFetch, ReadsFile, HitStep, UnmappedStep, MeetStep, LifeStep, TaskStep, StartsLeave, Drops, LeavesBy, LeavesFrom, Takes, ReclaimStep, KillStep, RelieveStep, still, EndsTransfer, touched, Step}
 use Rattle.machine.proofs.SlotLemmas.{one_if, count_there-changes}
-use Rattle.machine.proofs.SoundLemmas.{count-less, still_passes}
-use Rattle.machine.proofs.MoveLemmas.{MetFile, met_file, Settled, hits_held, swaps_away, in_frame-cases, on_block-cases}
-use Rattle.machine.proofs.OpeningLemmas.{step_opening}
-use Rattle.machine.proofs.RemovedCounts.{in_transfer-removed}
+use Rattle.machine.proofs.TestLemmas.{count-less}
+use Rattle.legal.proofs.SoundLemmas.{still_passes}
+use Rattle.legal.proofs.MoveLemmas.{MetFile, met_file, Settled, hits_held, swaps_away, in_frame-cases, on_block-cases}
+use Rattle.legal.proofs.OpeningLemmas.{step_opening}
+use Rattle.legal.proofs.RemovedCounts.{in_transfer-removed}
 use Rattle.laws.specs.Laws.{begins_transfer, ends_transfer, transfers_begun, transfers_ended, TraceHasRoom, TransfersAreBegunLessEnded}
 use Rattle.laws.proofs.LawLemmas.{by_test}
 

@@ -30,7 +30,7 @@ use Rattle.machine.specs.Reclaim.{has_takeable, has_transfer, stands, target_of}
 use Rattle.machine.specs.Step.{Only, Takes, LeavesFrom, LeavesBy, ChargeStep, MakesPage, StartsFetch, HitStep, UnmappedStep, MeetStep, LifeStep, TaskStep, new_page, touched}
 use Rattle.machine.proofs.Values.{unlike}
 use Rattle.machine.proofs.SlotLemmas.{one_if, count_there-changes}
-use Rattle.machine.proofs.MoveLemmas.{hits_held}
+use Rattle.legal.proofs.MoveLemmas.{hits_held}
 use Rattle.laws.specs.Laws.{TransfersStayCharged, CurrentCountsPages, StatAddsUpToCurrent, EventsAreThoseCounted, count_for, ChargesStayWithinMax, KillsComeLast, ReadsGiveLastWrites}
 
 -- ---- memory.current

@@ -18,9 +18,10 @@ use Rattle.machine.specs.declared.entry.Entry.{Entry}
 use Rattle.machine.proofs.TreeLemmas.{under_at-append}
 use Rattle.machine.proofs.SlotLemmas.{one_if, count_there-changes}
 use Rattle.laws.specs.Laws.{OnlyAccessesCharge, WriteOutsStayCharged}
-use Rattle.machine.proofs.SoundLemmas.{bool_le, tests-less, count-less, still_passes, legal-sound, legal-fit}
-use Rattle.machine.proofs.Did.{is_access, is_out, Moves, Rests, Comes, Goes, Lands, Lies, Did, Kept, Made, Moved, Cached, Dropped, Ended, Spawned, Forked, Freed, Attached, Removed, Grown, step_did}
-use Rattle.machine.proofs.RemovedCounts.{usage-no_more}
+use Rattle.machine.proofs.TestLemmas.{bool_le, tests-less, count-less}
+use Rattle.legal.proofs.SoundLemmas.{still_passes, legal-sound, legal-fit}
+use Rattle.legal.proofs.Did.{is_access, is_out, Moves, Rests, Comes, Goes, Lands, Lies, Did, Kept, Made, Moved, Cached, Dropped, Ended, Spawned, Forked, Freed, Attached, Removed, Grown, step_did}
+use Rattle.legal.proofs.RemovedCounts.{usage-no_more}
 use Rattle.machine.proofs.Values.{unlike}
 
 -- a group more has no pages yet, and changes nobody else's count

@@ -1,6 +1,7 @@
 -- Look-ups and counts in page tables.
-use Rattle.std.proofs.Common.{◌≡◌, ◌≢◌, inl, inr, ℕ, ◌+◌, ◌≤◌, ◌==◌, ◌&&◌, Bool, true, false, [], Option, Some, None, eqb-true, eq-eqb, ne_eqb, refl, sym, ap, ◌∙◌, arith}
-use Rattle.std.specs.Prelude.{◌⊎◌, option_map}
+use Rattle.std.proofs.Common.{◌≡◌, ◌≢◌, inl, inr, ℕ, zero, suc, ◌+◌, ◌≤◌, ◌==◌, ◌&&◌, Bool, true, false, List, [], ◌∷◌, Option, Some, None, eqb-true, eq-eqb, ne_eqb, refl, sym, ap, ◌∙◌, arith}
+use Rattle.std.specs.Prelude.{◌⊎◌, option_map, sum_by, slice_index_or}
+use Rattle.std.proofs.lemmas.List.Sums.{sum_by-cons}
 use Rattle.std.proofs.lemmas.Bool.{and_parts, and_right}
 use Rattle.machine.specs.declared.id.PageId.{PageId}
 use Rattle.machine.specs.Slots.{at, there_and}
@@ -123,3 +124,36 @@ mappers-nothing old new t p shows none = mappers-alike old new p same
   where
     same : (u w : ℕ) → mapped_at new u w ≡ mapped_at old u w
     same u w = elim (eq_cases u t) [ inl is ↦ ap (λ (x : ℕ). mapped_at new x w) is ∙ shows.none w ∙ sym (none w) ∙ ap (λ (x : ℕ). mapped_at old x w) (sym is) | inr other ↦ shows.others u w other ]
+
+-- ---- who maps a page
+
+-- a place of a task that shows the page
+pub record Mapper (tables : PageTables) (p : ℕ) : Type 0 where
+  pub task : ℕ
+  pub place : ℕ
+  pub mapped : mapped_at tables task place ≡ Some p
+
+-- of a sum that is not 0 some part is not 0
+some_part : {X : Type 0} (f : X → ℕ) (d : X) (xs : List X) → 1 ≤ sum_by f xs → (k : ℕ) × (1 ≤ f (slice_index_or xs k d))
+some_part f d [] some = absurd (omega (arith, some))
+some_part f d (x ∷ xs) some = by_first (f x) refl (sum_by-cons f x xs) (some_part f d xs)
+  where
+    by_first : (n : ℕ) → f x ≡ n → sum_by f (x ∷ xs) ≡ f x + sum_by f xs → (1 ≤ sum_by f xs → (k : ℕ) × (1 ≤ f (slice_index_or xs k d))) → (k : ℕ) × (1 ≤ f (slice_index_or (x ∷ xs) k d))
+    by_first zero is more rest = (let later = rest (omega (arith, some, is, more)) in (suc later.0, later.1))
+    by_first (suc n) is more rest = (0, omega (arith, is))
+
+-- a place adds to the count of the page that it shows
+shown_there : (p : ℕ) (slot : Option PageId) → 1 ≤ one_if (there_and (is_page p) slot) → option_map number_of_page slot ≡ Some p
+shown_there p None some = absurd (omega (arith, some))
+shown_there p (Some page) some = by_test (page.0 == p) refl some
+  where
+    by_test : (b : Bool) → (page.0 == p) ≡ b → 1 ≤ one_if b → Some page.0 ≡ Some p
+    by_test true is h = ap (λ (x : ℕ). Some x) (eqb-true page.0 p is)
+    by_test false is h = absurd (omega (arith, h))
+
+-- what is counted is shown
+pub mappers_some : (tables : PageTables) (p : ℕ) → 1 ≤ mappers tables p → Mapper tables p
+mappers_some tables p some =
+    let table = some_part (mappers_in p) [] tables some in
+    let place = some_part (λ (slot : Option PageId). one_if (there_and (is_page p) slot)) None (table_of tables table.0) table.1 in
+    record { task = table.0; place = place.0; mapped = shown_there p (at (table_of tables table.0) place.0) place.1 }

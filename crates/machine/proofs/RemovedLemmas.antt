@@ -4,7 +4,7 @@ use Rattle.std.specs.Prelude.{slice_set, option_map, IfSome}
 use Rattle.std.proofs.lemmas.List.{get_or-set_other}
 use Rattle.std.proofs.lemmas.List.Sums.{sum_by-cons}
 use Rattle.machine.specs.Slots.{at, there_and, count_there}
-use Rattle.machine.specs.Tree.{Node, no_node, node_at, is_live, chain, under_at, under, IsTree, without_group}
+use Rattle.machine.specs.Tree.{Node, no_node, node_at, is_live, chain, is_child, has_children, under_at, under, IsTree, without_group}
 use Rattle.machine.specs.Pages.{Page, page_at, has_frame, is_charged, charged}
 use Rattle.machine.specs.State.{State, usage}
 use Rattle.machine.specs.Step.{regrouped, Removes}
@@ -39,6 +39,16 @@ without-other tree g h other = get_or-set_other tree g h (record (node_at tree g
 
 pub without-falls : (tree : List Node) (g : ℕ) → IsTree tree → IsTree (without_group tree g)
 without-falls tree g falls = record { falls = λ h p e. falls.falls h p (sym (without-parent tree g h) ∙ e) }
+
+or_false : (a b : Bool) → (a || b) ≡ false → (a ≡ false) × (b ≡ false)
+or_false true b e = cc
+or_false false b e = (refl, e)
+
+-- no live group hangs below one without children
+pub no_child : (tree : List Node) (g h : ℕ) → has_children tree g ≡ false → is_child g (node_at tree h) ≡ false
+no_child [] g h none = refl
+no_child (x ∷ tree) g zero none = (or_false (is_child g x) (has_children tree g) none).0
+no_child (x ∷ tree) g (suc h) none = no_child tree g h (or_false (is_child g x) (has_children tree g) none).1
 
 -- the way up from a group stays
 pub without-chain : (tree : List Node) (g : ℕ) (from : Option ℕ) → chain (without_group tree g) from ≡ chain tree from

@@ -16,7 +16,8 @@ use Rattle.machine.specs.Lists.{HeldLists, Order}
 use Rattle.machine.proofs.Values.{unlike}
 use Rattle.machine.proofs.TreeLemmas.{under_at-None, under_at-step}
 use Rattle.machine.proofs.RemovedLemmas.{without-other}
-use Rattle.machine.proofs.SoundLemmas.{none_has, no_child}
+use Rattle.machine.proofs.TestLemmas.{none_has}
+use Rattle.machine.proofs.RemovedLemmas.{no_child}
 use Rattle.group_tree.specs.Kin.{AreKin}
 use Rattle.group_tree.specs.Lineages.{IsLineage}
 use Rattle.group_tree.proofs.LineageLemmas.{live-within}

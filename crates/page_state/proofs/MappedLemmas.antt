@@ -15,7 +15,7 @@ use Rattle.machine.proofs.Values.{unlike}
 use Rattle.machine.proofs.TreeLemmas.{eq_cases}
 use Rattle.machine.proofs.SlotLemmas.{one_if}
 use Rattle.machine.proofs.MappingLemmas.{mapped_at-mappers, mappers-alike, mappers-shows, copies-cases, shown_once}
-use Rattle.machine.proofs.MappersLemmas.{Mapper, mappers_some}
+use Rattle.machine.proofs.MappingLemmas.{Mapper, mappers_some}
 use Rattle.pages.specs.declared.end.End.{End}
 use Rattle.pages.specs.declared.end.End.TheVariants.{InFrame, OnBlock}
 use Rattle.pages.specs.PagesOf.{Label, labelled}

@@ -12,7 +12,7 @@ use Rattle.machine.proofs.Values.{unlike}
 use Rattle.machine.proofs.TreeLemmas.{eq_cases, under_at-None, under_at-step, share-step, share-is}
 use Rattle.machine.proofs.SlotLemmas.{one_if, count_there-none}
 use Rattle.machine.proofs.RemovedLemmas.{without-other, without-under, regrouped-test, regrouped-was, count-alike}
-use Rattle.machine.proofs.SoundLemmas.{no_child}
+use Rattle.machine.proofs.RemovedLemmas.{no_child}
 use Rattle.machine.proofs.HandedLemmas.{held-handed}
 use Rattle.group_tree.specs.Lineages.{IsLineage}
 use Rattle.group_tree.proofs.LineageLemmas.{live-within}

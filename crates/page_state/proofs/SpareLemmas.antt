@@ -8,7 +8,7 @@ use Rattle.machine.specs.Slots.{at, there_and, count_there}
 use Rattle.machine.specs.Pages.{Content, Memory, OfFile, Residence, Held, Coming, Going, Away, Page, Pages, IsFiled, IsFiledAs, block_at, file_page, has_swap, home_block, is_anon, is_held, is_held_at, is_number, is_some_number, page_at, used_swap}
 use Rattle.machine.proofs.Values.{some_inj}
 use Rattle.machine.proofs.SlotLemmas.{one_if, count_there-none, count_there-some}
-use Rattle.machine.proofs.SoundLemmas.{tests-less}
+use Rattle.machine.proofs.TestLemmas.{tests-less}
 use Rattle.machine.proofs.FileLemmas.{home_below, homes_differ}
 use Rattle.files.specs.Files.{FilesOf}
 use Rattle.pages.specs.PagesOf.{Label, HasResidence, AreFiled}

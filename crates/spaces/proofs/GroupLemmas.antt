@@ -9,7 +9,7 @@ use Rattle.machine.specs.Slots.{there_and, any_there, count_there}
 use Rattle.machine.specs.Tasks.{Tasks, PageTables, task_at, group_of, group_of_task, is_live_task, is_live_in, lives, has_tasks}
 use Rattle.machine.proofs.TreeLemmas.{eq_cases}
 use Rattle.machine.proofs.SlotLemmas.{one_if, any_there-none, count_there-none, count_there-some}
-use Rattle.machine.proofs.SoundLemmas.{none_has}
+use Rattle.machine.proofs.TestLemmas.{none_has}
 use Rattle.spaces.specs.Tables.{AreSpaces, tasks_in}
 use Rattle.spaces.proofs.PlaceLemmas.{kept-within}
 

@@ -1,5 +1,5 @@
 use Rattle.machine.specs.State.{opening_of}
-use Rattle.machine.proofs.SoundLemmas.{block_below}
+use Rattle.legal.proofs.SoundLemmas.{block_below}
 use Rattle.laws.proofs.blocks_are_there.Goals as goal
 
 pub returns : goal.returns

@@ -1,4 +1,4 @@
-use Rattle.machine.proofs.SoundLemmas.{file_pages_are_one}
+use Rattle.legal.proofs.SoundLemmas.{file_pages_are_one}
 use Rattle.laws.proofs.file_pages_are_one.Goals as goal
 
 pub returns : goal.returns

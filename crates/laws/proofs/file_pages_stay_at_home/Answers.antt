@@ -1,4 +1,4 @@
-use Rattle.machine.proofs.SoundLemmas.{legal-fit}
+use Rattle.legal.proofs.SoundLemmas.{legal-fit}
 use Rattle.laws.proofs.file_pages_stay_at_home.Goals as goal
 
 pub returns : goal.returns

@@ -1,4 +1,4 @@
-use Rattle.machine.proofs.SoundLemmas.{legal-fit, legal-sound}
+use Rattle.legal.proofs.SoundLemmas.{legal-fit, legal-sound}
 use Rattle.laws.proofs.groups_are_there.Goals as goal
 
 pub returns : goal.returns

@@ -1,7 +1,7 @@
 use Rattle.std.proofs.Common.{◌≡◌, true, Option, Some, None, refl}
 use Rattle.std.specs.Prelude.{is_some}
 use Rattle.machine.specs.Pages.{Page}
-use Rattle.machine.proofs.ShownLemmas.{shows_pages-legal}
+use Rattle.legal.proofs.ShownLemmas.{shows_pages-legal}
 use Rattle.laws.proofs.mappings_show_pages.Goals as goal
 
 there : (slot : Option Page) → is_some slot ≡ true → (page : Page) × (slot ≡ Some page)

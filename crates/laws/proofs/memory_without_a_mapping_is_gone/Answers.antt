@@ -1,5 +1,6 @@
-use Rattle.machine.proofs.SharedLemmas.{legal-live}
-use Rattle.machine.proofs.MappersLemmas.{mappers_some, legal-mapped}
+use Rattle.legal.proofs.SharedLemmas.{legal-live}
+use Rattle.machine.proofs.MappingLemmas.{mappers_some}
+use Rattle.legal.proofs.MappersLemmas.{legal-mapped}
 use Rattle.laws.proofs.memory_without_a_mapping_is_gone.Goals as goal
 
 pub returns : goal.returns

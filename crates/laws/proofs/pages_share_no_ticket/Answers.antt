@@ -1,4 +1,4 @@
-use Rattle.machine.proofs.SoundLemmas.{pages_share_no_ticket}
+use Rattle.legal.proofs.SoundLemmas.{pages_share_no_ticket}
 use Rattle.laws.proofs.pages_share_no_ticket.Goals as goal
 
 pub returns : goal.returns

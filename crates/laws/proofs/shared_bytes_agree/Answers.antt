@@ -1,4 +1,4 @@
-use Rattle.machine.proofs.SharedLemmas.{shared_bytes_agree}
+use Rattle.legal.proofs.SharedLemmas.{shared_bytes_agree}
 use Rattle.laws.proofs.shared_bytes_agree.Goals as goal
 
 pub returns : goal.returns

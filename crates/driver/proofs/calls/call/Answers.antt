@@ -2,7 +2,7 @@ use Rattle.std.proofs.Common.{◌≡◌, subst}
 use Rattle.machine.specs.State.{Opening}
 use Rattle.book.specs.Events.{event_of, reply_of}
 use Rattle.driver.specs.Tickets.{blocks_in, OwnReply}
-use Rattle.machine.proofs.OpeningLemmas.{called_opening}
+use Rattle.legal.proofs.OpeningLemmas.{called_opening}
 use Rattle.driver.proofs.TicketLemmas.{gives_own}
 use Rattle.driver.proofs.calls.call.Goals as goal
 

@@ -1,7 +1,7 @@
 use Rattle.std.proofs.Common.{◌≡◌, true, None, subst, sym}
 use Rattle.machine.specs.Tasks.{lives, group_of_task}
 use Rattle.machine.specs.Refusals.{number_refusal}
-use Rattle.machine.proofs.MappersLemmas.{not_used}
+use Rattle.machine.proofs.TaskLemmas.{not_used}
 use Rattle.page_state.specs.States.{StateOf}
 use Rattle.page_state.proofs.MappedLemmas.{mapped-copied, homes-started}
 use Rattle.page_state.proofs.JoinLemmas.{joined-tasks}

@@ -14,7 +14,7 @@ use Rattle.machine.proofs.Values.{some_inj, never_some, unlike}
 use Rattle.machine.proofs.TreeLemmas.{eq_cases}
 use Rattle.machine.proofs.MappingLemmas.{mapped_at-mappers, shows-cases, copies-cases, shows_nothing-was}
 use Rattle.machine.proofs.RemovedLemmas.{regrouped-test}
-use Rattle.machine.proofs.Did.{Did, Kept, Made, Moved, Cached, Dropped, Ended, Spawned, Forked, Freed, Attached, Removed, Grown, step_did}
+use Rattle.legal.proofs.Did.{Did, Kept, Made, Moved, Cached, Dropped, Ended, Spawned, Forked, Freed, Attached, Removed, Grown, step_did}
 
 -- a page that a place shows is there, and is memory
 pub record ShowsPages (s : State) : Type 0 where

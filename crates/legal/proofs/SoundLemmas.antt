@@ -1,14 +1,13 @@
 -- In every legal history no two pages share a frame, a block or a ticket or hold one page of a file, each page is on a block that there is, a file's on its home, and the groups of pages and
 -- of live tasks are there.
-use Rattle.std.proofs.Common.{◌+◌, ◌<◌, ◌≡◌, ◌≢◌, inl, inr, ℕ, zero, suc, ◌≤◌, ◌==◌, ◌&&◌, not, Bool, true, false, cond, List, [], ◌∷◌, ◌++◌, length, Option, Some, None, eqb-true, eq-eqb, refl, sym, ap, ◌∙◌, subst, arith, get_or-set_other, length-append}
-use Rattle.std.specs.Prelude.{◌⊎◌, ◌||◌, IfSome, slice_index, slice_set, sum}
-use Rattle.std.proofs.lemmas.Bool.{cases_lt, and_parts, or_parts}
+use Rattle.std.proofs.Common.{◌+◌, ◌<◌, ◌≡◌, ◌≢◌, inl, inr, ℕ, zero, suc, ◌≤◌, ◌==◌, ◌&&◌, not, Bool, true, false, cond, List, [], ◌∷◌, ◌++◌, length, Option, Some, None, eqb-true, eq-eqb, refl, sym, ap, ◌∙◌, subst, arith, length-append}
+use Rattle.std.specs.Prelude.{◌⊎◌, ◌||◌, IfSome, slice_index, sum}
+use Rattle.std.proofs.lemmas.Bool.{cases_lt, and_parts}
 use Rattle.std.proofs.lemmas.Bool.Decides.{nat_tests}
 use Rattle.std.proofs.lemmas.List.{get_or_append_left}
 use Rattle.std.proofs.Math.Seq.{get_or-append_seam}
 use Rattle.std.specs.Str.{bytes_eq}
 use Rattle.std.proofs.lemmas.List.Quantifiers.{position-Some}
-use Rattle.std.proofs.lemmas.List.Sums.{sum_by-cons}
 use Rattle.std.proofs.Math.ListN.{get_or-eq_default}
 use Rattle.machine.specs.declared.entry.Entry.{Entry}
 use Rattle.machine.specs.declared.record.Life.{Life}
@@ -30,11 +29,12 @@ use Rattle.machine.specs.Step.{IsFreeBlock, still, EndsTask, new_page, regrouped
 use Rattle.machine.specs.Legal.{Legal}
 use Rattle.machine.proofs.Values.{some_inj, never_some, unlike}
 use Rattle.machine.proofs.TreeLemmas.{eq_cases, lt_cases, IsTree-push}
-use Rattle.machine.proofs.RemovedLemmas.{regrouped-test, regrouped-some, without-parent, without-dead, without-other, without-falls}
-use Rattle.machine.proofs.SlotLemmas.{one_if, count_there-none, count_there-some, count_there-changes}
+use Rattle.machine.proofs.RemovedLemmas.{no_child, regrouped-test, regrouped-some, without-parent, without-dead, without-other, without-falls}
+use Rattle.machine.proofs.TestLemmas.{count-less, count-two, none_has}
+use Rattle.machine.proofs.SlotLemmas.{one_if, count_there-none, count_there-changes}
 use Rattle.machine.proofs.FileLemmas.{holds_page, is_page_of-true, IsSingle, single_fewer, single_changes, home_above, home_below, homes_differ}
-use Rattle.machine.proofs.FileSteps.{AreFiled}
-use Rattle.machine.proofs.Did.{GoesTo, read_page, Moves, Rests, Comes, Goes, Lands, Lies, Did, Kept, Made, Moved, Cached, Dropped, Ended, Spawned, Forked, Freed, Attached, Removed, Grown, step_did}
+use Rattle.legal.proofs.FileSteps.{AreFiled}
+use Rattle.legal.proofs.Did.{GoesTo, read_page, Moves, Rests, Comes, Goes, Lands, Lies, Did, Kept, Made, Moved, Cached, Dropped, Ended, Spawned, Forked, Freed, Attached, Removed, Grown, step_did}
 
 -- ---- what is sound
 
@@ -68,51 +68,6 @@ pub record IsSound (swap : ℕ) (files : List ℕ) (pages : Pages) (tasks : Task
 -- a state of that opening
 abbrev pub sound_in : Opening → State → Type 0
 sound_in opening s = (s.opening ≡ opening) × IsSound opening.swap opening.files s.pages s.tasks s.tree
-
--- ---- counts
-
-pub bool_le : (a b : Bool) → (a ≡ true → b ≡ true) → one_if a ≤ one_if b
-bool_le true b f = let e : one_if b ≡ 1 = ap one_if (f refl) in omega (arith, e)
-bool_le false b f = omega arith
-
-not_true : (b : Bool) → (b ≡ true → false ≡ true) → b ≡ false
-not_true true f = let e = f refl in cc
-not_true false f = refl
-
--- what passes one test passes another
-pub tests-less : {T : Type 0} (test other : T → Bool) (xs ys : List (Option T)) → ((n : ℕ) → there_and other (at ys n) ≡ true → there_and test (at xs n) ≡ true) → count_there other ys ≤ count_there test xs
-tests-less test other xs [] less = omega arith
-tests-less test other [] (y ∷ ys) less = let none = count_there-none other (y ∷ ys) (λ n. not_true (there_and other (at (y ∷ ys) n)) (less n)) in omega (arith, none)
-tests-less {T} test other (x ∷ xs) (y ∷ ys) less =
-    let more = sum_by-cons (λ (slot : Option T). one_if (there_and test slot)) x xs in
-    let more' = sum_by-cons (λ (slot : Option T). one_if (there_and other slot)) y ys in
-    let here = bool_le (there_and other y) (there_and test x) (less 0) in
-    let rest = tests-less test other xs ys (λ n. less (suc n)) in
-    omega (arith, more, more', here, rest)
-
--- what passes there passed before
-pub count-less : {T : Type 0} (test : T → Bool) (xs ys : List (Option T)) → ((n : ℕ) → there_and test (at ys n) ≡ true → there_and test (at xs n) ≡ true) → count_there test ys ≤ count_there test xs
-count-less test = tests-less test test
-
--- two places that pass are two
-pub count-two : {T : Type 0} (test : T → Bool) (xs : List (Option T)) (p q : ℕ) → p ≢ q → there_and test (at xs p) ≡ true → there_and test (at xs q) ≡ true → 2 ≤ count_there test xs
-count-two {T} test xs p q differs first second =
-    let without : List (Option T) = slice_set xs p None in
-    let gone : Changes xs without p None = record { changed = set_none xs p; others = λ m other. get_or-set_other xs p m None None other } in
-    let both = count_there-changes test xs without p None gone in
-    let stood : one_if (there_and test (at xs p)) ≡ 1 = ap one_if first in
-    let left = count_there-some test without q (ap (there_and test) (get_or-set_other xs p q None None (λ e. differs (sym e))) ∙ second) in
-    omega (arith, both, stood, left)
-  where
-    set_none : (zs : List (Option T)) (n : ℕ) → at (slice_set zs n None) n ≡ None
-    set_none [] n = refl
-    set_none (z ∷ zs) zero = refl
-    set_none (z ∷ zs) (suc n) = set_none zs n
-
-pub none_has : {T : Type 0} (test : T → Bool) (slots : List (Option T)) → any_there test slots ≡ false → (n : ℕ) → there_and test (at slots n) ≡ false
-none_has test [] e n = refl
-none_has test (slot ∷ slots) e zero = (or_parts (there_and test slot) _ e).0
-none_has test (slot ∷ slots) e (suc n) = none_has test slots (or_parts (there_and test slot) _ e).1 n
 
 -- ---- tests of which each number has one page at most
 
@@ -374,16 +329,6 @@ sound-grown swap files pages tasks tree x below parent sound =
         (let below' = live-below (tree ++ x ∷ []) g live in
         let len = length-append tree (x ∷ []) in
         omega (arith, below', len, beyond))
-
-or_false : (a b : Bool) → (a || b) ≡ false → (a ≡ false) × (b ≡ false)
-or_false true b e = cc
-or_false false b e = (refl, e)
-
--- no live group hangs below one without children
-pub no_child : (tree : List Node) (g h : ℕ) → has_children tree g ≡ false → is_child g (node_at tree h) ≡ false
-no_child [] g h none = refl
-no_child (x ∷ tree) g zero none = (or_false (is_child g x) (has_children tree g) none).0
-no_child (x ∷ tree) g (suc h) none = no_child tree g h (or_false (is_child g x) (has_children tree g) none).1
 
 -- a group goes that has neither children nor tasks
 sound-removed : (swap : ℕ) (files : List ℕ) (old new : State) (g : ℕ) → is_live old.tree g ≡ true → has_children old.tree g ≡ false → has_tasks old.tasks g ≡ false → Removes old g new → IsSound swap files old.pages old.tasks old.tree

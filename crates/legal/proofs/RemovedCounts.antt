@@ -23,7 +23,8 @@ use Rattle.machine.proofs.Values.{never_some, unlike}
 use Rattle.machine.proofs.TreeLemmas.{eq_cases, under_at-None, under_at-step}
 use Rattle.machine.proofs.RemovedLemmas.{regrouped-test, without-parent, without-under, count-alike, usage-removed}
 use Rattle.machine.proofs.SlotLemmas.{one_if, count_there-none}
-use Rattle.machine.proofs.SoundLemmas.{IsFit, IsSound, tests-less}
+use Rattle.machine.proofs.TestLemmas.{tests-less}
+use Rattle.legal.proofs.SoundLemmas.{IsFit, IsSound}
 use Rattle.machine.proofs.HeldLemmas.{at-set}
 use Rattle.machine.proofs.HandedLemmas.{held-handed, generations-handed}
 

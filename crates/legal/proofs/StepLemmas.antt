@@ -30,10 +30,10 @@ use Rattle.machine.specs.Legal.{Legal}
 use Rattle.machine.specs.Lists.{HeldLists, is_held_of, shown_at, hit_of}
 use Rattle.machine.proofs.Values.{some_inj, unlike}
 use Rattle.machine.proofs.TreeLemmas.{eq_cases}
-use Rattle.machine.proofs.MoveLemmas.{Met, met, MetFile, met_file}
-use Rattle.machine.proofs.Did.{is_rmdir, read_page, Did, Kept, Made, Moved, Cached, Dropped, Ended, Spawned, Forked, Freed, Attached, Removed, Grown, step_did}
+use Rattle.legal.proofs.MoveLemmas.{Met, met, MetFile, met_file}
+use Rattle.legal.proofs.Did.{is_rmdir, read_page, Did, Kept, Made, Moved, Cached, Dropped, Ended, Spawned, Forked, Freed, Attached, Removed, Grown, step_did}
 use Rattle.machine.proofs.RemovedLemmas.{regrouped-some}
-use Rattle.machine.proofs.SoundLemmas.{IsFit, legal-sound}
+use Rattle.legal.proofs.SoundLemmas.{IsFit, legal-sound}
 use Rattle.machine.proofs.HeldLemmas.{SamePlaces, HasLists}
 
 -- ---- groups and types

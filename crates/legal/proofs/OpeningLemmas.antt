@@ -12,7 +12,7 @@ use Rattle.machine.specs.State.{State}
 use Rattle.machine.specs.Refusals.{refusal}
 use Rattle.machine.specs.Step.{new_node, Step}
 use Rattle.machine.proofs.Values.{unlike}
-use Rattle.machine.proofs.Did.{changes_groups, Did, Kept, Made, Moved, Cached, Dropped, Ended, Spawned, Forked, Freed, Attached, Removed, Grown, step_did}
+use Rattle.legal.proofs.Did.{changes_groups, Did, Kept, Made, Moved, Cached, Dropped, Ended, Spawned, Forked, Freed, Attached, Removed, Grown, step_did}
 use Rattle.machine.specs.Call.{Past, Caller, Refuses, Answered, JudgedBy, Called, knows_pass, is_trace_full}
 
 -- the groups after an event that nothing refuses

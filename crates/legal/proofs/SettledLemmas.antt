@@ -35,7 +35,7 @@ use Rattle.machine.specs.Refusals.{refusal}
 use Rattle.machine.specs.Call.{Past, Caller, Refuses, Answers, Answered, JudgedBy, Called, knows_pass, is_trace_full, AreBytesAlike, AreAlike}
 use Rattle.machine.proofs.Values.{some_inj, unlike}
 use Rattle.machine.proofs.TreeLemmas.{eq_cases}
-use Rattle.machine.proofs.MoveLemmas.{Met, met, MetFile, met_file}
+use Rattle.legal.proofs.MoveLemmas.{Met, met, MetFile, met_file}
 use Rattle.machine.proofs.PicksLemmas.{picks_alike}
 
 -- ---- replies that are alike

@@ -15,10 +15,11 @@ use Rattle.machine.specs.State.{Opening, State}
 use Rattle.machine.specs.History.{Spot, InTask, InFile, follow, at_offset, spot_of, last, Fetched, fetched_by, fetch_of, ticket_given}
 use Rattle.machine.specs.Legal.{Legal}
 use Rattle.machine.proofs.Values.{some_inj, unlike}
-use Rattle.machine.proofs.SoundLemmas.{none_has, legal-files}
-use Rattle.machine.proofs.ShownLemmas.{ShowsPages, shows_pages-legal}
-use Rattle.machine.proofs.FileSteps.{slot_of, slot_of-is, is_home, is_written, home-unwritten, transfer-unwritten}
-use Rattle.machine.proofs.Effects.{AllLive, ComesFrom, Fetches, ReadsIn, Stood, InFrame, ItStays, ItFetches, ItReads, ItLeaves, OnBlock, Effect, step_effect}
+use Rattle.machine.proofs.TestLemmas.{none_has}
+use Rattle.legal.proofs.SoundLemmas.{legal-files}
+use Rattle.legal.proofs.ShownLemmas.{ShowsPages, shows_pages-legal}
+use Rattle.legal.proofs.FileSteps.{slot_of, slot_of-is, is_home, is_written, home-unwritten, transfer-unwritten}
+use Rattle.legal.proofs.Effects.{AllLive, ComesFrom, Fetches, ReadsIn, Stood, InFrame, ItStays, ItFetches, ItReads, ItLeaves, OnBlock, Effect, step_effect}
 
 -- ---- what each entry does
 

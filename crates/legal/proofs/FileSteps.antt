@@ -23,8 +23,8 @@ use Rattle.machine.specs.History.{InFile, is_spot, Byte, Nothing, says_if, says}
 use Rattle.machine.proofs.Values.{some_inj, never_some, unlike}
 use Rattle.machine.proofs.TreeLemmas.{eq_cases}
 use Rattle.machine.proofs.FileLemmas.{holds_page, holds_page-some, holds_page-there, file_page-there, file_page-alike, file_page-beside, file_page-is, IsSingle}
-use Rattle.machine.proofs.MoveLemmas.{MetFile, met_file}
-use Rattle.machine.proofs.Did.{Arrives, Went, WasMemory, WasClean, WasComing, WasGoing, Moves, Rests, Comes, Goes, Lands, Lies, Did, Kept, Made, Moved, Cached, Dropped, Ended, Spawned, Forked, Freed, Attached, Removed, Grown, step_did}
+use Rattle.legal.proofs.MoveLemmas.{MetFile, met_file}
+use Rattle.legal.proofs.Did.{Arrives, Went, WasMemory, WasClean, WasComing, WasGoing, Moves, Rests, Comes, Goes, Lands, Lies, Did, Kept, Made, Moved, Cached, Dropped, Ended, Spawned, Forked, Freed, Attached, Removed, Grown, step_did}
 
 -- ---- words
 

@@ -35,9 +35,9 @@ use Rattle.machine.proofs.Values.{some_inj, never_some, unlike}
 use Rattle.machine.proofs.TreeLemmas.{eq_cases}
 use Rattle.machine.proofs.MappingLemmas.{by_place, copies-cases, mapped_at-one, shows_nothing-was}
 use Rattle.machine.proofs.RemovedLemmas.{regrouped-was}
-use Rattle.machine.proofs.FileSteps.{AreFiled, FilesGo, files_go}
-use Rattle.machine.proofs.ShownLemmas.{ShowsPages}
-use Rattle.machine.proofs.MoveLemmas.{Met, met, MetFile, met_file, Settled, in_frame-cases, on_block-cases}
+use Rattle.legal.proofs.FileSteps.{AreFiled, FilesGo, files_go}
+use Rattle.legal.proofs.ShownLemmas.{ShowsPages}
+use Rattle.legal.proofs.MoveLemmas.{Met, met, MetFile, met_file, Settled, in_frame-cases, on_block-cases}
 
 -- ---- words
 

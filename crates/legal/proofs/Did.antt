@@ -29,7 +29,7 @@ use Rattle.machine.specs.declared.refusal.Refusal.TheVariants.{BadPlace}
 use Rattle.machine.specs.Reclaim.{has_takeable, has_transfer, stands, target_of}
 use Rattle.machine.specs.Step.{ChargeStep, IsFreeBlock, MakesPage, StartsFetch, ReadsFile, HitStep, UnmappedStep, MeetStep, LifeStep, TaskStep, Takes, StartsLeave, LeavesBy, LeavesFrom, ReclaimStep, KillStep, RelieveStep, Frees, Removes, EndsTask, EndsTransfer, in_frame, on_block, new_node, new_page, Step}
 use Rattle.machine.proofs.Values.{some_inj, never_some, unlike}
-use Rattle.machine.proofs.MoveLemmas.{MayGo, MayStay, Met, met, MetFile, met_file, Settled, hits_held, swaps_away, in_frame-cases, on_block-cases, in_frame-memory, on_block-memory}
+use Rattle.legal.proofs.MoveLemmas.{MayGo, MayStay, Met, met, MetFile, met_file, Settled, hits_held, swaps_away, in_frame-cases, on_block-cases, in_frame-memory, on_block-memory}
 
 -- ---- the cases
 

@@ -1,96 +1,25 @@
 -- In every legal history each page of memory that is in no transfer is shown by some place: what nothing maps is gone.
-use Rattle.std.proofs.Common.{◌≡◌, ◌≢◌, inl, inr, ℕ, zero, suc, ◌+◌, ◌≤◌, ◌==◌, ◌&&◌, not, Bool, true, false, List, [], ◌∷◌, Option, Some, None, cond, eqb-true, refl, sym, ap, ◌∙◌, subst, arith}
-use Rattle.std.specs.Prelude.{nat_le, is_some, sum_by, slice_index_or, option_map}
+use Rattle.std.proofs.Common.{◌≡◌, ◌≢◌, inl, inr, ℕ, ◌≤◌, ◌==◌, ◌&&◌, not, Bool, true, false, List, [], ◌∷◌, Option, Some, None, cond, eqb-true, refl, sym, ap, ◌∙◌, subst, arith}
 use Rattle.std.proofs.lemmas.Bool.Decides.{nat_tests}
-use Rattle.machine.specs.declared.id.PageId.{PageId}
 use Rattle.machine.specs.declared.event.Event.{Event}
 use Rattle.machine.specs.declared.reply.Reply.{Reply}
 use Rattle.machine.specs.declared.entry.Entry.{Entry}
-use Rattle.machine.specs.declared.refusal.Refusal.{Refusal}
-use Rattle.machine.specs.declared.refusal.Refusal.TheVariants.{Invalid, NumberUsed, NoSpace, Busy, NoEntry}
-use Rattle.machine.specs.declared.record.Life.{Life}
-use Rattle.machine.specs.declared.record.Life.TheVariants.{Live, Exited, Killed}
-use Rattle.machine.specs.declared.record.Task.{Task}
-use Rattle.machine.specs.Tree.{is_live}
-use Rattle.std.proofs.lemmas.List.Sums.{sum_by-cons}
 use Rattle.machine.proofs.SlotLemmas.{one_if}
-use Rattle.machine.specs.Slots.{at, Changes, there_and}
+use Rattle.machine.specs.Slots.{Changes, there_and}
 use Rattle.machine.specs.Pages.{is_number, Page, Pages, page_at, is_anon, in_transfer_at}
-use Rattle.machine.specs.Tasks.{number_of_page, table_of, is_live_life, Tasks, PageTables, task_at, is_live_task, lives, live_tasks, mapped_at, is_page, mappers_in, mappers}
+use Rattle.machine.specs.Tasks.{PageTables, task_at, is_live_task, lives, mapped_at, mappers}
 use Rattle.machine.specs.State.{Opening, State}
-use Rattle.machine.specs.Refusals.{first_cause, number_refusal, life_refusal, task_refusal, spawn_refusal, bars_tasks, refusal}
+use Rattle.machine.specs.Refusals.{refusal}
 use Rattle.machine.specs.Step.{still}
 use Rattle.machine.specs.Legal.{Legal}
 use Rattle.machine.proofs.Values.{some_inj, unlike}
 use Rattle.machine.proofs.TreeLemmas.{eq_cases}
-use Rattle.machine.proofs.MappingLemmas.{mapped_at-mappers, mappers-shows, shown_once}
+use Rattle.machine.proofs.TaskLemmas.{spawn_unused, fork_unused}
+use Rattle.machine.proofs.MappingLemmas.{Mapper, mappers_some, mapped_at-mappers, mappers-shows, shown_once}
 use Rattle.machine.proofs.RemovedLemmas.{regrouped-was}
-use Rattle.machine.proofs.Did.{Did, Kept, Made, Moved, Cached, Dropped, Ended, Spawned, Forked, Freed, Attached, Removed, Grown, step_did}
-use Rattle.machine.proofs.Effects.{AllLive}
-use Rattle.machine.proofs.SharedLemmas.{legal-live}
-
--- ---- who maps a page
-
--- a place of a task that shows the page
-pub record Mapper (tables : PageTables) (p : ℕ) : Type 0 where
-  pub task : ℕ
-  pub place : ℕ
-  pub mapped : mapped_at tables task place ≡ Some p
-
--- of a sum that is not 0 some part is not 0
-some_part : {X : Type 0} (f : X → ℕ) (d : X) (xs : List X) → 1 ≤ sum_by f xs → (k : ℕ) × (1 ≤ f (slice_index_or xs k d))
-some_part f d [] some = absurd (omega (arith, some))
-some_part f d (x ∷ xs) some = by_first (f x) refl (sum_by-cons f x xs) (some_part f d xs)
-  where
-    by_first : (n : ℕ) → f x ≡ n → sum_by f (x ∷ xs) ≡ f x + sum_by f xs → (1 ≤ sum_by f xs → (k : ℕ) × (1 ≤ f (slice_index_or xs k d))) → (k : ℕ) × (1 ≤ f (slice_index_or (x ∷ xs) k d))
-    by_first zero is more rest = (let later = rest (omega (arith, some, is, more)) in (suc later.0, later.1))
-    by_first (suc n) is more rest = (0, omega (arith, is))
-
--- a place adds to the count of the page that it shows
-shown_there : (p : ℕ) (slot : Option PageId) → 1 ≤ one_if (there_and (is_page p) slot) → option_map number_of_page slot ≡ Some p
-shown_there p None some = absurd (omega (arith, some))
-shown_there p (Some page) some = by_test (page.0 == p) refl some
-  where
-    by_test : (b : Bool) → (page.0 == p) ≡ b → 1 ≤ one_if b → Some page.0 ≡ Some p
-    by_test true is h = ap (λ (x : ℕ). Some x) (eqb-true page.0 p is)
-    by_test false is h = absurd (omega (arith, h))
-
--- what is counted is shown
-pub mappers_some : (tables : PageTables) (p : ℕ) → 1 ≤ mappers tables p → Mapper tables p
-mappers_some tables p some =
-    let table = some_part (mappers_in p) [] tables some in
-    let place = some_part (λ (slot : Option PageId). one_if (there_and (is_page p) slot)) None (table_of tables table.0) table.1 in
-    record { task = table.0; place = place.0; mapped = shown_there p (at (table_of tables table.0) place.0) place.1 }
-
--- ---- new numbers
-
--- a number that nothing refuses is no task's
-pub not_used : (tasks : Tasks) (t : ℕ) → number_refusal tasks t ≡ None → task_at tasks t ≡ None
-not_used tasks t none = by_tests (not (nat_le 1 t && nat_le t 65535)) (task_at tasks t) refl none
-  where
-    by_tests : (b : Bool) (slot : Option Task) → task_at tasks t ≡ slot → first_cause b Invalid (first_cause (is_some slot) NumberUsed (first_cause (nat_le 1024 (live_tasks tasks)) NoSpace None)) ≡ None
-        → task_at tasks t ≡ None
-    by_tests true slot is e = cc
-    by_tests false None is e = is
-    by_tests false (Some task) is e = cc
-
--- of two causes the second is none either
-after_cause : (b : Bool) (cause : Refusal) (others : Option Refusal) → first_cause b cause others ≡ None → others ≡ None
-after_cause true cause others e = cc
-after_cause false cause others e = e
-
--- a new task's number is no task's
-spawn_unused : (s : State) (t g : ℕ) → spawn_refusal s t g ≡ None → task_at s.tasks t ≡ None
-spawn_unused s t g none = not_used s.tasks t (after_cause (bars_tasks s.tree g) Busy _ (after_cause (not (is_live s.tree g)) NoEntry _ none))
-
-fork_unused : (s : State) (slot : Option Task) (child : ℕ) → there_and is_live_task slot ≡ true → task_refusal slot (number_refusal s.tasks child) ≡ None → task_at s.tasks child ≡ None
-fork_unused s None child lives_on none = cc
-fork_unused s (Some task) child lives_on none = by_life task.life lives_on none
-  where
-    by_life : (life : Life) → is_live_life life ≡ true → life_refusal life (number_refusal s.tasks child) ≡ None → task_at s.tasks child ≡ None
-    by_life Live is e = not_used s.tasks child e
-    by_life Exited is e = cc
-    by_life Killed is e = cc
+use Rattle.legal.proofs.Did.{Did, Kept, Made, Moved, Cached, Dropped, Ended, Spawned, Forked, Freed, Attached, Removed, Grown, step_did}
+use Rattle.legal.proofs.Effects.{AllLive}
+use Rattle.legal.proofs.SharedLemmas.{legal-live}
 
 -- a number is that which it is told by
 numbered : (shown : Option ℕ) (q : ℕ) → is_number shown q ≡ true → shown ≡ Some q

@@ -1,0 +1,13 @@
+pub mod MoveLemmas
+pub mod Did
+pub mod FileSteps
+pub mod SoundLemmas
+pub mod OpeningLemmas
+pub mod ShownLemmas
+pub mod Effects
+pub mod SharedLemmas
+pub mod MappersLemmas
+pub mod SettledLemmas
+pub mod OrdersLemmas
+pub mod RemovedCounts
+pub mod StepLemmas
