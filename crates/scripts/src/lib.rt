@@ -6,20 +6,17 @@
 //! spoken of for faultless lines alone.
 #![tactic(auto)]
 
-mod check;
+pub mod check;
 mod context;
-mod explanation;
 mod fault;
-mod forms;
-mod header;
+pub mod forms;
+pub mod header;
 mod line;
-mod lines;
+pub mod lines;
 mod meaning;
 mod script;
-mod why;
-mod words;
+pub mod words;
 
-pub use explanation::explain;
 pub use fault::{Cause, FaultText, ScriptFault};
 pub use forms::{DeviceCall, Form, Kind, Speaker, Word, each_word_is_found};
 pub use script::{Mode, Script, frames_line_has_its_own_fault, one_answer, read};

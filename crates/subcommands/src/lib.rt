@@ -125,7 +125,7 @@ fn faulty(alloc: Global, options: Options, bytes: &[u8], fault: ScriptFault) -> 
     if !options.explain {
         return Fault::Script(fault);
     }
-    match scripts::explain(alloc, bytes, fault) {
+    match explain::explain(alloc, bytes, fault) {
         Ok(Some(more)) => Fault::Explained(fault, more),
         Ok(None) | Err(_) => Fault::Script(fault),
     }

@@ -3,14 +3,14 @@
 //! Nothing is judged anew: the tests are those by which the reader found the fault, and the word that is
 //! named is the first of the line that fails the test of the cause. No clause speaks of the texts.
 
-use crate::check::{name_fits, number_fits, word_fits};
-use crate::fault::{Cause, ScriptFault};
-use crate::forms::{Kind, Manner, Speaker, Word, may_stand, takes_line, word_named};
-use crate::header::{header_frames, is_of_header, is_skipped, word_of};
-use crate::lines::{as_text, first_line};
 use crate::why::{BadPath, Placed, Why};
-use crate::words::{Token, words_of};
 use machine::limit::{LAST_NUMBER, MOST_BLOCKS, MOST_FILES};
+use scripts::check::{name_fits, number_fits, word_fits};
+use scripts::forms::{Kind, Manner, Speaker, Word, may_stand, takes_line, word_named};
+use scripts::header::{header_frames, is_of_header, is_skipped, word_of};
+use scripts::lines::{as_text, first_line};
+use scripts::words::{Token, words_of};
+use scripts::{Cause, ScriptFault};
 use std::alloc::{AllocError, Global};
 use std::str;
 use text_forms::name::is_name;
@@ -372,7 +372,7 @@ fn why<'w>(
     }
 }
 
-/// One line, without its end, that says more of the fault for which [`read`](crate::read) refused this
+/// One line, without its end, that says more of the fault for which [`scripts::read`] refused this
 /// text: the word that is wrong, in quotes, and what its place asks for. Of a lack of memory there is
 /// no more to say. No clause speaks of what it says.
 pub fn explain(

@@ -1,6 +1,6 @@
 //! The texts that say more of a fault than its cause does.
 
-use crate::forms::{Form, Kind};
+use scripts::forms::{Form, Kind};
 use std::fmt;
 use std::fmt::{Formatter, Write};
 
@@ -27,10 +27,13 @@ impl fmt::Display for Placed<'_> {
     }
 }
 
-/// What has to stand in such a place.
-impl fmt::Display for Kind {
+/// What has to stand in a place of this kind.
+#[derive(Clone, Copy)]
+struct Wanted(Kind);
+
+impl fmt::Display for Wanted {
     fn fmt<W: Write>(&self, f: &mut Formatter<W>) -> fmt::Result {
-        match self {
+        match self.0 {
             Kind::Number { least, most } => write!(f, "a number from {least} to {most}"),
             Kind::Path => f.write_str("a path"),
             Kind::Name => f.write_str("a name of a file"),
@@ -42,13 +45,21 @@ impl fmt::Display for Kind {
     }
 }
 
-/// How many words stand behind the first of a line.
-impl fmt::Display for Form {
+/// How many words stand behind the first of a line of this form.
+#[derive(Clone, Copy)]
+struct Behind(Form);
+
+impl fmt::Display for Behind {
     fn fmt<W: Write>(&self, f: &mut Formatter<W>) -> fmt::Result {
-        match self.arguments.len() {
-            0 => write!(f, "no word stands behind {}", self.name),
-            1 => write!(f, "1 word stands behind {}", self.name),
-            count => write!(f, "{count} words stand behind {}", self.name),
+        let Form {
+            name,
+            arguments,
+            ..
+        } = self.0;
+        match arguments.len() {
+            0 => write!(f, "no word stands behind {name}"),
+            1 => write!(f, "1 word stands behind {name}"),
+            count => write!(f, "{count} words stand behind {name}"),
         }
     }
 }
@@ -167,7 +178,7 @@ impl fmt::Display for Why<'_> {
                 "{word} is no task's: behind its number stands {TASK_WORDS}"
             ),
             Why::NotBegun(word) => write!(f, "{word} does not stand behind begin"),
-            Why::Misfit(word, kind) => write!(f, "{word} is not {kind}"),
+            Why::Misfit(word, kind) => write!(f, "{word} is not {}", Wanted(*kind)),
             Why::NoTaskWordAt(number) => write!(
                 f,
                 "word {number} is missing: behind a task's number stands {TASK_WORDS}"
@@ -178,12 +189,15 @@ impl fmt::Display for Why<'_> {
             ),
             Why::Missing { number, form, kind } => write!(
                 f,
-                "word {number} is missing, {kind}: {form}"
+                "word {number} is missing, {}: {}",
+                Wanted(*kind),
+                Behind(*form)
             ),
-            Why::Extra(word, form) => write!(f, "{word} is one too many: {form}"),
+            Why::Extra(word, form) => write!(f, "{word} is one too many: {}", Behind(*form)),
             Why::NotDigits(word, kind) => write!(
                 f,
-                "{word} is not of decimal digits alone: it has to be {kind}"
+                "{word} is not of decimal digits alone: it has to be {}",
+                Wanted(*kind)
             ),
             Why::Below(word, least) => write!(f, "{word} is below {least}"),
             Why::Above(word, most) => write!(f, "{word} is above {most}"),
