@@ -23,15 +23,14 @@ use machine::entry::Entry;
 use machine::event::Event as PlainEvent;
 use machine::id::{GroupId, TicketId, WorkerId};
 use machine::record::Direction;
+use machine::limit::MOST_PASSES;
 use machine::refusal::Refusal;
 use machine::reply::Reply as PlainReply;
 use page_state::State;
 use pages::{Carries, End, InTicket, OutTicket, Ticket};
 use std::alloc::{AllocError, Global};
 use std::marker::Model;
-
-/// As many passes can be given out.
-const MOST_PASSES: usize = 131_072;
+use trace::Trace;
 
 /// The groups, pages and tasks of one machine, with the history of what was asked and answered.
 ///
@@ -60,12 +59,6 @@ impl Model for Book {
     ghost view = { past_of };
 
     ghost invariant = { IsBook };
-}
-
-/// The entries of a book that was closed, the oldest first.
-#[derive(Debug, Drop)]
-pub struct Trace {
-    pub entries: Vec<Entry>,
 }
 
 impl Book {

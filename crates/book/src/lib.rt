@@ -5,7 +5,7 @@
 //! before anything changes, and then applied to the joined parts.
 #![tactic(auto)]
 
-pub use book::{Book, Trace};
+pub use book::Book;
 pub use event::{Event, Reply};
 pub use pages::{InTicket, OutTicket};
 pub use pass::Pass;

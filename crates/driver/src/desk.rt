@@ -21,11 +21,9 @@ use block_store::BlockDevice;
 use book::{Book, Event, Pass};
 use machine::command::{Actor, Answer, Command, Reply, Step, Word};
 use machine::config::Config;
+use machine::limit::MOST_TURNS;
 use machine::refusal::Refusal;
 use std::alloc::{AllocError, Global};
-
-/// A `finish` takes at most so many turns.
-const MOST_TURNS: u32 = 1000;
 
 /// It must be closed.
 #[must_use]

@@ -26,3 +26,12 @@ pub const TASK_PAGES: u32 = 1024;
 
 /// The greatest number that can be written where nothing sets a lesser limit.
 pub const LAST_NUMBER: u32 = u32::MAX;
+
+/// Passes that a book gives out, at most.
+pub const MOST_PASSES: usize = 131_072;
+
+/// Turns that one line of a script takes, at most.
+pub const MOST_TURNS: u32 = 1000;
+
+/// Bytes that a script has, at most.
+pub const SCRIPT_BYTES: u64 = 1 << 26;

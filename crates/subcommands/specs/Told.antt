@@ -7,7 +7,7 @@ use Rattle.std.specs.Str.Lines.{lines}
 use Rattle.machine.specs.Control.{line}
 use Rattle.scripts.specs.FaultTexts.{fault_text}
 use Rattle.scripts.specs.Script.{IsFaultless, NamesFirstFault}
-use Rattle.subcommands.specs.declared.TheConstants.{SCRIPT_BYTES}
+use Rattle.machine.specs.declared.limit.TheConstants.{SCRIPT_BYTES}
 use Rattle.subcommands.specs.declared.fault.Fault.{Fault}
 use Rattle.subcommands.specs.declared.fault.Fault.TheVariants as fault
 use Rattle.subcommands.specs.declared.options.Options.{Options}

@@ -27,9 +27,9 @@ use std::alloc::Global;
 use std::io;
 use std::io::{ErrorKind, Read, Write};
 
-/// The most bytes that a script may have. A reader that never ends is refused here, and takes no
+/// The most bytes that a script may have. A reader that never ends is refused by it, and takes no
 /// more memory than this.
-pub const SCRIPT_BYTES: u64 = 1 << 26;
+pub use machine::limit::SCRIPT_BYTES;
 
 const FAILED: u8 = 1;
 
