@@ -3,16 +3,7 @@
 use std::alloc::{AllocError, Global};
 use std::ops::RangeInclusive;
 use std::process::Abort;
-use subcommands::{Fault, Options, schedule_with};
-
-/// The status that a run ends with. Where there is a fault, its lines are written.
-pub fn status_of(ran: Result<(), Fault>, err: &mut Vec<u8>) -> u8 {
-    let Err(fault) = ran else {
-        return 0;
-    };
-    let _ = fault.report(err);
-    1
-}
+use subcommands::{Options, run_script, status_of};
 
 // The script's run ends with this status, and writes this and no more.
 fn ends<R: Abort + AllocGlobal>(
@@ -24,10 +15,9 @@ fn ends<R: Abort + AllocGlobal>(
     err: &str,
     status: u8,
 ) {
-    let mut script = script;
     let mut printed = Vec::new(rt.alloc());
     let mut said = Vec::new(rt.alloc());
-    let ran = schedule_with(rt.alloc(), options, &mut script, &mut printed, &mut said);
+    let ran = run_script(rt.alloc(), options, script, &mut printed, &mut said);
     let given = status_of(ran, &mut said);
     let printed = std::str::from_utf8(&printed).unwrap_or("no text");
     let said = std::str::from_utf8(&said).unwrap_or("no text");

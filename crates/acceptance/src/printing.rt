@@ -1,11 +1,10 @@
 //! What is written while a run goes on, and beside its answers.
 
-use crate::case::status_of;
 use std::alloc::Global;
 use std::io::{Error, ErrorKind, Write};
 use std::process::Abort;
 use std::{io, str};
-use subcommands::{Options, schedule_with};
+use subcommands::{Options, run_script, status_of};
 
 const OVER_LIMIT: &str = "\
 group /a
@@ -56,8 +55,8 @@ fn answers_are_written_as_they_come(rt: HostRuntime) {
             writes,
         };
         let mut err = Vec::new(alloc);
-        let mut script = OVER_LIMIT.as_bytes();
-        let ran = schedule_with(alloc, Options::default(), &mut script, &mut out, &mut err);
+        let script = OVER_LIMIT.as_bytes();
+        let ran = run_script(alloc, Options::default(), script, &mut out, &mut err);
         let status = status_of(ran, &mut err);
         assert_eq!(rt; status, if writes == 4 { 0 } else { 1 }, "{writes} writes");
         let Limited { kept, writes: _ } = out;
@@ -76,10 +75,10 @@ fn answers_are_written_as_they_come(rt: HostRuntime) {
 // The script ends with status 0, and writes this to standard output and this to standard error.
 fn writes<R: Abort + AllocGlobal>(rt: &R, options: Options, script: &str, out: &str, err: &str) {
     let alloc: Global = rt.alloc();
-    let mut script = script.as_bytes();
+    let script = script.as_bytes();
     let mut printed = Vec::new(alloc);
     let mut said = Vec::new(alloc);
-    let ran = schedule_with(alloc, options, &mut script, &mut printed, &mut said);
+    let ran = run_script(alloc, options, script, &mut printed, &mut said);
     let status = status_of(ran, &mut said);
     assert_eq!(rt; str::from_utf8(&said), Ok(err), "standard error");
     assert_eq!(rt; str::from_utf8(&printed), Ok(out), "standard output");
@@ -139,15 +138,19 @@ fn a_summary_counts_what_was_done(rt: HostRuntime) {
     writes(&rt, options, script, "1 Underway\n", err);
 }
 
-// Keeps back what it takes, until it is to pass it on. Both streams of a program, in the order in which
-// somebody sees them.
+// Keeps back what it takes, until it is to pass it on. After so many writes it takes no more.
 struct KeepsBack {
     kept: Vec<u8>,
+    writes: usize,
     passed_on: bool,
 }
 
 impl Write for KeepsBack {
     fn write(&mut self, buf: &[u8]) -> io::Result<usize> {
+        let Some(left) = self.writes.checked_sub(1) else {
+            return Err(Error::from(ErrorKind::StorageFull));
+        };
+        self.writes = left;
         self.passed_on = false;
         self.kept.write(buf)
     }
@@ -158,24 +161,29 @@ impl Write for KeepsBack {
     }
 }
 
+// All that was written is passed on, also where the run is cut short, before a fault is told.
 #[test]
 fn all_answers_are_passed_on_at_the_end(rt: HostRuntime) {
     let alloc = rt.alloc();
-    for summary in [false, true] {
+    for writes in 0..=4 {
         let mut out = KeepsBack {
             kept: Vec::new(alloc),
+            writes,
             passed_on: false,
         };
         let mut err = Vec::new(alloc);
-        let mut script = OVER_LIMIT.as_bytes();
-        let options = Options {
-            summary,
-            ..Options::default()
-        };
-        assert!(rt; schedule_with(alloc, options, &mut script, &mut out, &mut err).is_ok());
-        let KeepsBack { kept, passed_on } = out;
-        assert!(rt; passed_on);
-        assert_eq!(rt; str::from_utf8(&kept), Ok(PRINTED));
+        let script = OVER_LIMIT.as_bytes();
+        let ran = run_script(alloc, Options::default(), script, &mut out, &mut err);
+        assert_eq!(rt; ran.is_ok(), writes == 4, "{writes} writes");
+        assert!(rt; err.is_empty(), "{writes} writes");
+        let KeepsBack {
+            kept,
+            writes: _,
+            passed_on,
+        } = out;
+        assert!(rt; passed_on, "{writes} writes");
+        let lines = kept.iter().filter(|byte| **byte == b'\n').count();
+        assert_eq!(rt; lines, writes, "{writes} writes");
     }
 }
 
@@ -211,8 +219,8 @@ fn a_run_that_is_cut_short_says_how_far_it_came(rt: HostRuntime) {
         writes: 2,
     };
     let mut err = Vec::new(alloc);
-    let mut script = OVER_LIMIT.as_bytes();
-    let ran = schedule_with(alloc, options, &mut script, &mut out, &mut err);
+    let script = OVER_LIMIT.as_bytes();
+    let ran = run_script(alloc, options, script, &mut out, &mut err);
     assert_eq!(rt; status_of(ran, &mut err), 1);
     let Limited { kept, writes: _ } = out;
     assert_eq!(rt; str::from_utf8(&kept), Ok("killed 1\n1 killed\n"));

@@ -11,7 +11,7 @@ ghost use Rattle.std.specs.Str.{bytes_eq};
 use std::alloc::{AllocError, Global};
 use std::io;
 use std::io::Write;
-use subcommands::{Options, schedule_with};
+use subcommands::{Options, run_script, status_of};
 
 /// The part of a case that a line belongs to.
 #[derive(Clone, Copy)]
@@ -79,16 +79,11 @@ impl Case {
 
     /// Runs the script, and says what came of it where that is not what must come.
     pub fn run<W: Write>(&self, alloc: Global, file: &str, to: &mut W) -> io::Result<()> {
-        let mut script = self.script.as_bytes();
         let mut out = Vec::new(alloc);
         let mut err = Vec::new(alloc);
-        let status = match schedule_with(alloc, self.options, &mut script, &mut out, &mut err) {
-            Ok(()) => 0,
-            Err(fault) => {
-                fault.report(&mut err)?;
-                1
-            }
-        };
+        let script = self.script.as_bytes();
+        let ran = run_script(alloc, self.options, script, &mut out, &mut err);
+        let status = status_of(ran, &mut err);
         if self.is_met(status, &out, &err) {
             return Ok(());
         }

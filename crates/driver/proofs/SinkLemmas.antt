@@ -18,6 +18,7 @@ use Rattle.machine.specs.declared.command.Reply.{Reply}
 use Rattle.machine.specs.History.{at_first, Honest}
 use Rattle.block_store.specs.Device.{Disk}
 use Rattle.driver.specs.declared.turn.Outcome.{Outcome}
+use Rattle.driver.specs.declared.turn.Outcome.TheVariants.{Goes, Kills, Ends}
 use Rattle.driver.specs.Schedule.{World, first_world, Turn, Begins, Goings, answer_by, said_at, all_said, Stepped, Runs, files_on, fits, most_turns}
 use Rattle.driver.specs.Sinks.{Heard, BeginsWith, Starts, IsRightOnce, StartsStep, StartsRun, CutsStep, CutsRun}
 use Rattle.driver.proofs.Faithful.{runs_are_honest}
@@ -136,6 +137,12 @@ step_starts old steps i step answers mid added after lt is ran starts =
       right = starts.right;
     }
 
+-- a turn says one answer at most
+pub said-few : (who : Actor) (outcome : Outcome) → length (said_at who outcome) ≤ 1
+said-few who Goes = omega arith
+said-few who (Kills t) = omega arith
+said-few who (Ends said) = omega arith
+
 -- a sink that took some answers took some more
 module _ {S : Type 0} (took failed : S → S → List Reply → Type 0) where
   heard-more : ((a b c : S) (xs ys : List Reply) → took a b xs → took b c ys → took a c (xs ++ ys)) → (a b c : S) (xs ys begun : List Reply) → took a b xs → Heard took failed b c ys begun → Heard took failed a c (xs ++ ys) begun
@@ -144,11 +151,11 @@ module _ {S : Type 0} (took failed : S → S → List Reply → Type 0) where
   -- nothing of a step was taken; of one that is carried out an answer may have been begun
   pub cut_before : ((s : S) → took s s []) → ((s : S) → failed s s []) → (s : S) (before : World) (step : Step) (after : Disk) → before.disk ≡ after → IsRightOnce before → CutsStep took failed s s before step after
   cut_before nothing stays s before step after device right =
-      record { answers = []; begun = []; heard = record { mid = s; takes = nothing s; fails = stays s }; starts = nothing_starts before step after device right }
+      record { answers = []; begun = []; few = omega arith; heard = record { mid = s; takes = nothing s; fails = stays s }; starts = nothing_starts before step after device right }
 
-  pub cut_behind : ((s : S) → took s s []) → (s t : S) (before : World) (step : Step) (begun : List Reply) (end : World) → failed s t begun → Stepped before step begun end → IsRightOnce end → CutsStep took failed s t before step end.disk
-  cut_behind nothing s t before step begun end fails stepped right =
-      record { answers = []; begun = begun; heard = record { mid = s; takes = nothing s; fails = fails }; starts = whole_starts before step begun end stepped right }
+  pub cut_behind : ((s : S) → took s s []) → (s t : S) (before : World) (step : Step) (begun : List Reply) (end : World) → length begun ≤ 1 → failed s t begun → Stepped before step begun end → IsRightOnce end → CutsStep took failed s t before step end.disk
+  cut_behind nothing s t before step begun end few fails stepped right =
+      record { answers = []; begun = begun; few = few; heard = record { mid = s; takes = nothing s; fails = fails }; starts = whole_starts before step begun end stepped right }
 
   -- some steps were done, and the next was cut short
   pub step_cuts : ((a b c : S) (xs ys : List Reply) → took a b xs → took b c ys → took a c (xs ++ ys)) → (a b c : S) (old : World) (steps : List Step) (i : ℕ) (step : Step) (answers : List Reply) (mid : World) (after : Disk) → i < length steps → step ≡ get_or steps i step
@@ -157,6 +164,7 @@ module _ {S : Type 0} (took failed : S → S → List Reply → Type 0) where
       record {
         answers = answers ++ cut.answers;
         begun = cut.begun;
+        few = cut.few;
         heard = heard-more more a b c answers cut.answers cut.begun takes cut.heard;
         starts = (let same : answers ++ (cut.answers ++ cut.begun) ≡ (answers ++ cut.answers) ++ cut.begun = sym (append_assoc answers cut.answers cut.begun) in
             subst (λ (rs : List Reply). StartsRun old steps rs after) same (step_starts old steps i step answers mid (cut.answers ++ cut.begun) after lt is ran cut.starts));

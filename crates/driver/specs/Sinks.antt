@@ -12,7 +12,7 @@ use Rattle.driver.specs.declared.sink.Stop.{Stop}
 use Rattle.driver.specs.declared.sink.Stop.TheVariants.{Refused, Closed}
 use Rattle.driver.specs.Schedule.{World, Runs, Schedules, errors, most_turns}
 
--- it took these answers, and of those behind them it may have begun to take the first
+-- it took these answers, and may have begun to take those behind them, which are one at most (`few` below)
 pub record Heard {S : Type 0} (took failed : S → S → List Told_by → Type 0) (old new : S) (answers begun : List Told_by) : Type 0 where
   pub mid : S
   pub takes : took old mid answers
@@ -48,7 +48,8 @@ BeginsWith [] part = part ≡ []
 BeginsWith (step ∷ later) part = ArePartOf step part
 
 -- these answers are those of the plain machine to the first of the steps, and to what was carried out of the step behind them before the run was cut short;
--- and the device is left as it is behind them. (Excludes a run that asks the device for what is to be answered later, and so one that keeps its answers to its end.)
+-- and the device is left as it is behind them. (Excludes a run that goes on to ask the device behind an answer that is not taken, and so one that
+-- keeps its answers to its end.)
 pub record Starts (config : Config) (before : Disk) (steps : List Step) (answers : List Told_by) (after : Disk) : Type 0 where
   pub done : List Step
   pub left : List Step
@@ -61,6 +62,7 @@ pub record Starts (config : Config) (before : Disk) (steps : List Step) (answers
 pub record GivesStart {S : Type 0} (took failed : S → S → List Told_by → Type 0) (config : Config) (before : Disk) (steps : List Step) (old new : S) (after : Disk) : Type 0 where
   pub answers : List Told_by
   pub begun : List Told_by
+  pub few : length begun ≤ 1
   pub heard : Heard took failed old new answers begun
   pub starts : Starts config before steps (answers ++ begun) after
 
@@ -94,11 +96,13 @@ pub record StartsStep (old : World) (step : Step) (answers : List Told_by) (afte
 pub record CutsRun {S : Type 0} (took failed : S → S → List Told_by → Type 0) (old new : S) (before : World) (steps : List Step) (after : Disk) : Type 0 where
   pub answers : List Told_by
   pub begun : List Told_by
+  pub few : length begun ≤ 1
   pub heard : Heard took failed old new answers begun
   pub starts : StartsRun before steps (answers ++ begun) after
 
 pub record CutsStep {S : Type 0} (took failed : S → S → List Told_by → Type 0) (old new : S) (before : World) (step : Step) (after : Disk) : Type 0 where
   pub answers : List Told_by
   pub begun : List Told_by
+  pub few : length begun ≤ 1
   pub heard : Heard took failed old new answers begun
   pub starts : StartsStep before step (answers ++ begun) after

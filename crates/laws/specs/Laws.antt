@@ -118,7 +118,7 @@ KillsComeLast =
     → (is_idle before (target_of why) ≡ true) × (is_candidate before.tree before.tasks (target_of why) t ≡ true)
 
 -- the task that is killed is a live one of a group at or under the limit group. Of all these none has more mappings, and none that has as many has a lesser number.
--- (Excludes a kill of a smaller task, of one outside the limit group though it is larger, and of the younger of two that are equally large.)
+-- (Excludes a kill of a smaller task, of one outside the limit group though it is larger, and of the one with the greater number of two that are equally large.)
 abbrev pub VictimsHaveTheMostPages : Type 0
 VictimsHaveTheMostPages =
     (before after : State) (why : Cause) (victim : ℕ) → Step before (event.Relieve why) (reply.KilledTask (record { 0 = victim })) after

@@ -12,6 +12,7 @@ use std::io::{BufWriter, ErrorKind, IsTerminal, Read, Write};
 use std::process::ExitCode;
 use std::rt::{Env, Files};
 use std::{env, io};
+use subcommands::{read_script, run_script, status_of};
 use told::{tell_no_script, tell_no_text};
 use words::{Refused, Request, Subcommand};
 
@@ -43,7 +44,7 @@ struct Terminals {
     err: bool,
 }
 
-/// Runs the script. Why it was not run to its end, is told.
+/// Runs the script. Where it is not run to its end, a line says why.
 fn run<R: Read, O: Write, E: Write>(
     alloc: Global,
     request: Request<'_>,
@@ -53,17 +54,13 @@ fn run<R: Read, O: Write, E: Write>(
 ) -> u8
     ensures success_or_failure { result ≤ 1 }
 {
-    let ran = match request.subcommand {
-        Subcommand::Schedule => {
-            subcommands::schedule_with(alloc, request.options, script, out, err)
-        }
+    let ran = match read_script(alloc, script) {
+        Ok(bytes) => match request.subcommand {
+            Subcommand::Schedule => run_script(alloc, request.options, &bytes, out, err),
+        },
+        Err(fault) => Err(fault),
     };
-    let Err(fault) = ran else {
-        return 0;
-    };
-    // The status tells of the failure even where its line can't be written.
-    let _ = fault.report(err);
-    FAILED
+    status_of(ran, err)
 }
 
 /// What is shown of how far a run has come is shown on a terminal alone. Answers go out in blocks, all of them

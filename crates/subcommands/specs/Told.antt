@@ -34,6 +34,15 @@ Explains options script (fault.Explained why more) = (options.explain ≡ true) 
 Explains options script (fault.Memory wanted) = IsFaultless (lines script)
 Explains options script (fault.Unwritable error) = IsFaultless (lines script)
 
+-- it is of the script itself, and not of its run
+abbrev pub IsOfScript : Fault → Type 0
+IsOfScript (fault.Unreadable error) = Unit {0}
+IsOfScript fault.TooLong = Unit {0}
+IsOfScript (fault.Script why) = Unit {0}
+IsOfScript (fault.Explained why more) = Unit {0}
+IsOfScript (fault.Memory wanted) = ⊥
+IsOfScript (fault.Unwritable error) = ⊥
+
 -- ---- its lines
 
 -- what its line begins with, whatever else it says

@@ -70,7 +70,8 @@ impl Fault {
     }
 
     /// Writes the line that says why, and what is said behind it; nothing where nobody wants to hear of it.
-    /// It takes no memory. The error is the writer's, which took no more than the beginning.
+    /// It takes no memory. The error is the writer's, which took no more than the beginning; or the line would be
+    /// longer than a line may be, which only a reader's or a writer's own text can be, and then nothing is written.
     pub fn report<E: Write>(&self, err: &mut E) -> io::Result<()>
         ensures whole { OnOk result (Reports self.now (E.contents err.old) (E.contents err.new)) }
         ensures start { StartsReport self.now (E.contents err.old) (E.contents err.new) }
@@ -147,7 +148,7 @@ pub struct Wanted {
 }
 
 impl Wanted {
-    pub fn of(config: &Config, blocks: u32) -> Wanted {
+    pub(crate) fn of(config: &Config, blocks: u32) -> Wanted {
         Wanted {
             frames: config.frames,
             swap: config.swap,

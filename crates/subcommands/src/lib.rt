@@ -1,4 +1,4 @@
-//! The subcommands of the program, over any reader and any two writers. Each answers the exit status.
+//! The program as a library, over any reader and any two writers.
 #![tactic(auto)]
 
 mod fault;
@@ -6,7 +6,7 @@ mod options;
 mod output;
 mod printer;
 
-ghost use Rattle.std.specs.Prelude.{◌≡◌, ◌⊎◌, ℕ, ◌≤◌, ◌<◌, true, false, IsErr, IfSome, IfOk, IfErr, OnOk, OnErr};
+ghost use Rattle.std.specs.Prelude.{◌≡◌, ◌⊎◌, ℕ, ◌≤◌, true, false, IsErr, IfSome, IfOk, IfErr, OnOk, OnErr};
 ghost use Rattle.std.specs.Io.KnownBytes.{Keeps};
 ghost use Rattle.std.specs.Str.Lines.{lines};
 ghost use Rattle.machine.specs.State.{blocks_of, is_config};
@@ -14,7 +14,7 @@ ghost use Rattle.block_store.specs.Device.{new_disk};
 ghost use Rattle.scripts.specs.declared.fault.Cause.{Cause};
 ghost use Rattle.scripts.specs.Script.{IsFirstFault, NamesFirstFault};
 ghost use Rattle.subcommands.specs.Prints.{PrintsRun, PrintsStart, PrintsScript, PrintsPart};
-ghost use Rattle.subcommands.specs.Told.{IsUnread, Explains, TellsWhy, IsRunFault};
+ghost use Rattle.subcommands.specs.Told.{IsUnread, Explains, IsOfScript, StartsReport, TellsWhy, IsRunFault};
 
 use block_store::MemDevice;
 use driver::Stop;
@@ -132,7 +132,7 @@ fn faulty(alloc: Global, options: Options, bytes: &[u8], fault: ScriptFault) -> 
 }
 
 /// Runs a script that was read, one turn after another, and writes the line of each answer to `out` as it
-/// comes. What the options ask for beside that goes to `err` but for the lines' numbers, and nothing else does.
+/// comes. What the options ask for beside that goes to `err`, but for the lines' numbers, and nothing else does.
 ///
 /// The error says why it was not run to its end: its first faulty line with its first cause, or that memory was
 /// wanted or an answer could not be written. Nothing is run, and `out` gets nothing, unless the script as a
@@ -148,6 +148,8 @@ pub fn run_script<O: Write, E: Write>(
     ensures start { OnErr result (options.lines ≡ false → PrintsPart script.now (O.contents out.old) (O.contents out.new)) }
     ensures faulty { (n : ℕ) (cause : Cause) → IsFirstFault (lines script.now) n cause → IsErr result × (O.contents out.new ≡ O.contents out.old) }
     ensures why { IfErr result (Explains options script.now) }
+    // It is the script's only where nothing was run.
+    ensures unrun { IfErr result (λ why. IsOfScript why → O.contents out.new ≡ O.contents out.old) }
     ensures quiet { options.progress ≡ false → options.summary ≡ false → E.contents err.new ≡ E.contents err.old }
 {
     one_answer();
@@ -157,11 +159,20 @@ pub fn run_script<O: Write, E: Write>(
     }
 }
 
-/// Reads a script, and runs it as [`run_script`] does. This is what the program does; it then has the fault
-/// reported ([`Fault::report`]), if there is one.
-///
-/// The clauses speak of readers whose bytes are known, and of writers that tell what they hold.
-pub fn schedule_with<R: Read, O: Write, E: Write>(
+/// The exit status of a run: 0, or 1 where there is a fault. Then `err` gets the lines that say why, as
+/// [`Fault::report`] writes them; the status tells of the failure even where they can't be written.
+pub fn status_of<E: Write>(ran: Result<(), Fault>, err: &mut E) -> u8
+    ensures well { OnOk ran ((result ≡ 0) × (E.contents err.new ≡ E.contents err.old)) }
+    ensures failed { IfErr ran (λ why. (result ≡ 1) × StartsReport why (E.contents err.old) (E.contents err.new)) }
+{
+    let Err(fault) = ran else {
+        return 0;
+    };
+    let _ = fault.report(err);
+    FAILED
+}
+
+fn read_and_run<R: Read, O: Write, E: Write>(
     alloc: Global,
     options: Options,
     script: &mut R,
@@ -178,13 +189,15 @@ pub fn schedule_with<R: Read, O: Write, E: Write>(
     run_script(alloc, options, &bytes, out, err)
 }
 
-/// Runs a script, one turn after another, and writes the line of each answer to `out` as it comes.
+/// Reads a script and runs it, one turn after another, and writes the line of each answer to `out` as it comes.
 ///
 /// The exit status is 0, or 1 where the run fails: the script can't be read or has more than
 /// [`SCRIPT_BYTES`], a line of it is faulty, the run wants memory, or an answer can't be written.
 /// Then `err` gets one line, which for a faulty line is `line L: CAUSE`; but none where `out` is a
-/// pipe that nobody reads any more. It is [`schedule_with`] and [`Fault::report`], whose contracts say more: a status
-/// tells neither which fault there was nor whether its line could be written.
+/// pipe that nobody reads any more. It is [`read_script`], [`run_script`] and [`status_of`], as the program makes
+/// them, whose contracts say more: a status tells neither which fault there was nor whether its line could be written.
+///
+/// The clauses speak of readers whose bytes are known, and of writers that tell what they hold.
 pub fn schedule<R: Read, O: Write, E: Write>(
     alloc: Global,
     script: &mut R,
@@ -201,10 +214,6 @@ pub fn schedule<R: Read, O: Write, E: Write>(
     ensures failed { result ≡ 1 → IfSome (R.remaining script.old) (λ all. PrintsPart all (O.contents out.old) (O.contents out.new)) }
     ensures told { result ≡ 1 → IfSome (R.remaining script.old) (λ all. TellsWhy all (E.contents err.old) (E.contents err.new)) }
 {
-    let Err(fault) = schedule_with(alloc, Options::default(), script, out, err) else {
-        return 0;
-    };
-    // The status tells of the failure even where its line can't be written.
-    let _ = fault.report(err);
-    FAILED
+    let ran = read_and_run(alloc, Options::default(), script, out, err);
+    status_of(ran, err)
 }

@@ -167,10 +167,11 @@ impl<'o, 'e, 's, 'l, 't, 'f, O: Write, E: Write> Printer<'o, 'e, 's, 'l, 't, 'f,
         ensures quiet { self.old.options.summary ≡ false → IsQuiet self.old.options self.old.shown self.new.shown (E.contents self.old.err.now) (E.contents self.new.err.now) }
     {
         self.hide();
-        // What the writer still has comes before anything that is said beside it.
+        // What the writer still has comes before anything that is said beside it, also where it took no more.
+        let flushed = self.out.flush();
         let written = match self.fault.take() {
             Some(error) => Err(error),
-            None => self.out.flush(),
+            None => flushed,
         };
         if self.options.summary {
             self.sum_up(is_whole);

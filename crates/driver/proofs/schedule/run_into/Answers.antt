@@ -15,6 +15,7 @@ returns-in-Err-clause-starts g c =
     λ fit. record {
       answers = [];
       begun = [];
+      few = omega arith;
       heard = record { mid = c.args.sink.now; takes = g.met.S.Sink.nothing _; fails = g.met.S.Sink.stays _ };
       starts = opening_starts c.args.config (g.D.BlockDevice.disk c.args.device.now) c.args.steps.now fit;
     }
@@ -53,6 +54,7 @@ returns-in-Err-ran-clause-starts g c =
     record {
       answers = told.answers;
       begun = told.begun;
+      few = told.few;
       heard = told.heard;
       starts = run_starts c.args.config before c.args.steps.now (told.answers ++ told.begun) after fit (subst From (c.in-Ok.ensures.opens before) told.starts);
     }

@@ -1,6 +1,6 @@
 use Rattle.std.proofs.Common.{refl, sym}
 use Rattle.driver.specs.Desks.{world}
-use Rattle.driver.proofs.SinkLemmas.{on_err, cut_before, cut_behind}
+use Rattle.driver.proofs.SinkLemmas.{on_err, cut_before, cut_behind, said-few}
 use Rattle.driver.proofs.desk.Desk.advance.Goals as goal
 
 pub returns-in_err-shown-clause-cut : goal.returns-in_err-shown-clause-cut
@@ -10,4 +10,4 @@ returns-in_err-shown-clause-cut g c =
 pub returns-in_err-say-clause-cut : goal.returns-in_err-say-clause-cut
 returns-in_err-say-clause-cut g c =
     on_err c.from_residual-in_err-say.result
-    (cut_behind g.S.Sink.took g.S.Sink.failed g.met.S.Sink.nothing c.args.sink.now c.say.new.sink _ _ _ (world c.turn.new.self (g.D.BlockDevice.disk c.turn.new.device)) c.in_err-say.ensures.failed (c.in_ok-shown.shown, c.in_ok-shown.ensures.turn, refl) c.history_is_right-2.ensures.right)
+    (cut_behind g.S.Sink.took g.S.Sink.failed g.met.S.Sink.nothing c.args.sink.now c.say.new.sink _ _ _ (world c.turn.new.self (g.D.BlockDevice.disk c.turn.new.device)) (said-few c.args.actor c.in_ok-shown.shown) c.in_err-say.ensures.failed (c.in_ok-shown.shown, c.in_ok-shown.ensures.turn, refl) c.history_is_right-2.ensures.right)

@@ -1,4 +1,4 @@
-use Rattle.std.proofs.Common.{◌∙◌, refl, sym}
+use Rattle.std.proofs.Common.{◌∙◌, refl, sym, arith}
 use Rattle.driver.specs.Desks.{world, blocks_of_desk}
 use Rattle.driver.proofs.SinkLemmas.{on_err, cut_before, cut_behind, begins_over}
 use Rattle.driver.proofs.desk.Desk.begin.Goals as goal
@@ -10,7 +10,7 @@ returns-clause-on g c =
 pub returns-in_err-answer-clause-cut : goal.returns-in_err-answer-clause-cut
 returns-in_err-answer-clause-cut g c =
     on_err c.from_residual.result (λ disk.
-    cut_behind g.S.Sink.took g.S.Sink.failed g.met.S.Sink.nothing c.args.sink.now c.answer.new.sink (world c.args.self.now disk) _ _ (world c.args.self.now disk) c.in_err-answer.ensures.failed
+    cut_behind g.S.Sink.took g.S.Sink.failed g.met.S.Sink.nothing c.args.sink.now c.answer.new.sink (world c.args.self.now disk) _ _ (world c.args.self.now disk) (omega arith) c.in_err-answer.ensures.failed
     (begins_over (world c.args.self.now disk) c.args.actor c.args.command.now _ (sym c.is_under_way.ensures ∙ c.if-is_under_way.true)) c.history_is_right.ensures.right)
 
 pub returns-in_err-command-clause-cut : goal.returns-in_err-command-clause-cut

@@ -4,7 +4,7 @@ use Rattle.machine.specs.declared.command.Word.TheVariants.{TurnLimit}
 use Rattle.driver.specs.Schedule.{said_at, all_said, answer_by}
 use Rattle.driver.specs.Desks.{world}
 use Rattle.driver.proofs.Runs.{Goings-more, all_said-more, same-refl, same-more}
-use Rattle.driver.proofs.SinkLemmas.{on_err, turns_start, turn_starts, limit_starts}
+use Rattle.driver.proofs.SinkLemmas.{on_err, turns_start, turn_starts, limit_starts, said-few}
 use Rattle.driver.proofs.desk.Desk.finish.Goals as goal
 
 pub loop-turn-init : goal.loop-turn-init
@@ -62,6 +62,7 @@ returns-in_err-outcome-clause-cut g c =
     on_err c.from_residual.result (record {
       answers = all_said c.args.actor k.0;
       begun = [];
+      few = omega arith;
       heard = record { mid = c.loop-turn.sink; takes = k.2; fails = g.met.S.Sink.stays _ };
       starts = turns_start _ c.args.actor k.0 (world c.loop-turn.self (g.D.BlockDevice.disk c.loop-turn.device)) (g.D.BlockDevice.disk c.turn.new.device) (omega (arith, k.1, c.loop-turn-test.true)) k.3 (sym c.in_err-outcome.ensures.unmoved) c.history_is_right.ensures.right;
     })
@@ -72,6 +73,7 @@ returns-in_err-say-clause-cut g c =
     on_err c.from_residual-in_err-say.result (record {
       answers = all_said c.args.actor k.0;
       begun = said_at c.args.actor c.in_ok-outcome.outcome;
+      few = said-few c.args.actor c.in_ok-outcome.outcome;
       heard = record { mid = c.loop-turn.sink; takes = k.2; fails = c.in_err-say.ensures.failed };
       starts = turn_starts _ c.args.actor k.0 (world c.loop-turn.self (g.D.BlockDevice.disk c.loop-turn.device)) c.in_ok-outcome.outcome (world c.turn.new.self (g.D.BlockDevice.disk c.turn.new.device)) (omega (arith, k.1, c.loop-turn-test.true)) k.3 c.in_ok-outcome.ensures.turn c.history_is_right-in-loop-turn.ensures.right;
     })
@@ -82,6 +84,7 @@ returns-in_err-answer-clause-cut g c =
     on_err c.from_residual-in_err-answer.result (record {
       answers = all_said c.args.actor k.0;
       begun = answer_by c.args.actor (Word TurnLimit);
+      few = omega arith;
       heard = record { mid = c.loop-turn.sink; takes = k.2; fails = c.in_err-answer.ensures.failed };
       starts = limit_starts _ c.args.actor k.0 (world c.loop-turn.self (g.D.BlockDevice.disk c.loop-turn.device)) (omega (arith, k.1, c.loop-turn-test.false, c.loop-turn.auto._turn-end)) k.3 c.history_is_right-2.ensures.right;
     })

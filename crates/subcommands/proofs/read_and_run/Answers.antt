@@ -2,7 +2,7 @@ use Rattle.std.proofs.Common.{ℕ, List, subst, sym, ◌∙◌}
 use Rattle.std.specs.Str.Lines.{lines}
 use Rattle.scripts.specs.Script.{IsFirstFault}
 use Rattle.subcommands.proofs.ResultLemmas.{some_more, keeps-same}
-use Rattle.subcommands.proofs.schedule_with.Goals as goal
+use Rattle.subcommands.proofs.read_and_run.Goals as goal
 
 pub returns-clause-faulty : goal.returns-clause-faulty
 returns-clause-faulty g c =
