@@ -48,8 +48,8 @@ BeginsWith [] part = part ≡ []
 BeginsWith (step ∷ later) part = ArePartOf step part
 
 -- these answers are those of the plain machine to the first of the steps, and to what was carried out of the step behind them before the run was cut short;
--- and the device is left as it is behind them. (Excludes a run that goes on to ask the device behind an answer that is not taken, and so one that
--- keeps its answers to its end.)
+-- and the device is left as it is behind them. (Excludes a run that goes on to use the device behind an answer that is not taken, where that leaves a trace on it:
+-- each call does on a device that counts its calls, as the one in memory does. So it excludes one that keeps its answers to its end.)
 pub record Starts (config : Config) (before : Disk) (steps : List Step) (answers : List Told_by) (after : Disk) : Type 0 where
   pub done : List Step
   pub left : List Step
