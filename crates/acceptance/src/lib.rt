@@ -25,8 +25,6 @@ mod generations;
 #[cfg(test)]
 mod min_file;
 #[cfg(test)]
-mod printing;
-#[cfg(test)]
 mod read_ins;
 #[cfg(test)]
 mod reclaim_turns;
@@ -42,8 +40,6 @@ mod script_forms;
 mod sharing;
 #[cfg(test)]
 mod sizes;
-#[cfg(test)]
-mod streams;
 #[cfg(test)]
 mod swapped_bytes;
 #[cfg(test)]

@@ -1,7 +1,7 @@
 //! The swap slots.
 
 ghost use Rattle.std.specs.Prelude.{◌≡◌, ℕ, ◌+◌, ◌<◌, ◌≤◌, length, vec_len, vec_capacity, IfOk, IfSome, IfNone, OnSome, if◌then◌else◌, ◌==◌};
-ghost use Rattle.block_store.specs.Slots.{slot_count};
+ghost use Rattle.counts.specs.Numbers.{times};
 
 use std::alloc::{AllocError, Global};
 use std::marker::Model;
@@ -39,21 +39,22 @@ pub struct Slots {
 
 impl Model for Slots {
     ghost use Rattle.std.specs.Prelude.{vec_capacity};
-    ghost use Rattle.block_store.specs.Slots.{SlotsOf, IsSlots};
+    ghost use Rattle.counts.specs.Numbers.{AreFree};
+    ghost use Rattle.block_store.specs.Slots.{SlotsOf};
 
     ghost Value = { SlotsOf };
 
     ghost view = { λ s. record { free = s.free.items; blocks = s.blocks } };
 
-    ghost invariant = { λ s. IsSlots s.free.items s.blocks (vec_capacity s.free) };
+    ghost invariant = { λ s. AreFree s.free.items s.blocks (vec_capacity s.free) };
 }
 
 impl Slots {
     /// So many swap blocks, numbered from 0 on, and all of them free; there may be none. `AllocError`
     /// where there is no memory for the list of the free ones.
     pub fn open(alloc: Global, blocks: u32) -> Result<Slots, AllocError>
-        ensures once { IfOk result (λ s. (n : ℕ) → n < blocks → slot_count s.free n ≡ 1) }
-        ensures none_beyond { IfOk result (λ s. (n : ℕ) → blocks ≤ n → slot_count s.free n ≡ 0) }
+        ensures once { IfOk result (λ s. (n : ℕ) → n < blocks → times s.free n ≡ 1) }
+        ensures none_beyond { IfOk result (λ s. (n : ℕ) → blocks ≤ n → times s.free n ≡ 0) }
         ensures all { IfOk result (λ s. length s.free ≡ blocks) }
         ensures blocks { IfOk result (λ s. s.blocks ≡ blocks) }
     {
@@ -74,12 +75,12 @@ impl Slots {
     pub fn take(&mut self) -> Option<Slot>
         ensures none { IfNone result (length self.old.free ≡ 0) }
         ensures kept { IfNone result (self.new ≡ self.old) }
-        ensures counts { IfSome result (λ s. (n : ℕ) → slot_count self.old.free n ≡ slot_count self.new.free n + (if s == n then 1 else 0)) }
+        ensures counts { IfSome result (λ s. (n : ℕ) → times self.old.free n ≡ times self.new.free n + (if s == n then 1 else 0)) }
         ensures fewer { OnSome result (length self.old.free ≡ length self.new.free + 1) }
         ensures blocks { self.new.blocks ≡ self.old.blocks }
 
         // The block is no longer free, so that no two slots that are out have one number.
-        ensures out { IfSome result (λ s. slot_count self.new.free s ≡ 0) }
+        ensures out { IfSome result (λ s. times self.new.free s ≡ 0) }
         ensures in_range { IfSome result (λ s. s < self.old.blocks) }
     {
         match self.free.pop() {
@@ -90,9 +91,9 @@ impl Slots {
 
     /// Takes a slot back. This takes no memory.
     pub fn give(&mut self, slot: Slot)
-        requires out { slot_count self.old.free slot ≡ 0 }
+        requires out { times self.old.free slot ≡ 0 }
         requires in_range { slot < self.old.blocks }
-        ensures counts { (n : ℕ) → slot_count self.new.free n ≡ slot_count self.old.free n + (if slot == n then 1 else 0) }
+        ensures counts { (n : ℕ) → times self.new.free n ≡ times self.old.free n + (if slot == n then 1 else 0) }
         ensures more { length self.new.free ≡ length self.old.free + 1 }
         ensures blocks { self.new.blocks ≡ self.old.blocks }
     {
@@ -112,8 +113,8 @@ impl Slots {
 fn fill(free: &mut Vec<u32>, blocks: u32)
     requires empty { vec_len free.old ≡ 0 }
     requires room { blocks ≤ vec_capacity free.old }
-    ensures once { (n : ℕ) → n < blocks → slot_count free.new.items n ≡ 1 }
-    ensures none_beyond { (n : ℕ) → blocks ≤ n → slot_count free.new.items n ≡ 0 }
+    ensures once { (n : ℕ) → n < blocks → times free.new.items n ≡ 1 }
+    ensures none_beyond { (n : ℕ) → blocks ≤ n → times free.new.items n ≡ 0 }
     ensures all { length free.new.items ≡ blocks }
     ensures room { blocks ≤ vec_capacity free.new }
 {

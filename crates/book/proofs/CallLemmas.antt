@@ -1,5 +1,5 @@
 -- One call: what it answers, and the book after it.
-use Rattle.std.proofs.Common.{◌≡◌, ℕ, ◌+◌, ◌<◌, ◌≤◌, Bool, true, false, List, [], ◌∷◌, ◌++◌, None, refl, sym, ap, ◌∙◌, subst, arith, Some, length, length-append, add-one}
+use Rattle.std.proofs.Common.{◌≡◌, ℕ, ◌+◌, ◌<◌, ◌≤◌, Bool, true, false, List, [], ◌∷◌, ◌++◌, Option, None, refl, sym, ap, ◌∙◌, subst, arith, Some, length, length-append, add-one}
 use Rattle.std.specs.Prelude.{slice_index, slice_set, reverse, nat_lt, vec_len, vec_capacity}
 use Rattle.std.proofs.lemmas.List.{reverse-append, length-reverse, length-set}
 use Rattle.std.proofs.lemmas.List.Sums.{length-filter, count_by-le-length}
@@ -8,7 +8,6 @@ use Rattle.machine.specs.declared.entry.Entry.{Entry}
 use Rattle.machine.specs.declared.refusal.Refusal.TheVariants.{Stranger, TraceFull}
 use Rattle.machine.specs.declared.event.Event.{Event}
 use Rattle.machine.specs.declared.event.Event.TheVariants as event
-use Rattle.machine.specs.declared.event.Query.TheVariants as query
 use Rattle.machine.specs.declared.reply.Reply.{Reply}
 use Rattle.machine.specs.declared.reply.Reply.TheVariants as reply
 use Rattle.machine.specs.declared.id.WorkerId.{WorkerId}
@@ -19,71 +18,23 @@ use Rattle.pages.specs.Tickets.{TicketOf}
 use Rattle.pages.specs.declared.end.End.{End}
 use Rattle.pages.specs.declared.end.End.TheVariants.{InFrame, OnBlock}
 use Rattle.book.specs.Events.{ended}
-use Rattle.machine.specs.Counts.{Counted}
-use Rattle.machine.specs.State.{Opening, State}
+use Rattle.machine.specs.State.{Opening, State, page_numbers}
+use Rattle.machine.specs.Slots.{at}
 use Rattle.machine.specs.Refusals.{refusal}
-use Rattle.machine.specs.Reclaim.{target_of}
-use Rattle.machine.specs.Step.{Step}
-use Rattle.machine.specs.Lists.{Order, TakesNext, Orders}
-use Rattle.machine.specs.History.{is_by, entries_by}
+use Rattle.machine.specs.History.{is_by, entries_by, ticket_given}
 use Rattle.machine.specs.Call.{Past, Caller, took, knows_pass, need, is_trace_full, entry_of, Answers, Answered, Called}
 use Rattle.book.specs.declared.book.Book.TheInside.{Inside}
-use Rattle.page_state.specs.States.{StateOf}
-use Rattle.book.specs.Effects.{counting, counted_after}
-use Rattle.book.specs.MakesStep.{MakesStep, IsAsked, is_refused}
-use Rattle.book.specs.Told.{group_in, counted_in, state_of, IsHistory}
+use Rattle.legal.proofs.CountedLemmas.{few-total}
+use Rattle.page_state.specs.States.{StateOf, AreFew}
+use Rattle.pages.specs.declared.flight.Flight.{Flight}
+use Rattle.pages.specs.PagesOf.{AreInFlight}
+use Rattle.book.specs.MakesStep.{MakesStep, IsAsked, is_refused, noted, noted_at}
+use Rattle.book.specs.Told.{IsHistory}
 use Rattle.book.specs.Books.{past_of, IsBook}
 use Rattle.book.specs.declared.decision.Decision.{Decision}
 use Rattle.book.specs.Decisions.{IsDecided, entries_for}
 use Rattle.book.proofs.NeedLemmas.{entries-needed}
-use Rattle.book.proofs.HistoryLemmas.{Extending, steps_on, extends}
-
--- ---- the tables, whatever was counted
-
--- what is refused does not depend on what was counted
-pub refusal-counting : (s : State) (c : List Counted) (what : Event) → refusal (counting s c) what ≡ refusal s what
-refusal-counting s c (event.Access t place op) = refl
-refusal-counting s c (event.Arrived ticket bytes) = refl
-refusal-counting s c (event.FetchFailed ticket) = refl
-refusal-counting s c (event.Left ticket) = refl
-refusal-counting s c (event.LeaveFailed ticket) = refl
-refusal-counting s c (event.Relieve why) = refl
-refusal-counting s c (event.ReclaimOne g) = refl
-refusal-counting s c (event.Spawn t g) = refl
-refusal-counting s c (event.Fork t child) = refl
-refusal-counting s c (event.Exit t) = refl
-refusal-counting s c (event.Free t v) = refl
-refusal-counting s c (event.Attach t g) = refl
-refusal-counting s c (event.Mkdir path) = refl
-refusal-counting s c (event.Rmdir g) = refl
-refusal-counting s c (event.Set g what) = refl
-refusal-counting s c (event.Show (query.Current g)) = refl
-refusal-counting s c (event.Show (query.Max g)) = refl
-refusal-counting s c (event.Show (query.Min g)) = refl
-refusal-counting s c (event.Show (query.Events g)) = refl
-refusal-counting s c (event.Show (query.EventsLocal g)) = refl
-refusal-counting s c (event.Show (query.Stat g)) = refl
-refusal-counting s c (event.Show (query.Protection target g)) = refl
-
--- and so with what is needed
-pub need-counting : (s : State) (c : List Counted) (what : Event) → need (counting s c) what ≡ need s what
-need-counting s c what = refl
-
--- and so with the page that is next
-next-counting : (old new : State) (c d : List Counted) (order order' : Order) (target : ℕ) → TakesNext old order target new order' → TakesNext (counting old c) order target (counting new d) order'
-next-counting old new c d order order' target h = record { g = h.g; next = h.next; p = h.p; looked = h.looked; picked = h.picked; was = h.was; taken = h.taken; leaves = h.leaves; moves = h.moves }
-
--- and so with the order
-pub orders-counting : (old new : State) (c d : List Counted) (order order' : Order) (what : Event) (answer : Reply) → Orders old order what answer new order' → Orders (counting old c) order what answer (counting new d) order'
-orders-counting old new c d order order' (event.Relieve cause) (reply.Out ticket) h = next-counting old new c d order order' (target_of cause) h
-orders-counting old new c d order order' (event.Relieve cause) reply.Dropped h = next-counting old new c d order order' (target_of cause) h
-orders-counting old new c d order order' (event.ReclaimOne g) (reply.Out ticket) h = next-counting old new c d order order' g.0 h
-orders-counting old new c d order order' (event.ReclaimOne g) reply.Dropped h = next-counting old new c d order order' g.0 h
-orders-counting old new c d order order' (event.Access t place op) (reply.Done byte (Some frame)) h = h
-orders-counting old new c d order order' (event.Access t place op) (reply.Done byte None) h = h
-orders-counting old new c d order order' (event.Mkdir path) answer h = h
-orders-counting old new c d order order' (event.Rmdir g) answer h = h
-orders-counting old new c d order order' what answer h = h
+use Rattle.book.proofs.HistoryLemmas.{Extending, extends}
 
 -- ---- answers of a call
 
@@ -131,25 +82,13 @@ few_of b is limit worker =
     let within = is.within in
     omega (arith, counted, few, all, within, limit)
 
--- each entry counts at most two events
-pub few-counted : (history : List Entry) → length (counted_in history) ≤ length history + length history
-few-counted [] = omega arith
-few-counted (entry ∷ earlier) = by_entry (group_in earlier) (counted_in earlier) entry.event entry.reply (few-counted earlier)
-  where
-    longer : length (entry ∷ earlier) ≡ length earlier + 1
-    longer = sym (add-one (length earlier))
-
-    none : (c : List Counted) → length c ≤ length earlier + length earlier → length c ≤ length (entry ∷ earlier) + length (entry ∷ earlier)
-    none c le = omega (arith, le, longer)
-
-    some : (c d : List Counted) → length d ≤ 2 → length c ≤ length earlier + length earlier → length (c ++ d) ≤ length (entry ∷ earlier) + length (entry ∷ earlier)
-    some c d two le = let both = length-append c d in omega (arith, both, two, le, longer)
-
-    by_entry : (group_of : ℕ → ℕ) (c : List Counted) (what : Event) (answer : Reply) → length c ≤ length earlier + length earlier → length (counted_after group_of c what answer) ≤ length (entry ∷ earlier) + length (entry ∷ earlier)
-    by_entry group_of c (event.Access t place op) (reply.Over g) le = some c _ (omega arith) le
-    by_entry group_of c (event.Relieve cause) (reply.KilledTask t) le = some c _ (omega arith) le
-    by_entry group_of c (event.Relieve cause) reply.NoVictim le = some c _ (omega arith) le
-    by_entry group_of c what answer le = none c le
+-- each entry counts at most two events, so no key is counted more often than 64 bits hold
+pub few-counted : (b : Inside) → IsBook b → b.state.tables.opening.trace_limit ≤ 1048576 → AreFew b.state.tables
+few-counted b is limit k =
+    let most = few-total b.state.tables.opening (history_of b) b.state.tables is.told.legal b.state.tables.tree 0 k in
+    let all = length-reverse b.entries.items in
+    let within = is.within in
+    omega (arith, most, all, within, limit)
 
 -- ---- room
 
@@ -160,15 +99,14 @@ fits : (limit wanted : ℕ) → nat_lt limit wanted ≡ false → wanted ≤ lim
 fits limit wanted e = grind (arith, nat_tests, e)
 
 -- where an entry extends the history, all entries and all transfers in flight have room
-module _ (b : Inside) (new : StateOf) (worker : ℕ) (what : Event) (answer : Reply) (h : Extending b.state new (history_of b) b.counts.items worker what answer) where
+module _ (b : Inside) (new : StateOf) (worker : ℕ) (what : Event) (answer : Reply) (h : Extending b.state new (history_of b) b.counts.items b.takers.items worker what answer) where
   pub fits_more : length b.entries.items + 1 + in_transfer new.tables.pages ≤ b.state.tables.opening.trace_limit
   fits_more =
-      let s = state_of b.state (history_of b) in
+      let s = b.state.tables in
       let full = fits b.state.tables.opening.trace_limit (length (history_of b) + in_transfer b.state.tables.pages + need s what) h.room in
-      let needs = need-counting b.state.tables (counted_in (history_of b)) what in
       let kept = h.makes_step.kept in
       let all = length-reverse b.entries.items in
-      omega (arith, full, needs, kept, all)
+      omega (arith, full, kept, all)
 
   pub has_room : IsBook b → vec_len b.entries < vec_capacity b.entries
   has_room is =
@@ -178,34 +116,38 @@ module _ (b : Inside) (new : StateOf) (worker : ℕ) (what : Event) (answer : Re
       omega (arith, fits, room, ok)
 
 -- what is asked of a book, as its callers see it
-module _ (b : Inside) (past : Past) (is : IsBook b) (view_is : past_of b ≡ past) (new : StateOf) (worker : ℕ) (passed : worker < past.passes) (what : Event) where
+module _ (b : Inside) (past : Past) (is : IsBook b) (view_is : past_of b ≡ past) (new : StateOf) (in_flight : AreInFlight new.tables.pages new.flights) (worker : ℕ) (passed : worker < past.passes) (what : Event) where
   passed_in : worker < length b.counts.items
   passed_in = subst (λ (p : Past). worker < p.passes) (sym view_is) passed
 
   -- an event without a ticket extends the history, where nothing refuses it and there is room
-  pub asks : (answer : Reply) → IsAsked what → refusal b.state.tables what ≡ None → is_trace_full past what ≡ false → MakesStep b.state worker what answer new → Extending b.state new (history_of b) b.counts.items worker what answer
+  pub asks : (answer : Reply) → IsAsked what → refusal b.state.tables what ≡ None → is_trace_full past what ≡ false → MakesStep b.state what answer new → Extending b.state new (history_of b) b.counts.items b.takers.items worker what answer
   asks answer asked none room makes_step =
       record {
         told = is.told;
         passed = passed_in;
-        known = asked-knows (state_of b.state (history_of b)) (history_of b) (record { worker = worker }) what asked;
-        none = refusal-counting b.state.tables (counted_in (history_of b)) what ∙ none;
+        known = asked-knows b.state.tables (history_of b) (record { worker = worker }) what asked;
+        none = none;
         room = subst (λ (p : Past). is_trace_full p what ≡ false) (sym view_is) room;
         makes_step = makes_step;
+        in_flight = in_flight;
+        sized = is.takers;
       }
 
   -- an ending extends the history, as it needs no room but that which was kept for it
-  pub ends : knows_pass past.state past.history (record { worker = worker }) what ≡ true → refusal (state_of b.state (history_of b)) what ≡ None → need (state_of b.state (history_of b)) what ≡ 0
-      → MakesStep b.state worker what reply.Ok new → Extending b.state new (history_of b) b.counts.items worker what reply.Ok
+  pub ends : knows_pass past.state past.history (record { worker = worker }) what ≡ true → refusal b.state.tables what ≡ None → need b.state.tables what ≡ 0
+      → MakesStep b.state what reply.Ok new → Extending b.state new (history_of b) b.counts.items b.takers.items worker what reply.Ok
   ends known none free makes_step =
       record {
         told = is.told;
         passed = passed_in;
         known = subst (λ (p : Past). knows_pass p.state p.history (record { worker = worker }) what ≡ true) (sym view_is) known;
         none = none;
-        room = not_full b.state.tables.opening.trace_limit (length (history_of b) + in_transfer b.state.tables.pages + need (state_of b.state (history_of b)) what)
+        room = not_full b.state.tables.opening.trace_limit (length (history_of b) + in_transfer b.state.tables.pages + need b.state.tables what)
             (let within = is.within in let all = length-reverse b.entries.items in omega (arith, within, all, free));
         makes_step = makes_step;
+        in_flight = in_flight;
+        sized = is.takers;
       }
 
 -- whether the trace is full for a decision is whether it is so for its event
@@ -218,7 +160,7 @@ pub called-full : (b : Inside) (past : Past) → past_of b ≡ past → (caller 
     → Called past caller what (reply.Refused TraceFull) past
 called-full b past view_is caller what asked none full =
     let known = asked-knows past.state past.history caller what asked in
-    let unrefused : refusal past.state what ≡ None = sym (ap (λ (p : Past). refusal p.state what) view_is) ∙ refusal-counting b.state.tables (counted_in (history_of b)) what ∙ none in
+    let unrefused : refusal past.state what ≡ None = sym (ap (λ (p : Past). refusal p.state what) view_is) ∙ none in
     rw known (rw unrefused (rw full (refl, refl)))
 
 -- ---- endings
@@ -245,20 +187,32 @@ ended-free s Out OnBlock ticket = refl
 
 -- ---- the book after it
 
--- the worker's entry stands at the end, and all else as it was
+noted-length : (flights : List (Option Flight)) (takers : List WorkerId) (worker : ℕ) (given : Option ℕ) → length (noted flights takers worker given) ≡ length takers
+noted-length flights takers worker None = refl
+noted-length flights takers worker (Some n) = by_slot (at flights n)
+  where
+    by_slot : (slot : Option Flight) → length (noted_at takers slot worker) ≡ length takers
+    by_slot None = refl
+    by_slot (Some f) = length-set takers f.page.0 (record { 0 = worker })
+
+-- the worker's entry stands at the end, who took the ticket is noted, and all else as it was
 pub record Appends (b c : Inside) (w : WorkerId) (what : Event) (answer : Reply) : Type 0 where
   pub entries : c.entries.items ≡ b.entries.items ++ record { worker = w; count = slice_index b.counts.items w.0 + 1; event = what; reply = answer } ∷ []
   pub room : vec_capacity c.entries ≡ vec_capacity b.entries
   pub counts : c.counts.items ≡ slice_set b.counts.items w.0 (slice_index b.counts.items w.0 + 1)
+  pub takers : c.takers.items ≡ noted c.state.flights b.takers.items w.0 (ticket_given answer)
 
-module _ (b c : Inside) (w : WorkerId) (what : Event) (answer : Reply) (is : IsBook b) (h : Extending b.state c.state (history_of b) b.counts.items w.0 what answer) (appends : Appends b c w what answer) where
+module _ (b c : Inside) (w : WorkerId) (what : Event) (answer : Reply) (is : IsBook b) (h : Extending b.state c.state (history_of b) b.counts.items b.takers.items w.0 what answer) (appends : Appends b c w what answer) where
   history_is : history_of c ≡ entry_of (record { worker = w.0 }) (history_of b) what answer ∷ history_of b
   history_is = ap reverse appends.entries ∙ reverse-entries b.entries.items b.counts.items w.0 what answer (is.told.counted w.0)
 
-  pub told_more : IsHistory c.state (history_of c) c.counts.items
+  pub told_more : IsHistory c.state (history_of c) c.counts.items c.takers.items
   told_more =
-      subst (λ (h : List Entry). IsHistory c.state h c.counts.items) (sym history_is)
-      (subst (λ (counts : List ℕ). IsHistory c.state (entry_of (record { worker = w.0 }) (history_of b) what answer ∷ history_of b) counts) (sym appends.counts) (extends b.state c.state (history_of b) b.counts.items w.0 what answer h))
+      subst (λ (h : List Entry). IsHistory c.state h c.counts.items c.takers.items) (sym history_is)
+      (subst (λ (counts : List ℕ). IsHistory c.state (entry_of (record { worker = w.0 }) (history_of b) what answer ∷ history_of b) counts c.takers.items) (sym appends.counts)
+      (subst
+      (λ (takers : List WorkerId). IsHistory c.state (entry_of (record { worker = w.0 }) (history_of b) what answer ∷ history_of b) (slice_set b.counts.items w.0 (slice_index b.counts.items w.0 + 1)) takers)
+      (sym appends.takers) (extends b.state c.state (history_of b) b.counts.items b.takers.items w.0 what answer h)))
 
   pub longer : length (history_of c) ≡ length b.entries.items + 1
   longer = let more = ap length history_is in let all = length-reverse b.entries.items in let one = add-one (length (history_of b)) in omega (arith, more, all, one)
@@ -266,8 +220,8 @@ module _ (b c : Inside) (w : WorkerId) (what : Event) (answer : Reply) (is : IsB
   answers_more : Answers (past_of b) (record { worker = w.0 }) what answer (past_of c)
   answers_more =
       record {
-        steps = subst (λ (h : List Entry). Step (state_of b.state (history_of b)) what answer (state_of c.state h)) (sym history_is) (steps_on b.state c.state (history_of b) b.counts.items w.0 what answer h);
-        order = orders-counting b.state.tables c.state.tables (counted_in (history_of b)) (counted_in (history_of c)) b.state.order c.state.order what answer h.makes_step.orders;
+        steps = h.makes_step.steps;
+        order = h.makes_step.orders;
         history = history_is;
         passes = ap length appends.counts ∙ length-set b.counts.items w.0 (slice_index b.counts.items w.0 + 1);
       }
@@ -283,4 +237,5 @@ module _ (b c : Inside) (w : WorkerId) (what : Event) (answer : Reply) (is : IsB
         within = (let more = ap length appends.entries ∙ length-append b.entries.items _ in let fits = fits_more b c.state w.0 what answer h in omega (arith, more, fits, same));
         room = (let room = is.room in let kept = appends.room in omega (arith, room, kept, same));
         few = (let few = is.few in let kept = ap length appends.counts ∙ length-set b.counts.items w.0 _ in omega (arith, few, kept));
+        takers = (let sized = is.takers in let kept = ap length appends.takers ∙ noted-length c.state.flights b.takers.items w.0 (ticket_given answer) in let numbers = ap page_numbers h.makes_step.opening in omega (arith, sized, kept, numbers));
       }

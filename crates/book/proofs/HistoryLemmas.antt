@@ -1,5 +1,5 @@
 -- One entry more: what a history tells goes on to hold.
-use Rattle.std.proofs.Common.{◌≡◌, inl, inr, ℕ, zero, suc, ◌+◌, ◌*◌, ◌<◌, ◌≤◌, ◌==◌, Bool, true, false, cond, List, [], ◌∷◌, Option, Some, None, eq-eqb, ne_eqb, refl, sym, ap, ◌∙◌, subst, length, add-one, arith}
+use Rattle.std.proofs.Common.{◌≡◌, ◌≢◌, ◌⊎◌, inl, inr, ℕ, zero, suc, ◌+◌, ◌*◌, ◌<◌, ◌≤◌, ◌==◌, Bool, true, false, cond, List, [], ◌∷◌, Option, Some, None, eq-eqb, ne_eqb, refl, sym, ap, ◌∙◌, subst, length, add-one, arith}
 use Rattle.std.specs.Prelude.{slice_index, slice_set, IfSome}
 use Rattle.std.proofs.lemmas.List.{get_or-set_same, get_or-set_other}
 use Rattle.machine.specs.declared.entry.Entry.{Entry}
@@ -7,6 +7,9 @@ use Rattle.machine.specs.declared.record.Life.{Life}
 use Rattle.machine.specs.declared.record.Life.TheVariants.{Live, Exited, Killed}
 use Rattle.machine.specs.declared.record.Task.{Task}
 use Rattle.machine.specs.declared.id.FrameId.{FrameId}
+use Rattle.machine.specs.declared.id.WorkerId.{WorkerId}
+use Rattle.machine.specs.declared.record.Direction.{Direction}
+use Rattle.machine.specs.declared.record.Direction.TheVariants.{In, Out}
 use Rattle.machine.specs.declared.event.Place.{Place}
 use Rattle.machine.specs.declared.event.Place.TheVariants.{Virtual, File}
 use Rattle.machine.specs.declared.event.Op.{Op}
@@ -16,10 +19,9 @@ use Rattle.machine.specs.declared.event.Event.TheVariants as event
 use Rattle.machine.specs.declared.reply.Reply.{Reply}
 use Rattle.machine.specs.declared.reply.Reply.TheVariants as reply
 use Rattle.machine.specs.Slots.{at, there_and}
-use Rattle.machine.specs.Pages.{Coming, Pages, page_at, file_page}
-use Rattle.machine.specs.Counts.{Counted}
-use Rattle.machine.specs.Tasks.{PageTables, is_live_task, is_live_life, lives, task_at, group_of_task, mapped_at}
-use Rattle.machine.specs.State.{Opening, State, first_state}
+use Rattle.machine.specs.Pages.{Coming, Page, Pages, page_at, file_page, ticket_at}
+use Rattle.machine.specs.Tasks.{PageTables, is_live_task, is_live_life, lives, task_at, mapped_at}
+use Rattle.machine.specs.State.{Opening, State, page_numbers, first_state}
 use Rattle.machine.specs.Generations.{new_gens, gens_at}
 use Rattle.machine.specs.Lists.{Order, first_order}
 use Rattle.machine.specs.Access.{page_size}
@@ -29,27 +31,18 @@ use Rattle.machine.specs.Legal.{Legal}
 use Rattle.machine.specs.History.{IsRight, Spot, InTask, InFile, spot_of, at_offset, Says, Byte, As, Nothing, says, follow, at_first, last, Fetched, HoldsLast, IsHonest, Honest, ticket_given, taker_or, taker, entries_by}
 use Rattle.machine.specs.Call.{is_full_for, knows_pass, entry_of}
 use Rattle.machine.proofs.TreeLemmas.{eq_cases}
-use Rattle.machine.proofs.Values.{unlike}
+use Rattle.machine.proofs.Values.{some_inj, unlike}
 use Rattle.machine.proofs.FileLemmas.{file_page-there}
+use Rattle.legal.proofs.StepLemmas.{legal-numbered}
 use Rattle.legal.proofs.SharedLemmas.{FetchedSo, legal-fetched}
-use Rattle.pages.specs.PagesOf.{labelled}
+use Rattle.pages.specs.PagesOf.{labelled, moving, IsInTransfer, AreInFlight}
 use Rattle.pages.specs.declared.flight.Flight.{Flight}
-use Rattle.memory_events.specs.Tallies.{Tells}
 use Rattle.page_state.specs.States.{StateOf, byte_at}
 use Rattle.book.specs.Spots.{offset_of, holder, IsThere}
-use Rattle.book.specs.Effects.{counting, counted_after, group_after, byte_at_spot, knows, KnowsSpot, ReadsByte, Arrives, IsSaid, worker_of}
-use Rattle.book.specs.MakesStep.{MakesStep}
-use Rattle.book.specs.Told.{group_in, counted_in, state_of, IsHistory}
+use Rattle.book.specs.Effects.{byte_at_spot, knows, KnowsSpot, ReadsByte, Arrives, IsSaid}
+use Rattle.book.specs.MakesStep.{MakesStep, noted, noted_at}
+use Rattle.book.specs.Told.{taker_of, IsHistory}
 use Rattle.book.proofs.StepLemmas.{holder-same}
-
--- ---- groups and events counted
-
-agree : {f g : ℕ → ℕ} → ((t : ℕ) → f t ≡ g t) → f ≡ g
-agree same = λ i t. same t i
-
--- tasks' groups that agree count the same
-counted-same : (f g : ℕ → ℕ) → ((t : ℕ) → f t ≡ g t) → (c : List Counted) (what : Event) (answer : Reply) → counted_after f c what answer ≡ counted_after g c what answer
-counted-same f g same c what answer = ap (λ (h : ℕ → ℕ). counted_after h c what answer) (agree same)
 
 -- ---- reads
 
@@ -71,16 +64,16 @@ abbrev pub AreLast : (Spot → ℕ) → StateOf → List Entry → Type 0
 AreLast first c history = (spot : Spot) → IsThere c.tables spot → KnowsSpot c spot → byte_at_spot c spot ≡ last first history spot
 
 -- an access that is done reaches for a byte that is there
-done_there : (s : State) (t : ℕ) (place : Place) (op : Op) (byte : ℕ) (hit : Option FrameId) (new : State) (c : List Counted) → Step (counting s c) (event.Access (record { 0 = t }) place op) (reply.Done byte hit) new → IsThere s (spot_of t place)
-done_there s t (Virtual v o) op byte hit new c step = done_lives (counting s c) t (Virtual v o) op byte hit new step
-done_there s t (File f q o) op byte hit new c step = tt
+done_there : (s : State) (t : ℕ) (place : Place) (op : Op) (byte : ℕ) (hit : Option FrameId) (new : State) → Step s (event.Access (record { 0 = t }) place op) (reply.Done byte hit) new → IsThere s (spot_of t place)
+done_there s t (Virtual v o) op byte hit new step = done_lives s t (Virtual v o) op byte hit new step
+done_there s t (File f q o) op byte hit new step = tt
 
 -- a read that is done gave the last write
-pub read_right : (first : Spot → ℕ) (c : StateOf) (history : List Entry) (what : Event) (answer : Reply) (new : State) (counted : List Counted)
-    → AreLast first c history → Step (counting c.tables counted) what answer new → ReadsByte c what answer → IsRight first history what answer
-read_right first c history (event.Access t place Read) (reply.Done byte hit) new counted bytes step reads =
-    reads.0 ∙ bytes (spot_of t.0 place) (done_there c.tables t.0 place Read byte hit new counted step) reads.1
-read_right first c history what answer new counted bytes step reads = tt
+pub read_right : (first : Spot → ℕ) (c : StateOf) (history : List Entry) (what : Event) (answer : Reply) (new : State)
+    → AreLast first c history → Step c.tables what answer new → ReadsByte c what answer → IsRight first history what answer
+read_right first c history (event.Access t place Read) (reply.Done byte hit) new bytes step reads =
+    reads.0 ∙ bytes (spot_of t.0 place) (done_there c.tables t.0 place Read byte hit new step) reads.1
+read_right first c history what answer new bytes step reads = tt
 
 -- ---- bytes
 
@@ -106,60 +99,119 @@ arrived_last first old history s pages tables opening legal (event.Arrived ticke
     is ∙ subst (λ (fetch : Option Fetched). HoldsLast first bytes fetch) fetched.is honest (offset_of spot) lt ∙ sym (fetched_last first history s p ticket.0 fetched spot now)
 arrived_last first old history s pages tables opening legal what answer spot byte honest lt arrives = absurd arrives
 
--- who took a ticket, where the flights before were their takers'
-taker_on : (flight : Option Flight) (n worker taken : ℕ) (given before : Option ℕ) → IfSome flight (λ f. before ≡ Some f.worker.0) → Some taken ≡ taker_or n given worker (worker_of flight) → taker_or n given worker before ≡ Some taken
-taker_on flight n worker taken given before takers is = by_given given is
-  where
-    kept : (flight : Option Flight) → IfSome flight (λ f. before ≡ Some f.worker.0) → Some taken ≡ worker_of flight → before ≡ Some taken
-    kept None h e = cc
-    kept (Some f) h e = h ∙ sym e
+-- ---- who took which ticket
 
-    by_test : (b : Bool) → Some taken ≡ cond b (Some worker) (worker_of flight) → cond b (Some worker) before ≡ Some taken
-    by_test true e = sym e
-    by_test false e = kept flight takers e
+-- the ticket of a page in transfer
+abbrev ticket_there : Option Page → Option ℕ
+ticket_there None = None
+ticket_there (Some page) = ticket_at page.residence
 
-    by_given : (given : Option ℕ) → Some taken ≡ taker_or n given worker (worker_of flight) → taker_or n given worker before ≡ Some taken
-    by_given None e = kept flight takers e
-    by_given (Some m) e = by_test (m == n) e
+moving-ticket : (direction : Direction) (frame block n : ℕ) → ticket_at (moving direction frame block n) ≡ Some n
+moving-ticket In frame block n = refl
+moving-ticket Out frame block n = refl
+
+-- what is noted of a ticket that is given out: the taker of its page, and of no other page that is in transfer
+module _ (new : StateOf) (takers : List WorkerId) (worker : ℕ) (in_flight : AreInFlight new.tables.pages new.flights) (placed : (p : ℕ) → IfSome (page_at new.tables.pages p) (λ page. p < length takers)) where
+  flies : (n : ℕ) (f : Flight) → at new.flights n ≡ Some f → IsInTransfer new.tables.pages n f
+  flies n f is = subst (λ (slot : Option Flight). IfSome slot (λ flight. IsInTransfer new.tables.pages n flight)) is (in_flight.known n)
+
+  ticket_is : (n : ℕ) (f : Flight) → at new.flights n ≡ Some f → ticket_there (page_at new.tables.pages f.page.0) ≡ Some n
+  ticket_is n f is = let flight = flies n f is in ap ticket_there flight.stands ∙ moving-ticket f.direction flight.frame flight.block n
+
+  -- a page has one ticket
+  other_page : (n m : ℕ) (f g : Flight) → at new.flights n ≡ Some f → at new.flights m ≡ Some g → n ≢ m → f.page.0 ≢ g.page.0
+  other_page n m f g first second differ same =
+      differ (some_inj (sym (ticket_is n f first) ∙ ap (λ (p : ℕ). ticket_there (page_at new.tables.pages p)) same ∙ ticket_is m g second))
+
+  within : (n : ℕ) (f : Flight) → at new.flights n ≡ Some f → f.page.0 < length takers
+  within n f is = subst (λ (slot : Option Page). IfSome slot (λ page. f.page.0 < length takers)) (flies n f is).stands (placed f.page.0)
+
+  -- the ticket's own page
+  noted-own : (n : ℕ) (f : Flight) → at new.flights n ≡ Some f → taker_of (noted_at takers (at new.flights n) worker) f.page.0 ≡ worker
+  noted-own n f is =
+      ap (λ (slot : Option Flight). taker_of (noted_at takers slot worker) f.page.0) is
+      ∙ ap (λ (w : WorkerId). w.0) (get_or-set_same takers f.page.0 (record { 0 = worker }) (record { 0 = 0 }) (within n f is))
+
+  noted-other : (n m : ℕ) (f : Flight) → at new.flights n ≡ Some f → n ≢ m → taker_of (noted_at takers (at new.flights m) worker) f.page.0 ≡ taker_of takers f.page.0
+  noted-other n m f is differ = by_slot (at new.flights m) refl
+    where
+      by_slot : (slot : Option Flight) → at new.flights m ≡ slot → taker_of (noted_at takers slot worker) f.page.0 ≡ taker_of takers f.page.0
+      by_slot None none = refl
+      by_slot (Some g) other = ap (λ (w : WorkerId). w.0) (get_or-set_other takers g.page.0 f.page.0 (record { 0 = worker }) (record { 0 = 0 }) (other_page n m f g is other differ))
 
 -- ---- one entry more
 
 -- an event whose ticket is its worker's, that nothing refuses, and that is served with room for its entry
-pub record Extending (old new : StateOf) (history : List Entry) (counts : List ℕ) (worker : ℕ) (what : Event) (answer : Reply) : Type 0 where
-  pub told : IsHistory old history counts
+pub record Extending (old new : StateOf) (history : List Entry) (counts : List ℕ) (takers : List WorkerId) (worker : ℕ) (what : Event) (answer : Reply) : Type 0 where
+  pub told : IsHistory old history counts takers
   pub passed : worker < length counts
-  pub known : knows_pass (state_of old history) history (record { worker = worker }) what ≡ true
-  pub none : refusal (state_of old history) what ≡ None
-  pub room : is_full_for (state_of old history) history what ≡ false
-  pub makes_step : MakesStep old worker what answer new
+  pub known : knows_pass old.tables history (record { worker = worker }) what ≡ true
+  pub none : refusal old.tables what ≡ None
+  pub room : is_full_for old.tables history what ≡ false
+  pub makes_step : MakesStep old what answer new
+  -- the transfers in flight after it are those of the pages in transfer, and each page number has a place for a taker
+  pub in_flight : AreInFlight new.tables.pages new.flights
+  pub sized : page_numbers old.tables.opening ≤ length takers
 
-module _ (old new : StateOf) (history : List Entry) (counts : List ℕ) (worker : ℕ) (what : Event) (answer : Reply) (h : Extending old new history counts worker what answer) where
+module _ (old new : StateOf) (history : List Entry) (counts : List ℕ) (takers : List WorkerId) (worker : ℕ) (what : Event) (answer : Reply) (h : Extending old new history counts takers worker what answer) where
   abbrev more : List Entry
   more = entry_of (record { worker = worker }) history what answer ∷ history
 
-  -- the step that an entry more records
-  pub steps_on : Step (state_of old history) what answer (state_of new more)
-  steps_on =
-      subst (λ (c : List Counted). Step (state_of old history) what answer (counting new.tables c)) (counted-same (group_of_task old.tables.tasks) (group_in history) h.told.groups (counted_in history) what answer)
-      (h.makes_step.steps (counted_in history) h.told.tallied)
-
   pub read_on : (files : ℕ → ℕ → ℕ → ℕ) → Honest (at_first files) history → IsRight (at_first files) history what answer
-  read_on files honest =
-      read_right (at_first files) old history what answer _ (counted_in history) (h.told.bytes files honest) (h.makes_step.steps (counted_in history) h.told.tallied) h.makes_step.reads
+  read_on files honest = read_right (at_first files) old history what answer _ (h.told.bytes files honest) h.makes_step.steps h.makes_step.reads
 
   bytes_on : (files : ℕ → ℕ → ℕ → ℕ) → Honest (at_first files) more → AreLast (at_first files) new more
   bytes_on files honest spot there known =
       elim (h.makes_step.bytes spot there known) [
-        | inl arrives ↦ arrived_last (at_first files) old history (state_of old history) refl refl old.tables.opening h.told.legal what answer spot (byte_at_spot new spot) honest.1 known.1 arrives
+        | inl arrives ↦ arrived_last (at_first files) old history old.tables refl refl old.tables.opening h.told.legal what answer spot (byte_at_spot new spot) honest.1 known.1 arrives
         | inr follows ↦ said_last (at_first files) old history (h.told.bytes files honest.0) (says what answer spot) spot (byte_at_spot new spot) follows
       ]
 
-  takers_on : (n : ℕ) → IfSome (at new.flights n) (λ f. taker n more ≡ Some f.worker.0)
-  takers_on n = by_flight (at new.flights n) (h.makes_step.flights n)
+  pub legal_more : Legal old.tables.opening more new.tables
+  legal_more = (old.tables, h.told.legal, record { known = h.known; unrefused = h.none; room = h.room; steps = h.makes_step.steps })
+
+  placed : (p : ℕ) → IfSome (page_at new.tables.pages p) (λ page. p < length takers)
+  placed p = by_slot (page_at new.tables.pages p) ((legal-numbered old.tables.opening more new.tables legal_more).below p)
     where
-      by_flight : (flight : Option Flight) → IfSome flight (λ f. Some f.worker.0 ≡ taker_or n (ticket_given answer) worker (worker_of (at old.flights n))) → IfSome flight (λ f. taker n more ≡ Some f.worker.0)
+      by_slot : (slot : Option Page) → IfSome slot (λ page. p < page_numbers old.tables.opening) → IfSome slot (λ page. p < length takers)
+      by_slot None lt = tt
+      by_slot (Some page) lt = let le = h.sized in omega (arith, lt, le)
+
+  -- and so each page in transfer has one
+  pub flights_within : (n : ℕ) → IfSome (at new.flights n) (λ f. f.page.0 < length takers)
+  flights_within n = by_slot (at new.flights n) refl
+    where
+      by_slot : (slot : Option Flight) → at new.flights n ≡ slot → IfSome slot (λ f. f.page.0 < length takers)
+      by_slot None is = tt
+      by_slot (Some f) is = within new takers worker h.in_flight placed n f is
+
+  takers_on : (n : ℕ) → IfSome (at new.flights n) (λ f. taker n more ≡ Some (taker_of (noted new.flights takers worker (ticket_given answer)) f.page.0))
+  takers_on n = by_flight (at new.flights n) refl
+    where
+      -- a transfer that was in flight before has its taker
+      earlier : (f : Flight) → at new.flights n ≡ Some f → (ticket_given answer ≡ Some n → ⊥) → taker n history ≡ Some (taker_of takers f.page.0)
+      earlier f is other =
+          elim (subst (λ (slot : Option Flight). IfSome slot (λ f. (ticket_given answer ≡ Some n) ⊎ (at old.flights n ≡ Some f))) is (h.makes_step.flights n)) [
+            | inl given ↦ absurd (other given)
+            | inr before ↦ subst (λ (slot : Option Flight). IfSome slot (λ f. taker n history ≡ Some (taker_of takers f.page.0))) before (h.told.taken n)
+          ]
+
+      by_given : (f : Flight) → at new.flights n ≡ Some f → (given : Option ℕ) → ticket_given answer ≡ given → taker_or n given worker (taker n history) ≡ Some (taker_of (noted new.flights takers worker given) f.page.0)
+      by_given f is None none = earlier f is (λ given. let wrong : None ≡ Some n = sym none ∙ given in cc)
+      by_given f is (Some m) given =
+          elim (eq_cases m n) [
+            | inl same ↦
+                ap (λ (b : Bool). cond b (Some worker) (taker n history)) (eq-eqb m n same)
+                ∙ ap (λ (w : ℕ). Some w) (sym (ap (λ (k : ℕ). taker_of (noted_at takers (at new.flights k) worker) f.page.0) same ∙ noted-own new takers worker h.in_flight placed n f is))
+            | inr other ↦
+                ap (λ (b : Bool). cond b (Some worker) (taker n history)) (ne_eqb m n other)
+                ∙ earlier f is (λ also. other (some_inj (sym given ∙ also)))
+                ∙ ap (λ (w : ℕ). Some w) (sym (noted-other new takers worker h.in_flight placed n m f is (λ e. other (sym e))))
+          ]
+
+      by_flight : (slot : Option Flight) → at new.flights n ≡ slot → IfSome slot (λ f. taker n more ≡ Some (taker_of (noted new.flights takers worker (ticket_given answer)) f.page.0))
       by_flight None is = tt
-      by_flight (Some f) is = taker_on (at old.flights n) n worker f.worker.0 (ticket_given answer) (taker n history) (h.told.takers n) is
+      by_flight (Some f) is = by_given f is (ticket_given answer) refl
 
   counted_on : (w : ℕ) → slice_index (slice_set counts worker (slice_index counts worker + 1)) w ≡ length (entries_by w more)
   counted_on w =
@@ -183,16 +235,14 @@ module _ (old new : StateOf) (history : List Entry) (counts : List ℕ) (worker 
       let one = add-one (length history) in
       omega (arith, before, ages, one)
 
-  pub extends : IsHistory new more (slice_set counts worker (slice_index counts worker + 1))
+  pub extends : IsHistory new more (slice_set counts worker (slice_index counts worker + 1)) (noted new.flights takers worker (ticket_given answer))
   extends =
       record {
-        legal = (state_of old history, subst (λ opening. Legal opening history (state_of old history)) (sym h.makes_step.opening) h.told.legal, record { known = h.known; unrefused = h.none; room = h.room; steps = steps_on });
+        legal = subst (λ opening. Legal opening more new.tables) (sym h.makes_step.opening) legal_more;
         right = λ files honest. (h.told.right files honest.0, read_on files honest.0);
         numbered = (h.told.numbered, refl);
         bytes = bytes_on;
-        takers = takers_on;
-        groups = λ t. h.makes_step.groups t ∙ ap (λ (before : ℕ → ℕ). group_after before what answer t) (agree h.told.groups);
-        tallied = subst (λ (c : List Counted). Tells new.tallies c) (counted-same (group_of_task old.tables.tasks) (group_in history) h.told.groups (counted_in history) what answer) (h.makes_step.tallied (counted_in history) h.told.tallied);
+        taken = takers_on;
         counted = counted_on;
         young = young_on;
       }
@@ -200,16 +250,14 @@ module _ (old new : StateOf) (history : List Entry) (counts : List ℕ) (worker 
 -- ---- the beginning
 
 -- at the opening nothing is told
-pub told-first : (c : StateOf) (opening : Opening) → c.tables ≡ first_state opening → c.order ≡ first_order opening → c.flights ≡ [] → Tells c.tallies [] → ((t v o : ℕ) → byte_at c t v o ≡ 0) → IsHistory c [] []
-told-first c opening tables order flights tells zeros =
+pub told-first : (c : StateOf) (opening : Opening) (takers : List WorkerId) → c.tables ≡ first_state opening → c.order ≡ first_order opening → c.flights ≡ [] → ((t v o : ℕ) → byte_at c t v o ≡ 0) → IsHistory c [] [] takers
+told-first c opening takers tables order flights zeros =
     record {
-      legal = subst (λ (s : State). let empty : State = record s { counted = [] } in empty ≡ first_state s.opening) (sym tables) refl;
+      legal = subst (λ (s : State). s ≡ first_state s.opening) (sym tables) refl;
       right = λ files honest. tt;
       numbered = tt;
       bytes = λ files honest spot there known. first_byte files spot known;
-      takers = λ n. subst (λ (fs : List (Option Flight)). IfSome (at fs n) (λ f. taker n [] ≡ Some f.worker.0)) (sym flights) tt;
-      groups = λ t. ap (λ (s : State). group_of_task s.tasks t) tables;
-      tallied = tells;
+      taken = λ n. subst (λ (fs : List (Option Flight)). IfSome (at fs n) (λ f. taker n [] ≡ Some (taker_of takers f.page.0))) (sym flights) tt;
       counted = λ w. refl;
       young = λ g. subst (λ (o : Order). (gens_at o.held.groups g).max_seq ≤ 3 + 3 * 0) (sym order) (first g);
     }

@@ -15,15 +15,14 @@ use Rattle.machine.specs.declared.reply.Reply.{Reply}
 use Rattle.machine.specs.declared.reply.Reply.TheVariants as reply
 use Rattle.machine.specs.Slots.{at, Changes, there_and}
 use Rattle.machine.specs.Pages.{Content, Memory, OfFile, Residence, Held, Coming, Going, Away, Page, Pages, page_at, file_page, home_block, is_anon, is_page_of, is_in_transfer, in_transfer, in_transfer_at}
-use Rattle.machine.specs.Counts.{Counted}
-use Rattle.machine.specs.Tasks.{PageTables, task_at, group_of_task, mapped_at, mappers}
+use Rattle.machine.specs.Tasks.{PageTables, task_at, mapped_at, mappers}
 use Rattle.machine.specs.State.{State, over_in, is_frame_free}
 use Rattle.machine.specs.Access.{meets}
 use Rattle.machine.specs.Call.{fetches, need}
 use Rattle.machine.specs.Reclaim.{stands, target_of, is_takeable, has_takeable}
 use Rattle.machine.specs.Lists.{Youngest, entry_after, TakesNext, Orders}
 use Rattle.machine.specs.Step.{Step, MeetStep, StartsFetch, ReadsFile, StartsLeave, Drops, LeavesBy, Takes, RelieveStep, ReclaimOneStep, EndsTransfer, or_gone, in_frame, on_block, on_block_of}
-use Rattle.machine.specs.History.{Spot, InTask, InFile, Nothing, says, ticket_given, taker_or}
+use Rattle.machine.specs.History.{Spot, InTask, InFile, Nothing, says, ticket_given}
 use Rattle.machine.proofs.Values.{some_inj, unlike}
 use Rattle.machine.proofs.TreeLemmas.{eq_cases}
 use Rattle.machine.proofs.SlotLemmas.{one_if}
@@ -33,10 +32,9 @@ use Rattle.pages.specs.PagesOf.{Label, labelled, memory_of, of_file, byte_in, Ha
 use Rattle.pages.specs.declared.flight.Flight.{Flight}
 use Rattle.machine.specs.declared.record.Direction.{Direction}
 use Rattle.machine.specs.declared.record.Direction.TheVariants.{In, Out}
-use Rattle.memory_events.specs.Tallies.{Tallies, Tells}
 use Rattle.page_state.specs.States.{StateOf, byte_shown}
 use Rattle.book.specs.Spots.{offset_of, holder}
-use Rattle.book.specs.Effects.{counting, counted_after, Steps, Tallied, group_after, byte_at_spot, is_in_memory, is_known, knows, KnowsSpot, ReadsByte, Arrives, Follows, ChangesBytes, ChangesFlights, worker_of}
+use Rattle.book.specs.Effects.{byte_at_spot, is_in_memory, is_known, knows, KnowsSpot, ReadsByte, Arrives, Follows, ChangesBytes, KeepsFlights}
 use Rattle.book.specs.MakesStep.{AgesByThree, MakesStep, RepliesTo, is_refused}
 use Rattle.book.specs.declared.event.Reply.TheVariants as given
 use Rattle.pages.specs.Tickets.{TicketOf}
@@ -47,7 +45,7 @@ use Rattle.book.specs.Events.{ended}
 use Rattle.book.specs.Decisions.{AsksPage}
 use Rattle.pages.proofs.TableLemmas.{any-some}
 use Rattle.book.proofs.FlightLemmas.{in_transfer-changes}
-use Rattle.book.proofs.StepLemmas.{order-on, was, there-same, holder-same, stays-was, flight-kept, flights-kept, live_step, granted_step, stands_counting}
+use Rattle.book.proofs.StepLemmas.{order-on, was, there-same, holder-same, stays-was, flight-kept, flights-kept, live_step, granted_step}
 
 -- ---- which page has a byte, as one page changes
 
@@ -109,7 +107,6 @@ pub record IsMove (old new : StateOf) (what : Event) (answer : Reply) (p : ℕ) 
   pub placed : Changes old.tables.pages new.tables.pages p to
   pub others : (q o : ℕ) → q ≢ p → byte_in new.bytes q o ≡ byte_in old.bytes q o
   pub silent : (spot : Spot) → says what answer spot ≡ Nothing
-  pub groups : (before : ℕ → ℕ) (u : ℕ) → group_after before what answer u ≡ before u
   pub given : is_refused answer ≡ false
   -- a byte that is in memory is had by the page that had it
   pub holders : (spot : Spot) → KnowsSpot new spot → holder new.tables spot ≡ holder old.tables spot
@@ -154,15 +151,13 @@ module _ (old new : StateOf) (what : Event) (answer : Reply) (p : ℕ) (to : Opt
                 (sym (ap (there_and (λ (page : Page). is_in_memory page.residence)) (move.placed.others r elsewhere)) ∙ in_memory, move.others r (offset_of spot) elsewhere)))
           ]
 
-  pub makes_step-move : (worker : ℕ) → Steps old what answer new → Orders old.tables old.order what answer new.tables new.order × AgesByThree old new → Tallied old what answer new → ReadsByte old what answer → ChangesFlights old worker answer new
-      → in_transfer new.tables.pages + 1 ≤ in_transfer old.tables.pages + need old.tables what → MakesStep old worker what answer new
-  makes_step-move worker steps orders tallied reads flights kept =
+  pub makes_step-move : Step old.tables what answer new.tables → Orders old.tables old.order what answer new.tables new.order × AgesByThree old new → ReadsByte old what answer → KeepsFlights old answer new
+      → in_transfer new.tables.pages + 1 ≤ in_transfer old.tables.pages + need old.tables what → MakesStep old what answer new
+  makes_step-move steps orders reads flights kept =
       record {
         steps = steps;
         orders = orders.0;
         ages = orders.1;
-        tallied = tallied;
-        groups = λ u. ap (λ (s : State). group_of_task s.tasks u) move.tables ∙ sym (move.groups (group_of_task old.tables.tasks) u);
         reads = reads;
         bytes = moved-bytes;
         flights = flights;
@@ -173,37 +168,29 @@ module _ (old new : StateOf) (what : Event) (answer : Reply) (p : ℕ) (to : Opt
 
 -- ---- the transfers in flight
 
--- a ticket is given to the worker
-pub flights-begun : (old new : StateOf) (worker p n : ℕ) (direction : Direction) (answer : Reply) → ticket_given answer ≡ Some n → Changes old.flights new.flights n (Some (flight p worker direction)) → ChangesFlights old worker answer new
-flights-begun old new worker p n direction answer given listed m =
-    subst (λ (x : Option ℕ). IfSome (at new.flights m) (λ f. Some f.worker.0 ≡ taker_or m x worker (worker_of (at old.flights m)))) (sym given)
-    (elim (eq_cases m n) [
-      | inl same ↦
-          by_slot (at new.flights m) (ap (at new.flights) same ∙ listed.changed) (eq-eqb n m (sym same))
-      | inr other ↦
-          subst (λ (b : Bool). IfSome (at new.flights m) (λ f. Some f.worker.0 ≡ cond b (Some worker) (worker_of (at old.flights m)))) (sym (ne_eqb n m (λ e. other (sym e))))
-          (flight-kept (at new.flights m) (at old.flights m) (listed.others m other))
-    ])
+-- a ticket is given to the
+pub flights-begun : (old new : StateOf) (p n : ℕ) (direction : Direction) (answer : Reply) → ticket_given answer ≡ Some n → Changes old.flights new.flights n (Some (flight p direction)) → KeepsFlights old answer new
+flights-begun old new p n direction answer given listed m =
+    elim (eq_cases m n) [
+      | inl same ↦ any_flight (at new.flights m) (λ f. inl (given ∙ ap (λ (k : ℕ). Some k) (sym same)))
+      | inr other ↦ flight-kept answer m (at new.flights m) (at old.flights m) (listed.others m other)
+    ]
   where
-    by_slot : (slot : Option Flight) → slot ≡ Some (flight p worker direction) → (n == m) ≡ true → IfSome slot (λ f. Some f.worker.0 ≡ cond (n == m) (Some worker) (worker_of (at old.flights m)))
-    by_slot None is hit = tt
-    by_slot (Some f) is hit = worker_is f is ∙ ap (λ b. cond b (Some worker) (worker_of (at old.flights m))) (sym hit)
-      where
-        worker_is : (f : Flight) → Some f ≡ Some (flight p worker direction) → Some f.worker.0 ≡ Some worker
-        worker_is f is = ap worker_of is
+    any_flight : (slot : Option Flight) → ((f : Flight) → (ticket_given answer ≡ Some m) ⊎ (at old.flights m ≡ Some f)) → IfSome slot (λ f. (ticket_given answer ≡ Some m) ⊎ (at old.flights m ≡ Some f))
+    any_flight None all = tt
+    any_flight (Some f) all = all f
 
 -- a transfer is in flight no more
-pub flights-ended : (old new : StateOf) (worker n : ℕ) (answer : Reply) → ticket_given answer ≡ None → Changes old.flights new.flights n None → ChangesFlights old worker answer new
-flights-ended old new worker n answer none unlisted m =
-    subst (λ (x : Option ℕ). IfSome (at new.flights m) (λ f. Some f.worker.0 ≡ taker_or m x worker (worker_of (at old.flights m)))) (sym none)
-    (elim (eq_cases m n) [
-      | inl same ↦ by_slot (at new.flights m) (ap (at new.flights) same ∙ unlisted.changed)
-      | inr other ↦ flight-kept (at new.flights m) (at old.flights m) (unlisted.others m other)
-    ])
+pub flights-ended : (old new : StateOf) (n : ℕ) (answer : Reply) → Changes old.flights new.flights n None → KeepsFlights old answer new
+flights-ended old new n answer unlisted m =
+    elim (eq_cases m n) [
+      | inl same ↦ no_flight (at new.flights m) (ap (at new.flights) same ∙ unlisted.changed)
+      | inr other ↦ flight-kept answer m (at new.flights m) (at old.flights m) (unlisted.others m other)
+    ]
   where
-    by_slot : (slot : Option Flight) → slot ≡ None → IfSome slot (λ f. Some f.worker.0 ≡ worker_of (at old.flights m))
-    by_slot None is = tt
-    by_slot (Some f) is = cc
+    no_flight : (slot : Option Flight) → slot ≡ None → IfSome slot (λ f. (ticket_given answer ≡ Some m) ⊎ (at old.flights m ≡ Some f))
+    no_flight None is = tt
+    no_flight (Some f) is = cc
 
 -- ---- a read-in begins
 
@@ -229,14 +216,11 @@ pub fetch-needs : (s : State) (t : ℕ) (place : Place) (op : Op) → fetches s 
 fetch-needs s t place op fetch = ap (λ b. cond b 2 1) fetch
 
 -- a page begins to be read in, whichever it is
-module _ (old new : StateOf) (worker t p b : ℕ) (entry : ℕ) (label : Label) (place : Place) (op : Op) (task : Task) (ticket : TicketOf) (begins : BeginsReadIn old new p label b worker entry ticket) where
-  same_tallies_in : (c : List Counted) → Tells old.tallies c → Tells new.tallies c
-  same_tallies_in c told = subst (λ (t : Tallies). Tells t c) (sym begins.tallies) told
-
+module _ (old new : StateOf) (t p b : ℕ) (label : Label) (place : Place) (op : Op) (task : Task) (ticket : TicketOf) (begins : BeginsReadIn old new p label b ticket) where
   pub makes_step-fetch : task_at old.tables.tasks t ≡ Some task → task.life ≡ Live → fetches old.tables t place op ≡ true → there_and is_in_transfer (page_at old.tables.pages p) ≡ false
-      → ((c : List Counted) → MeetStep (counting old.tables c) t task.group.0 op (meets (counting old.tables c) t place op) (reply.Fetch (record { 0 = ticket.number })) (counting new.tables c))
+      → (MeetStep old.tables t task.group.0 op (meets old.tables t place op) (reply.Fetch (record { 0 = ticket.number })) new.tables)
       → ((spot : Spot) → KnowsSpot new spot → holder new.tables spot ≡ holder old.tables spot)
-      → MakesStep old worker (event.Access (record { 0 = t }) place op) (reply.Fetch (record { 0 = ticket.number })) new
+      → MakesStep old (event.Access (record { 0 = t }) place op) (reply.Fetch (record { 0 = ticket.number })) new
   makes_step-fetch known live fetch rested meeting holders =
       makes_step-move old new (event.Access (record { 0 = t }) place op) (reply.Fetch (record { 0 = ticket.number })) p (Some (labelled label (Coming begins.frame b ticket.number)))
       (record {
@@ -244,31 +228,29 @@ module _ (old new : StateOf) (worker t p b : ℕ) (entry : ℕ) (label : Label) 
         placed = begins.placed;
         others = begins.bytes;
         silent = silent-fetch t ticket.number place op;
-        groups = λ u g. refl;
         given = refl;
         holders = holders;
         own = λ spot is there. unlike false there refl;
       })
-      worker
-      (λ c told. live_step (counting old.tables c) _ task _ _ _ known live (meeting c))
-      (order-on Youngest old old.order.held new refl begins.held begins.cursors) same_tallies_in (reads-fetch old t ticket.number place op)
-      (flights-begun old new worker p ticket.number In (reply.Fetch (record { 0 = ticket.number })) refl begins.listed)
+      (live_step old.tables _ task _ _ _ known live meeting)
+      (order-on Youngest old old.order.held new refl begins.held begins.cursors) (reads-fetch old t ticket.number place op)
+      (flights-begun old new p ticket.number In (reply.Fetch (record { 0 = ticket.number })) refl begins.listed)
       (let more = in_transfer-changes old.tables.pages new.tables.pages p (Some (labelled label (Coming begins.frame b ticket.number))) begins.placed in
       let was : one_if (there_and is_in_transfer (page_at old.tables.pages p)) ≡ 0 = ap one_if rested in
       let two = fetch-needs old.tables t place op fetch in
       omega (arith, more, was, two))
 
 -- memory on its block
-pub makes_step-swap_in : (old new : StateOf) (worker entry t v o p g b : ℕ) (op : Op) (task : Task) (ticket : TicketOf) → task_at old.tables.tasks t ≡ Some task → task.life ≡ Live → mapped_at old.tables.page_tables t v ≡ Some p
-    → HasResidence old.tables.pages p (memory_of g) (Away b) → over_in old.tables g ≡ None → is_frame_free old.tables ≡ true → BeginsReadIn old new p (memory_of g) b worker entry ticket
-    → MakesStep old worker (event.Access (record { 0 = t }) (Virtual v o) op) (reply.Fetch (record { 0 = ticket.number })) new
-makes_step-swap_in old new worker entry t v o p g b op task ticket known live shown away under free begins =
-    makes_step-fetch old new worker t p b entry (memory_of g) (Virtual v o) op task ticket begins known live (away-fetches old.tables t v o p g b op task known live shown away under free) (ap (there_and is_in_transfer) away)
-    (λ c. rw shown (rw away (granted_step (counting old.tables c) _ _ _ _ _ under free (starts_fetch c))))
+pub makes_step-swap_in : (old new : StateOf) (t v o p g b : ℕ) (op : Op) (task : Task) (ticket : TicketOf) → task_at old.tables.tasks t ≡ Some task → task.life ≡ Live → mapped_at old.tables.page_tables t v ≡ Some p
+    → HasResidence old.tables.pages p (memory_of g) (Away b) → over_in old.tables g ≡ None → is_frame_free old.tables ≡ true → BeginsReadIn old new p (memory_of g) b ticket
+    → MakesStep old (event.Access (record { 0 = t }) (Virtual v o) op) (reply.Fetch (record { 0 = ticket.number })) new
+makes_step-swap_in old new t v o p g b op task ticket known live shown away under free begins =
+    makes_step-fetch old new t p b (memory_of g) (Virtual v o) op task ticket begins known live (away-fetches old.tables t v o p g b op task known live shown away under free) (ap (there_and is_in_transfer) away)
+    (rw shown (rw away (granted_step old.tables _ _ _ _ _ under free starts_fetch)))
     (holders-beside old new begins.tables p (Some (labelled (memory_of g) (Coming begins.frame b ticket.number))) begins.placed (λ f q. sym (ap (holds_page f q) away)))
   where
-    starts_fetch : (c : List Counted) → StartsFetch (counting old.tables c) p g Memory b (reply.Fetch (record { 0 = ticket.number })) (counting new.tables c)
-    starts_fetch c =
+    starts_fetch : StartsFetch old.tables p g Memory b (reply.Fetch (record { 0 = ticket.number })) new.tables
+    starts_fetch =
         record {
           frame = begins.frame;
           ticket = ticket.number;
@@ -276,24 +258,24 @@ makes_step-swap_in old new worker entry t v o p g b op task ticket known live sh
           ticket_free = begins.ticket_free;
           placed = begins.placed;
           answers = refl;
-          state = ap (λ (s : State). counting s c) begins.tables;
+          state = begins.tables;
         }
 
 -- a page of a file
-pub makes_step-read_in : (old new : StateOf) (worker entry t file q o : ℕ) (op : Op) (task : Task) (ticket : TicketOf) → task_at old.tables.tasks t ≡ Some task → task.life ≡ Live → file_page old.tables.pages file q ≡ None
-    → over_in old.tables task.group.0 ≡ None → is_frame_free old.tables ≡ true → BeginsRead old new file q task.group.0 worker entry ticket
-    → MakesStep old worker (event.Access (record { 0 = t }) (File file q o) op) (reply.Fetch (record { 0 = ticket.number })) new
-makes_step-read_in old new worker entry t file q o op task ticket known live none under free reads =
-    makes_step-fetch old new worker t reads.page (home_block old.tables.opening.swap old.tables.opening.files file q) entry (of_file file q task.group.0 false) (File file q o) op task ticket begins known live
+pub makes_step-read_in : (old new : StateOf) (t file q o : ℕ) (op : Op) (task : Task) (ticket : TicketOf) → task_at old.tables.tasks t ≡ Some task → task.life ≡ Live → file_page old.tables.pages file q ≡ None
+    → over_in old.tables task.group.0 ≡ None → is_frame_free old.tables ≡ true → BeginsRead old new file q task.group.0 ticket
+    → MakesStep old (event.Access (record { 0 = t }) (File file q o) op) (reply.Fetch (record { 0 = ticket.number })) new
+makes_step-read_in old new t file q o op task ticket known live none under free reads =
+    makes_step-fetch old new t reads.page (home_block old.tables.opening.swap old.tables.opening.files file q) (of_file file q task.group.0 false) (File file q o) op task ticket begins known live
     (uncached-fetches old.tables t file q o op task known live none under free) (ap (there_and is_in_transfer) reads.number_free)
-    (λ c. rw none (granted_step (counting old.tables c) _ _ _ _ _ under free (reads_file c)))
+    (rw none (granted_step old.tables _ _ _ _ _ under free reads_file))
     (holders-new old new begins.tables reads.page file q (labelled (of_file file q task.group.0 false) (Coming begins.frame (home_block old.tables.opening.swap old.tables.opening.files file q) ticket.number)) begins.placed reads.number_free refl none refl)
   where
-    begins : BeginsReadIn old new reads.page (of_file file q task.group.0 false) (home_block old.tables.opening.swap old.tables.opening.files file q) worker entry ticket
+    begins : BeginsReadIn old new reads.page (of_file file q task.group.0 false) (home_block old.tables.opening.swap old.tables.opening.files file q) ticket
     begins = reads.begins
 
-    reads_file : (c : List Counted) → ReadsFile (counting old.tables c) file q task.group.0 (reply.Fetch (record { 0 = ticket.number })) (counting new.tables c)
-    reads_file c =
+    reads_file : ReadsFile old.tables file q task.group.0 (reply.Fetch (record { 0 = ticket.number })) new.tables
+    reads_file =
         record {
           page = reads.page;
           in_range = reads.in_range;
@@ -305,7 +287,7 @@ makes_step-read_in old new worker entry t file q o op task ticket known live non
             ticket_free = begins.ticket_free;
             placed = begins.placed;
             answers = refl;
-            state = ap (λ (s : State). counting s c) begins.tables;
+            state = begins.tables;
           };
         }
 
@@ -318,17 +300,14 @@ pub reclaim-two : (s : State) (g : ℕ) → has_takeable s g ≡ true → need s
 reclaim-two s g some = rw some refl
 
 -- a page is taken for the target, whatever asks for it, and whether it is written out or dropped
-module _ (old new : StateOf) (target worker : ℕ) (answer : Reply) (p : ℕ) (to : Option Page) (some : has_takeable old.tables target ≡ true) (uncounted : (group_of : ℕ → ℕ) (c : List Counted) (why : Cause) → counted_after group_of c (event.Relieve why) answer ≡ c)
-    (takes : (c : List Counted) → Takes (counting old.tables c) target answer (counting new.tables c))
+module _ (old new : StateOf) (target : ℕ) (answer : Reply) (p : ℕ) (to : Option Page) (some : has_takeable old.tables target ≡ true)
+    (takes : Takes old.tables target answer new.tables)
     (relief_order : (why : Cause) → target_of why ≡ target → Orders old.tables old.order (event.Relieve why) answer new.tables new.order)
-    (reclaim_order : (h : GroupId) → h.0 ≡ target → Orders old.tables old.order (event.ReclaimOne h) answer new.tables new.order) (ages : AgesByThree old new) (tallies : new.tallies ≡ old.tallies) (tables : new.tables ≡ record old.tables { pages = new.tables.pages })
-    (placed : Changes old.tables.pages new.tables.pages p to) (others : (q o : ℕ) → q ≢ p → byte_in new.bytes q o ≡ byte_in old.bytes q o) (given : is_refused answer ≡ false) (flights : ChangesFlights old worker answer new)
+    (reclaim_order : (h : GroupId) → h.0 ≡ target → Orders old.tables old.order (event.ReclaimOne h) answer new.tables new.order) (ages : AgesByThree old new) (tables : new.tables ≡ record old.tables { pages = new.tables.pages })
+    (placed : Changes old.tables.pages new.tables.pages p to) (others : (q o : ℕ) → q ≢ p → byte_in new.bytes q o ≡ byte_in old.bytes q o) (given : is_refused answer ≡ false) (flights : KeepsFlights old answer new)
     (holders : (spot : Spot) → KnowsSpot new spot → holder new.tables spot ≡ holder old.tables spot)
     (own : (spot : Spot) → holder old.tables spot ≡ Some p → there_and (λ page. is_in_memory page.residence) to ≡ true → (is_known old.tables.pages p ≡ true) × (byte_in new.bytes p (offset_of spot) ≡ byte_in old.bytes p (offset_of spot)))
     (rested : there_and is_in_transfer (page_at old.tables.pages p) ≡ false) where
-  same_tallies : (c : List Counted) → Tells old.tallies c → Tells new.tallies c
-  same_tallies c told = subst (λ (t : Tallies). Tells t c) (sym tallies) told
-
   at_most_one : (slot : Option Page) → one_if (there_and is_in_transfer slot) ≤ 1
   at_most_one slot = by_test (there_and is_in_transfer slot)
     where
@@ -337,98 +316,94 @@ module _ (old new : StateOf) (target worker : ℕ) (answer : Reply) (p : ℕ) (t
       by_test false = omega arith
 
   -- whatever asks for it
-  makes_step-asked : (what : Event) → Steps old what answer new → Orders old.tables old.order what answer new.tables new.order → Tallied old what answer new → ReadsByte old what answer → ((spot : Spot) → says what answer spot ≡ Nothing)
-      → ((before : ℕ → ℕ) (u : ℕ) → group_after before what answer u ≡ before u) → need old.tables what ≡ 2 → MakesStep old worker what answer new
-  makes_step-asked what steps orders tallied reads silent groups two =
+  makes_step-asked : (what : Event) → Step old.tables what answer new.tables → Orders old.tables old.order what answer new.tables new.order → ReadsByte old what answer → ((spot : Spot) → says what answer spot ≡ Nothing)
+      → need old.tables what ≡ 2 → MakesStep old what answer new
+  makes_step-asked what steps orders reads silent two =
       makes_step-move old new what answer p to
-      (record { tables = tables; placed = placed; others = others; silent = silent; groups = groups; given = given; holders = holders; own = λ spot is there. inr (own spot is there) })
-      worker steps (orders, ages) tallied reads flights
+      (record { tables = tables; placed = placed; others = others; silent = silent; given = given; holders = holders; own = λ spot is there. inr (own spot is there) })
+      steps (orders, ages) reads flights
       (let more = in_transfer-changes old.tables.pages new.tables.pages p to placed in
       let was : one_if (there_and is_in_transfer (page_at old.tables.pages p)) ≡ 0 = ap one_if rested in
       let now = at_most_one to in
       omega (arith, more, was, now, two))
 
-  relieves : (why : Cause) → stands old.tables why ≡ true → target_of why ≡ target → (c : List Counted) → RelieveStep (counting old.tables c) why answer (counting new.tables c)
-  relieves why wants same c =
-      let here = stands_counting old.tables c why ∙ wants in
-      let found : has_takeable (counting old.tables c) (target_of why) ≡ true = ap (has_takeable (counting old.tables c)) same ∙ some in
-      rw here (rw found (subst (λ (t : ℕ). Takes (counting old.tables c) t answer (counting new.tables c)) (sym same) (takes c)))
+  relieves : (why : Cause) → stands old.tables why ≡ true → target_of why ≡ target → RelieveStep old.tables why answer new.tables
+  relieves why wants same =
+      let found : has_takeable old.tables (target_of why) ≡ true = ap (has_takeable old.tables) same ∙ some in
+      rw wants (rw found (subst (λ (t : ℕ). Takes old.tables t answer new.tables) (sym same) takes))
 
-  reclaims : (h : ℕ) → h ≡ target → (c : List Counted) → ReclaimOneStep (counting old.tables c) h answer (counting new.tables c)
-  reclaims h same c =
-      let found : has_takeable (counting old.tables c) h ≡ true = ap (has_takeable (counting old.tables c)) same ∙ some in
-      rw found (subst (λ (t : ℕ). Takes (counting old.tables c) t answer (counting new.tables c)) (sym same) (takes c))
+  reclaims : (h : ℕ) → h ≡ target → ReclaimOneStep old.tables h answer new.tables
+  reclaims h same =
+      let found : has_takeable old.tables h ≡ true = ap (has_takeable old.tables) same ∙ some in
+      rw found (subst (λ (t : ℕ). Takes old.tables t answer new.tables) (sym same) takes)
 
-  pub makes_step-taken : (what : Event) → AsksPage old.tables what target → MakesStep old worker what answer new
+  pub makes_step-taken : (what : Event) → AsksPage old.tables what target → MakesStep old what answer new
   makes_step-taken (event.Relieve why) asks =
-      makes_step-asked (event.Relieve why) (λ c told. subst (λ (d : List Counted). Step (counting old.tables c) (event.Relieve why) answer (counting new.tables d)) (sym (uncounted (group_of_task old.tables.tasks) c why)) (relieves why asks.0 asks.1 c)) (relief_order why asks.1)
-      (λ c told. subst (λ (d : List Counted). Tells new.tallies d) (sym (uncounted (group_of_task old.tables.tasks) c why)) (same_tallies c told)) tt (λ spot. refl) (λ u h. refl)
-      (relief-two old.tables why asks.0 (ap (has_takeable old.tables) asks.1 ∙ some))
+      makes_step-asked (event.Relieve why) (relieves why asks.0 asks.1) (relief_order why asks.1) tt (λ spot. refl) (relief-two old.tables why asks.0 (ap (has_takeable old.tables) asks.1 ∙ some))
   makes_step-taken (event.ReclaimOne h) asks =
-      makes_step-asked (event.ReclaimOne h) (λ c told. reclaims h.0 asks c) (reclaim_order h asks) (λ c told. same_tallies c told) tt (λ spot. refl) (λ u h. refl)
-      (reclaim-two old.tables h.0 (ap (has_takeable old.tables) asks ∙ some))
+      makes_step-asked (event.ReclaimOne h) (reclaims h.0 asks) (reclaim_order h asks) tt (λ spot. refl) (reclaim-two old.tables h.0 (ap (has_takeable old.tables) asks ∙ some))
   makes_step-taken other asks = absurd asks
 
 -- it begins to be written out
-module _ (old new : StateOf) (target worker entry : ℕ) (ticket : TicketOf) (taken : BeginsWriteOut old new target worker entry ticket) where
+module _ (old new : StateOf) (target : ℕ) (ticket : TicketOf) (taken : BeginsWriteOut old new target ticket) where
   out-some : has_takeable old.tables target ≡ true
   out-some = any-some (is_takeable old.tables target) old.tables.pages taken.p (ap (there_and (is_takeable old.tables target)) taken.stood ∙ taken.takeable)
 
-  starts_leave : (c : List Counted) (block : ℕ) → ticket.block ≡ block → StartsLeave (counting old.tables c) taken.p (labelled taken.label (Held taken.frame)) taken.frame block c (reply.Out (record { 0 = ticket.number })) (counting new.tables c)
-  starts_leave c block same =
+  starts_leave : (block : ℕ) → ticket.block ≡ block → StartsLeave old.tables taken.p (labelled taken.label (Held taken.frame)) taken.frame block old.tables.counted (reply.Out (record { 0 = ticket.number })) new.tables
+  starts_leave block same =
       record {
         ticket = ticket.number;
         ticket_free = taken.ticket_free;
         placed = subst (λ (b : ℕ). Changes old.tables.pages new.tables.pages taken.p (Some (labelled taken.label (Going taken.frame b ticket.number)))) same taken.placed;
         answers = refl;
-        state = ap (λ (s : State). counting s c) taken.tables;
+        state = taken.tables;
       }
 
-  leaves_by : (c : List Counted) (content : Content) → IsWrittenTo old.tables content taken.label.dirty ticket.block
-      → LeavesBy (counting old.tables c) taken.p (labelled taken.label (Held taken.frame)) content taken.frame c (reply.Out (record { 0 = ticket.number })) (counting new.tables c)
-  leaves_by c Memory free = record { block = ticket.block; block_free = record { in_range = free.in_range; unused = free.unused }; leave = starts_leave c ticket.block refl }
-  leaves_by c (OfFile file q) home =
+  leaves_by : (content : Content) → IsWrittenTo old.tables content taken.label.dirty ticket.block
+      → LeavesBy old.tables taken.p (labelled taken.label (Held taken.frame)) content taken.frame old.tables.counted (reply.Out (record { 0 = ticket.number })) new.tables
+  leaves_by Memory free = record { block = ticket.block; block_free = record { in_range = free.in_range; unused = free.unused }; leave = starts_leave ticket.block refl }
+  leaves_by (OfFile file q) home =
       subst
       (λ (dirty : Bool). MatchBool dirty
-      (StartsLeave (counting old.tables c) taken.p (labelled taken.label (Held taken.frame)) taken.frame (home_block old.tables.opening.swap old.tables.opening.files file q) c (reply.Out (record { 0 = ticket.number })) (counting new.tables c))
-      (Drops (counting old.tables c) taken.p c (reply.Out (record { 0 = ticket.number })) (counting new.tables c)))
-      (sym home.0) (starts_leave c (home_block old.tables.opening.swap old.tables.opening.files file q) home.1)
+      (StartsLeave old.tables taken.p (labelled taken.label (Held taken.frame)) taken.frame (home_block old.tables.opening.swap old.tables.opening.files file q) old.tables.counted (reply.Out (record { 0 = ticket.number })) new.tables)
+      (Drops old.tables taken.p old.tables.counted (reply.Out (record { 0 = ticket.number })) new.tables))
+      (sym home.0) (starts_leave (home_block old.tables.opening.swap old.tables.opening.files file q) home.1)
 
-  takes_out : (c : List Counted) → Takes (counting old.tables c) target (reply.Out (record { 0 = ticket.number })) (counting new.tables c)
-  takes_out c = record { p = taken.p; page = labelled taken.label (Held taken.frame); there = taken.stood; takeable = taken.takeable; leaves = leaves_by c taken.label.content taken.block }
+  takes_out : Takes old.tables target (reply.Out (record { 0 = ticket.number })) new.tables
+  takes_out = record { p = taken.p; page = labelled taken.label (Held taken.frame); there = taken.stood; takeable = taken.takeable; leaves = leaves_by taken.label.content taken.block }
 
-  pub makes_step-out : (what : Event) → AsksPage old.tables what target → MakesStep old worker what (reply.Out (record { 0 = ticket.number })) new
+  pub makes_step-out : (what : Event) → AsksPage old.tables what target → MakesStep old what (reply.Out (record { 0 = ticket.number })) new
   makes_step-out what asks =
-      makes_step-taken old new target worker (reply.Out (record { 0 = ticket.number })) taken.p (Some (labelled taken.label (Going taken.frame ticket.block ticket.number))) out-some (λ group_of c why. refl) takes_out
+      makes_step-taken old new target (reply.Out (record { 0 = ticket.number })) taken.p (Some (labelled taken.label (Going taken.frame ticket.block ticket.number))) out-some takes_out
       (λ why same. subst (λ (t : ℕ). TakesNext old.tables old.order t new.tables new.order) (sym same) taken.next) (λ h same. subst (λ (t : ℕ). TakesNext old.tables old.order t new.tables new.order) (sym same) taken.next)
-      taken.ages taken.tallies taken.tables taken.placed (λ q k other. taken.bytes q k) refl
-      (flights-begun old new worker taken.p ticket.number Out (reply.Out (record { 0 = ticket.number })) refl taken.listed)
+      taken.ages taken.tables taken.placed (λ q k other. taken.bytes q k) refl
+      (flights-begun old new taken.p ticket.number Out (reply.Out (record { 0 = ticket.number })) refl taken.listed)
       (holders-beside old new taken.tables taken.p (Some (labelled taken.label (Going taken.frame ticket.block ticket.number))) taken.placed (λ f q. sym (ap (holds_page f q) taken.stood)))
       (λ spot is there. (ap (there_and (λ (page : Page). is_in_memory page.residence)) taken.stood, taken.bytes taken.p (offset_of spot)))
       (ap (there_and is_in_transfer) taken.stood)
       what asks
 
 -- it is dropped
-module _ (old new : StateOf) (target worker : ℕ) (single : IsSingle old.tables.pages) (taken : DropsClean old new target) where
+module _ (old new : StateOf) (target : ℕ) (single : IsSingle old.tables.pages) (taken : DropsClean old new target) where
   dropped-some : has_takeable old.tables target ≡ true
   dropped-some = any-some (is_takeable old.tables target) old.tables.pages taken.p (ap (there_and (is_takeable old.tables target)) taken.stood ∙ taken.takeable)
 
-  takes_away : (c : List Counted) → Takes (counting old.tables c) target reply.Dropped (counting new.tables c)
-  takes_away c =
+  takes_away : Takes old.tables target reply.Dropped new.tables
+  takes_away =
       record {
         p = taken.p;
         page = labelled (of_file taken.file taken.q taken.g false) (Held taken.frame);
         there = taken.stood;
         takeable = taken.takeable;
-        leaves = record { answers = refl; gone = taken.gone; state = ap (λ (s : State). counting s c) taken.tables };
+        leaves = record { answers = refl; gone = taken.gone; state = taken.tables };
       }
 
-  pub makes_step-dropped : (what : Event) → AsksPage old.tables what target → MakesStep old worker what reply.Dropped new
+  pub makes_step-dropped : (what : Event) → AsksPage old.tables what target → MakesStep old what reply.Dropped new
   makes_step-dropped what asks =
-      makes_step-taken old new target worker reply.Dropped taken.p None dropped-some (λ group_of c why. refl) takes_away
+      makes_step-taken old new target reply.Dropped taken.p None dropped-some takes_away
       (λ why same. subst (λ (t : ℕ). TakesNext old.tables old.order t new.tables new.order) (sym same) taken.next) (λ h same. subst (λ (t : ℕ). TakesNext old.tables old.order t new.tables new.order) (sym same) taken.next)
-      taken.ages taken.tallies taken.tables taken.gone taken.others refl
-      (flights-kept old new worker reply.Dropped refl taken.flights)
+      taken.ages taken.tables taken.gone taken.others refl
+      (flights-kept old new reply.Dropped taken.flights)
       (holders-gone old new taken.tables taken.p taken.file taken.q (labelled (of_file taken.file taken.q taken.g false) (Held taken.frame)) single taken.gone taken.stood refl)
       (λ spot is there. unlike false there refl)
       (ap (there_and is_in_transfer) taken.stood)
@@ -464,18 +439,18 @@ left-holds tables p f q page = by_content page.content (mappers tables p == 0)
     by_content (OfFile f' q') unmapped = refl
 
 -- the end of a transfer, whatever it comes to
-module _ (old new : StateOf) (worker p n : ℕ) (direction : Direction) (label : Label) (from : Residence) (to : Option Page) (what : Event) (stood : HasResidence old.tables.pages p label from) (moves : in_transfer_at from ≡ true)
+module _ (old new : StateOf) (p n : ℕ) (direction : Direction) (label : Label) (from : Residence) (to : Option Page) (what : Event) (stood : HasResidence old.tables.pages p label from) (moves : in_transfer_at from ≡ true)
     (rests : there_and is_in_transfer to ≡ false) (ends : Settles old new direction p n to) where
-  pub makes_step-end : Steps old what reply.Ok new → Orders old.tables old.order what reply.Ok new.tables new.order × AgesByThree old new → Tallied old what reply.Ok new → ReadsByte old what reply.Ok → ((spot : Spot) → says what reply.Ok spot ≡ Nothing)
-      → ((before : ℕ → ℕ) (u : ℕ) → group_after before what reply.Ok u ≡ before u) → ((spot : Spot) → KnowsSpot new spot → holder new.tables spot ≡ holder old.tables spot)
+  pub makes_step-end : Step old.tables what reply.Ok new.tables → Orders old.tables old.order what reply.Ok new.tables new.order × AgesByThree old new → ReadsByte old what reply.Ok → ((spot : Spot) → says what reply.Ok spot ≡ Nothing)
+      → ((spot : Spot) → KnowsSpot new spot → holder new.tables spot ≡ holder old.tables spot)
       → ((spot : Spot) → holder old.tables spot ≡ Some p → there_and (λ (page : Page). is_in_memory page.residence) to ≡ true
       → Arrives old what spot (byte_in new.bytes p (offset_of spot)) ⊎ ((is_known old.tables.pages p ≡ true) × (byte_in new.bytes p (offset_of spot) ≡ byte_in old.bytes p (offset_of spot))))
-      → MakesStep old worker what reply.Ok new
-  makes_step-end steps orders tallied reads silent groups holders own =
+      → MakesStep old what reply.Ok new
+  makes_step-end steps orders reads silent holders own =
       makes_step-move old new what reply.Ok p to
-      (record { tables = ends.tables; placed = ends.placed; others = ends.others; silent = silent; groups = groups; given = refl; holders = holders; own = own })
-      worker steps orders tallied reads
-      (flights-ended old new worker n reply.Ok refl ends.unlisted)
+      (record { tables = ends.tables; placed = ends.placed; others = ends.others; silent = silent; given = refl; holders = holders; own = own })
+      steps orders reads
+      (flights-ended old new n reply.Ok ends.unlisted)
       (let less = in_transfer-changes old.tables.pages new.tables.pages p to ends.placed in
       let was : one_if (there_and is_in_transfer (page_at old.tables.pages p)) ≡ 1 = ap (λ (slot : Option Page). one_if (there_and is_in_transfer slot)) stood ∙ ap one_if moves in
       let now : one_if (there_and is_in_transfer to) ≡ 0 = ap one_if rests in
@@ -523,47 +498,44 @@ going-known pages p f b n label stands = ap (there_and (λ (page : Page). is_in_
 
 -- what the machine's step says of it
 ends-as : (old new : StateOf) (p f b n : ℕ) (direction : Direction) (label : Label) (from : ℕ → ℕ → Residence) (end : PageTables → ℕ → Page → ℕ → ℕ → Option Page) → HasResidence old.tables.pages p label (from f b)
-    → Settles old new direction p n (end old.tables.page_tables p (labelled label (from f b)) f b) → (c : List Counted) → EndsTransfer (counting old.tables c) from end reply.Ok (counting new.tables c)
-ends-as old new p f b n direction label from end stood ends c =
-    record { p = p; page = labelled label (from f b); frame = f; block = b; there = stood; moves = refl; placed = ends.placed; answers = refl; state = ap (λ (s : State). counting s c) ends.tables }
+    → Settles old new direction p n (end old.tables.page_tables p (labelled label (from f b)) f b) → EndsTransfer old.tables from end reply.Ok new.tables
+ends-as old new p f b n direction label from end stood ends =
+    record { p = p; page = labelled label (from f b); frame = f; block = b; there = stood; moves = refl; placed = ends.placed; answers = refl; state = ends.tables }
 
 -- ---- the ends of transfers, as the parts make them
 
-tallies_end : (old new : StateOf) → new.tallies ≡ old.tallies → (c : List Counted) → Tells old.tallies c → Tells new.tallies c
-tallies_end old new same c told = subst (λ (t : Tallies). Tells t c) (sym same) told
-
-pub makes_step-settled_in : (old new : StateOf) (worker p f b : ℕ) (label : Label) (ticket : TicketOf) (end : End) → IsSingle old.tables.pages → HasResidence old.tables.pages p label (Coming f b ticket.number)
+pub makes_step-settled_in : (old new : StateOf) (p f b : ℕ) (label : Label) (ticket : TicketOf) (end : End) → IsSingle old.tables.pages → HasResidence old.tables.pages p label (Coming f b ticket.number)
     → Settles old new In p ticket.number (ended_as end old.tables.page_tables p (labelled label (Coming f b ticket.number)) f b)
-    → (end ≡ InFrame → is_some (page_at new.tables.pages p) ≡ true → (k : ℕ) → byte_in new.bytes p k ≡ slice_index ticket.bytes k) → MakesStep old worker (ended In end ticket) reply.Ok new
-makes_step-settled_in old new worker p f b label ticket InFrame single stood ends own =
-    makes_step-end old new worker p ticket.number In label (Coming f b ticket.number) (in_frame old.tables.page_tables p (labelled label (Coming f b ticket.number)) f b) (event.Arrived (record { 0 = ticket.number }) ticket.bytes) stood refl
+    → (end ≡ InFrame → is_some (page_at new.tables.pages p) ≡ true → (k : ℕ) → byte_in new.bytes p k ≡ slice_index ticket.bytes k) → MakesStep old (ended In end ticket) reply.Ok new
+makes_step-settled_in old new p f b label ticket InFrame single stood ends own =
+    makes_step-end old new p ticket.number In label (Coming f b ticket.number) (in_frame old.tables.page_tables p (labelled label (Coming f b ticket.number)) f b) (event.Arrived (record { 0 = ticket.number }) ticket.bytes) stood refl
     (left-test is_in_transfer old.tables.page_tables p (labelled label (Held f)) refl) ends
-    (λ c told. ends-as old new p f b ticket.number In label (λ f b. Coming f b ticket.number) in_frame stood ends c)
-    (order-on (entry_after In) old old.order.held new refl ends.held ends.cursors) (tallies_end old new ends.tallies) tt (λ spot. refl) (λ u g. refl)
+    (ends-as old new p f b ticket.number In label (λ f b. Coming f b ticket.number) in_frame stood ends)
+    (order-on (entry_after In) old old.order.held new refl ends.held ends.cursors) tt (λ spot. refl)
     (frame-holders old new p f b ticket.number In label (Coming f b ticket.number) stood ends)
     (λ spot is there. inl (p, label, f, b, is, stood, own refl (frame-there old new p f b ticket.number In label (Coming f b ticket.number) stood ends there) (offset_of spot)))
-makes_step-settled_in old new worker p f b label ticket OnBlock single stood ends own =
-    makes_step-end old new worker p ticket.number In label (Coming f b ticket.number) (on_block old.tables.page_tables p (labelled label (Coming f b ticket.number)) f b) (event.FetchFailed (record { 0 = ticket.number })) stood refl
+makes_step-settled_in old new p f b label ticket OnBlock single stood ends own =
+    makes_step-end old new p ticket.number In label (Coming f b ticket.number) (on_block old.tables.page_tables p (labelled label (Coming f b ticket.number)) f b) (event.FetchFailed (record { 0 = ticket.number })) stood refl
     (block-test old new p f b ticket.number In label (Coming f b ticket.number) stood single ends is_in_transfer refl) ends
-    (λ c told. ends-as old new p f b ticket.number In label (λ f b. Coming f b ticket.number) on_block stood ends c)
-    (order-on (entry_after In) old old.order.held new refl ends.held ends.cursors) (tallies_end old new ends.tallies) tt (λ spot. refl) (λ u g. refl)
+    (ends-as old new p f b ticket.number In label (λ f b. Coming f b ticket.number) on_block stood ends)
+    (order-on (entry_after In) old old.order.held new refl ends.held ends.cursors) tt (λ spot. refl)
     (block-holders old new p f b ticket.number In label (Coming f b ticket.number) stood single ends)
     (λ spot is there. unlike _ there (block-test old new p f b ticket.number In label (Coming f b ticket.number) stood single ends (λ (page : Page). is_in_memory page.residence) refl))
 
-pub makes_step-settled_out : (old new : StateOf) (worker p f b : ℕ) (label : Label) (ticket : TicketOf) (end : End) → IsSingle old.tables.pages → HasResidence old.tables.pages p label (Going f b ticket.number)
+pub makes_step-settled_out : (old new : StateOf) (p f b : ℕ) (label : Label) (ticket : TicketOf) (end : End) → IsSingle old.tables.pages → HasResidence old.tables.pages p label (Going f b ticket.number)
     → Settles old new Out p ticket.number (ended_as end old.tables.page_tables p (labelled label (Going f b ticket.number)) f b)
-    → (end ≡ InFrame → is_some (page_at new.tables.pages p) ≡ true → (k : ℕ) → byte_in new.bytes p k ≡ byte_in old.bytes p k) → MakesStep old worker (ended Out end ticket) reply.Ok new
-makes_step-settled_out old new worker p f b label ticket InFrame single stood ends own =
-    makes_step-end old new worker p ticket.number Out label (Going f b ticket.number) (in_frame old.tables.page_tables p (labelled label (Going f b ticket.number)) f b) (event.LeaveFailed (record { 0 = ticket.number })) stood refl
+    → (end ≡ InFrame → is_some (page_at new.tables.pages p) ≡ true → (k : ℕ) → byte_in new.bytes p k ≡ byte_in old.bytes p k) → MakesStep old (ended Out end ticket) reply.Ok new
+makes_step-settled_out old new p f b label ticket InFrame single stood ends own =
+    makes_step-end old new p ticket.number Out label (Going f b ticket.number) (in_frame old.tables.page_tables p (labelled label (Going f b ticket.number)) f b) (event.LeaveFailed (record { 0 = ticket.number })) stood refl
     (left-test is_in_transfer old.tables.page_tables p (labelled label (Held f)) refl) ends
-    (λ c told. ends-as old new p f b ticket.number Out label (λ f b. Going f b ticket.number) in_frame stood ends c)
-    (order-on (entry_after Out) old old.order.held new refl ends.held ends.cursors) (tallies_end old new ends.tallies) tt (λ spot. refl) (λ u g. refl)
+    (ends-as old new p f b ticket.number Out label (λ f b. Going f b ticket.number) in_frame stood ends)
+    (order-on (entry_after Out) old old.order.held new refl ends.held ends.cursors) tt (λ spot. refl)
     (frame-holders old new p f b ticket.number Out label (Going f b ticket.number) stood ends)
     (λ spot is there. inr (going-known old.tables.pages p f b ticket.number label stood, own refl (frame-there old new p f b ticket.number Out label (Going f b ticket.number) stood ends there) (offset_of spot)))
-makes_step-settled_out old new worker p f b label ticket OnBlock single stood ends own =
-    makes_step-end old new worker p ticket.number Out label (Going f b ticket.number) (on_block old.tables.page_tables p (labelled label (Going f b ticket.number)) f b) (event.Left (record { 0 = ticket.number })) stood refl
+makes_step-settled_out old new p f b label ticket OnBlock single stood ends own =
+    makes_step-end old new p ticket.number Out label (Going f b ticket.number) (on_block old.tables.page_tables p (labelled label (Going f b ticket.number)) f b) (event.Left (record { 0 = ticket.number })) stood refl
     (block-test old new p f b ticket.number Out label (Going f b ticket.number) stood single ends is_in_transfer refl) ends
-    (λ c told. ends-as old new p f b ticket.number Out label (λ f b. Going f b ticket.number) on_block stood ends c)
-    (order-on (entry_after Out) old old.order.held new refl ends.held ends.cursors) (tallies_end old new ends.tallies) tt (λ spot. refl) (λ u g. refl)
+    (ends-as old new p f b ticket.number Out label (λ f b. Going f b ticket.number) on_block stood ends)
+    (order-on (entry_after Out) old old.order.held new refl ends.held ends.cursors) tt (λ spot. refl)
     (block-holders old new p f b ticket.number Out label (Going f b ticket.number) stood single ends)
     (λ spot is there. unlike _ there (block-test old new p f b ticket.number Out label (Going f b ticket.number) stood single ends (λ (page : Page). is_in_memory page.residence) refl))

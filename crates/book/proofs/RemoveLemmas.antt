@@ -5,7 +5,6 @@ use Rattle.machine.specs.declared.event.Event.TheVariants as event
 use Rattle.machine.specs.declared.reply.Reply.TheVariants as reply
 use Rattle.machine.specs.Slots.{there_and}
 use Rattle.machine.specs.Pages.{Page, page_at, file_page, is_in_transfer, in_transfer}
-use Rattle.machine.specs.Counts.{Counted}
 use Rattle.machine.specs.Tasks.{group_of_task, mapped_at}
 use Rattle.machine.specs.State.{State}
 use Rattle.machine.specs.Generations.{Gens, taken_over, emptied, gens_at, with_gens, handed_over}
@@ -16,7 +15,7 @@ use Rattle.machine.proofs.FileLemmas.{file_page-same}
 use Rattle.page_state.specs.States.{StateOf}
 use Rattle.page_state.specs.Changes.{RemovesGroup}
 use Rattle.book.specs.Spots.{offset_of}
-use Rattle.book.specs.Effects.{counting, is_in_memory}
+use Rattle.book.specs.Effects.{is_in_memory}
 use Rattle.book.specs.MakesStep.{AgesByThree, MakesStep}
 use Rattle.book.proofs.StepLemmas.{there-same, holder-same, stays-was, flights-kept}
 
@@ -64,26 +63,24 @@ module _ (old new : StateOf) (g : ℕ) (removes : RemovesGroup old new g) where
       same_content None = refl
       same_content (Some page) = refl
 
-  pub makes_step-rmdir : (worker : ℕ) → MakesStep old worker (event.Rmdir (record { 0 = g })) reply.Ok new
-  makes_step-rmdir worker =
+  pub makes_step-rmdir : MakesStep old (event.Rmdir (record { 0 = g })) reply.Ok new
+  makes_step-rmdir =
       record {
-        steps = λ c told. removed c;
+        steps = removed;
         orders = subst (λ (above : Option ℕ). RemovesLists above g old.order new.order) (sym removes.below) removes.order;
         ages = aged;
-        tallied = removes.tallied;
-        groups = λ t. ap (λ (s : State). group_of_task s.tasks t) removes.tables;
         reads = tt;
         bytes = λ spot there known. inr
             (stays-was old new spot (there-same old.tables new.tables spot (ap (λ (s : State). s.tasks) removes.tables) there) (holder-same old.tables new.tables spot same_place same_found)
             (λ p at now. (sym (memory_kept p) ∙ now, removes.bytes p (offset_of spot))) known);
-        flights = flights-kept old new worker reply.Ok refl removes.flights;
+        flights = flights-kept old new reply.Ok removes.flights;
         kept = (let same = moving_kept in omega (arith, same));
         given = refl;
         opening = ap (λ (s : State). s.opening) removes.tables;
       }
     where
-      removed : (c : List Counted) → Removes (counting old.tables c) g (counting new.tables c)
-      removed c = record { parent = removes.parent; below = removes.below; pages = removes.pages; state = ap (λ (s : State). counting s c) removes.tables }
+      removed : Removes old.tables g new.tables
+      removed = record { parent = removes.parent; below = removes.below; pages = removes.pages; state = removes.tables }
 
       aged : AgesByThree old new
       aged h =

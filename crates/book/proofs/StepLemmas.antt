@@ -1,5 +1,5 @@
 -- What each change of the parts is to the plain machine: changes that move no page.
-use Rattle.std.proofs.Common.{◌≡◌, inr, ℕ, zero, suc, ◌<◌, ◌≤◌, ◌&&◌, Bool, true, false, cond, List, [], ◌∷◌, ◌++◌, Option, Some, None, refl, sym, ap, subst, ◌∙◌, arith}
+use Rattle.std.proofs.Common.{◌≡◌, ◌⊎◌, inr, ℕ, zero, suc, ◌<◌, ◌≤◌, ◌&&◌, Bool, true, false, cond, List, [], ◌∷◌, ◌++◌, Option, Some, None, refl, sym, ap, subst, ◌∙◌, arith}
 use Rattle.std.specs.Prelude.{IfSome, nat_lt, slice_set}
 use Rattle.machine.specs.declared.record.Key.TheVariants as key
 use Rattle.machine.specs.declared.record.Life.{Life}
@@ -22,8 +22,8 @@ use Rattle.machine.specs.declared.reply.Reply.{Reply}
 use Rattle.machine.specs.declared.reply.Reply.TheVariants as reply
 use Rattle.machine.specs.Slots.{at, there_and}
 use Rattle.machine.specs.Pages.{Held, Away, Page, Pages, file_page, is_held, is_held_in, in_transfer}
-use Rattle.machine.specs.Counts.{no_limits, limits_at, Counted}
-use Rattle.machine.specs.Tasks.{Tasks, PageTables, task_at, lives, group_of_task, mapped_at, mappers}
+use Rattle.machine.specs.Counts.{no_limits, limits_at, no_counts, with_event}
+use Rattle.machine.specs.Tasks.{Tasks, PageTables, task_at, lives, mapped_at, mappers}
 use Rattle.machine.specs.State.{State, over_in, is_frame_free}
 use Rattle.machine.specs.Access.{Meeting, Hits, Transferring, page_size, is_shared_write, meets}
 use Rattle.machine.specs.Call.{fetches, need}
@@ -31,17 +31,16 @@ use Rattle.machine.specs.Reclaim.{stands, target_of, has_takeable, has_transfer}
 use Rattle.machine.specs.Generations.{Gens, new_gens, gens_at}
 use Rattle.machine.specs.Lists.{HeldLists, Order, ListsHeld, Generation, Youngest, GoesOn, shown_at, with_mark, AddsLists, Orders}
 use Rattle.machine.specs.Victim.{IsVictim}
-use Rattle.machine.specs.Step.{Step, ChargeStep, MeetStep, TaskStep, LifeStep, RelieveStep, ReclaimOneStep, KillStep, count_of, new_node, with_setting, shown_of}
-use Rattle.machine.specs.History.{Spot, InTask, InFile, spot_of, Says, Nothing, says, ticket_given, taker_or}
+use Rattle.machine.specs.Step.{Step, ChargeStep, MeetStep, TaskStep, LifeStep, RelieveStep, ReclaimOneStep, KillStep, new_node, with_setting, shown_of}
+use Rattle.machine.specs.History.{Spot, InTask, InFile, spot_of, Says, Nothing, says, ticket_given}
 use Rattle.machine.specs.declared.record.Direction.{Direction}
 use Rattle.machine.specs.declared.record.Direction.TheVariants.{In, Out}
 use Rattle.pages.specs.PagesOf.{Label, labelled, memory_of, byte_in, moving, HasResidence}
 use Rattle.pages.specs.declared.flight.Flight.{Flight}
-use Rattle.memory_events.specs.Tallies.{Tells}
 use Rattle.page_state.specs.States.{StateOf, byte_shown}
 use Rattle.page_state.specs.Changes.{MarksPage}
 use Rattle.book.specs.Spots.{offset_of, holder, IsThere}
-use Rattle.book.specs.Effects.{counting, Steps, Tallied, group_after, byte_at_spot, is_in_memory, is_known, knows, KnowsSpot, ReadsByte, WasByte, IsSaid, Follows, ChangesFlights, worker_of}
+use Rattle.book.specs.Effects.{byte_at_spot, is_in_memory, is_known, knows, KnowsSpot, ReadsByte, WasByte, IsSaid, Follows, KeepsFlights}
 use Rattle.book.specs.MakesStep.{AgesByThree, MakesStep, is_refused}
 use Rattle.machine.proofs.HeldChanges.{goes-on-same}
 use Rattle.machine.proofs.HeldLemmas.{goes-still, goes-max, held-marked}
@@ -57,11 +56,9 @@ pub record IsStill (old new : StateOf) : Type 0 where
   pub flights : new.flights ≡ old.flights
   pub opening : new.tables.opening ≡ old.tables.opening
 
--- the event with its reply says nothing of a byte, gives out no ticket, and puts no task in a group
+-- the event with its reply says nothing of a byte, and is no refusal
 pub record IsQuiet (what : Event) (answer : Reply) : Type 0 where
   pub says : (spot : Spot) → says what answer spot ≡ Nothing
-  pub ticket : ticket_given answer ≡ None
-  pub groups : (before : ℕ → ℕ) (u : ℕ) → group_after before what answer u ≡ before u
   pub given : is_refused answer ≡ false
 
 pub still-self : (s : StateOf) → IsStill s s
@@ -192,27 +189,24 @@ still-was old new spot there pages tables bytes known =
 
 -- ---- an event after which all is still
 
-pub flight-kept : (slot before : Option Flight) → slot ≡ before → IfSome slot (λ f. Some f.worker.0 ≡ worker_of before)
-flight-kept None before e = tt
-flight-kept (Some f) before e = ap worker_of e
+-- a transfer that was in flight
+pub flight-kept : (answer : Reply) (n : ℕ) (slot before : Option Flight) → slot ≡ before → IfSome slot (λ f. (ticket_given answer ≡ Some n) ⊎ (before ≡ Some f))
+flight-kept answer n None before e = tt
+flight-kept answer n (Some f) before e = inr (sym e)
 
-pub flights-kept : (old new : StateOf) (worker : ℕ) (answer : Reply) → ticket_given answer ≡ None → new.flights ≡ old.flights → ChangesFlights old worker answer new
-flights-kept old new worker answer none same n =
-    subst (λ (m : Option ℕ). IfSome (at new.flights n) (λ f. Some f.worker.0 ≡ taker_or n m worker (worker_of (at old.flights n)))) (sym none)
-    (flight-kept (at new.flights n) (at old.flights n) (ap (λ (fs : List (Option Flight)). at fs n) same))
+pub flights-kept : (old new : StateOf) (answer : Reply) → new.flights ≡ old.flights → KeepsFlights old answer new
+flights-kept old new answer same n = flight-kept answer n (at new.flights n) (at old.flights n) (ap (λ (fs : List (Option Flight)). at fs n) same)
 
-pub makes_step-still : (old new : StateOf) (worker : ℕ) (what : Event) (answer : Reply) → IsStill old new → IsQuiet what answer
-    → Steps old what answer new → Orders old.tables old.order what answer new.tables new.order × AgesByThree old new → Tallied old what answer new → ReadsByte old what answer → 1 ≤ need old.tables what → MakesStep old worker what answer new
-makes_step-still old new worker what answer still quiet steps orders tallied reads needs =
+pub makes_step-still : (old new : StateOf) (what : Event) (answer : Reply) → IsStill old new → IsQuiet what answer
+    → Step old.tables what answer new.tables → Orders old.tables old.order what answer new.tables new.order × AgesByThree old new → ReadsByte old what answer → 1 ≤ need old.tables what → MakesStep old what answer new
+makes_step-still old new what answer still quiet steps orders reads needs =
     record {
       steps = steps;
       orders = orders.0;
       ages = orders.1;
-      tallied = tallied;
-      groups = λ u. ap (λ (ts : Tasks). group_of_task ts u) still.tasks ∙ sym (quiet.groups (group_of_task old.tables.tasks) u);
       reads = reads;
       bytes = λ spot there known. inr (was old what answer spot (byte_at_spot new spot) (quiet.says spot) (still-was old new spot (there-same old.tables new.tables spot still.tasks there) still.pages still.page_tables still.bytes known));
-      flights = flights-kept old new worker answer quiet.ticket still.flights;
+      flights = flights-kept old new answer still.flights;
       kept = (let same = ap in_transfer still.pages in omega (arith, same, needs));
       given = quiet.given;
       opening = still.opening;
@@ -247,7 +241,7 @@ pub granted_step : (s : State) (over : Option ℕ) (free : Bool) (Granted : Type
 granted_step s over free Granted answer new none is h = rw none (rw is h)
 
 pub over_step : (s : State) (over : Option ℕ) (free : Bool) (Granted : Type 0) (a : ℕ) → over ≡ Some a
-    → ChargeStep s over free Granted (reply.Over (record { 0 = a })) (record s { counted = s.counted ++ (record { group = a; key = key.Max }) ∷ [] })
+    → ChargeStep s over free Granted (reply.Over (record { 0 = a })) (record s { counted = with_event s.counted a key.Max })
 over_step s over free Granted a is = rw is (refl, refl)
 
 pub frameless_step : (s : State) (over : Option ℕ) (free : Bool) (Granted : Type 0) → over ≡ None → free ≡ false → ChargeStep s over free Granted reply.NoFrame s
@@ -255,11 +249,11 @@ frameless_step s over free Granted none is = rw none (rw is (refl, refl))
 
 -- ---- groups
 
-pub makes_step-mkdir : (old new : StateOf) (worker : ℕ) (path : List ℕ)
-    → new.tables ≡ record old.tables { tree = old.tables.tree ++ new_node old.tables.tree path ∷ []; limits = old.tables.limits ++ no_limits ∷ [] } → new.bytes ≡ old.bytes → new.flights ≡ old.flights
-    → AddsLists old.order new.order → ((c : List Counted) → Tells old.tallies c → Tells new.tallies c) → MakesStep old worker (event.Mkdir path) reply.Ok new
-makes_step-mkdir old new worker path tables bytes flights adds tells =
-    makes_step-still old new worker (event.Mkdir path) reply.Ok
+pub makes_step-mkdir : (old new : StateOf) (path : List ℕ)
+    → new.tables ≡ record old.tables { tree = old.tables.tree ++ new_node old.tables.tree path ∷ []; limits = old.tables.limits ++ no_limits ∷ []; counted = old.tables.counted ++ no_counts ∷ [] } → new.bytes ≡ old.bytes → new.flights ≡ old.flights
+    → AddsLists old.order new.order → MakesStep old (event.Mkdir path) reply.Ok new
+makes_step-mkdir old new path tables bytes flights adds =
+    makes_step-still old new (event.Mkdir path) reply.Ok
     (record {
       pages = ap (λ (s : State). s.pages) tables;
       tasks = ap (λ (s : State). s.tasks) tables;
@@ -268,16 +262,16 @@ makes_step-mkdir old new worker path tables bytes flights adds tells =
       flights = flights;
       opening = ap (λ (s : State). s.opening) tables;
     })
-    (record { says = λ spot. refl; ticket = refl; groups = λ u g. refl; given = refl })
-    (λ c told. ap (λ (s : State). counting s c) tables)
-    (order-more old new adds) tells tt (omega arith)
+    (record { says = λ spot. refl; given = refl })
+    tables
+    (order-more old new adds) tt (omega arith)
 
-pub makes_step-set : (old new : StateOf) (worker g : ℕ) (setting : Setting)
+pub makes_step-set : (old new : StateOf) (g : ℕ) (setting : Setting)
     → new.tables ≡ record old.tables { limits = slice_set old.tables.limits g (with_setting (limits_at old.tables.limits g) setting) } → new.bytes ≡ old.bytes → new.flights ≡ old.flights
     → InOrder old → new.order ≡ old.order
-    → ((c : List Counted) → Tells old.tallies c → Tells new.tallies c) → MakesStep old worker (event.Set (record { 0 = g }) setting) reply.Ok new
-makes_step-set old new worker g setting tables bytes flights listed order tells =
-    makes_step-still old new worker (event.Set (record { 0 = g }) setting) reply.Ok
+    → MakesStep old (event.Set (record { 0 = g }) setting) reply.Ok new
+makes_step-set old new g setting tables bytes flights listed order =
+    makes_step-still old new (event.Set (record { 0 = g }) setting) reply.Ok
     (record {
       pages = ap (λ (s : State). s.pages) tables;
       tasks = ap (λ (s : State). s.tasks) tables;
@@ -286,48 +280,47 @@ makes_step-set old new worker g setting tables bytes flights listed order tells 
       flights = flights;
       opening = ap (λ (s : State). s.opening) tables;
     })
-    (record { says = λ spot. refl; ticket = refl; groups = λ u g. refl; given = refl })
-    (λ c told. ap (λ (s : State). counting s c) tables) (order-still old new listed (ap (λ (s : State). s.pages) tables) order) tells tt (omega arith)
+    (record { says = λ spot. refl; given = refl })
+    tables (order-still old new listed (ap (λ (s : State). s.pages) tables) order) tt (omega arith)
 
--- what is shown is told for whatever events the tallies tell
-pub makes_step-show : (s : StateOf) (worker : ℕ) (what : Query) (numbers : Shown) → InOrder s → ((c : List Counted) → Tells s.tallies c → numbers ≡ shown_of (counting s.tables c) what)
-    → MakesStep s worker (event.Show what) (reply.Shown numbers) s
-makes_step-show s worker what numbers listed is =
-    makes_step-still s s worker (event.Show what) (reply.Shown numbers) (still-self s) (record { says = λ spot. refl; ticket = refl; groups = λ u g. refl; given = refl })
-    (λ c told. (is c told, refl)) (order-still s s listed refl refl) (λ c told. told) tt (omega arith)
+pub makes_step-show : (s : StateOf) (what : Query) (numbers : Shown) → InOrder s → numbers ≡ shown_of s.tables what
+    → MakesStep s (event.Show what) (reply.Shown numbers) s
+makes_step-show s what numbers listed is =
+    makes_step-still s s (event.Show what) (reply.Shown numbers) (still-self s) (record { says = λ spot. refl; given = refl })
+    (is, refl) (order-still s s listed refl refl) tt (omega arith)
 
 -- ---- accesses
 
 -- a task that was killed is told so
-pub makes_step-killed : (s : StateOf) (worker t : ℕ) (place : Place) (op : Op) (task : Task) → task_at s.tables.tasks t ≡ Some task → task.life ≡ Killed → InOrder s
-    → MakesStep s worker (event.Access (record { 0 = t }) place op) reply.Killed s
-makes_step-killed s worker t place Read task is killed listed =
-    makes_step-still s s worker (event.Access (record { 0 = t }) place Read) reply.Killed (still-self s) (record { says = λ spot. refl; ticket = refl; groups = λ u g. refl; given = refl })
-    (λ c told. killed_step (counting s.tables c) _ task _ is killed) (order-still s s listed refl refl) (λ c told. told) tt (access-needs s.tables t place Read)
-makes_step-killed s worker t place (Write b) task is killed listed =
-    makes_step-still s s worker (event.Access (record { 0 = t }) place (Write b)) reply.Killed (still-self s) (record { says = λ spot. refl; ticket = refl; groups = λ u g. refl; given = refl })
-    (λ c told. killed_step (counting s.tables c) _ task _ is killed) (order-still s s listed refl refl) (λ c told. told) tt (access-needs s.tables t place (Write b))
+pub makes_step-killed : (s : StateOf) (t : ℕ) (place : Place) (op : Op) (task : Task) → task_at s.tables.tasks t ≡ Some task → task.life ≡ Killed → InOrder s
+    → MakesStep s (event.Access (record { 0 = t }) place op) reply.Killed s
+makes_step-killed s t place Read task is killed listed =
+    makes_step-still s s (event.Access (record { 0 = t }) place Read) reply.Killed (still-self s) (record { says = λ spot. refl; given = refl })
+    (killed_step s.tables _ task _ is killed) (order-still s s listed refl refl) tt (access-needs s.tables t place Read)
+makes_step-killed s t place (Write b) task is killed listed =
+    makes_step-still s s (event.Access (record { 0 = t }) place (Write b)) reply.Killed (still-self s) (record { says = λ spot. refl; given = refl })
+    (killed_step s.tables _ task _ is killed) (order-still s s listed refl refl) tt (access-needs s.tables t place (Write b))
 
-pub makes_step-unmapped : (s : StateOf) (worker t v o : ℕ) (task : Task) → task_at s.tables.tasks t ≡ Some task → task.life ≡ Live → mapped_at s.tables.page_tables t v ≡ None → o < page_size → InOrder s
-    → MakesStep s worker (event.Access (record { 0 = t }) (Virtual v o) Read) (reply.Done 0 None) s
-makes_step-unmapped s worker t v o task is living none within listed =
-    makes_step-still s s worker (event.Access (record { 0 = t }) (Virtual v o) Read) (reply.Done 0 None) (still-self s) (record { says = λ spot. refl; ticket = refl; groups = λ u g. refl; given = refl })
-    (λ c told. live_step (counting s.tables c) _ task _ _ _ is living (rw none (refl, refl))) (order-still s s listed refl refl) (λ c told. told)
+pub makes_step-unmapped : (s : StateOf) (t v o : ℕ) (task : Task) → task_at s.tables.tasks t ≡ Some task → task.life ≡ Live → mapped_at s.tables.page_tables t v ≡ None → o < page_size → InOrder s
+    → MakesStep s (event.Access (record { 0 = t }) (Virtual v o) Read) (reply.Done 0 None) s
+makes_step-unmapped s t v o task is living none within listed =
+    makes_step-still s s (event.Access (record { 0 = t }) (Virtual v o) Read) (reply.Done 0 None) (still-self s) (record { says = λ spot. refl; given = refl })
+    (live_step s.tables _ task _ _ _ is living (rw none (refl, refl))) (order-still s s listed refl refl)
     (sym (ap (λ m. byte_shown s.bytes m o) none), (ap (knows s (InTask t v o)) none, within)) (access-needs s.tables t (Virtual v o) Read)
 
 -- what an access meets that finds its page in a frame
 pub meets-hit : (s : State) (t v o p f : ℕ) (label : Label) (op : Op) → mapped_at s.page_tables t v ≡ Some p → HasResidence s.pages p label (Held f) → is_shared_write s.page_tables p op ≡ false
-    → (c : List Counted) → meets (counting s c) t (Virtual v o) op ≡ Hits p (labelled label (Held f)) f
-meets-hit s t v o p f label op shown page alone c = rw shown (rw page (rw alone refl))
+    → meets s t (Virtual v o) op ≡ Hits p (labelled label (Held f)) f
+meets-hit s t v o p f label op shown page alone = rw shown (rw page (rw alone refl))
 
-pub meets-cached : (s : State) (t file q o p f : ℕ) (label : Label) (op : Op) → file_page s.pages file q ≡ Some p → HasResidence s.pages p label (Held f) → (c : List Counted) → meets (counting s c) t (File file q o) op ≡ Hits p (labelled label (Held f)) f
-meets-cached s t file q o p f label op cached page c = rw cached (rw page refl)
+pub meets-cached : (s : State) (t file q o p f : ℕ) (label : Label) (op : Op) → file_page s.pages file q ≡ Some p → HasResidence s.pages p label (Held f) → meets s t (File file q o) op ≡ Hits p (labelled label (Held f)) f
+meets-cached s t file q o p f label op cached page = rw cached (rw page refl)
 
-pub makes_step-hit_read : (old new : StateOf) (worker t p f : ℕ) (place : Place) (label : Label) (task : Task) → task_at old.tables.tasks t ≡ Some task → task.life ≡ Live → holder old.tables (spot_of t place) ≡ Some p
-    → HasResidence old.tables.pages p label (Held f) → ((c : List Counted) → meets (counting old.tables c) t place Read ≡ Hits p (labelled label (Held f)) f) → offset_of (spot_of t place) < page_size → InOrder old → MarksPage old new p
-    → MakesStep old worker (event.Access (record { 0 = t }) place Read) (reply.Done (byte_in old.bytes p (offset_of (spot_of t place))) (Some (record { 0 = f }))) new
-makes_step-hit_read old new worker t p f place label task is living shown page meeting within listed marks =
-    makes_step-still old new worker (event.Access (record { 0 = t }) place Read) (reply.Done (byte_in old.bytes p (offset_of (spot_of t place))) (Some (record { 0 = f })))
+pub makes_step-hit_read : (old new : StateOf) (t p f : ℕ) (place : Place) (label : Label) (task : Task) → task_at old.tables.tasks t ≡ Some task → task.life ≡ Live → holder old.tables (spot_of t place) ≡ Some p
+    → HasResidence old.tables.pages p label (Held f) → meets old.tables t place Read ≡ Hits p (labelled label (Held f)) f → offset_of (spot_of t place) < page_size → InOrder old → MarksPage old new p
+    → MakesStep old (event.Access (record { 0 = t }) place Read) (reply.Done (byte_in old.bytes p (offset_of (spot_of t place))) (Some (record { 0 = f }))) new
+makes_step-hit_read old new t p f place label task is living shown page meeting within listed marks =
+    makes_step-still old new (event.Access (record { 0 = t }) place Read) (reply.Done (byte_in old.bytes p (offset_of (spot_of t place))) (Some (record { 0 = f })))
     (record {
       pages = ap (λ (s : StateOf). s.tables.pages) marks;
       tasks = ap (λ (s : StateOf). s.tables.tasks) marks;
@@ -336,30 +329,29 @@ makes_step-hit_read old new worker t p f place label task is living shown page m
       flights = ap (λ (s : StateOf). s.flights) marks;
       opening = ap (λ (s : StateOf). s.tables.opening) marks;
     })
-    (record { says = λ spot. refl; ticket = refl; groups = λ u g. refl; given = refl })
-    (λ c told. live_step (counting old.tables c) _ task _ _ _ is living (hits c))
+    (record { says = λ spot. refl; given = refl })
+    (live_step old.tables _ task _ _ _ is living hits)
     (hit-marked old new t p (byte_in old.bytes p (offset_of (spot_of t place))) place (record { 0 = f }) Read shown
     (order-marked old new p listed (ap (there_and is_held) page) (λ q. ap (λ (s : StateOf). is_held_in s.tables.pages q) marks) (ap (λ (s : StateOf). s.order) marks)))
-    (λ c told. subst (λ (s : StateOf). Tells s.tallies c) (sym marks) told)
     (sym (ap (λ m. byte_shown old.bytes m (offset_of (spot_of t place))) shown), (knows-some old (spot_of t place) p shown (ap (there_and (λ (page : Page). is_in_memory page.residence)) page), within)) (access-needs old.tables t place Read)
   where
-    hits : (c : List Counted) → MeetStep (counting old.tables c) t task.group.0 Read (meets (counting old.tables c) t place Read) (reply.Done (byte_in old.bytes p (offset_of (spot_of t place))) (Some (record { 0 = f }))) (counting new.tables c)
-    hits c =
-        subst (λ (m : Meeting). MeetStep (counting old.tables c) t task.group.0 Read m (reply.Done (byte_in old.bytes p (offset_of (spot_of t place))) (Some (record { 0 = f }))) (counting new.tables c)) (sym (meeting c))
-        (refl, ap (λ (s : StateOf). counting s.tables c) marks)
+    hits : MeetStep old.tables t task.group.0 Read (meets old.tables t place Read) (reply.Done (byte_in old.bytes p (offset_of (spot_of t place))) (Some (record { 0 = f }))) new.tables
+    hits =
+        subst (λ (m : Meeting). MeetStep old.tables t task.group.0 Read m (reply.Done (byte_in old.bytes p (offset_of (spot_of t place))) (Some (record { 0 = f }))) new.tables) (sym meeting)
+        (refl, ap (λ (s : StateOf). s.tables) marks)
 
 -- replies to any access that neither reads nor writes
 pub quiet-busy : (t : ℕ) (place : Place) (op : Op) → IsQuiet (event.Access (record { 0 = t }) place op) reply.Busy
-quiet-busy t place Read = record { says = λ spot. refl; ticket = refl; groups = λ u g. refl; given = refl }
-quiet-busy t place (Write b) = record { says = λ spot. refl; ticket = refl; groups = λ u g. refl; given = refl }
+quiet-busy t place Read = record { says = λ spot. refl; given = refl }
+quiet-busy t place (Write b) = record { says = λ spot. refl; given = refl }
 
 pub quiet-over : (t a : ℕ) (place : Place) (op : Op) → IsQuiet (event.Access (record { 0 = t }) place op) (reply.Over (record { 0 = a }))
-quiet-over t a place Read = record { says = λ spot. refl; ticket = refl; groups = λ u g. refl; given = refl }
-quiet-over t a place (Write b) = record { says = λ spot. refl; ticket = refl; groups = λ u g. refl; given = refl }
+quiet-over t a place Read = record { says = λ spot. refl; given = refl }
+quiet-over t a place (Write b) = record { says = λ spot. refl; given = refl }
 
 pub quiet-no_frame : (t : ℕ) (place : Place) (op : Op) → IsQuiet (event.Access (record { 0 = t }) place op) reply.NoFrame
-quiet-no_frame t place Read = record { says = λ spot. refl; ticket = refl; groups = λ u g. refl; given = refl }
-quiet-no_frame t place (Write b) = record { says = λ spot. refl; ticket = refl; groups = λ u g. refl; given = refl }
+quiet-no_frame t place Read = record { says = λ spot. refl; given = refl }
+quiet-no_frame t place (Write b) = record { says = λ spot. refl; given = refl }
 
 reads-busy : (s : StateOf) (t : ℕ) (place : Place) (op : Op) → ReadsByte s (event.Access (record { 0 = t }) place op) reply.Busy
 reads-busy s t place Read = tt
@@ -373,35 +365,34 @@ reads-no_frame : (s : StateOf) (t : ℕ) (place : Place) (op : Op) → ReadsByte
 reads-no_frame s t place Read = tt
 reads-no_frame s t place (Write b) = tt
 
-pub makes_step-busy : (s : StateOf) (worker t : ℕ) (place : Place) (op : Op) (task : Task) → task_at s.tables.tasks t ≡ Some task → task.life ≡ Live → ((c : List Counted) → meets (counting s.tables c) t place op ≡ Transferring)
-    → InOrder s → MakesStep s worker (event.Access (record { 0 = t }) place op) reply.Busy s
-makes_step-busy s worker t place op task is living meeting listed =
-    makes_step-still s s worker (event.Access (record { 0 = t }) place op) reply.Busy (still-self s) (quiet-busy t place op)
-    (λ c told. live_step (counting s.tables c) _ task _ _ _ is living (waits c)) (order-still s s listed refl refl) (λ c told. told) (reads-busy s t place op) (access-needs s.tables t place op)
+pub makes_step-busy : (s : StateOf) (t : ℕ) (place : Place) (op : Op) (task : Task) → task_at s.tables.tasks t ≡ Some task → task.life ≡ Live → meets s.tables t place op ≡ Transferring
+    → InOrder s → MakesStep s (event.Access (record { 0 = t }) place op) reply.Busy s
+makes_step-busy s t place op task is living meeting listed =
+    makes_step-still s s (event.Access (record { 0 = t }) place op) reply.Busy (still-self s) (quiet-busy t place op)
+    (live_step s.tables _ task _ _ _ is living waits) (order-still s s listed refl refl) (reads-busy s t place op) (access-needs s.tables t place op)
   where
-    waits : (c : List Counted) → MeetStep (counting s.tables c) t task.group.0 op (meets (counting s.tables c) t place op) reply.Busy (counting s.tables c)
-    waits c = subst (λ (m : Meeting). MeetStep (counting s.tables c) t task.group.0 op m reply.Busy (counting s.tables c)) (sym (meeting c)) (refl, refl)
+    waits : MeetStep s.tables t task.group.0 op (meets s.tables t place op) reply.Busy s.tables
+    waits = subst (λ (m : Meeting). MeetStep s.tables t task.group.0 op m reply.Busy s.tables) (sym meeting) (refl, refl)
 
 -- what an access meets whose page is in transfer
 pub meets-transfer : (s : State) (t v o p f b n : ℕ) (label : Label) (direction : Direction) (op : Op) → mapped_at s.page_tables t v ≡ Some p → HasResidence s.pages p label (moving direction f b n)
-    → (c : List Counted) → meets (counting s c) t (Virtual v o) op ≡ Transferring
-meets-transfer s t v o p f b n label In op shown page c = rw shown (rw page refl)
-meets-transfer s t v o p f b n label Out op shown page c = rw shown (rw page refl)
+    → meets s t (Virtual v o) op ≡ Transferring
+meets-transfer s t v o p f b n label In op shown page = rw shown (rw page refl)
+meets-transfer s t v o p f b n label Out op shown page = rw shown (rw page refl)
 
 pub meets-cached_transfer : (s : State) (t file q o p f b n : ℕ) (label : Label) (direction : Direction) (op : Op) → file_page s.pages file q ≡ Some p → HasResidence s.pages p label (moving direction f b n)
-    → (c : List Counted) → meets (counting s c) t (File file q o) op ≡ Transferring
-meets-cached_transfer s t file q o p f b n label In op cached page c = rw cached (rw page refl)
-meets-cached_transfer s t file q o p f b n label Out op cached page c = rw cached (rw page refl)
+    → meets s t (File file q o) op ≡ Transferring
+meets-cached_transfer s t file q o p f b n label In op cached page = rw cached (rw page refl)
+meets-cached_transfer s t file q o p f b n label Out op cached page = rw cached (rw page refl)
 
 -- ---- charges that are refused
 
-pub makes_step-over : (old new : StateOf) (worker t a : ℕ) (place : Place) (op : Op) (task : Task) → task_at old.tables.tasks t ≡ Some task → task.life ≡ Live
-    → ((c : List Counted) → MeetStep (counting old.tables c) t task.group.0 op (meets (counting old.tables c) t place op) (reply.Over (record { 0 = a })) (counting old.tables (c ++ count_of a key.Max ∷ [])))
-    → new.tables ≡ old.tables → new.bytes ≡ old.bytes → new.flights ≡ old.flights → InOrder old → new.order ≡ old.order
-    → ((c : List Counted) → Tells old.tallies c → Tells new.tallies (c ++ count_of a key.Max ∷ []))
-    → MakesStep old worker (event.Access (record { 0 = t }) place op) (reply.Over (record { 0 = a })) new
-makes_step-over old new worker t a place op task is living meet tables bytes flights listed order tells =
-    makes_step-still old new worker (event.Access (record { 0 = t }) place op) (reply.Over (record { 0 = a }))
+pub makes_step-over : (old new : StateOf) (t a : ℕ) (place : Place) (op : Op) (task : Task) → task_at old.tables.tasks t ≡ Some task → task.life ≡ Live
+    → MeetStep old.tables t task.group.0 op (meets old.tables t place op) (reply.Over (record { 0 = a })) (record old.tables { counted = with_event old.tables.counted a key.Max })
+    → new.tables ≡ record old.tables { counted = with_event old.tables.counted a key.Max } → new.bytes ≡ old.bytes → new.flights ≡ old.flights → InOrder old → new.order ≡ old.order
+    → MakesStep old (event.Access (record { 0 = t }) place op) (reply.Over (record { 0 = a })) new
+makes_step-over old new t a place op task is living meet tables bytes flights listed order =
+    makes_step-still old new (event.Access (record { 0 = t }) place op) (reply.Over (record { 0 = a }))
     (record {
       pages = ap (λ (s : State). s.pages) tables;
       tasks = ap (λ (s : State). s.tasks) tables;
@@ -411,16 +402,16 @@ makes_step-over old new worker t a place op task is living meet tables bytes fli
       opening = ap (λ (s : State). s.opening) tables;
     })
     (quiet-over t a place op)
-    (λ c told. subst (λ (s : State). Step (counting old.tables c) (event.Access (record { 0 = t }) place op) (reply.Over (record { 0 = a })) (counting s (c ++ count_of a key.Max ∷ []))) (sym tables)
-    (live_step (counting old.tables c) _ task _ _ _ is living (meet c)))
-    (order-still old new listed (ap (λ (s : State). s.pages) tables) order) tells (reads-over old t a place op) (access-needs old.tables t place op)
+    (subst (λ (s : State). Step old.tables (event.Access (record { 0 = t }) place op) (reply.Over (record { 0 = a })) s) (sym tables)
+    (live_step old.tables _ task _ _ _ is living meet))
+    (order-still old new listed (ap (λ (s : State). s.pages) tables) order) (reads-over old t a place op) (access-needs old.tables t place op)
 
-pub makes_step-no_frame : (old new : StateOf) (worker t : ℕ) (place : Place) (op : Op) (task : Task) → task_at old.tables.tasks t ≡ Some task → task.life ≡ Live
-    → ((c : List Counted) → MeetStep (counting old.tables c) t task.group.0 op (meets (counting old.tables c) t place op) reply.NoFrame (counting old.tables c))
+pub makes_step-no_frame : (old new : StateOf) (t : ℕ) (place : Place) (op : Op) (task : Task) → task_at old.tables.tasks t ≡ Some task → task.life ≡ Live
+    → MeetStep old.tables t task.group.0 op (meets old.tables t place op) reply.NoFrame old.tables
     → new.tables ≡ old.tables → new.bytes ≡ old.bytes → new.flights ≡ old.flights → InOrder old → new.order ≡ old.order
-    → ((c : List Counted) → Tells old.tallies c → Tells new.tallies c) → MakesStep old worker (event.Access (record { 0 = t }) place op) reply.NoFrame new
-makes_step-no_frame old new worker t place op task is living meet tables bytes flights listed order tells =
-    makes_step-still old new worker (event.Access (record { 0 = t }) place op) reply.NoFrame
+    → MakesStep old (event.Access (record { 0 = t }) place op) reply.NoFrame new
+makes_step-no_frame old new t place op task is living meet tables bytes flights listed order =
+    makes_step-still old new (event.Access (record { 0 = t }) place op) reply.NoFrame
     (record {
       pages = ap (λ (s : State). s.pages) tables;
       tasks = ap (λ (s : State). s.tasks) tables;
@@ -430,87 +421,79 @@ makes_step-no_frame old new worker t place op task is living meet tables bytes f
       opening = ap (λ (s : State). s.opening) tables;
     })
     (quiet-no_frame t place op)
-    (λ c told. subst (λ (s : State). Step (counting old.tables c) (event.Access (record { 0 = t }) place op) reply.NoFrame (counting s c)) (sym tables)
-    (live_step (counting old.tables c) _ task _ _ _ is living (meet c)))
-    (order-still old new listed (ap (λ (s : State). s.pages) tables) order) tells (reads-no_frame old t place op) (access-needs old.tables t place op)
+    (subst (λ (s : State). Step old.tables (event.Access (record { 0 = t }) place op) reply.NoFrame s) (sym tables)
+    (live_step old.tables _ task _ _ _ is living meet))
+    (order-still old new listed (ap (λ (s : State). s.pages) tables) order) (reads-no_frame old t place op) (access-needs old.tables t place op)
 
 -- a write where nothing is mapped
 pub unmapped-over : (s : State) (t v o b g a : ℕ) → mapped_at s.page_tables t v ≡ None → over_in s g ≡ Some a
-    → (c : List Counted) → MeetStep (counting s c) t g (Write b) (meets (counting s c) t (Virtual v o) (Write b)) (reply.Over (record { 0 = a })) (counting s (c ++ count_of a key.Max ∷ []))
-unmapped-over s t v o b g a none full c = rw none (over_step (counting s c) _ _ _ a full)
+    → MeetStep s t g (Write b) (meets s t (Virtual v o) (Write b)) (reply.Over (record { 0 = a })) (record s { counted = with_event s.counted a key.Max })
+unmapped-over s t v o b g a none full = rw none (over_step s _ _ _ a full)
 
 pub unmapped-no_frame : (s : State) (t v o b g : ℕ) → mapped_at s.page_tables t v ≡ None → over_in s g ≡ None → is_frame_free s ≡ false
-    → (c : List Counted) → MeetStep (counting s c) t g (Write b) (meets (counting s c) t (Virtual v o) (Write b)) reply.NoFrame (counting s c)
-unmapped-no_frame s t v o b g none under taken c = rw none (frameless_step (counting s c) _ _ _ under taken)
+    → MeetStep s t g (Write b) (meets s t (Virtual v o) (Write b)) reply.NoFrame s
+unmapped-no_frame s t v o b g none under taken = rw none (frameless_step s _ _ _ under taken)
 
 -- a write to a page in a frame that others show too
 pub shared-over : (s : State) (t v o b p f g a : ℕ) (label : Label) → mapped_at s.page_tables t v ≡ Some p → HasResidence s.pages p label (Held f) → nat_lt 1 (mappers s.page_tables p) ≡ true → over_in s g ≡ Some a
-    → (c : List Counted) → MeetStep (counting s c) t g (Write b) (meets (counting s c) t (Virtual v o) (Write b)) (reply.Over (record { 0 = a })) (counting s (c ++ count_of a key.Max ∷ []))
-shared-over s t v o b p f g a label shown held shared full c = rw shown (rw held (rw shared (over_step (counting s c) _ _ _ a full)))
+    → MeetStep s t g (Write b) (meets s t (Virtual v o) (Write b)) (reply.Over (record { 0 = a })) (record s { counted = with_event s.counted a key.Max })
+shared-over s t v o b p f g a label shown held shared full = rw shown (rw held (rw shared (over_step s _ _ _ a full)))
 
 pub shared-no_frame : (s : State) (t v o b p f g : ℕ) (label : Label) → mapped_at s.page_tables t v ≡ Some p → HasResidence s.pages p label (Held f) → nat_lt 1 (mappers s.page_tables p) ≡ true → over_in s g ≡ None → is_frame_free s ≡ false
-    → (c : List Counted) → MeetStep (counting s c) t g (Write b) (meets (counting s c) t (Virtual v o) (Write b)) reply.NoFrame (counting s c)
-shared-no_frame s t v o b p f g label shown held shared under taken c = rw shown (rw held (rw shared (frameless_step (counting s c) _ _ _ under taken)))
+    → MeetStep s t g (Write b) (meets s t (Virtual v o) (Write b)) reply.NoFrame s
+shared-no_frame s t v o b p f g label shown held shared under taken = rw shown (rw held (rw shared (frameless_step s _ _ _ under taken)))
 
 -- an access to a page on its block
 pub away-over : (s : State) (t v o p g own b a : ℕ) (op : Op) → mapped_at s.page_tables t v ≡ Some p → HasResidence s.pages p (memory_of g) (Away b) → over_in s g ≡ Some a
-    → (c : List Counted) → MeetStep (counting s c) t own op (meets (counting s c) t (Virtual v o) op) (reply.Over (record { 0 = a })) (counting s (c ++ count_of a key.Max ∷ []))
-away-over s t v o p g own b a op shown away full c = rw shown (rw away (over_step (counting s c) _ _ _ a full))
+    → MeetStep s t own op (meets s t (Virtual v o) op) (reply.Over (record { 0 = a })) (record s { counted = with_event s.counted a key.Max })
+away-over s t v o p g own b a op shown away full = rw shown (rw away (over_step s _ _ _ a full))
 
 pub away-no_frame : (s : State) (t v o p g own b : ℕ) (op : Op) → mapped_at s.page_tables t v ≡ Some p → HasResidence s.pages p (memory_of g) (Away b) → over_in s g ≡ None → is_frame_free s ≡ false
-    → (c : List Counted) → MeetStep (counting s c) t own op (meets (counting s c) t (Virtual v o) op) reply.NoFrame (counting s c)
-away-no_frame s t v o p g own b op shown away under taken c = rw shown (rw away (frameless_step (counting s c) _ _ _ under taken))
+    → MeetStep s t own op (meets s t (Virtual v o) op) reply.NoFrame s
+away-no_frame s t v o p g own b op shown away under taken = rw shown (rw away (frameless_step s _ _ _ under taken))
 
 -- an access to a page of a file that no page holds
 pub uncached-over : (s : State) (t file q o g a : ℕ) (op : Op) → file_page s.pages file q ≡ None → over_in s g ≡ Some a
-    → (c : List Counted) → MeetStep (counting s c) t g op (meets (counting s c) t (File file q o) op) (reply.Over (record { 0 = a })) (counting s (c ++ count_of a key.Max ∷ []))
-uncached-over s t file q o g a op none full c = rw none (over_step (counting s c) _ _ _ a full)
+    → MeetStep s t g op (meets s t (File file q o) op) (reply.Over (record { 0 = a })) (record s { counted = with_event s.counted a key.Max })
+uncached-over s t file q o g a op none full = rw none (over_step s _ _ _ a full)
 
 pub uncached-no_frame : (s : State) (t file q o g : ℕ) (op : Op) → file_page s.pages file q ≡ None → over_in s g ≡ None → is_frame_free s ≡ false
-    → (c : List Counted) → MeetStep (counting s c) t g op (meets (counting s c) t (File file q o) op) reply.NoFrame (counting s c)
-uncached-no_frame s t file q o g op none under taken c = rw none (frameless_step (counting s c) _ _ _ under taken)
+    → MeetStep s t g op (meets s t (File file q o) op) reply.NoFrame s
+uncached-no_frame s t file q o g op none under taken = rw none (frameless_step s _ _ _ under taken)
 
 -- ---- relief
 
-pub stands_counting : (s : State) (c : List Counted) (why : Cause) → stands (counting s c) why ≡ stands s why
-stands_counting s c (cause.Charge g) = refl
-stands_counting s c (cause.Lower g) = refl
-stands_counting s c cause.Frame = refl
+quiet-relief : (why : Cause) (answer : Reply) → is_refused answer ≡ false → IsQuiet (event.Relieve why) answer
+quiet-relief why answer given = record { says = λ spot. refl; given = given }
 
-quiet-relief : (why : Cause) (answer : Reply) → ticket_given answer ≡ None → is_refused answer ≡ false → IsQuiet (event.Relieve why) answer
-quiet-relief why answer none given = record { says = λ spot. refl; ticket = none; groups = λ u g. refl; given = given }
-
-pub makes_step-room : (s : StateOf) (worker : ℕ) (why : Cause) → stands s.tables why ≡ false → InOrder s → MakesStep s worker (event.Relieve why) reply.Room s
-makes_step-room s worker why met listed =
-    makes_step-still s s worker (event.Relieve why) reply.Room (still-self s) (quiet-relief why reply.Room refl refl)
-    (λ c told. room c) (order-still s s listed refl refl) (λ c told. told) tt (relief-needs s.tables why)
+pub makes_step-room : (s : StateOf) (why : Cause) → stands s.tables why ≡ false → InOrder s → MakesStep s (event.Relieve why) reply.Room s
+makes_step-room s why met listed =
+    makes_step-still s s (event.Relieve why) reply.Room (still-self s) (quiet-relief why reply.Room refl)
+    room (order-still s s listed refl refl) tt (relief-needs s.tables why)
   where
-    room : (c : List Counted) → RelieveStep (counting s.tables c) why reply.Room (counting s.tables c)
-    room c = let here = stands_counting s.tables c why ∙ met in rw here (refl, refl)
+    room : RelieveStep s.tables why reply.Room s.tables
+    room = rw met (refl, refl)
 
-pub makes_step-wait : (s : StateOf) (worker : ℕ) (why : Cause) → stands s.tables why ≡ true → has_takeable s.tables (target_of why) ≡ false → has_transfer s.tables (target_of why) ≡ true → InOrder s
-    → MakesStep s worker (event.Relieve why) reply.Wait s
-makes_step-wait s worker why wants untakeable moving listed =
-    makes_step-still s s worker (event.Relieve why) reply.Wait (still-self s) (quiet-relief why reply.Wait refl refl)
-    (λ c told. waits c) (order-still s s listed refl refl) (λ c told. told) tt (relief-needs s.tables why)
+pub makes_step-wait : (s : StateOf) (why : Cause) → stands s.tables why ≡ true → has_takeable s.tables (target_of why) ≡ false → has_transfer s.tables (target_of why) ≡ true → InOrder s
+    → MakesStep s (event.Relieve why) reply.Wait s
+makes_step-wait s why wants untakeable moving listed =
+    makes_step-still s s (event.Relieve why) reply.Wait (still-self s) (quiet-relief why reply.Wait refl)
+    waits (order-still s s listed refl refl) tt (relief-needs s.tables why)
   where
-    waits : (c : List Counted) → RelieveStep (counting s.tables c) why reply.Wait (counting s.tables c)
-    waits c =
-        let here = stands_counting s.tables c why ∙ wants in
-        let none : has_takeable (counting s.tables c) (target_of why) ≡ false = untakeable in
-        let some : has_transfer (counting s.tables c) (target_of why) ≡ true = moving in
-        rw here (rw none (rw some (refl, refl)))
+    waits : RelieveStep s.tables why reply.Wait s.tables
+    waits =
+        rw wants (rw untakeable (rw moving (refl, refl)))
 
 -- relief that is wanted, with nothing to reclaim
 pub relieve_step : (s : State) (why : Cause) (answer : Reply) (new : State) → stands s why ≡ true → has_takeable s (target_of why) ≡ false → has_transfer s (target_of why) ≡ false
     → KillStep s (target_of why) answer new → RelieveStep s why answer new
 relieve_step s why answer new wants untakeable settled kill = rw wants (rw untakeable (rw settled kill))
 
-pub makes_step-no_victim : (old new : StateOf) (worker : ℕ) (why : Cause) → stands old.tables why ≡ true → has_takeable old.tables (target_of why) ≡ false → has_transfer old.tables (target_of why) ≡ false
-    → IsVictim old.tables.tree old.tables.tasks old.tables.page_tables (target_of why) None → new.tables ≡ old.tables → new.bytes ≡ old.bytes → new.flights ≡ old.flights → InOrder old → new.order ≡ old.order
-    → ((c : List Counted) → Tells old.tallies c → Tells new.tallies (c ++ count_of (target_of why) key.Oom ∷ [])) → MakesStep old worker (event.Relieve why) reply.NoVictim new
-makes_step-no_victim old new worker why wants untakeable settled nobody tables bytes flights listed order tells =
-    makes_step-still old new worker (event.Relieve why) reply.NoVictim
+pub makes_step-no_victim : (old new : StateOf) (why : Cause) → stands old.tables why ≡ true → has_takeable old.tables (target_of why) ≡ false → has_transfer old.tables (target_of why) ≡ false
+    → IsVictim old.tables.tree old.tables.tasks old.tables.page_tables (target_of why) None → new.tables ≡ record old.tables { counted = with_event old.tables.counted (target_of why) key.Oom } → new.bytes ≡ old.bytes → new.flights ≡ old.flights → InOrder old → new.order ≡ old.order
+    → MakesStep old (event.Relieve why) reply.NoVictim new
+makes_step-no_victim old new why wants untakeable settled nobody tables bytes flights listed order =
+    makes_step-still old new (event.Relieve why) reply.NoVictim
     (record {
       pages = ap (λ (s : State). s.pages) tables;
       tasks = ap (λ (s : State). s.tasks) tables;
@@ -519,54 +502,49 @@ makes_step-no_victim old new worker why wants untakeable settled nobody tables b
       flights = flights;
       opening = ap (λ (s : State). s.opening) tables;
     })
-    (quiet-relief why reply.NoVictim refl refl)
-    (λ c told. relieve_step (counting old.tables c) why reply.NoVictim _ (stands_counting old.tables c why ∙ wants) untakeable settled
-    (nobody, ap (λ (s : State). counting s (c ++ count_of (target_of why) key.Oom ∷ [])) tables))
-    (order-still old new listed (ap (λ (s : State). s.pages) tables) order) tells tt (relief-needs old.tables why)
+    (quiet-relief why reply.NoVictim refl)
+    (relieve_step old.tables why reply.NoVictim _ wants untakeable settled (nobody, tables))
+    (order-still old new listed (ap (λ (s : State). s.pages) tables) order) tt (relief-needs old.tables why)
 
 -- ---- a page for whoever asks
 
 pub reclaim-needs : (s : State) (g : ℕ) → 1 ≤ need s (event.ReclaimOne (record { 0 = g }))
 reclaim-needs s g = one_or_two (has_takeable s g)
 
-quiet-reclaim : (g : ℕ) (answer : Reply) → ticket_given answer ≡ None → is_refused answer ≡ false → IsQuiet (event.ReclaimOne (record { 0 = g })) answer
-quiet-reclaim g answer none given = record { says = λ spot. refl; ticket = none; groups = λ u g. refl; given = given }
+quiet-reclaim : (g : ℕ) (answer : Reply) → is_refused answer ≡ false → IsQuiet (event.ReclaimOne (record { 0 = g })) answer
+quiet-reclaim g answer given = record { says = λ spot. refl; given = given }
 
-pub makes_step-reclaim_wait : (s : StateOf) (worker g : ℕ) → has_takeable s.tables g ≡ false → has_transfer s.tables g ≡ true → InOrder s → MakesStep s worker (event.ReclaimOne (record { 0 = g })) reply.Wait s
-makes_step-reclaim_wait s worker g untakeable moving listed =
-    makes_step-still s s worker (event.ReclaimOne (record { 0 = g })) reply.Wait (still-self s) (quiet-reclaim g reply.Wait refl refl)
-    (λ c told. waits c) (order-still s s listed refl refl) (λ c told. told) tt (reclaim-needs s.tables g)
+pub makes_step-reclaim_wait : (s : StateOf) (g : ℕ) → has_takeable s.tables g ≡ false → has_transfer s.tables g ≡ true → InOrder s → MakesStep s (event.ReclaimOne (record { 0 = g })) reply.Wait s
+makes_step-reclaim_wait s g untakeable moving listed =
+    makes_step-still s s (event.ReclaimOne (record { 0 = g })) reply.Wait (still-self s) (quiet-reclaim g reply.Wait refl)
+    waits (order-still s s listed refl refl) tt (reclaim-needs s.tables g)
   where
-    waits : (c : List Counted) → ReclaimOneStep (counting s.tables c) g reply.Wait (counting s.tables c)
-    waits c =
-        let none : has_takeable (counting s.tables c) g ≡ false = untakeable in
-        let some : has_transfer (counting s.tables c) g ≡ true = moving in
-        rw none (rw some (refl, refl))
+    waits : ReclaimOneStep s.tables g reply.Wait s.tables
+    waits =
+        rw untakeable (rw moving (refl, refl))
 
-pub makes_step-nothing : (s : StateOf) (worker g : ℕ) → has_takeable s.tables g ≡ false → has_transfer s.tables g ≡ false → InOrder s → MakesStep s worker (event.ReclaimOne (record { 0 = g })) reply.Nothing s
-makes_step-nothing s worker g untakeable settled listed =
-    makes_step-still s s worker (event.ReclaimOne (record { 0 = g })) reply.Nothing (still-self s) (quiet-reclaim g reply.Nothing refl refl)
-    (λ c told. finds_none c) (order-still s s listed refl refl) (λ c told. told) tt (reclaim-needs s.tables g)
+pub makes_step-nothing : (s : StateOf) (g : ℕ) → has_takeable s.tables g ≡ false → has_transfer s.tables g ≡ false → InOrder s → MakesStep s (event.ReclaimOne (record { 0 = g })) reply.Nothing s
+makes_step-nothing s g untakeable settled listed =
+    makes_step-still s s (event.ReclaimOne (record { 0 = g })) reply.Nothing (still-self s) (quiet-reclaim g reply.Nothing refl)
+    finds_none (order-still s s listed refl refl) tt (reclaim-needs s.tables g)
   where
-    finds_none : (c : List Counted) → ReclaimOneStep (counting s.tables c) g reply.Nothing (counting s.tables c)
-    finds_none c =
-        let none : has_takeable (counting s.tables c) g ≡ false = untakeable in
-        let no_more : has_transfer (counting s.tables c) g ≡ false = settled in
-        rw none (rw no_more (refl, refl))
+    finds_none : ReclaimOneStep s.tables g reply.Nothing s.tables
+    finds_none =
+        rw untakeable (rw settled (refl, refl))
 
 -- ---- events of tasks that were killed
 
-pub makes_step-fork_killed : (s : StateOf) (worker t : ℕ) (child : TaskId) (task : Task) → task_at s.tables.tasks t ≡ Some task → task.life ≡ Killed → InOrder s → MakesStep s worker (event.Fork (record { 0 = t }) child) reply.Killed s
-makes_step-fork_killed s worker t child task is killed listed =
-    makes_step-still s s worker (event.Fork (record { 0 = t }) child) reply.Killed (still-self s) (record { says = λ spot. refl; ticket = refl; groups = λ u g. refl; given = refl })
-    (λ c told. killed_step (counting s.tables c) _ task _ is killed) (order-still s s listed refl refl) (λ c told. told) tt (omega arith)
+pub makes_step-fork_killed : (s : StateOf) (t : ℕ) (child : TaskId) (task : Task) → task_at s.tables.tasks t ≡ Some task → task.life ≡ Killed → InOrder s → MakesStep s (event.Fork (record { 0 = t }) child) reply.Killed s
+makes_step-fork_killed s t child task is killed listed =
+    makes_step-still s s (event.Fork (record { 0 = t }) child) reply.Killed (still-self s) (record { says = λ spot. refl; given = refl })
+    (killed_step s.tables _ task _ is killed) (order-still s s listed refl refl) tt (omega arith)
 
-pub makes_step-free_killed : (s : StateOf) (worker t v : ℕ) (task : Task) → task_at s.tables.tasks t ≡ Some task → task.life ≡ Killed → InOrder s → MakesStep s worker (event.Free (record { 0 = t }) v) reply.Killed s
-makes_step-free_killed s worker t v task is killed listed =
-    makes_step-still s s worker (event.Free (record { 0 = t }) v) reply.Killed (still-self s) (record { says = λ spot. refl; ticket = refl; groups = λ u g. refl; given = refl })
-    (λ c told. killed_step (counting s.tables c) _ task _ is killed) (order-still s s listed refl refl) (λ c told. told) tt (omega arith)
+pub makes_step-free_killed : (s : StateOf) (t v : ℕ) (task : Task) → task_at s.tables.tasks t ≡ Some task → task.life ≡ Killed → InOrder s → MakesStep s (event.Free (record { 0 = t }) v) reply.Killed s
+makes_step-free_killed s t v task is killed listed =
+    makes_step-still s s (event.Free (record { 0 = t }) v) reply.Killed (still-self s) (record { says = λ spot. refl; given = refl })
+    (killed_step s.tables _ task _ is killed) (order-still s s listed refl refl) tt (omega arith)
 
-pub makes_step-exit_killed : (s : StateOf) (worker t : ℕ) (task : Task) → task_at s.tables.tasks t ≡ Some task → task.life ≡ Killed → InOrder s → MakesStep s worker (event.Exit (record { 0 = t })) reply.Killed s
-makes_step-exit_killed s worker t task is killed listed =
-    makes_step-still s s worker (event.Exit (record { 0 = t })) reply.Killed (still-self s) (record { says = λ spot. refl; ticket = refl; groups = λ u g. refl; given = refl })
-    (λ c told. killed_step (counting s.tables c) _ task _ is killed) (order-still s s listed refl refl) (λ c told. told) tt (omega arith)
+pub makes_step-exit_killed : (s : StateOf) (t : ℕ) (task : Task) → task_at s.tables.tasks t ≡ Some task → task.life ≡ Killed → InOrder s → MakesStep s (event.Exit (record { 0 = t })) reply.Killed s
+makes_step-exit_killed s t task is killed listed =
+    makes_step-still s s (event.Exit (record { 0 = t })) reply.Killed (still-self s) (record { says = λ spot. refl; given = refl })
+    (killed_step s.tables _ task _ is killed) (order-still s s listed refl refl) tt (omega arith)

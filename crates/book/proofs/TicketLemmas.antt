@@ -2,59 +2,85 @@
 use Rattle.std.proofs.Common.{◌≡◌, ℕ, List, Option, refl, sym, ap, ◌∙◌, length}
 use Rattle.machine.specs.declared.entry.Entry.{Entry}
 use Rattle.machine.specs.Slots.{there_and}
-use Rattle.machine.specs.Counts.{Counted}
-use Rattle.machine.specs.State.{State}
-use Rattle.machine.specs.History.{Spot, InTask, InFile}
 use Rattle.machine.specs.Pages.{Coming, Going}
-use Rattle.pages.specs.Tickets.{TicketOf}
+use Rattle.pages.specs.Tickets.{TicketOf, stamped}
 use Rattle.pages.specs.PagesOf.{labelled}
 use Rattle.book.specs.declared.event.Reply.{Reply}
 use Rattle.book.specs.declared.event.Reply.TheVariants as reply
 use Rattle.page_state.specs.States.{StateOf, byte_shown}
-use Rattle.book.specs.Spots.{offset_of, holder, IsThere}
-use Rattle.book.specs.Effects.{counting, is_in_memory}
+use Rattle.book.specs.Spots.{offset_of}
+use Rattle.book.specs.Effects.{is_in_memory}
 use Rattle.book.specs.Replies.{HandsOut}
-use Rattle.book.specs.MakesStep.{GivesTicket}
-use Rattle.book.specs.Told.{counted_in, state_of, IsHistory}
+use Rattle.pages.specs.declared.flight.Flight.{Flight}
+use Rattle.machine.specs.declared.id.WorkerId.{WorkerId}
+use Rattle.machine.specs.History.{ticket_given}
+use Rattle.book.specs.Events.{reply_of}
+use Rattle.machine.specs.declared.event.Event.{Event}
+use Rattle.machine.specs.declared.event.Event.TheVariants as event
+use Rattle.book.specs.MakesStep.{RepliesTo, GivesTicket, stamped_reply, noted}
+use Rattle.book.specs.Told.{IsHistory}
 use Rattle.book.proofs.StepLemmas.{knows-some}
 
--- which page has a byte, and which bytes there are, does not depend on what was counted
-holder-counting : (s : State) (c : List Counted) (spot : Spot) → holder (counting s c) spot ≡ holder s spot
-holder-counting s c (InTask t v o) = refl
-holder-counting s c (InFile f q o) = refl
-
-there-counting : (s : State) (c : List Counted) (spot : Spot) → IsThere (counting s c) spot → IsThere s spot
-there-counting s c (InTask t v o) alive = alive
-there-counting s c (InFile f q o) there = tt
-
--- a ticket that the parts give out, as a book gives it
-pub gives_more : (new : StateOf) (history : List Entry) (counts : List ℕ) (passes worker entry : ℕ) (answer : Reply) → IsHistory new history counts → entry ≡ length history → GivesTicket new worker entry answer
-    → HandsOut (record { state = state_of new history; history = history; order = new.order; passes = passes }) worker answer
-gives_more new history counts passes worker entry (reply.Fetch ticket) told newest gives =
+-- a ticket that the parts give out, stamped, as a book gives it
+pub gives_more : (new : StateOf) (history : List Entry) (counts : List ℕ) (takers : List WorkerId) (passes worker entry : ℕ) (answer : Reply) → IsHistory new history counts takers → entry ≡ length history → GivesTicket new answer
+    → HandsOut (record { state = new.tables; history = history; order = new.order; passes = passes }) worker (stamped_reply worker entry answer)
+gives_more new history counts takers passes worker entry (reply.Fetch ticket) told newest gives =
     record {
       p = gives.0;
       page = labelled gives.1 (Coming gives.2 ticket.block ticket.number);
       frame = gives.2;
       there = gives.3;
       coming = refl;
-      own = ap (λ (t : TicketOf). t.worker) gives.4;
-      entry = ap (λ (t : TicketOf). t.entry) gives.4 ∙ newest;
+      own = refl;
+      entry = newest;
       fresh = ap (λ (t : TicketOf). t.handed) gives.4;
     }
-gives_more new history counts passes worker entry (reply.Out ticket) told newest gives =
+gives_more new history counts takers passes worker entry (reply.Out ticket) told newest gives =
     record {
       p = gives.0;
       page = labelled gives.1 (Going gives.2 ticket.block ticket.number);
       frame = gives.2;
       there = gives.3;
       going = refl;
-      own = ap (λ (t : TicketOf). t.worker) gives.4;
-      entry = ap (λ (t : TicketOf). t.entry) gives.4 ∙ newest;
+      own = refl;
+      entry = newest;
       fresh = ap (λ (t : TicketOf). t.handed) gives.4;
       bytes = λ files honest spot lt there shown.
-          let had = sym (holder-counting new.tables (counted_in history) spot) ∙ shown in
           gives.5 (offset_of spot) lt
-          ∙ sym (ap (λ (p : Option ℕ). byte_shown new.bytes p (offset_of spot)) had)
-          ∙ told.bytes files honest spot (there-counting new.tables (counted_in history) spot there) (knows-some new spot gives.0 had (ap (there_and (λ page. is_in_memory page.residence)) gives.3), lt);
+          ∙ sym (ap (λ (p : Option ℕ). byte_shown new.bytes p (offset_of spot)) shown)
+          ∙ told.bytes files honest spot there (knows-some new spot gives.0 shown (ap (there_and (λ page. is_in_memory page.residence)) gives.3), lt);
     }
-gives_more new history counts passes worker entry answer told newest gives = tt
+gives_more new history counts takers passes worker entry answer told newest gives = tt
+
+-- what stands in the history of a reply is not of its ticket's worker
+pub reply_of-stamped : (worker entry : ℕ) (answer : Reply) → reply_of (stamped_reply worker entry answer) ≡ reply_of answer
+reply_of-stamped worker entry (reply.Fetch ticket) = refl
+reply_of-stamped worker entry (reply.Out ticket) = refl
+reply_of-stamped worker entry answer = refl
+
+-- and so with which event it answers
+pub replies-stamped : (worker entry : ℕ) (what : Event) (answer : Reply) → RepliesTo what answer → RepliesTo what (stamped_reply worker entry answer)
+replies-stamped worker entry what (reply.Fetch ticket) h = any_fetch what h
+  where
+    any_fetch : (what : Event) → RepliesTo what (reply.Fetch ticket) → RepliesTo what (reply.Fetch (stamped ticket worker entry))
+    any_fetch (event.Access t place op) h = h
+    any_fetch what h = h
+replies-stamped worker entry what (reply.Out ticket) h = any_out what h
+  where
+    any_out : (what : Event) → RepliesTo what (reply.Out ticket) → RepliesTo what (reply.Out (stamped ticket worker entry))
+    any_out (event.Relieve why) h = h
+    any_out what h = h
+replies-stamped worker entry what answer h = h
+
+-- what neither begins a read-in nor a write-out is as it was
+pub unstamped : (worker entry : ℕ) (answer : Reply) → ((ticket : TicketOf) → answer ≡ reply.Fetch ticket → ⊥) → ((ticket : TicketOf) → answer ≡ reply.Out ticket → ⊥) → answer ≡ stamped_reply worker entry answer
+unstamped worker entry (reply.Fetch ticket) fetch out = absurd (fetch ticket refl)
+unstamped worker entry (reply.Out ticket) fetch out = absurd (out ticket refl)
+unstamped worker entry answer fetch out = refl
+
+-- and its taker is nobody's page's
+pub unnoted : (flights : List (Option Flight)) (takers : List WorkerId) (worker : ℕ) (answer : Reply) → ((ticket : TicketOf) → answer ≡ reply.Fetch ticket → ⊥) → ((ticket : TicketOf) → answer ≡ reply.Out ticket → ⊥)
+    → takers ≡ noted flights takers worker (ticket_given (reply_of answer))
+unnoted flights takers worker (reply.Fetch ticket) fetch out = absurd (fetch ticket refl)
+unnoted flights takers worker (reply.Out ticket) fetch out = absurd (out ticket refl)
+unnoted flights takers worker answer fetch out = refl

@@ -12,7 +12,6 @@ use Rattle.machine.specs.declared.event.Event.TheVariants as event
 use Rattle.machine.specs.declared.reply.Reply.TheVariants as reply
 use Rattle.machine.specs.Slots.{at, Changes, there_and}
 use Rattle.machine.specs.Pages.{Content, Memory, OfFile, Held, Page, Pages, page_at, file_page, is_anon, is_page_of, in_transfer_at, is_held, is_in_transfer, in_transfer}
-use Rattle.machine.specs.Counts.{Counted}
 use Rattle.machine.specs.Tasks.{PageTables, SetsTask, task_at, is_live_life, is_live_task, lives, group_of, group_of_task, mapped_at, mappers, Shows}
 use Rattle.machine.specs.State.{State, page_numbers, over_in, is_frame_free}
 use Rattle.machine.specs.Access.{Meeting, Hits, meets}
@@ -25,12 +24,11 @@ use Rattle.machine.proofs.SlotLemmas.{one_if}
 use Rattle.machine.proofs.MappingLemmas.{mapped_at-mappers, mapped_at-one}
 use Rattle.machine.proofs.FileLemmas.{holds_page, file_page-there, file_page-alike, file_page-kept, file_page-new_memory}
 use Rattle.pages.specs.PagesOf.{byte_in, Label, labelled, HasResidence}
-use Rattle.memory_events.specs.Tallies.{Tells}
 use Rattle.page_state.specs.States.{StateOf, byte_shown}
 use Rattle.page_state.specs.Changes.{KeepsLists, StartsTask, ForksTask, MovesTask, DropsPages, Unmaps}
 use Rattle.page_state.specs.Mapped.{AreMapped}
 use Rattle.book.specs.Spots.{offset_of, holder, IsThere}
-use Rattle.book.specs.Effects.{counting, byte_at_spot, is_in_memory, is_known, knows, KnowsSpot, WasByte, IsSaid}
+use Rattle.book.specs.Effects.{byte_at_spot, is_in_memory, is_known, knows, KnowsSpot, WasByte, IsSaid}
 use Rattle.book.specs.MakesStep.{AgesByThree, MakesStep}
 use Rattle.book.proofs.FlightLemmas.{in_transfer-changes}
 use Rattle.page_state.proofs.DropLemmas.{mapped_stays, moving_alike}
@@ -55,22 +53,20 @@ same_spot (InFile f q o) (InTask t v k) e = cc
 abbrev pub IsOwn : StateOf → ℕ → Spot → Type 0
 IsOwn s p own = (spot : Spot) → holder s.tables spot ≡ Some p → is_spot own spot ≡ (offset_of own == offset_of spot)
 
-pub makes_step-hit_write : (old new : StateOf) (worker t p b f : ℕ) (place : Place) (label : Label) (task : Task) → task_at old.tables.tasks t ≡ Some task → task.life ≡ Live → holder old.tables (spot_of t place) ≡ Some p
-    → HasResidence old.tables.pages p label (Held f) → ((c : List Counted) → meets (counting old.tables c) t place (Write b) ≡ Hits p (labelled label (Held f)) f) → IsOwn old p (spot_of t place)
+pub makes_step-hit_write : (old new : StateOf) (t p b f : ℕ) (place : Place) (label : Label) (task : Task) → task_at old.tables.tasks t ≡ Some task → task.life ≡ Live → holder old.tables (spot_of t place) ≡ Some p
+    → HasResidence old.tables.pages p label (Held f) → meets old.tables t place (Write b) ≡ Hits p (labelled label (Held f)) f → IsOwn old p (spot_of t place)
     → Changes old.tables.pages new.tables.pages p (Some (touched (labelled label (Held f)) (Write b))) → new.tables ≡ record old.tables { pages = new.tables.pages }
     → ((q k : ℕ) → byte_in new.bytes q k ≡ (if (q == p) && (offset_of (spot_of t place) == k) then b else byte_in old.bytes q k)) → new.flights ≡ old.flights
-    → InOrder old → new.order ≡ record { held = with_mark (Some p) old.order.held; cursors = old.order.cursors } → ((c : List Counted) → Tells old.tallies c → Tells new.tallies c)
-    → MakesStep old worker (event.Access (record { 0 = t }) place (Write b)) (reply.Done b (Some (record { 0 = f }))) new
-makes_step-hit_write old new worker t p b f place label task is living shown page meeting own placed tables bytes flights listed order tells =
+    → InOrder old → new.order ≡ record { held = with_mark (Some p) old.order.held; cursors = old.order.cursors }
+    → MakesStep old (event.Access (record { 0 = t }) place (Write b)) (reply.Done b (Some (record { 0 = f }))) new
+makes_step-hit_write old new t p b f place label task is living shown page meeting own placed tables bytes flights listed order =
     record {
-      steps = λ c told. live_step (counting old.tables c) _ task _ _ _ is living (writes c);
+      steps = live_step old.tables _ task _ _ _ is living writes;
       orders = marked.0;
       ages = marked.1;
-      tallied = tells;
-      groups = λ u. ap (λ (s : State). group_of_task s.tasks u) tables;
       reads = tt;
       bytes = λ spot there known. inr (at_spot spot (there-same old.tables new.tables spot (ap (λ (s : State). s.tasks) tables) there) known (is_spot (spot_of t place) spot) refl);
-      flights = flights-kept old new worker (reply.Done b (Some (record { 0 = f }))) refl flights;
+      flights = flights-kept old new (reply.Done b (Some (record { 0 = f }))) flights;
       kept =
           (let same = in_transfer-changes old.tables.pages new.tables.pages p (Some (touched (labelled label (Held f)) (Write b))) placed in
           let was : one_if (there_and is_in_transfer (page_at old.tables.pages p)) ≡ 0 = ap (λ (slot : Option Page). one_if (there_and is_in_transfer slot)) page in
@@ -90,10 +86,10 @@ makes_step-hit_write old new worker t p b f place label task is living shown pag
     marked : Orders old.tables old.order (event.Access (record { 0 = t }) place (Write b)) (reply.Done b (Some (record { 0 = f }))) new.tables new.order × AgesByThree old new
     marked = hit-marked old new t p b place (record { 0 = f }) (Write b) shown (order-marked old new p listed (ap (there_and is_held) page) (alike is_held refl) order)
 
-    writes : (c : List Counted) → MeetStep (counting old.tables c) t task.group.0 (Write b) (meets (counting old.tables c) t place (Write b)) (reply.Done b (Some (record { 0 = f }))) (counting new.tables c)
-    writes c =
-        subst (λ (m : Meeting). MeetStep (counting old.tables c) t task.group.0 (Write b) m (reply.Done b (Some (record { 0 = f }))) (counting new.tables c)) (sym (meeting c))
-        (refl, refl, placed, ap (λ (s : State). counting s c) tables)
+    writes : MeetStep old.tables t task.group.0 (Write b) (meets old.tables t place (Write b)) (reply.Done b (Some (record { 0 = f }))) new.tables
+    writes =
+        subst (λ (m : Meeting). MeetStep old.tables t task.group.0 (Write b) m (reply.Done b (Some (record { 0 = f }))) new.tables) (sym meeting)
+        (refl, refl, placed, tables)
 
     same_holder : (spot : Spot) → holder new.tables spot ≡ holder old.tables spot
     same_holder spot =
@@ -174,26 +170,24 @@ said_here old true false z b spot byte hit written kept = cc
 said_here old false y z b spot byte hit written kept = cc
 
 -- a page is made for a place: of zeros where nothing was shown, or a copy of the page in a frame that others show too
-pub makes_step-made : (old new : StateOf) (worker t v o b p f : ℕ) (task : Task) → AreMapped old.tables.pages old.tables.page_tables
+pub makes_step-made : (old new : StateOf) (t v o b p f : ℕ) (task : Task) → AreMapped old.tables.pages old.tables.page_tables
     → task_at old.tables.tasks t ≡ Some task → task.life ≡ Live → ((u w k : ℕ) → knows old (InTask u w k) (mapped_at old.tables.page_tables t v) ≡ true)
-    → ((c : List Counted) (new : State) → MakesPage (counting old.tables c) t v task.group.0 (Write b) (reply.Done b None) new
-    → MeetStep (counting old.tables c) t task.group.0 (Write b) (meets (counting old.tables c) t (Virtual v o) (Write b)) (reply.Done b None) new)
+    → ((new : State) → MakesPage old.tables t v task.group.0 (Write b) (reply.Done b None) new
+    → MeetStep old.tables t task.group.0 (Write b) (meets old.tables t (Virtual v o) (Write b)) (reply.Done b None) new)
     → IsFreeFrame old.tables f → p < page_numbers old.tables.opening → page_at old.tables.pages p ≡ None
     → Changes old.tables.pages new.tables.pages p (Some (new_page task.group.0 f))
     → Shows old.tables.page_tables new.tables.page_tables t v (Some p) → new.tables ≡ record old.tables { pages = new.tables.pages; page_tables = new.tables.page_tables }
     → ((q k : ℕ) → byte_in new.bytes q k ≡ (if q == p then (if o == k then b else byte_shown old.bytes (mapped_at old.tables.page_tables t v) k) else byte_in old.bytes q k)) → new.flights ≡ old.flights
-    → KeepsLists Youngest old new → new.order.cursors ≡ old.order.cursors → ((c : List Counted) → Tells old.tallies c → Tells new.tallies c)
-    → MakesStep old worker (event.Access (record { 0 = t }) (Virtual v o) (Write b)) (reply.Done b None) new
-makes_step-made old new worker t v o b p f task mapped is living knew meeting frame within slot placed shown tables bytes flights goes cursors tells =
+    → KeepsLists Youngest old new → new.order.cursors ≡ old.order.cursors
+    → MakesStep old (event.Access (record { 0 = t }) (Virtual v o) (Write b)) (reply.Done b None) new
+makes_step-made old new t v o b p f task mapped is living knew meeting frame within slot placed shown tables bytes flights goes cursors =
     record {
-      steps = λ c told. live_step (counting old.tables c) _ task _ _ _ is living (meeting c (counting new.tables c) (made c));
+      steps = live_step old.tables _ task _ _ _ is living (meeting new.tables made);
       orders = (goes, cursors);
       ages = (order-on Youngest old old.order.held new refl goes cursors).1;
-      tallied = tells;
-      groups = λ u. ap (λ (s : State). group_of_task s.tasks u) tables;
       reads = tt;
       bytes = λ spot there known. inr (at_spot spot (there-same old.tables new.tables spot (ap (λ (s : State). s.tasks) tables) there) known);
-      flights = flights-kept old new worker (reply.Done b None) refl flights;
+      flights = flights-kept old new (reply.Done b None) flights;
       kept =
           (let same = in_transfer-changes old.tables.pages new.tables.pages p (Some (new_page task.group.0 f)) placed in
           let was : one_if (there_and is_in_transfer (page_at old.tables.pages p)) ≡ 0 = ap (λ (slot : Option Page). one_if (there_and is_in_transfer slot)) slot in
@@ -202,8 +196,8 @@ makes_step-made old new worker t v o b p f task mapped is living knew meeting fr
       opening = ap (λ (s : State). s.opening) tables;
     }
   where
-    made : (c : List Counted) → MakesPage (counting old.tables c) t v task.group.0 (Write b) (reply.Done b None) (counting new.tables c)
-    made c = record { page = p; frame = f; in_range = within; slot_free = slot; frame_free = record { in_range = frame.in_range; unused = frame.unused }; placed = placed; shown = shown; answers = refl; state = ap (λ (s : State). counting s c) tables }
+    made : MakesPage old.tables t v task.group.0 (Write b) (reply.Done b None) new.tables
+    made = record { page = p; frame = f; in_range = within; slot_free = slot; frame_free = record { in_range = frame.in_range; unused = frame.unused }; placed = placed; shown = shown; answers = refl; state = tables }
 
     -- another page is what it was
     another : (q k : ℕ) → q ≢ p → is_known new.tables.pages q ≡ true → (is_known old.tables.pages q ≡ true) × (byte_in new.bytes q k ≡ byte_in old.bytes q k)
@@ -249,32 +243,26 @@ makes_step-made old new worker t v o b p f task mapped is living knew meeting fr
 
 -- where nothing is mapped
 pub meets-unmapped : (old : State) (t v o b g : ℕ) → mapped_at old.page_tables t v ≡ None → over_in old g ≡ None → is_frame_free old ≡ true
-    → (c : List Counted) (new : State) → MakesPage (counting old c) t v g (Write b) (reply.Done b None) new → MeetStep (counting old c) t g (Write b) (meets (counting old c) t (Virtual v o) (Write b)) (reply.Done b None) new
-meets-unmapped old t v o b g none under free c new made = rw none (granted_step (counting old c) _ _ _ _ _ under free made)
+    → (new : State) → MakesPage old t v g (Write b) (reply.Done b None) new → MeetStep old t g (Write b) (meets old t (Virtual v o) (Write b)) (reply.Done b None) new
+meets-unmapped old t v o b g none under free new made = rw none (granted_step old _ _ _ _ _ under free made)
 
 -- where a shared page is
 pub meets-shared : (old : State) (t v o b p f g : ℕ) (label : Label) → mapped_at old.page_tables t v ≡ Some p → HasResidence old.pages p label (Held f) → nat_lt 1 (mappers old.page_tables p) ≡ true → over_in old g ≡ None → is_frame_free old ≡ true
-    → (c : List Counted) (new : State) → MakesPage (counting old c) t v g (Write b) (reply.Done b None) new → MeetStep (counting old c) t g (Write b) (meets (counting old c) t (Virtual v o) (Write b)) (reply.Done b None) new
-meets-shared old t v o b p f g label shown held shared under free c new made = rw shown (rw held (rw shared (granted_step (counting old c) _ _ _ _ _ under free made)))
+    → (new : State) → MakesPage old t v g (Write b) (reply.Done b None) new → MeetStep old t g (Write b) (meets old t (Virtual v o) (Write b)) (reply.Done b None) new
+meets-shared old t v o b p f g label shown held shared under free new made = rw shown (rw held (rw shared (granted_step old _ _ _ _ _ under free made)))
 
 -- ---- tasks begin
 
-pub makes_step-spawn : (old new : StateOf) (worker t g : ℕ) → StartsTask old new t g → InOrder old → ((c : List Counted) → Tells old.tallies c → Tells new.tallies c)
-    → MakesStep old worker (event.Spawn (record { 0 = t }) (record { 0 = g })) reply.Ok new
-makes_step-spawn old new worker t g starts listed tells =
+pub makes_step-spawn : (old new : StateOf) (t g : ℕ) → StartsTask old new t g → InOrder old
+    → MakesStep old (event.Spawn (record { 0 = t }) (record { 0 = g })) reply.Ok new
+makes_step-spawn old new t g starts listed =
     record {
-      steps = λ c told. (starts.starts, record { none = starts.none; others = λ u v other. starts.same u v }, ap (λ (s : State). counting s c) starts.tables);
+      steps = (starts.starts, record { none = starts.none; others = λ u v other. starts.same u v }, starts.tables);
       orders = (order-still old new listed same_pages starts.order).0;
       ages = (order-still old new listed same_pages starts.order).1;
-      tallied = tells;
-      groups = λ u.
-          elim (eq_cases t u) [
-            | inl same ↦ ap group_of (ap (at new.tables.tasks) (sym same) ∙ starts.starts.changed) ∙ ap (λ b. cond b g (group_of_task old.tables.tasks u)) (sym (eq-eqb t u same))
-            | inr other ↦ ap group_of (starts.starts.others u (λ e. other (sym e))) ∙ ap (λ b. cond b g (group_of_task old.tables.tasks u)) (sym (ne_eqb t u other))
-          ];
       reads = tt;
       bytes = λ spot there known. inr (by_spot spot there known);
-      flights = flights-kept old new worker reply.Ok refl starts.flights;
+      flights = flights-kept old new reply.Ok starts.flights;
       kept = (let same = ap in_transfer same_pages in omega (arith, same));
       given = refl;
       opening = ap (λ (s : State). s.opening) starts.tables;
@@ -302,22 +290,16 @@ makes_step-spawn old new worker t g starts listed tells =
     by_spot (InFile f q o) there known = stays-was old new (InFile f q o) tt (ap (λ (ps : Pages). file_page ps f q) same_pages) (λ p at now. (same_known p now, same_byte p o)) known
 
 -- a child shows what its parent shows
-pub makes_step-fork : (old new : StateOf) (worker t child : ℕ) (task : Task) → task_at old.tables.tasks t ≡ Some task → task.life ≡ Live → ForksTask old new t child → InOrder old → ((c : List Counted) → Tells old.tallies c → Tells new.tallies c)
-    → MakesStep old worker (event.Fork (record { 0 = t }) (record { 0 = child })) reply.Ok new
-makes_step-fork old new worker t child task is living forks listed tells =
+pub makes_step-fork : (old new : StateOf) (t child : ℕ) (task : Task) → task_at old.tables.tasks t ≡ Some task → task.life ≡ Live → ForksTask old new t child → InOrder old
+    → MakesStep old (event.Fork (record { 0 = t }) (record { 0 = child })) reply.Ok new
+makes_step-fork old new t child task is living forks listed =
     record {
-      steps = λ c told. live_step (counting old.tables c) _ task _ _ _ is living (refl, subst (λ (g : ℕ). SetsTask old.tables.tasks child g Live new.tables.tasks) (ap group_of is) forks.starts, forks.copies, ap (λ (s : State). counting s c) forks.tables);
+      steps = live_step old.tables _ task _ _ _ is living (refl, subst (λ (g : ℕ). SetsTask old.tables.tasks child g Live new.tables.tasks) (ap group_of is) forks.starts, forks.copies, forks.tables);
       orders = (order-still old new listed same_pages forks.order).0;
       ages = (order-still old new listed same_pages forks.order).1;
-      tallied = tells;
-      groups = λ u.
-          elim (eq_cases child u) [
-            | inl same ↦ ap group_of (ap (at new.tables.tasks) (sym same) ∙ forks.starts.changed) ∙ ap (λ b. cond b (group_of_task old.tables.tasks t) (group_of_task old.tables.tasks u)) (sym (eq-eqb child u same))
-            | inr other ↦ ap group_of (forks.starts.others u (λ e. other (sym e))) ∙ ap (λ b. cond b (group_of_task old.tables.tasks t) (group_of_task old.tables.tasks u)) (sym (ne_eqb child u other))
-          ];
       reads = tt;
       bytes = λ spot there known. inr (by_spot spot there known);
-      flights = flights-kept old new worker reply.Ok refl forks.flights;
+      flights = flights-kept old new reply.Ok forks.flights;
       kept = (let same = ap in_transfer same_pages in omega (arith, same));
       given = refl;
       opening = ap (λ (s : State). s.opening) forks.tables;
@@ -354,22 +336,16 @@ makes_step-fork old new worker t child task is living forks listed tells =
 -- ---- tasks that go elsewhere, and places that show nothing any more
 
 -- a live task is in another group
-pub makes_step-attach : (old new : StateOf) (worker t g : ℕ) → lives old.tables.tasks t ≡ true → MovesTask old new t g → InOrder old → ((c : List Counted) → Tells old.tallies c → Tells new.tallies c)
-    → MakesStep old worker (event.Attach (record { 0 = t }) (record { 0 = g })) reply.Ok new
-makes_step-attach old new worker t g living moves listed tells =
+pub makes_step-attach : (old new : StateOf) (t g : ℕ) → lives old.tables.tasks t ≡ true → MovesTask old new t g → InOrder old
+    → MakesStep old (event.Attach (record { 0 = t }) (record { 0 = g })) reply.Ok new
+makes_step-attach old new t g living moves listed =
     record {
-      steps = λ c told. (moves.moves, ap (λ (s : State). counting s c) moves.tables);
+      steps = (moves.moves, moves.tables);
       orders = (order-still old new listed same_pages moves.order).0;
       ages = (order-still old new listed same_pages moves.order).1;
-      tallied = tells;
-      groups = λ u.
-          elim (eq_cases t u) [
-            | inl same ↦ ap group_of (ap (at new.tables.tasks) (sym same) ∙ moves.moves.changed) ∙ ap (λ b. cond b g (group_of_task old.tables.tasks u)) (sym (eq-eqb t u same))
-            | inr other ↦ ap group_of (moves.moves.others u (λ e. other (sym e))) ∙ ap (λ b. cond b g (group_of_task old.tables.tasks u)) (sym (ne_eqb t u other))
-          ];
       reads = tt;
       bytes = λ spot there known. inr (still-was old new spot (there_before spot there) same_pages (ap (λ (s : State). s.page_tables) moves.tables) moves.bytes known);
-      flights = flights-kept old new worker reply.Ok refl moves.flights;
+      flights = flights-kept old new reply.Ok moves.flights;
       kept = (let same = ap in_transfer same_pages in omega (arith, same));
       given = refl;
       opening = ap (λ (s : State). s.opening) moves.tables;
@@ -427,18 +403,16 @@ module _ (old new : StateOf) (drops : DropsPages old new) where
       known
 
 -- a place of a live task shows nothing any more
-pub makes_step-free : (old new : StateOf) (worker t v : ℕ) (task : Task) → task_at old.tables.tasks t ≡ Some task → task.life ≡ Live → Unmaps old new t v
-    → ((c : List Counted) → Tells old.tallies c → Tells new.tallies c) → MakesStep old worker (event.Free (record { 0 = t }) v) reply.Ok new
-makes_step-free old new worker t v task is living frees tells =
+pub makes_step-free : (old new : StateOf) (t v : ℕ) (task : Task) → task_at old.tables.tasks t ≡ Some task → task.life ≡ Live → Unmaps old new t v
+    → MakesStep old (event.Free (record { 0 = t }) v) reply.Ok new
+makes_step-free old new t v task is living frees =
     record {
-      steps = λ c told. live_step (counting old.tables c) _ task _ _ _ is living (record { answers = refl; shown = frees.shown; pages = frees.drops.pages; state = ap (λ (s : State). counting s c) frees.tables });
+      steps = live_step old.tables _ task _ _ _ is living (record { answers = refl; shown = frees.shown; pages = frees.drops.pages; state = frees.tables });
       orders = (order-on Youngest old old.order.held new refl frees.drops.held frees.drops.cursors).0;
       ages = (order-on Youngest old old.order.held new refl frees.drops.held frees.drops.cursors).1;
-      tallied = tells;
-      groups = λ u. ap (λ (s : State). group_of_task s.tasks u) frees.tables;
       reads = tt;
       bytes = λ spot there known. inr (at_spot spot (there-same old.tables new.tables spot (ap (λ (s : State). s.tasks) frees.tables) there) known);
-      flights = flights-kept old new worker reply.Ok refl frees.drops.flights;
+      flights = flights-kept old new reply.Ok frees.drops.flights;
       kept = (let same = moving_alike old new frees.drops in omega (arith, same));
       given = refl;
       opening = ap (λ (s : State). s.opening) frees.tables;

@@ -186,11 +186,11 @@ makes other = false
 -- ---- what comes of it
 
 -- the answer to an event, with the ticket that it gives out
-pub record AnswersTo (old : StateOf) (worker entry : ℕ) (what : Event) (said : Given) (new : StateOf) : Type 0 where
-  pub makes_step : MakesStep old worker what (reply_of said) new
-  pub gives : GivesTicket new worker entry said
+pub record AnswersTo (old : StateOf) (what : Event) (said : Given) (new : StateOf) : Type 0 where
+  pub makes_step : MakesStep old what (reply_of said) new
+  pub gives : GivesTicket new said
   pub replies : RepliesTo what said
 
 -- the answer to every event that the decision is one for
-abbrev pub Carries : StateOf → ℕ → ℕ → Decision → Given → StateOf → Type 0
-Carries old worker entry decided said new = (what : Event) → IsDecided old what decided → AnswersTo old worker entry what said new
+abbrev pub Carries : StateOf → Decision → Given → StateOf → Type 0
+Carries old decided said new = (what : Event) → IsDecided old what decided → AnswersTo old what said new

@@ -1,6 +1,5 @@
--- What an event does to the joined parts, said by itself: to what was counted, to the tasks' groups, to bytes, and to transfers.
-use Rattle.std.specs.Prelude.{◌≡◌, ◌⊎◌, ℕ, ◌<◌, ◌==◌, Bool, true, false, List, [], ◌∷◌, ◌++◌, slice_index, option_map, IfSome, Option, Some, None, if◌then◌else◌}
-use Rattle.machine.specs.declared.record.Key.TheVariants as key
+-- What an event does to the joined parts, said by itself: to bytes, and to transfers.
+use Rattle.std.specs.Prelude.{◌≡◌, ◌⊎◌, ℕ, ◌<◌, Bool, true, false, slice_index, IfSome, Option, Some, None}
 use Rattle.machine.specs.declared.event.Op.TheVariants.{Read}
 use Rattle.machine.specs.declared.event.Event.{Event}
 use Rattle.machine.specs.declared.event.Event.TheVariants as event
@@ -8,53 +7,11 @@ use Rattle.machine.specs.declared.reply.Reply.{Reply}
 use Rattle.machine.specs.declared.reply.Reply.TheVariants as reply
 use Rattle.machine.specs.Slots.{at, there_and}
 use Rattle.machine.specs.Pages.{Residence, Held, Coming, Going, Pages, page_at}
-use Rattle.machine.specs.Counts.{Counted}
-use Rattle.machine.specs.Tasks.{group_of_task}
-use Rattle.machine.specs.State.{State}
-use Rattle.machine.specs.Reclaim.{target_of}
-use Rattle.machine.specs.Step.{Step, count_of}
 use Rattle.machine.specs.Access.{page_size}
-use Rattle.machine.specs.History.{Spot, InTask, InFile, spot_of, Says, Byte, As, Nothing, says, ticket_given, taker_or}
+use Rattle.machine.specs.History.{Spot, InTask, InFile, spot_of, Says, Byte, As, Nothing, says, ticket_given}
 use Rattle.pages.specs.PagesOf.{Label, HasResidence}
-use Rattle.pages.specs.declared.flight.Flight.{Flight}
-use Rattle.memory_events.specs.Tallies.{Tells}
 use Rattle.page_state.specs.States.{StateOf, byte_shown}
 use Rattle.book.specs.Spots.{offset_of, holder, IsThere}
-
--- ---- events counted
-
--- the tables with these events counted
-abbrev pub counting : State → List Counted → State
-counting s counted = record s { counted = counted }
-
--- the events counted after an event, from those before and each task's group
-abbrev pub counted_after : (ℕ → ℕ) → List Counted → Event → Reply → List Counted
-counted_after group_of counted (event.Access t place op) (reply.Over g) = counted ++ count_of g.0 key.Max ∷ []
-counted_after group_of counted (event.Relieve cause) (reply.KilledTask t) = counted ++ (count_of (target_of cause) key.Oom ∷ count_of (group_of t.0) key.OomKill ∷ [])
-counted_after group_of counted (event.Relieve cause) reply.NoVictim = counted ++ count_of (target_of cause) key.Oom ∷ []
-counted_after group_of counted what answer = counted
-
--- the machine's step, whatever was counted before that the tallies tell
-abbrev pub Steps : StateOf → Event → Reply → StateOf → Type 0
-Steps old what answer new =
-    (counted : List Counted) → Tells old.tallies counted → Step (counting old.tables counted) what answer (counting new.tables (counted_after (group_of_task old.tables.tasks) counted what answer))
-
--- the tallies go on to tell what is counted
-abbrev pub Tallied : StateOf → Event → Reply → StateOf → Type 0
-Tallied old what answer new = (counted : List Counted) → Tells old.tallies counted → Tells new.tallies (counted_after (group_of_task old.tables.tasks) counted what answer)
-
--- ---- groups of tasks
-
--- each task's group after an event, from those before
-abbrev pub group_after : (ℕ → ℕ) → Event → Reply → ℕ → ℕ
-group_after before (event.Spawn t g) reply.Ok u = if t.0 == u then g.0 else before u
-group_after before (event.Fork t child) reply.Ok u = if child.0 == u then before t.0 else before u
-group_after before (event.Attach t g) reply.Ok u = if t.0 == u then g.0 else before u
-group_after before what answer u = before u
-
--- each task's group is what the event says, or as it was
-abbrev pub ChangesGroups : StateOf → Event → Reply → StateOf → Type 0
-ChangesGroups old what answer new = (t : ℕ) → group_of_task new.tables.tasks t ≡ group_after (group_of_task old.tables.tasks) what answer t
 
 -- ---- bytes
 
@@ -112,10 +69,6 @@ ChangesBytes old what answer new =
 
 -- ---- transfers
 
-abbrev pub worker_of : Option Flight → Option ℕ
-worker_of flight = option_map (λ (f : Flight). f.worker.0) flight
-
--- each transfer in flight is the worker's who was given its ticket
-abbrev pub ChangesFlights : StateOf → ℕ → Reply → StateOf → Type 0
-ChangesFlights old worker answer new =
-    (n : ℕ) → IfSome (at new.flights n) (λ f. Some f.worker.0 ≡ taker_or n (ticket_given answer) worker (worker_of (at old.flights n)))
+-- each transfer in flight is the one that the reply gives a ticket of, or was in flight before
+abbrev pub KeepsFlights : StateOf → Reply → StateOf → Type 0
+KeepsFlights old answer new = (n : ℕ) → IfSome (at new.flights n) (λ f. (ticket_given answer ≡ Some n) ⊎ (at old.flights n ≡ Some f))

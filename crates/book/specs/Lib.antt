@@ -1,3 +1,4 @@
+pub mod Passes
 pub mod Spots
 pub mod Events
 pub mod Replies

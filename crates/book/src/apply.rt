@@ -1,14 +1,11 @@
 //! What was decided is done: one change of the joined parts, and the answer.
 
-ghost use Rattle.std.specs.Prelude.{◌≡◌, ℕ, List, true, None, Some, IfOk, OnErr};
+ghost use Rattle.std.specs.Prelude.{◌≡◌, true, None, Some, IfOk, OnErr};
 ghost use Rattle.machine.specs.Tree.{is_live};
 ghost use Rattle.machine.specs.Refusals.{show_refusal};
-ghost use Rattle.machine.specs.Counts.{Counted};
 ghost use Rattle.machine.specs.Step.{shown_of};
 ghost use Rattle.machine.specs.declared.event.Event.{Event as Event_of};
-ghost use Rattle.memory_events.specs.Tallies.{Tells};
 ghost use Rattle.page_state.specs.States.{AreFew, AreYoung};
-ghost use Rattle.book.specs.Effects.{counting};
 ghost use Rattle.book.specs.Decisions.{IsSound, IsTouch, MeetsSo, IsFileTouch, MeetsInCache, IsDecided, makes, Carries};
 ghost use Rattle.book.specs.declared.decision.Decision.TheVariants as decision;
 ghost use Rattle.book.specs.declared.decision.Meeting.TheVariants as meeting;
@@ -17,25 +14,19 @@ ghost use Rattle.book.specs.declared.decision.CacheMeeting.TheVariants as cache;
 use crate::decision::{CacheMeeting, Decision, FileTouch, Meeting, Touch};
 use crate::event::Reply;
 use machine::event::{Op, Query, Setting};
-use machine::id::{FrameId, GroupId, PageId, TaskId, WorkerId};
+use machine::id::{FrameId, GroupId, PageId, TaskId};
 use machine::record::{Key, Life};
 use machine::reply::Shown;
 use page_state::{NoRoom, State};
 use std::alloc::{AllocError, Global};
 
-/// Does what was decided, asked by the worker; `entry` is the place that the trace's entry will have.
-/// `AllocError` where memory was wanted and refused, and then nothing changed.
-pub fn apply(
-    state: &mut State,
-    alloc: Global,
-    decided: Decision<'_>,
-    worker: WorkerId,
-    entry: u32,
-) -> Result<Reply, AllocError>
-    requires few { AreFew state.old.tallies }
+/// Does what was decided. A ticket that it gives out is nobody's yet. `AllocError` where memory was wanted
+/// and refused, and then nothing changed.
+pub fn apply(state: &mut State, alloc: Global, decided: Decision<'_>) -> Result<Reply, AllocError>
+    requires few { AreFew state.old.tables }
     requires young { AreYoung state.old.order.held }
     requires decided { (what : Event_of) × IsDecided state.old what decided }
-    ensures carries { IfOk result (λ said. Carries state.old worker.0 entry decided.entry said state.new) }
+    ensures carries { IfOk result (λ said. Carries state.old decided.entry said state.new) }
     ensures err { OnErr result (state.new ≡ state.old) }
     ensures makes { OnErr result (makes decided.entry ≡ true) }
 {
@@ -43,15 +34,15 @@ pub fn apply(
     match decided {
         Decision::Killed => Ok(Reply::Killed),
         Decision::Access(touch, meeting) => {
-            let reply = access(state, alloc, touch, meeting, worker, entry)?;
+            let reply = access(state, alloc, touch, meeting)?;
             Ok(reply)
         }
         Decision::FileAccess(touch, meeting) => {
-            let reply = file_access(state, alloc, touch, meeting, worker, entry)?;
+            let reply = file_access(state, alloc, touch, meeting)?;
             Ok(reply)
         }
         Decision::Room => Ok(Reply::Room),
-        Decision::Take { target, group } => Ok(take(state, target, group, worker, entry)),
+        Decision::Take { target, group } => Ok(take(state, target, group)),
         Decision::Wait => Ok(Reply::Wait),
         Decision::Nothing => Ok(Reply::Nothing),
         Decision::Kill { limit, task } => Ok(kill(state, limit, task)),
@@ -98,13 +89,11 @@ fn access(
     alloc: Global,
     touch: Touch,
     meeting: Meeting,
-    worker: WorkerId,
-    entry: u32,
 ) -> Result<Reply, AllocError>
-    requires few { AreFew state.old.tallies }
+    requires few { AreFew state.old.tables }
     requires touch { IsTouch state.old.tables touch }
     requires meets { MeetsSo state.old.tables touch meeting }
-    ensures carries { IfOk result (λ said. Carries state.old worker.0 entry (decision.Access touch meeting) said state.new) }
+    ensures carries { IfOk result (λ said. Carries state.old (decision.Access touch meeting) said state.new) }
     ensures err { OnErr result (state.new ≡ state.old) }
     ensures makes { OnErr result (makes (decision.Access touch meeting) ≡ true) }
 {
@@ -122,7 +111,7 @@ fn access(
             Ok(Reply::Done { byte, hit: None })
         }
         Meeting::NeedsSwapIn(page) => {
-            let ticket = state.start_in(alloc, page, worker, entry)?;
+            let ticket = state.start_in(alloc, page)?;
             Ok(Reply::Fetch(ticket))
         }
         Meeting::Lacks(why) => Ok(refuse_charge(state, touch, why)),
@@ -135,13 +124,11 @@ fn file_access(
     alloc: Global,
     touch: FileTouch,
     meeting: CacheMeeting,
-    worker: WorkerId,
-    entry: u32,
 ) -> Result<Reply, AllocError>
-    requires few { AreFew state.old.tallies }
+    requires few { AreFew state.old.tables }
     requires touch { IsFileTouch state.old.tables touch }
     requires meets { MeetsInCache state.old.tables touch meeting }
-    ensures carries { IfOk result (λ said. Carries state.old worker.0 entry (decision.FileAccess touch meeting) said state.new) }
+    ensures carries { IfOk result (λ said. Carries state.old (decision.FileAccess touch meeting) said state.new) }
     ensures err { OnErr result (state.new ≡ state.old) }
     ensures makes { OnErr result (makes (decision.FileAccess touch meeting) ≡ true) }
 {
@@ -150,7 +137,7 @@ fn file_access(
         CacheMeeting::Hits(page, frame) => Ok(file_hit(state, touch, page, frame)),
         CacheMeeting::Transferring => Ok(Reply::Busy),
         CacheMeeting::NeedsRead => {
-            let ticket = state.start_in_file(alloc, touch.at, touch.group, worker, entry)?;
+            let ticket = state.start_in_file(alloc, touch.at, touch.group)?;
             Ok(Reply::Fetch(ticket))
         }
         CacheMeeting::Lacks(why) => Ok(refuse_file(state, touch, why)),
@@ -161,7 +148,7 @@ fn file_access(
 fn file_hit(state: &mut State, touch: FileTouch, cached: PageId, frame: FrameId) -> Reply
     requires touch { IsFileTouch state.old.tables touch }
     requires meets { MeetsInCache state.old.tables touch (cache.Hits cached frame) }
-    ensures { (worker entry : ℕ) → Carries state.old worker entry (decision.FileAccess touch (cache.Hits cached frame)) result state.new }
+    ensures { Carries state.old (decision.FileAccess touch (cache.Hits cached frame)) result state.new }
 {
     state.is_joined();
     state.mark(cached);
@@ -182,10 +169,10 @@ fn file_hit(state: &mut State, touch: FileTouch, cached: PageId, frame: FrameId)
 
 /// The charge of a page of a file is refused. Where a max is in its way, that is counted at the max's group.
 fn refuse_file(state: &mut State, touch: FileTouch, why: NoRoom) -> Reply
-    requires few { AreFew state.old.tallies }
+    requires few { AreFew state.old.tables }
     requires touch { IsFileTouch state.old.tables touch }
     requires meets { MeetsInCache state.old.tables touch (cache.Lacks why) }
-    ensures { (worker entry : ℕ) → Carries state.old worker entry (decision.FileAccess touch (cache.Lacks why)) result state.new }
+    ensures { Carries state.old (decision.FileAccess touch (cache.Lacks why)) result state.new }
 {
     state.is_joined();
     match why {
@@ -198,13 +185,13 @@ fn refuse_file(state: &mut State, touch: FileTouch, why: NoRoom) -> Reply
 }
 
 /// The page that is next for the target leaves its frame: it begins to be written out, or is dropped.
-fn take(state: &mut State, target: GroupId, group: GroupId, worker: WorkerId, entry: u32) -> Reply
+fn take(state: &mut State, target: GroupId, group: GroupId) -> Reply
     requires young { AreYoung state.old.order.held }
     requires sound { IsSound state.old.tables state.old.order (decision.Take target group) }
-    ensures { Carries state.old worker.0 entry (decision.Take target group) result state.new }
+    ensures { Carries state.old (decision.Take target group) result state.new }
 {
     state.is_joined();
-    match state.take_out(target, group, worker, entry) {
+    match state.take_out(target, group) {
         Some(ticket) => Reply::Out(ticket),
         None => Reply::Dropped,
     }
@@ -214,7 +201,7 @@ fn take(state: &mut State, target: GroupId, group: GroupId, worker: WorkerId, en
 fn hit(state: &mut State, touch: Touch, page: PageId, frame: FrameId) -> Reply
     requires touch { IsTouch state.old.tables touch }
     requires meets { MeetsSo state.old.tables touch (meeting.Hits page frame) }
-    ensures { (worker entry : ℕ) → Carries state.old worker entry (decision.Access touch (meeting.Hits page frame)) result state.new }
+    ensures { Carries state.old (decision.Access touch (meeting.Hits page frame)) result state.new }
 {
     state.is_joined();
     state.mark(page);
@@ -235,10 +222,10 @@ fn hit(state: &mut State, touch: Touch, page: PageId, frame: FrameId) -> Reply
 
 /// A charge is refused. Where a max is in its way, that is counted at the max's group.
 fn refuse_charge(state: &mut State, touch: Touch, why: NoRoom) -> Reply
-    requires few { AreFew state.old.tallies }
+    requires few { AreFew state.old.tables }
     requires touch { IsTouch state.old.tables touch }
     requires meets { MeetsSo state.old.tables touch (meeting.Lacks why) }
-    ensures { (worker entry : ℕ) → Carries state.old worker entry (decision.Access touch (meeting.Lacks why)) result state.new }
+    ensures { Carries state.old (decision.Access touch (meeting.Lacks why)) result state.new }
 {
     state.is_joined();
     match why {
@@ -252,9 +239,9 @@ fn refuse_charge(state: &mut State, touch: Touch, why: NoRoom) -> Reply
 
 /// Nothing can be reclaimed under the limit, and the task is killed for it.
 fn kill(state: &mut State, limit: GroupId, task: TaskId) -> Reply
-    requires few { AreFew state.old.tallies }
+    requires few { AreFew state.old.tables }
     requires sound { IsSound state.old.tables state.old.order (decision.Kill limit task) }
-    ensures { (worker entry : ℕ) → Carries state.old worker entry (decision.Kill limit task) result state.new }
+    ensures { Carries state.old (decision.Kill limit task) result state.new }
 {
     state.is_joined();
     let Some(known) = state.spaces().task(task) else {
@@ -269,7 +256,7 @@ fn kill(state: &mut State, limit: GroupId, task: TaskId) -> Reply
 /// Another value for a setting of a group.
 fn set(state: &mut State, group: GroupId, setting: Setting) -> Reply
     requires { is_live state.old.tables.tree group.0 ≡ true }
-    ensures { (worker entry : ℕ) → Carries state.old worker entry (decision.Set group setting) result state.new }
+    ensures { Carries state.old (decision.Set group setting) result state.new }
 {
     state.is_joined();
     match setting {
@@ -287,7 +274,7 @@ fn set(state: &mut State, group: GroupId, setting: Setting) -> Reply
 /// The numbers that are asked for.
 fn shown(state: &State, query: Query) -> Shown
     requires { show_refusal state.now.tables query ≡ None }
-    ensures { (counted : List Counted) → Tells state.now.tallies counted → result ≡ shown_of (counting state.now.tables counted) query }
+    ensures { result ≡ shown_of state.now.tables query }
 {
     match query {
         Query::Current(group) => Shown::Pages(state.usage(group)),

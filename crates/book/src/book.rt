@@ -1,16 +1,17 @@
 //! The book: one event a call, and the history of what was answered.
 
-ghost use Rattle.std.specs.Prelude.{◌≡◌, ◌⊎◌, ℕ, ◌+◌, ◌<◌, ◌≤◌, ◌++◌, ◌∷◌, List, [], None, true, false, length, reverse, nat_lt, slice_index, slice_set, option_map, IfOk, IfErr, OnErr, vec_len, vec_capacity};
+ghost use Rattle.std.specs.Prelude.{◌≡◌, ◌⊎◌, ℕ, ◌+◌, ◌<◌, ◌≤◌, ◌++◌, ◌∷◌, List, [], None, true, false, length, reverse, nat_lt, slice_index, slice_set, option_map, IfSome, IfOk, IfErr, OnErr, vec_len, vec_capacity};
 ghost use Rattle.machine.specs.Tree.{find_group};
 ghost use Rattle.machine.specs.Pages.{used_frames, in_transfer};
 ghost use Rattle.machine.specs.State.{opening_of, is_config};
 ghost use Rattle.machine.specs.Legal.{Legal};
 ghost use Rattle.machine.specs.Lists.{ListsHeld, AreGenerations};
-ghost use Rattle.machine.specs.History.{Right, IsRight, Honest, Numbered, at_first};
+ghost use Rattle.machine.specs.Slots.{at};
+ghost use Rattle.machine.specs.History.{Right, IsRight, Honest, Numbered, at_first, ticket_given};
 ghost use Rattle.machine.specs.Call.{first_past, took, Called};
 ghost use Rattle.book.specs.Events.{event_of, reply_of, ended, ended_with};
 ghost use Rattle.book.specs.Replies.{Replies, IsInReply, IsOutReply, IsBack, HandsBack, KeepsTicket, HandsOut};
-ghost use Rattle.book.specs.MakesStep.{IsAsked, RepliesTo};
+ghost use Rattle.book.specs.MakesStep.{IsAsked, RepliesTo, stamped_reply, noted, noted_at};
 
 use crate::apply::apply;
 use crate::decide::decide;
@@ -47,6 +48,8 @@ pub struct Book {
     entries: Vec<Entry>,
     /// How many entries each worker has.
     counts: Vec<u64>,
+    /// By page number, the worker who took the ticket of the page's transfer, while it is in transfer.
+    takers: Vec<WorkerId>,
 }
 
 impl Model for Book {
@@ -86,19 +89,21 @@ impl Book {
         ensures { IfOk result (λ b. b ≡ first_past (opening_of config)) }
     {
         let entries = Vec::with_capacity(alloc, config.trace as usize)?;
+        let takers = nobody(alloc, config.frames as usize + config.swap as usize)?;
         let state = State::open(alloc, config)?;
         Ok(Book {
             alloc,
             state,
             entries,
             counts: Vec::new(alloc),
+            takers,
         })
     }
 
     /// A pass for one worker more. `NoSpace` where 131,072 were given out, and otherwise `NoMemory`
     /// where memory is refused; nothing changes then.
     pub fn pass(&mut self) -> Result<Pass, Refusal>
-        ensures pass { IfOk result (λ pass. pass.worker ≡ self.old.passes) }
+        ensures pass { IfOk result (λ pass. pass.caller.worker ≡ self.old.passes) }
         ensures ok { IfOk result (λ pass. self.new ≡ record self.old { passes = self.old.passes + 1 }) }
         ensures err { IfErr result (λ cause. (cause ≡ Refusal.NoSpace) × (131072 ≤ self.old.passes) ⊎ (cause ≡ Refusal.NoMemory) × (self.old.passes < 131072)) }
         ensures unchanged { OnErr result (self.new ≡ self.old) }
@@ -119,13 +124,13 @@ impl Book {
     /// Either it is refused, for the first cause that stands, and nothing changes; or it is one step
     /// of the machine and exactly one entry more. A refused ticket comes back.
     pub fn call(&mut self, pass: &mut Pass, event: Event) -> Reply
-        requires { pass.old.worker < self.old.passes }
-        ensures called { Called self.old pass.old (event_of event) (reply_of result) self.new }
+        requires { pass.old.caller.worker < self.old.passes }
+        ensures called { Called self.old pass.old.caller (event_of event) (reply_of result) self.new }
         ensures reads { (files : ℕ → ℕ → ℕ → ℕ) → Honest (at_first files) self.old.history → IsRight (at_first files) self.old.history (event_of event) (reply_of result) }
         ensures replies { Replies event result }
-        ensures gives { HandsOut self.new pass.old.worker result }
-        ensures keeps { KeepsTicket pass.old.worker event result }
-        ensures pass { pass.new.worker ≡ pass.old.worker }
+        ensures gives { HandsOut self.new pass.old.caller.worker result }
+        ensures keeps { KeepsTicket pass.old.caller.worker event result }
+        ensures pass { pass.new.caller ≡ pass.old.caller }
         ensures passes { self.new.passes ≡ self.old.passes }
     {
         let worker = pass.worker();
@@ -175,12 +180,13 @@ impl Book {
         }
         self.state.is_joined();
         let entry = self.entries.len() as u32 + 1;
-        match apply(&mut self.state, self.alloc, decided, worker, entry) {
+        match apply(&mut self.state, self.alloc, decided) {
             Err(AllocError) => Reply::Refused(Refusal::NoMemory),
             Ok(reply) => {
+                self.state.is_joined();
                 let said = plain(&reply);
                 append(&mut self.entries, &mut self.counts, worker, event, said);
-                reply
+                hand_out(&self.state, &mut self.takers, worker, entry, reply)
             }
         }
     }
@@ -201,7 +207,9 @@ impl Book {
     {
         self.state.is_joined();
         match self.state.pages().flight(ticket) {
-            Some(flight) => flight.direction == direction && flight.worker == worker,
+            Some(flight) => {
+                flight.direction == direction && self.takers[flight.page.0 as usize] == worker
+            }
             None => false,
         }
     }
@@ -220,6 +228,7 @@ impl Book {
         }
         self.state.is_joined();
         let bytes = self.state.settle_in(ticket, end);
+        self.state.is_joined();
         let event = in_ended(end, number, bytes);
         append(
             &mut self.entries,
@@ -245,6 +254,7 @@ impl Book {
         }
         self.state.is_joined();
         self.state.settle_out(ticket, end);
+        self.state.is_joined();
         append(
             &mut self.entries,
             &mut self.counts,
@@ -258,7 +268,7 @@ impl Book {
     /// The live group of a path. It is no event.
     pub fn find(&self, pass: &mut Pass, path: &str) -> Option<GroupId>
         ensures found { option_map (λ g. g.0) result ≡ find_group self.now.state.tree path.now }
-        ensures pass { pass.new.worker ≡ pass.old.worker }
+        ensures pass { pass.new.caller ≡ pass.old.caller }
     {
         let _ = pass.worker();
         self.state.tree().find(path)
@@ -302,6 +312,7 @@ impl Book {
             state,
             entries,
             counts: _,
+            takers: _,
         } = self;
         state.close();
         Trace { entries }
@@ -331,6 +342,53 @@ fn append(
         event,
         reply,
     });
+}
+
+/// So many page numbers, and nobody has taken a ticket.
+fn nobody(alloc: Global, numbers: usize) -> Result<Vec<WorkerId>, AllocError>
+    ensures { IfOk result (λ takers. length takers.items ≡ numbers) }
+{
+    let mut takers = Vec::with_capacity(alloc, numbers)?;
+    for _page in 0..numbers {
+        takers.push_reserved(WorkerId(0));
+    }
+    Ok(takers)
+}
+
+/// A ticket in the reply is the worker's from now on, given out by the entry at this place of the trace.
+fn hand_out(
+    state: &State,
+    takers: &mut Vec<WorkerId>,
+    worker: WorkerId,
+    entry: u32,
+    reply: Reply,
+) -> Reply
+    requires known { (n : ℕ) → IfSome (at state.now.flights n) (λ flight. flight.page.0 < length takers.old.items) }
+    ensures stamped { result ≡ stamped_reply worker.0 entry reply }
+    ensures noted { takers.new.items ≡ noted state.now.flights takers.old.items worker.0 (ticket_given (reply_of reply)) }
+{
+    match reply {
+        Reply::Fetch(ticket) => {
+            note_taker(state, takers, ticket.number(), worker);
+            Reply::Fetch(ticket.stamp(worker, entry))
+        }
+        Reply::Out(ticket) => {
+            note_taker(state, takers, ticket.number(), worker);
+            Reply::Out(ticket.stamp(worker, entry))
+        }
+        other => other,
+    }
+}
+
+/// Notes who took the ticket of a transfer in flight.
+fn note_taker(state: &State, takers: &mut Vec<WorkerId>, ticket: TicketId, worker: WorkerId)
+    requires known { (n : ℕ) → IfSome (at state.now.flights n) (λ flight. flight.page.0 < length takers.old.items) }
+    ensures { takers.new.items ≡ noted_at takers.old.items (at state.now.flights ticket.0) worker.0 }
+{
+    match state.pages().flight(ticket) {
+        Some(flight) => takers[flight.page.0 as usize] = worker,
+        None => {}
+    }
 }
 
 /// What stands in the history of a reply.

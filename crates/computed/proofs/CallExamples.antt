@@ -1,5 +1,5 @@
 -- Examples of whole calls: a charge over a limit, want of memory, and what nothing answers. What is not an answer is shown not to be.
-use Rattle.std.proofs.Common.{◌≡◌, ℕ, zero, suc, ◌<◌, ◌==◌, ◌&&◌, not, Bool, true, false, [], ◌∷◌, ◌++◌, Option, Some, None, refl, ap, ne_eqb, arith}
+use Rattle.std.proofs.Common.{◌≡◌, ℕ, zero, suc, ◌<◌, ◌==◌, ◌&&◌, not, Bool, true, false, [], ◌∷◌, ◌++◌, Option, Some, None, refl, ap, ne_eqb, arith, List}
 use Rattle.std.specs.Prelude.{replicate}
 use Rattle.machine.specs.declared.event.Op.TheVariants.{Write}
 use Rattle.machine.specs.declared.event.Place.TheVariants.{Virtual}
@@ -11,13 +11,13 @@ use Rattle.machine.specs.declared.reply.Reply.TheVariants as reply
 use Rattle.machine.specs.declared.refusal.Refusal.TheVariants as why
 use Rattle.machine.specs.Tree.{chain_up, chain, under_at}
 use Rattle.machine.specs.Pages.{is_held_in}
-use Rattle.machine.specs.Counts.{over_at}
+use Rattle.machine.specs.Counts.{over_at, no_counts}
 use Rattle.machine.specs.State.{State}
-use Rattle.machine.specs.Step.{count_of}
 use Rattle.machine.specs.Aging.{is_marked}
 use Rattle.machine.specs.Lists.{Order}
 use Rattle.machine.specs.Call.{Past, Caller, Called, entries_of}
 use Rattle.computed.proofs.ExampleStates.{group, task, shows, pages, busy, busy_order}
+use Rattle.machine.specs.declared.record.EventCounts.{EventCounts}
 
 abbrev pub caller : Caller
 caller = record { worker = 1 }
@@ -61,8 +61,12 @@ stay_unmarked n false c p = none_marked n p
 abbrev write : Event
 write = event.Access (task 1) (Virtual 9 0) (Write 7)
 
+-- by group, once `max` at /p/a
+abbrev once_at_two : List EventCounts
+once_at_two = no_counts ∷ no_counts ∷ record no_counts { max = 1 } ∷ no_counts ∷ no_counts ∷ no_counts ∷ []
+
 -- `max` is counted at /p/a, and nothing else changes
-over : Called (past busy busy_order) caller write (reply.Over (group 2)) (after (past busy busy_order) write (reply.Over (group 2)) (record busy { counted = count_of 2 key.Max ∷ [] }) busy_order)
+over : Called (past busy busy_order) caller write (reply.Over (group 2)) (after (past busy busy_order) write (reply.Over (group 2)) (record busy { counted = once_at_two }) busy_order)
 unfolding chain_up chain under_at over_at
 over = record {
   steps = (refl, refl);
@@ -82,7 +86,7 @@ unfolding chain_up chain under_at over_at
 over-no_memory new call = let e : false ≡ true = call.1 in cc
 
 -- `max` is counted at no other group
-over-not_counted_above : (new : Past) → Called (past busy busy_order) caller write (reply.Over (group 2)) new → new.state.counted ≡ count_of 2 key.Max ∷ []
+over-not_counted_above : (new : Past) → Called (past busy busy_order) caller write (reply.Over (group 2)) new → new.state.counted ≡ once_at_two
 unfolding chain_up chain under_at over_at
 over-not_counted_above new call = ap (λ (s : State). s.counted) call.steps.1
 

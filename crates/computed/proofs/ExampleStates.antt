@@ -1,6 +1,6 @@
 -- The groups, tasks, pages and states that the examples are about.
 use Rattle.std.proofs.Common.{ℕ, ◌+◌, ◌*◌, ◌-◌, Bool, true, false, List, [], ◌∷◌, Option, Some, None}
-use Rattle.std.specs.Prelude.{codes}
+use Rattle.std.specs.Prelude.{codes, replicate}
 use Rattle.machine.specs.declared.amount.Amount.TheVariants as amount
 use Rattle.machine.specs.declared.id.GroupId.{GroupId}
 use Rattle.machine.specs.declared.id.TaskId.{TaskId}
@@ -11,7 +11,7 @@ use Rattle.machine.specs.declared.record.Life.TheVariants.{Live, Exited, Killed}
 use Rattle.machine.specs.declared.record.Limits.{Limits}
 use Rattle.machine.specs.Tree.{Node, root}
 use Rattle.machine.specs.Pages.{Memory, OfFile, Residence, Held, Coming, Going, Away, Page, Pages}
-use Rattle.machine.specs.Counts.{no_limits}
+use Rattle.machine.specs.Counts.{no_limits, no_counts}
 use Rattle.machine.specs.Tasks.{Tasks, PageTables, task_of}
 use Rattle.machine.specs.State.{Opening, State}
 use Rattle.machine.specs.Generations.{Listed, Gens, new_gens}
@@ -87,7 +87,7 @@ busy = record {
   pages = pages;
   tasks = tasks;
   page_tables = tables;
-  counted = [];
+  counted = replicate 6 no_counts;
 }
 
 -- ---- bytes
@@ -149,7 +149,7 @@ stuck = record {
   pages = Some (memory 2 (Held 0)) ∷ Some (memory 3 (Held 1)) ∷ Some (memory 3 (Held 2)) ∷ [];
   tasks = None ∷ Some (task_of 2 Live) ∷ Some (task_of 3 Live) ∷ [];
   page_tables = [] ∷ (shows 0 ∷ []) ∷ (shows 1 ∷ shows 2 ∷ []) ∷ [];
-  counted = [];
+  counted = replicate 6 no_counts;
 }
 
 abbrev pub stuck_order : Order

@@ -15,7 +15,7 @@ use Rattle.machine.specs.declared.refusal.Refusal.TheVariants.{BadPlace}
 use Rattle.machine.specs.Tree.{chain_up, chain, under_at, chain_below}
 use Rattle.machine.specs.Protection.{effective_along}
 use Rattle.machine.specs.Pages.{OfFile, Residence, Held, Coming, Going, Away, Page, Pages, page_at, file_page, used_frames, used_swap, IsFiled}
-use Rattle.machine.specs.Counts.{no_limits, over_at}
+use Rattle.machine.specs.Counts.{no_limits, over_at, no_counts}
 use Rattle.machine.specs.Tasks.{task_of}
 use Rattle.machine.specs.State.{State, usage, stat_of, is_swap_free}
 use Rattle.machine.specs.Access.{is_place, Hits, Transferring, NeedsRead, Dangling, meets, charges, is_fetch}
@@ -26,6 +26,7 @@ use Rattle.machine.specs.Lists.{hit_of, shown_at}
 use Rattle.machine.specs.Step.{in_frame, on_block, touched, shown_of, LeavesFrom, Step}
 use Rattle.machine.proofs.Values.{some_inj}
 use Rattle.computed.proofs.ExampleStates.{group, task, frame, shows, tree, max_of, memory, opening}
+use Rattle.std.specs.Prelude.{replicate}
 
 -- ---- a state
 
@@ -49,7 +50,7 @@ caching = record {
   pages = kept;
   tasks = None ∷ Some (task_of 2 Live) ∷ Some (task_of 3 Live) ∷ [];
   page_tables = [] ∷ (shows 0 ∷ []) ∷ [];
-  counted = [];
+  counted = replicate 6 no_counts;
 }
 
 abbrev at_file : ℕ → ℕ → ℕ → Op → Event

@@ -13,7 +13,7 @@ use Rattle.machine.specs.declared.reply.Reply.TheVariants as reply
 use Rattle.machine.specs.Slots.{at}
 use Rattle.machine.specs.Tree.{root, chain_up, chain, under_at, chain_below}
 use Rattle.machine.specs.Pages.{Held, Coming, Going, Page}
-use Rattle.machine.specs.Counts.{no_limits, over_at}
+use Rattle.machine.specs.Counts.{no_limits, over_at, no_counts}
 use Rattle.machine.specs.Tasks.{task_of}
 use Rattle.machine.specs.Protection.{effective_along}
 use Rattle.machine.specs.State.{Opening, State, first_state, usage, stat_of}
@@ -90,10 +90,10 @@ abbrev fixed : Opening
 fixed = record { frames = 4; swap = 0; files = 1 ∷ 2 ∷ []; watermarks = record { low = 0; high = 0 }; trace_limit = 14; recursive = false }
 
 abbrev with_a : State
-with_a = record (first_state fixed) { tree = root ∷ below 0 (codes "/a") ∷ []; limits = no_limits ∷ no_limits ∷ [] }
+with_a = record (first_state fixed) { tree = root ∷ below 0 (codes "/a") ∷ []; limits = no_limits ∷ no_limits ∷ []; counted = no_counts ∷ no_counts ∷ [] }
 
 abbrev with_both : State
-with_both = record (first_state fixed) { tree = root ∷ below 0 (codes "/a") ∷ below 0 (codes "/b") ∷ []; limits = no_limits ∷ no_limits ∷ no_limits ∷ [] }
+with_both = record (first_state fixed) { tree = root ∷ below 0 (codes "/a") ∷ below 0 (codes "/b") ∷ []; limits = no_limits ∷ no_limits ∷ no_limits ∷ []; counted = no_counts ∷ no_counts ∷ no_counts ∷ [] }
 
 abbrev one_task : State
 one_task = record with_both { tasks = None ∷ Some (task_of 1 Live) ∷ [] }

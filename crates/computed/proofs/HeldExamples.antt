@@ -13,7 +13,7 @@ use Rattle.machine.specs.Tasks.{task_of}
 use Rattle.machine.specs.State.{State}
 use Rattle.machine.specs.Tree.{rank}
 use Rattle.machine.specs.Step.{new_node}
-use Rattle.machine.specs.Counts.{no_limits}
+use Rattle.machine.specs.Counts.{no_limits, no_counts}
 use Rattle.machine.specs.Order.{cursor_at}
 use Rattle.machine.specs.Generations.{Listed, Gens, new_gens, gens_at}
 use Rattle.machine.specs.Aging.{is_marked}
@@ -335,7 +335,7 @@ abbrev mkdir : Event
 mkdir = event.Mkdir (codes "/p/c")
 
 abbrev with_six : State
-with_six = record busy { tree = busy.tree ++ new_node busy.tree (codes "/p/c") ∷ []; limits = busy.limits ++ no_limits ∷ [] }
+with_six = record busy { tree = busy.tree ++ new_node busy.tree (codes "/p/c") ∷ []; limits = busy.limits ++ no_limits ∷ []; counted = busy.counted ++ no_counts ∷ [] }
 
 -- group 6 has four generations of each type, no page, and a cursor of its own
 abbrev six_order : Order

@@ -13,7 +13,7 @@ use Rattle.machine.specs.declared.reply.Reply.TheVariants as reply
 use Rattle.machine.specs.Slots.{at}
 use Rattle.machine.specs.Tree.{root, chain_up, chain, under_at, chain_below, preorder_to}
 use Rattle.machine.specs.Pages.{Residence, Held, Going, Away, Page, Pages, is_held_in, is_number}
-use Rattle.machine.specs.Counts.{no_limits, over_at}
+use Rattle.machine.specs.Counts.{no_limits, over_at, no_counts}
 use Rattle.machine.specs.Tasks.{PageTable, number_of_page, task_of, mapped_at, Shows}
 use Rattle.machine.specs.Protection.{effective_along}
 use Rattle.machine.specs.State.{Opening, State}
@@ -42,7 +42,7 @@ state pages table = record {
   pages = pages;
   tasks = None ∷ Some (task_of 1 Live) ∷ [];
   page_tables = [] ∷ table ∷ [];
-  counted = [];
+  counted = no_counts ∷ no_counts ∷ [];
 }
 
 abbrev stands : Residence → Option Page

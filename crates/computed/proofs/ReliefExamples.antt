@@ -10,11 +10,11 @@ use Rattle.machine.specs.declared.reply.Reply.{Reply}
 use Rattle.machine.specs.declared.reply.Reply.TheVariants as reply
 use Rattle.machine.specs.Tree.{chain_up, chain, under_at, chain_below, preorder_to}
 use Rattle.machine.specs.Pages.{Content, Memory, OfFile, Residence, Held, Going, Page, page_at, is_held_in, home_block}
-use Rattle.machine.specs.Counts.{Counted}
+use Rattle.machine.specs.declared.record.EventCounts.{EventCounts}
 use Rattle.machine.specs.Tasks.{task_of, mapped_at}
 use Rattle.machine.specs.Protection.{effective_along}
 use Rattle.machine.specs.State.{State}
-use Rattle.machine.specs.Step.{count_of, still, Drops, StartsLeave, LeavesBy, LeavesFrom}
+use Rattle.machine.specs.Step.{still, Drops, StartsLeave, LeavesBy, LeavesFrom}
 use Rattle.machine.specs.Slots.{at}
 use Rattle.machine.specs.Victim.{is_candidate, is_worse}
 use Rattle.machine.specs.Lists.{Order, is_fresh}
@@ -23,6 +23,7 @@ use Rattle.machine.specs.Call.{Past, Called}
 use Rattle.computed.proofs.ExampleStates.{group, task, ticket, tree, shows, memory, pages, listed_at, young, lists_of, busy, busy_order, stuck, stuck_order}
 use Rattle.computed.proofs.CallExamples.{caller, past, after, stay_unmarked}
 use Rattle.computed.proofs.TurnExamples.{taken, taken_order, takes, takes-not_newer}
+use Rattle.machine.specs.Counts.{no_counts}
 
 -- no reply but those two says that a page is taken
 abbrev is_taking : Reply → Bool
@@ -30,7 +31,7 @@ is_taking (reply.Out n) = true
 is_taking reply.Dropped = true
 is_taking answer = false
 
-module _ (s new : State) (p : ℕ) (page : Page) (counted : List Counted) (answer : Reply) (other : is_taking answer ≡ false) where
+module _ (s new : State) (p : ℕ) (page : Page) (counted : List EventCounts) (answer : Reply) (other : is_taking answer ≡ false) where
   not_sent : (frame block : ℕ) → StartsLeave s p page frame block counted answer new → ⊥
   not_sent frame block h = let e : is_taking answer ≡ true = ap is_taking h.answers in cc
 
@@ -87,7 +88,7 @@ out-not_newer new stays call = unlike (is_held_in new.state.pages 1) stays (take
 -- it does not wait for the pages in transfer while it can take one, and does not find nothing
 out-not_wait : (new : Past) → Called (past busy busy_order) caller reclaim reply.Wait new → ⊥
 unfolding chain_up chain under_at chain_below effective_along
-out-not_wait new call = not_taken busy new.state call.steps.p call.steps.page [] reply.Wait refl call.steps.page.residence call.steps.leaves
+out-not_wait new call = not_taken busy new.state call.steps.p call.steps.page busy.counted reply.Wait refl call.steps.page.residence call.steps.leaves
 
 -- ---- KilledTask: room for one page more is wanted under /p, and nothing can be taken
 
@@ -100,7 +101,7 @@ killed = record stuck {
   pages = Some (memory 2 (Held 0)) ∷ [];
   tasks = None ∷ Some (task_of 2 Live) ∷ Some (task_of 3 Killed) ∷ [];
   page_tables = [] ∷ (shows 0 ∷ []) ∷ [] ∷ [];
-  counted = count_of 1 key.Oom ∷ count_of 3 key.OomKill ∷ [];
+  counted = no_counts ∷ record no_counts { oom = 1 } ∷ no_counts ∷ record no_counts { oom_kill = 1 } ∷ no_counts ∷ no_counts ∷ [];
 }
 
 -- they leave their list, and no list ages
@@ -161,7 +162,7 @@ kill-not_none new call = let e : true ≡ false = call.steps.0 2 in cc
 -- with a page to be taken for the same cause, no task is killed
 kill-not_first : (t : ℕ) (new : Past) → Called (past busy busy_order) caller relieve (reply.KilledTask (task t)) new → ⊥
 unfolding chain_up chain under_at chain_below effective_along
-kill-not_first t new call = not_taken busy new.state call.steps.p call.steps.page [] (reply.KilledTask (task t)) refl call.steps.page.residence call.steps.leaves
+kill-not_first t new call = not_taken busy new.state call.steps.p call.steps.page busy.counted (reply.KilledTask (task t)) refl call.steps.page.residence call.steps.leaves
 
 -- page 1 is going, and so is on no list
 abbrev going : Past

@@ -19,7 +19,7 @@ use Rattle.machine.specs.declared.refusal.Refusal.TheVariants as why
 use Rattle.machine.specs.Slots.{at, count_there}
 use Rattle.machine.specs.Tree.{Node, root, node_at, is_live, IsTree, chain_up, chain, under_at, chain_below, children, find_group, preorder_to}
 use Rattle.machine.specs.Pages.{Held, Coming, Going, Away, Page, Pages, page_at, has_frame, is_number, is_held_in}
-use Rattle.machine.specs.Counts.{no_limits, limits_at, local, total, over_at}
+use Rattle.machine.specs.Counts.{no_limits, limits_at, local, total, over_at, no_counts}
 use Rattle.machine.specs.Tasks.{Tasks, task_of}
 use Rattle.machine.specs.Protection.{effective_along}
 use Rattle.machine.specs.Order.{asking_order}
@@ -27,7 +27,7 @@ use Rattle.machine.specs.State.{State, first_state, usage}
 use Rattle.machine.specs.Access.{meets, charges}
 use Rattle.machine.specs.Reclaim.{stands}
 use Rattle.machine.specs.Refusals.{refusal}
-use Rattle.machine.specs.Step.{count_of, regrouped, shown_of, Step}
+use Rattle.machine.specs.Step.{regrouped, shown_of, Step}
 use Rattle.machine.specs.Generations.{Gens, new_gens, taken_over}
 use Rattle.machine.specs.Aging.{is_marked}
 use Rattle.machine.specs.Lists.{Order, served, is_fresh, Orders}
@@ -107,7 +107,7 @@ left = record {
   pages = left_pages;
   tasks = None ∷ Some (task_of 2 Live) ∷ Some (task_of 5 Live) ∷ Some (task_of 3 Killed) ∷ Some (task_of 3 Exited) ∷ [];
   page_tables = [] ∷ (shows 0 ∷ []) ∷ (None ∷ shows 1 ∷ shows 2 ∷ shows 3 ∷ shows 4 ∷ shows 5 ∷ shows 6 ∷ shows 7 ∷ shows 8 ∷ shows 9 ∷ []) ∷ [];
-  counted = count_of 3 key.Max ∷ count_of 3 key.Oom ∷ count_of 2 key.Max ∷ [];
+  counted = no_counts ∷ no_counts ∷ record no_counts { max = 1 } ∷ record no_counts { max = 1; oom = 1 } ∷ no_counts ∷ no_counts ∷ [];
 }
 
 -- its pages keep no group
@@ -365,7 +365,7 @@ mkdir-again = refl
 
 -- which is another group
 abbrev again : State
-again = record removed { tree = removed_tree ++ below 1 (codes "/p/b") ∷ []; limits = removed.limits ++ no_limits ∷ [] }
+again = record removed { tree = removed_tree ++ below 1 (codes "/p/b") ∷ []; limits = removed.limits ++ no_limits ∷ []; counted = removed.counted ++ no_counts ∷ [] }
 
 makes-again : Step removed (mkdir (codes "/p/b")) reply.Ok again
 makes-again = refl
@@ -589,7 +589,7 @@ alone = record removed {
   tree = root ∷ below 0 (codes "/p") ∷ record (below 1 (codes "/p/a")) { live = false } ∷ record (below 1 (codes "/p/b")) { live = false } ∷ [];
   pages = Some (memory 1 (Held 0)) ∷ Some (memory 1 (Away 3)) ∷ [];
   tasks = None ∷ Some (task_of 0 Live) ∷ [];
-  counted = count_of 3 key.Max ∷ [];
+  counted = no_counts ∷ no_counts ∷ no_counts ∷ record no_counts { max = 1 } ∷ [];
 }
 
 removes-parent_too : refusal alone (rmdir 1) ≡ None

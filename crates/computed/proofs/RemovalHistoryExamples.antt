@@ -1,6 +1,6 @@
 -- An example of a whole history: a group is removed while a page of it is written out, a later group has its path, and the page comes back.
 use Rattle.std.proofs.Common.{◌≡◌, ◌≢◌, ℕ, zero, suc, ◌+◌, ◌<◌, ◌==◌, ◌&&◌, true, false, List, [], ◌∷◌, length, Some, None, refl, ne_eqb, arith}
-use Rattle.std.specs.Prelude.{codes, option_map, slice_index}
+use Rattle.std.specs.Prelude.{codes, option_map, slice_index, map}
 use Rattle.machine.specs.declared.event.Op.TheVariants.{Read, Write}
 use Rattle.machine.specs.declared.event.Event.{Event}
 use Rattle.machine.specs.declared.event.Event.TheVariants as event
@@ -13,7 +13,7 @@ use Rattle.machine.specs.declared.reply.Reply.TheVariants as reply
 use Rattle.machine.specs.Slots.{at}
 use Rattle.machine.specs.Tree.{Node, root, chain_up, chain, under_at, chain_below, find_group}
 use Rattle.machine.specs.Pages.{Residence, Page, page_at}
-use Rattle.machine.specs.Counts.{no_limits, over_at}
+use Rattle.machine.specs.Counts.{no_limits, over_at, no_counts}
 use Rattle.machine.specs.Tasks.{task_of, mapped_at}
 use Rattle.machine.specs.Protection.{effective_along}
 use Rattle.machine.specs.State.{State, first_state, usage}
@@ -86,7 +86,7 @@ a_removed = record { parent = Some 0; path = codes "/a"; live = false }
 
 -- these groups, without limits
 abbrev grouped : List Node → List Limits → State
-grouped tree limits = record (first_state (small 12)) { tree = tree; limits = limits }
+grouped tree limits = record (first_state (small 12)) { tree = tree; limits = limits; counted = map (λ l. no_counts) limits }
 
 abbrev first_made : State
 first_made = grouped (root ∷ a_live ∷ []) (no_limits ∷ no_limits ∷ [])

@@ -15,12 +15,12 @@ use Rattle.machine.specs.Slots.{at}
 use Rattle.machine.specs.Tree.{chain_up, chain, under_at}
 use Rattle.machine.specs.declared.id.FrameId.{FrameId}
 use Rattle.machine.specs.Pages.{Held, Coming, Going, Away, Page, Pages, page_at, is_anon, in_transfer_at, is_number, is_held_in}
-use Rattle.machine.specs.Counts.{no_limits, over_at}
+use Rattle.machine.specs.Counts.{no_limits, over_at, with_event}
 use Rattle.machine.specs.Tasks.{Tasks, PageTable, PageTables, task_of, task_at, lives, group_of, mapped_at, size_of, mappers}
 use Rattle.machine.specs.State.{State, usage}
 use Rattle.machine.specs.Access.{Hits, NeedsPage, NeedsCopy, NeedsSwapIn, Transferring, meets, charges}
 use Rattle.machine.specs.Refusals.{refusal}
-use Rattle.machine.specs.Step.{still, in_frame, on_block, count_of, Step}
+use Rattle.machine.specs.Step.{still, in_frame, on_block, Step}
 use Rattle.machine.specs.Victim.{is_worse}
 use Rattle.machine.specs.Generations.{new_gens}
 use Rattle.machine.specs.Aging.{is_marked}
@@ -640,7 +640,7 @@ copies-two_left answer new step =
 -- ---- a copy for which there is no room
 
 -- task 1 of /p/a, which is full as well as its parent, writes to page 0: the lowest says so, and `max` is counted there
-over : Step busy (write 1 0 7) (reply.Over (group 2)) (record busy { counted = count_of 2 key.Max ∷ [] })
+over : Step busy (write 1 0 7) (reply.Over (group 2)) (record busy { counted = with_event busy.counted 2 key.Max })
 unfolding chain_up chain under_at over_at
 over = (refl, refl)
 

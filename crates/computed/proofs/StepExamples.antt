@@ -1,6 +1,6 @@
 -- Examples: what is refused and why, and steps that there are and that there are not.
 use Rattle.std.proofs.Common.{◌≡◌, ℕ, true, List, [], ◌∷◌, Option, Some, None, refl}
-use Rattle.std.specs.Prelude.{codes}
+use Rattle.std.specs.Prelude.{codes, replicate}
 use Rattle.machine.specs.declared.amount.Amount.TheVariants as amount
 use Rattle.machine.specs.declared.event.Cause.TheVariants as cause
 use Rattle.machine.specs.declared.event.Op.TheVariants.{Read, Write}
@@ -18,13 +18,14 @@ use Rattle.machine.specs.declared.reply.Shown.TheVariants as shown
 use Rattle.machine.specs.declared.refusal.Refusal.TheVariants.{NoEntry, Busy, NoTask, NumberUsed, Invalid}
 use Rattle.machine.specs.Tree.{chain_up, chain, under_at}
 use Rattle.machine.specs.Pages.{Held, Coming, Going, Away, page_at}
-use Rattle.machine.specs.Counts.{no_limits, local, total, over_at, Counted}
+use Rattle.machine.specs.Counts.{no_limits, local, total, over_at, no_counts, with_event}
 use Rattle.machine.specs.Tasks.{task_of}
 use Rattle.machine.specs.State.{State}
 use Rattle.machine.specs.Refusals.{refusal}
 use Rattle.machine.specs.History.{IsRight}
 use Rattle.machine.specs.Step.{in_frame, on_block, new_node, shown_of, Step}
 use Rattle.computed.proofs.ExampleStates.{first_bytes, group, task, frame, shows, below, tree, memory, of_file, tables, busy, max_of, opening}
+use Rattle.machine.specs.declared.record.EventCounts.{EventCounts}
 
 -- ---- tasks
 
@@ -104,8 +105,8 @@ unfolding chain_up chain under_at
 shows-current = refl
 
 -- an event of /q, which is removed, and one of /p/b
-abbrev counted : List Counted
-counted = record { group = 4; key = key.Oom } ∷ record { group = 3; key = key.Oom } ∷ []
+abbrev counted : List EventCounts
+counted = with_event (with_event (replicate 6 no_counts) 4 key.Oom) 3 key.Oom
 
 -- a group counts for all below it, also removed ones
 counts-root : total tree counted 0 key.Oom ≡ 2

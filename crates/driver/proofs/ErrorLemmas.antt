@@ -1,6 +1,6 @@
 -- Each error of the device that is answered is a call of it that failed.
 use Rattle.std.proofs.Common.{◌≡◌, inl, inr, ℕ, zero, suc, ◌+◌, ◌≤◌, Bool, true, false, List, [], ◌∷◌, ◌++◌, Option, Some, None, refl, ap, arith}
-use Rattle.std.specs.Prelude.{◌⊎◌, if◌then◌else◌, nat_le, Result, Ok, Err}
+use Rattle.std.specs.Prelude.{◌⊎◌, if◌then◌else◌, nat_le, map, Result, Ok, Err}
 use Rattle.std.proofs.lemmas.List.Sums.{sum_by-append}
 use Rattle.machine.specs.declared.amount.Amount.{Amount}
 use Rattle.machine.specs.declared.amount.Amount.TheVariants as amount
@@ -20,6 +20,7 @@ use Rattle.machine.specs.declared.command.Reply.{Reply as Told_by}
 use Rattle.machine.specs.declared.control.ControlFile.{ControlFile}
 use Rattle.machine.specs.declared.control.ControlFile.TheVariants as file
 use Rattle.machine.specs.declared.refusal.Refusal.TheVariants.{NoEntry}
+use Rattle.machine.specs.Slots.{at}
 use Rattle.machine.specs.Tree.{Node, find_group}
 use Rattle.machine.specs.Control.{file_named, has_file, amount_of}
 use Rattle.machine.specs.State.{free_frames}
@@ -45,7 +46,7 @@ use Rattle.driver.specs.declared.turn.Outcome.{Outcome}
 use Rattle.driver.specs.declared.turn.Activity.{Activity}
 use Rattle.driver.specs.declared.turn.Activity.TheVariants.{Rests, Begun, Does}
 use Rattle.driver.specs.declared.turn.Seat.{Seat}
-use Rattle.driver.specs.Turns.{wants_pages, wants_balance, wants_watch, done, byte_answer, resumes_at, Tried, MadeRoom, MaxSet, Lowered, Reclaimed, Balanced, Made, TaskDid, WasShown, Closed, Told, ReadsIn, WritesOut, after_read, after_write, Judged, with_group, with_file, with_amount, reads_file, writes_file, reclaims, task_judged, shell_judged, daemon_judged, judged}
+use Rattle.driver.specs.Turns.{wants_pages, wants_balance, wants_watch, done, byte_answer, resumes_at, Tried, MadeRoom, MaxSet, Lowered, Reclaimed, Balanced, Made, TaskDid, WasShown, Closed, Told, ReadsIn, WritesOut, after_read, after_write, Judged, with_group, with_file, with_amount, reads_file, writes_file, reclaims, task_judged, shell_judged, daemon_judged, paths_of, judged}
 use Rattle.driver.specs.Schedule.{World, first_world, is_of, activity_of, with_activity, outcome_of, left_of, WantTurn, wants_at, StageTurn, JudgedTurn, ActivityTurn, said_at, all_said, Goings, EndsIn, RunsOut, Begins, Stepped, Runs, is_error, errors}
 use Rattle.machine.proofs.SlotLemmas.{one_if}
 
@@ -300,19 +301,19 @@ task-owed t (command.Free page) = refl
 task-owed t command.Exit = refl
 task-owed t others = refl
 
-shell-owed : (tree : List Node) (what : Command) → owed_judged (shell_judged tree what) ≡ 0
-shell-owed tree (command.Access place op) = refl
-shell-owed tree (command.Fork child) = refl
-shell-owed tree (command.Free page) = refl
-shell-owed tree command.Exit = refl
-shell-owed tree command.Daemon = refl
-shell-owed tree (command.Group path) = refl
-shell-owed tree (command.Rmdir path) = group-owed (find_group tree path) _ (λ g. refl)
-shell-owed tree (command.Task t path) = group-owed (find_group tree path) _ (λ g. refl)
-shell-owed tree (command.Attach t path) = group-owed (find_group tree path) _ (λ g. refl)
-shell-owed tree (command.Set path name text) = group-owed (find_group tree path) _ (λ g. file-owed g (file_named name) _ (writes-owed g text))
-shell-owed tree (command.Cat path name) = group-owed (find_group tree path) _ (λ g. file-owed g (file_named name) _ (reads-owed g))
-shell-owed tree (command.Protection target path) = group-owed (find_group tree target) _ (λ t. group-owed (find_group tree path) _ (λ g. refl))
+shell-owed : (what : Command) (found : List (Option ℕ)) → owed_judged (shell_judged what found) ≡ 0
+shell-owed (command.Access place op) found = refl
+shell-owed (command.Fork child) found = refl
+shell-owed (command.Free page) found = refl
+shell-owed command.Exit found = refl
+shell-owed command.Daemon found = refl
+shell-owed (command.Group path) found = refl
+shell-owed (command.Rmdir path) found = group-owed (at found 0) _ (λ g. refl)
+shell-owed (command.Task t path) found = group-owed (at found 0) _ (λ g. refl)
+shell-owed (command.Attach t path) found = group-owed (at found 0) _ (λ g. refl)
+shell-owed (command.Set path name text) found = group-owed (at found 0) _ (λ g. file-owed g (file_named name) _ (writes-owed g text))
+shell-owed (command.Cat path name) found = group-owed (at found 0) _ (λ g. file-owed g (file_named name) _ (reads-owed g))
+shell-owed (command.Protection target path) found = group-owed (at found 0) _ (λ t. group-owed (at found 1) _ (λ g. refl))
 
 daemon-owed : (what : Command) → owed_judged (daemon_judged what) ≡ 0
 daemon-owed command.Daemon = refl
@@ -320,8 +321,8 @@ daemon-owed others = refl
 
 judged-owed : (tree : List Node) (who : Actor) (what : Command) → owed_judged (judged tree who what) ≡ 0
 judged-owed tree (actor.Task t) what = task-owed t what
-judged-owed tree actor.Shell what = shell-owed tree what
-judged-owed tree actor.Control what = shell-owed tree what
+judged-owed tree actor.Shell what = shell-owed what (map (find_group tree) (paths_of actor.Shell what))
+judged-owed tree actor.Control what = shell-owed what (map (find_group tree) (paths_of actor.Control what))
 judged-owed tree actor.Daemon what = daemon-owed what
 
 -- ---- all seats

@@ -23,7 +23,7 @@ use Rattle.machine.specs.Tasks.{mapped_at}
 use Rattle.machine.specs.State.{Opening, opening_of, blocks_of, is_config}
 use Rattle.machine.specs.Access.{page_size}
 use Rattle.machine.specs.History.{InTask, InFile, Says, follow, at_first, last, Fetched, fetched_by, fetch_of, HoldsLast, IsHonest, Honest, ticket_given}
-use Rattle.machine.specs.Call.{Past}
+use Rattle.machine.specs.Call.{Past, Caller}
 use Rattle.machine.proofs.Values.{some_inj, never_some, unlike}
 use Rattle.block_store.specs.declared.device.Fault.{Fault}
 use Rattle.block_store.specs.Device.{Disk, bytes_on, KeepsOthers, ReadsBlock, WritesBlock}
@@ -47,7 +47,7 @@ use Rattle.driver.specs.declared.turn.Activity.{Activity}
 use Rattle.driver.specs.declared.turn.Activity.TheVariants.{Rests, Begun, Does}
 use Rattle.driver.specs.Turns.{ReadsIn, WritesOut, after_read, after_write}
 use Rattle.driver.specs.Tickets.{blocks_in}
-use Rattle.driver.specs.Schedule.{World, first_caller, first_world, activity_of, with_activity, left_of, Asks, WantTurn, wants_at, StageTurn, Runs, files_on, fits}
+use Rattle.driver.specs.Schedule.{World, first_world, activity_of, with_activity, left_of, Asks, WantTurn, wants_at, StageTurn, Runs, files_on, fits}
 use Rattle.machine.proofs.FileLemmas.{file_page-is, home_above, homes_differ}
 use Rattle.legal.proofs.FileSteps.{slot_in, slot_of, slot_of-is, is_home_at, is_home, is_written, LeftHome, home-unwritten, transfer-unwritten}
 use Rattle.legal.proofs.ShownLemmas.{shows_pages-legal}
@@ -56,7 +56,7 @@ use Rattle.legal.proofs.SharedLemmas.{fetch_other}
 use Rattle.legal.proofs.SoundLemmas.{IsFit, legal-sound, pages_share_no_block, pages_share_no_ticket, block_below, legal-fit, legal-single}
 use Rattle.driver.proofs.Keeps.{number_pending, number_wanted, in_hand, Alike, Same, Ticketless, wants_alike, number_at, is_idle, idle_none, FineOutcome, IsAt, runs_keep}
 use Rattle.driver.proofs.CallCases.{IsRefused, IsServed, Comes, ByRefusal, ByEntry, called_comes, Next, Handless, Reads, Writes, told_next}
-use Rattle.driver.proofs.Tickets.{IsGoing, KeepsPending, KeepsWanted, KeepsAt, at_flies, flies_taken, pending_known, not_out, still_known, LegalPast, served_effect, served_legal, Tickets, seats_all, tickets_rest, first_turns, tickets_turn, tickets_first, own_keeps, others_differ}
+use Rattle.driver.proofs.Tickets.{IsGoing, KeepsPending, KeepsWanted, KeepsAt, at_flies, flies_taken, pending_known, not_out, still_known, LegalPast, served_effect, served_legal, Tickets, seats_all, tickets_rest, tickets_turn, tickets_first, own_keeps, others_differ}
 
 -- ---- words
 
@@ -121,10 +121,10 @@ pub record Holds (files : FirstBytes) (opening : Opening) (past : Past) (content
   pub fetched : IsFetched files past contents
 
 -- what one turn leaves of that
-pub record TurnsFaithful (files : FirstBytes) (opening : Opening) (old : Past) (contents : List (List ℕ)) (want : Want) (transition : Transition) (new : Past) (contents' : List (List ℕ)) : Type 0 where
+pub record TurnsFaithful (files : FirstBytes) (caller : Caller) (opening : Opening) (old : Past) (contents : List (List ℕ)) (want : Want) (transition : Transition) (new : Past) (contents' : List (List ℕ)) : Type 0 where
   pub holds : Holds files opening new contents'
   pub own : BringsAt files new contents' (left_of transition)
-  pub others : (at : Activity) → ((n : ℕ) → number_at at ≡ Some n → number_wanted want ≡ Some n → ⊥) → KeepsAt old at → BringsAt files old contents at → BringsAt files new contents' at
+  pub others : (at : Activity) → ((n : ℕ) → number_at at ≡ Some n → number_wanted want ≡ Some n → ⊥) → KeepsAt caller old at → BringsAt files old contents at → BringsAt files new contents' at
 
 -- ---- small facts
 
@@ -191,13 +191,13 @@ left_event what ticket e = cc
 
 -- ---- an entry more
 
-module _ (files : FirstBytes) (opening : Opening) (old new : Past) (contents : List (List ℕ)) (what : Event) (answered : Reply)
-    (h : Holds files opening old contents) (keeps : KeepsPending old what) (brings : BringsPending files old contents what) (went : IsServed old first_caller (event_of what) (reply_of answered) new) where
+module _ (files : FirstBytes) (caller : Caller) (opening : Opening) (old new : Past) (contents : List (List ℕ)) (what : Event) (answered : Reply)
+    (h : Holds files opening old contents) (keeps : KeepsPending caller old what) (brings : BringsPending files old contents what) (went : IsServed old caller (event_of what) (reply_of answered) new) where
   effect : Effect old.state (event_of what) (reply_of answered) new.state
-  effect = served_effect opening old new h.legal (event_of what) (reply_of answered) went
+  effect = served_effect caller opening old new h.legal (event_of what) (reply_of answered) went
 
   legal_on : LegalPast opening new
-  legal_on = served_legal opening old new h.legal what answered keeps went
+  legal_on = served_legal caller opening old new h.legal what answered keeps went
 
   fetch_on : (n : ℕ) → (ticket_given (reply_of answered) ≡ Some n → ⊥) → fetch_of n new.history ≡ fetch_of n old.history
   fetch_on n other = ap (fetch_of n) went.answers.history ∙ fetch_other n (event_of what) (reply_of answered) old.history (fetch_of n old.history) other
@@ -230,7 +230,7 @@ module _ (files : FirstBytes) (opening : Opening) (old new : Past) (contents : L
       file_last f q o (ap is_written (slot_of-is new.state (legal-single opening new.history new.state legal_on) f q p page there holds) ∙ transfer-unwritten page moving)
 
   -- the page of an ending in hand is the one of that number
-  going_block : (ticket : TicketOf) (p f b : ℕ) (before : Page) → IsGoing old ticket → page_at old.state.pages p ≡ Some before → before.residence ≡ Going f b ticket.number → b ≡ ticket.block
+  going_block : (ticket : TicketOf) (p f b : ℕ) (before : Page) → IsGoing caller old ticket → page_at old.state.pages p ≡ Some before → before.residence ≡ Going f b ticket.number → b ≡ ticket.block
   going_block ticket p f b before own there going =
       let same : p ≡ own.p = pages_share_no_ticket opening old.history old.state h.legal p own.p ticket.number before own.page there own.there (ap ticket_at going) (ap ticket_at own.going) in
       let is : before ≡ own.page = one_page old p own.p before own.page same there own.there in
@@ -248,7 +248,7 @@ module _ (files : FirstBytes) (opening : Opening) (old new : Past) (contents : L
       by_left : (k : EndsOnBlock Out old.state (event_of what) p page.residence) → (own : TicketOf) → what ≡ event.Left own → own.number ≡ k.ticket.0 → k.block ≡ b → slice_index (bytes_on contents b) o ≡ last (at_first files) new.history (InTask t v o)
       by_left k own is number block =
           let hold : PageHolds files old own.number (bytes_on contents own.block) = subst (λ (e : Event). BringsPending files old contents e) is brings in
-          let kept : IsGoing old own = subst (λ (e : Event). KeepsPending old e) is keeps in
+          let kept : IsGoing caller old own = subst (λ (e : Event). KeepsPending caller old e) is keeps in
           let going : k.before.residence ≡ Going k.frame k.block own.number = k.flew ∙ ap (λ n. Going k.frame k.block n) (sym number) in
           let same : own.block ≡ b = sym (going_block own p k.frame k.block k.before kept k.there going) ∙ block in
           ap (λ x. slice_index (bytes_on contents x) o) (sym same) ∙ hold.places p k.frame k.block from.task v o k.before k.there going from.mapped within ∙ sym (came_last t v p from o)
@@ -276,7 +276,7 @@ module _ (files : FirstBytes) (opening : Opening) (old new : Past) (contents : L
           → slice_index (bytes_on contents (home_block opening.swap opening.files f q)) o ≡ last (at_first files) new.history (InFile f q o)
       by_left k own is number =
           let hold : PageHolds files old own.number (bytes_on contents own.block) = subst (λ (e : Event). BringsPending files old contents e) is brings in
-          let kept : IsGoing old own = subst (λ (e : Event). KeepsPending old e) is keeps in
+          let kept : IsGoing caller old own = subst (λ (e : Event). KeepsPending caller old e) is keeps in
           let going : k.page.residence ≡ Going k.frame k.block own.number = k.going ∙ ap (λ n. Going k.frame k.block n) (sym number) in
           let home : own.block ≡ home_block opening.swap opening.files f q = sym (going_block own k.p k.frame k.block k.page kept k.there going) ∙ k.home ∙ ap (λ (x : Opening). home_block x.swap x.files f q) opening_is in
           ap (λ x. slice_index (bytes_on contents x) o) (sym home) ∙ hold.of_file k.p k.frame k.block f q o k.page k.there going k.holds within ∙ sym unwritten
@@ -321,7 +321,7 @@ module _ (files : FirstBytes) (opening : Opening) (old new : Past) (contents : L
       by_stood (ItLeaves k) = coming_going page.residence f b n k.frame k.block k.ticket.0 coming k.going
       by_stood (OnBlock direction k) = coming_away page.residence f b n k.block coming k.away
 
-  honest_event : (e : Event) → KeepsPending old e → BringsPending files old contents e → IsHonest (at_first files) old.history (event_of e)
+  honest_event : (e : Event) → KeepsPending caller old e → BringsPending files old contents e → IsHonest (at_first files) old.history (event_of e)
   honest_event (event.Arrived ticket) kept brought =
       subst (λ (bytes : List ℕ). HoldsLast (at_first files) bytes (fetch_of ticket.number old.history)) (sym brought) (h.fetched kept.p kept.frame ticket.block ticket.number kept.page kept.there kept.coming)
   honest_event e kept brought = tt
@@ -379,14 +379,14 @@ module _ (files : FirstBytes) (opening : Opening) (old new : Past) (contents : L
   at_on (Begun e) other brought = tt
   at_on (Does stage) other brought = wanted_on (in_hand stage) other brought
 
-  flies_ungiven : (at : Activity) → KeepsAt old at → (n : ℕ) → number_at at ≡ Some n → ticket_given (reply_of answered) ≡ Some n → ⊥
-  flies_ungiven at kept n number given = let flies = at_flies old at n kept number in not_given flies.p n flies.page flies.there flies.ticket given
+  flies_ungiven : (at : Activity) → KeepsAt caller old at → (n : ℕ) → number_at at ≡ Some n → ticket_given (reply_of answered) ≡ Some n → ⊥
+  flies_ungiven at kept n number given = let flies = at_flies caller old at n kept number in not_given flies.p n flies.page flies.there flies.ticket given
 
   holds_on : Holds files opening new contents
   holds_on = record { legal = legal_on; honest = honest_on; room = h.room; stored = stored_on; in_files = in_files_on; fetched = fetched_on }
 
   -- the bytes of a page that begins to be written out
-  sends : (ticket : TicketOf) → GivesOut new 0 ticket → PageHolds files new ticket.number ticket.bytes
+  sends : (ticket : TicketOf) → GivesOut new caller.worker ticket → PageHolds files new ticket.number ticket.bytes
   sends ticket given =
       record {
         places = λ p frame b t v o page there going mapped within.
@@ -400,20 +400,20 @@ module _ (files : FirstBytes) (opening : Opening) (old new : Past) (contents : L
       given_is p frame b page there going =
           pages_share_no_ticket opening new.history new.state legal_on p given.p ticket.number page given.page there given.there (ap ticket_at going) (ap ticket_at given.going)
 
-  own_on : (transition : Transition) → HandsOut new 0 answered → Next answered transition → BringsAt files new contents (left_of transition)
+  own_on : (transition : Transition) → HandsOut new caller.worker answered → Next answered transition → BringsAt files new contents (left_of transition)
   own_on transition gives (Handless none fine) = brings_none files new contents (left_of transition) none
   own_on transition gives (Reads access ticket is goes) = subst (λ (t : Transition). BringsAt files new contents (left_of t)) (sym goes) tt
   own_on transition gives (Writes on ticket is goes) =
-      subst (λ (t : Transition). BringsAt files new contents (left_of t)) (sym goes) (sends ticket (subst (λ (r : Reply). HandsOut new 0 r) is gives))
+      subst (λ (t : Transition). BringsAt files new contents (left_of t)) (sym goes) (sends ticket (subst (λ (r : Reply). HandsOut new caller.worker r) is gives))
 
-  pub faithful_on : (w : Want) (transition : Transition) → HandsOut new 0 answered → Next answered transition → TurnsFaithful files opening old contents w transition new contents
+  pub faithful_on : (w : Want) (transition : Transition) → HandsOut new caller.worker answered → Next answered transition → TurnsFaithful files caller opening old contents w transition new contents
   faithful_on w transition gives next =
       record { holds = holds_on; own = own_on transition gives next; others = λ at differ kept brought. at_on at (flies_ungiven at kept) brought }
 
 -- ---- a call of the device
 
 -- a write to the block of a page that is written out
-module _ (files : FirstBytes) (opening : Opening) (past : Past) (contents contents' : List (List ℕ)) (h : Holds files opening past contents) (ticket : TicketOf) (going : IsGoing past ticket) (kept : KeepsOthers contents contents' ticket.block) where
+module _ (files : FirstBytes) (caller : Caller) (opening : Opening) (past : Past) (contents contents' : List (List ℕ)) (h : Holds files opening past contents) (ticket : TicketOf) (going : IsGoing caller past ticket) (kept : KeepsOthers contents contents' ticket.block) where
   -- changes no other page's
   held_other : (p b : ℕ) (page : Page) → page_at past.state.pages p ≡ Some page → block_at page.residence ≡ Some b → (page ≡ going.page → ⊥) → bytes_on contents' b ≡ bytes_on contents b
   held_other p b page there block differs =
@@ -462,7 +462,7 @@ module _ (files : FirstBytes) (opening : Opening) (past : Past) (contents conten
   holds_written : Holds files opening past contents'
   holds_written = record { legal = h.legal; honest = h.honest; room = (let room = h.room in let blocks = kept.blocks in omega (arith, room, blocks)); stored = stored_written; in_files = in_files_written; fetched = fetched_written }
 
-  pending_written : (e : Event) → ((n : ℕ) → number_pending e ≡ Some n → Some ticket.number ≡ Some n → ⊥) → KeepsPending past e → BringsPending files past contents e → BringsPending files past contents' e
+  pending_written : (e : Event) → ((n : ℕ) → number_pending e ≡ Some n → Some ticket.number ≡ Some n → ⊥) → KeepsPending caller past e → BringsPending files past contents e → BringsPending files past contents' e
   pending_written (event.Arrived own) differ coming brought =
       brought
       ∙ sym (held_other coming.p own.block coming.page coming.there (ap block_at coming.coming)
@@ -474,13 +474,13 @@ module _ (files : FirstBytes) (opening : Opening) (past : Past) (contents conten
       brought
   pending_written e differ kept' brought = tt
 
-  wanted_written : (w : Want) → ((n : ℕ) → number_wanted w ≡ Some n → Some ticket.number ≡ Some n → ⊥) → KeepsWanted past w → BringsWanted files past contents w → BringsWanted files past contents' w
+  wanted_written : (w : Want) → ((n : ℕ) → number_wanted w ≡ Some n → Some ticket.number ≡ Some n → ⊥) → KeepsWanted caller past w → BringsWanted files past contents w → BringsWanted files past contents' w
   wanted_written (want.Call remembers e) differ kept' brought = pending_written e differ kept' brought
   wanted_written (want.Read access own) differ kept' brought = tt
   wanted_written (want.Write on own) differ kept' brought = brought
   wanted_written (want.End said) differ kept' brought = tt
 
-  at_written : (at : Activity) → ((n : ℕ) → number_at at ≡ Some n → Some ticket.number ≡ Some n → ⊥) → KeepsAt past at → BringsAt files past contents at → BringsAt files past contents' at
+  at_written : (at : Activity) → ((n : ℕ) → number_at at ≡ Some n → Some ticket.number ≡ Some n → ⊥) → KeepsAt caller past at → BringsAt files past contents at → BringsAt files past contents' at
   at_written Rests differ kept' brought = tt
   at_written (Begun e) differ kept' brought = tt
   at_written (Does stage) differ kept' brought = wanted_written (in_hand stage) differ kept' brought
@@ -491,14 +491,14 @@ keeps_others disk disk' block bytes (Ok done) writes =
     (record { blocks = length-set disk.contents block bytes; others = λ k differs. get_or-set_other disk.contents block k bytes [] differs })
 keeps_others disk disk' block bytes (Err fault) writes = writes.keeps
 
-module _ (files : FirstBytes) (opening : Opening) (past : Past) (disk disk' : Disk) (h : Holds files opening past disk.contents) where
-  writes_faithful : (on : Resume) (ticket : TicketOf) (transition : Transition) → IsGoing past ticket → PageHolds files past ticket.number ticket.bytes → WritesOut disk on ticket transition disk'
-      → TurnsFaithful files opening past disk.contents (want.Write on ticket) transition past disk'.contents
+module _ (files : FirstBytes) (caller : Caller) (opening : Opening) (past : Past) (disk disk' : Disk) (h : Holds files opening past disk.contents) where
+  writes_faithful : (on : Resume) (ticket : TicketOf) (transition : Transition) → IsGoing caller past ticket → PageHolds files past ticket.number ticket.bytes → WritesOut disk on ticket transition disk'
+      → TurnsFaithful files caller opening past disk.contents (want.Write on ticket) transition past disk'.contents
   writes_faithful on ticket transition going hold writes =
       record {
-        holds = holds_written files opening past disk.contents disk'.contents h ticket going kept;
+        holds = holds_written files caller opening past disk.contents disk'.contents h ticket going kept;
         own = subst (λ (t : Transition). BringsAt files past disk'.contents (left_of t)) (sym writes.goes) (own writes.answered writes.writes);
-        others = λ at differ keeps brought. at_written files opening past disk.contents disk'.contents h ticket going kept at differ keeps brought;
+        others = λ at differ keeps brought. at_written files caller opening past disk.contents disk'.contents h ticket going kept at differ keeps brought;
       }
     where
       kept : KeepsOthers disk.contents disk'.contents ticket.block
@@ -517,9 +517,9 @@ module _ (files : FirstBytes) (opening : Opening) (past : Past) (disk disk' : Di
       own (Err fault) e = tt
 
   -- a read changes nothing, but that it may fail
-  reads_faithful : (access : Access) (ticket : TicketOf) (transition : Transition) → ReadsIn disk access ticket transition disk' → TurnsFaithful files opening past disk.contents (want.Read access ticket) transition past disk'.contents
+  reads_faithful : (access : Access) (ticket : TicketOf) (transition : Transition) → ReadsIn disk access ticket transition disk' → TurnsFaithful files caller opening past disk.contents (want.Read access ticket) transition past disk'.contents
   reads_faithful access ticket transition reads =
-      subst (λ (c : List (List ℕ)). TurnsFaithful files opening past disk.contents (want.Read access ticket) transition past c) (sym (same reads.answered reads.reads))
+      subst (λ (c : List (List ℕ)). TurnsFaithful files caller opening past disk.contents (want.Read access ticket) transition past c) (sym (same reads.answered reads.reads))
       (record {
         holds = h;
         own = subst (λ (t : Transition). BringsAt files past disk.contents (left_of t)) (sym reads.goes) (own reads.answered reads.reads);
@@ -536,42 +536,42 @@ module _ (files : FirstBytes) (opening : Opening) (past : Past) (disk disk' : Di
 
 -- ---- a turn
 
-module _ (files : FirstBytes) (opening : Opening) (old new : Past) (disk disk' : Disk) (h : Holds files opening old disk.contents) where
-  asks_faithful : (remembers : Pending) (what : Event) (transition : Transition) → KeepsPending old what → BringsPending files old disk.contents what → Asks first_caller old remembers what transition new
-      → TurnsFaithful files opening old disk.contents (want.Call remembers what) transition new disk.contents
-  asks_faithful remembers what transition keeps brings asks = by_comes (called_comes old new first_caller (event_of what) (reply_of asks.said) (pending_known old what keeps) asks.called)
+module _ (files : FirstBytes) (caller : Caller) (opening : Opening) (old new : Past) (disk disk' : Disk) (h : Holds files opening old disk.contents) where
+  asks_faithful : (remembers : Pending) (what : Event) (transition : Transition) → KeepsPending caller old what → BringsPending files old disk.contents what → Asks caller old remembers what transition new
+      → TurnsFaithful files caller opening old disk.contents (want.Call remembers what) transition new disk.contents
+  asks_faithful remembers what transition keeps brings asks = by_comes (called_comes old new caller (event_of what) (reply_of asks.said) (pending_known caller old what keeps) asks.called)
     where
       own : IsRefused old (reply_of asks.said) new → Next asks.said transition → BringsAt files old disk.contents (left_of transition)
       own still (Handless none fine) = brings_none files old disk.contents (left_of transition) none
       own still (Reads access ticket is goes) = subst (λ (t : Transition). BringsAt files old disk.contents (left_of t)) (sym goes) tt
       own still (Writes on ticket is goes) = absurd (not_out old new asks.said ticket still is)
 
-      by_comes : Comes old first_caller (event_of what) (reply_of asks.said) new → TurnsFaithful files opening old disk.contents (want.Call remembers what) transition new disk.contents
+      by_comes : Comes old caller (event_of what) (reply_of asks.said) new → TurnsFaithful files caller opening old disk.contents (want.Call remembers what) transition new disk.contents
       by_comes (ByRefusal still) =
-          subst (λ (p : Past). TurnsFaithful files opening old disk.contents (want.Call remembers what) transition p disk.contents) (sym still.same)
+          subst (λ (p : Past). TurnsFaithful files caller opening old disk.contents (want.Call remembers what) transition p disk.contents) (sym still.same)
           (record {
             holds = h;
             own = own still (told_next remembers asks.said transition asks.told (still_known old new asks.said still));
             others = λ at differ kept brought. brought;
           })
       by_comes (ByEntry went) =
-          faithful_on files opening old new disk.contents what asks.said h keeps brings went (want.Call remembers what) transition asks.gives (told_next remembers asks.said transition asks.told (went.done Stranger))
+          faithful_on files caller opening old new disk.contents what asks.said h keeps brings went (want.Call remembers what) transition asks.gives (told_next remembers asks.said transition asks.told (went.done Stranger))
 
-  ends_faithful : (said : Answer) (transition : Transition) → transition ≡ Ends said → TurnsFaithful files opening old disk.contents (want.End said) transition old disk.contents
+  ends_faithful : (said : Answer) (transition : Transition) → transition ≡ Ends said → TurnsFaithful files caller opening old disk.contents (want.End said) transition old disk.contents
   ends_faithful said transition ends =
       record { holds = h; own = subst (λ (t : Transition). BringsAt files old disk.contents (left_of t)) (sym ends) tt; others = λ at differ kept brought. brought }
 
-  pub want_faithful : (w : Want) (transition : Transition) → KeepsWanted old w → BringsWanted files old disk.contents w → WantTurn first_caller old disk w transition new disk' → TurnsFaithful files opening old disk.contents w transition new disk'.contents
+  pub want_faithful : (w : Want) (transition : Transition) → KeepsWanted caller old w → BringsWanted files old disk.contents w → WantTurn caller old disk w transition new disk' → TurnsFaithful files caller opening old disk.contents w transition new disk'.contents
   want_faithful (want.Call remembers what) transition keeps brings turn =
-      subst (λ (d : Disk). TurnsFaithful files opening old disk.contents (want.Call remembers what) transition new d.contents) (sym turn.1) (asks_faithful remembers what transition keeps brings turn.0)
+      subst (λ (d : Disk). TurnsFaithful files caller opening old disk.contents (want.Call remembers what) transition new d.contents) (sym turn.1) (asks_faithful remembers what transition keeps brings turn.0)
   want_faithful (want.Read access ticket) transition keeps brings turn =
-      subst (λ (p : Past). TurnsFaithful files opening old disk.contents (want.Read access ticket) transition p disk'.contents) (sym turn.1) (reads_faithful files opening old disk disk' h access ticket transition turn.0)
+      subst (λ (p : Past). TurnsFaithful files caller opening old disk.contents (want.Read access ticket) transition p disk'.contents) (sym turn.1) (reads_faithful files caller opening old disk disk' h access ticket transition turn.0)
   want_faithful (want.Write on ticket) transition keeps brings turn =
-      subst (λ (p : Past). TurnsFaithful files opening old disk.contents (want.Write on ticket) transition p disk'.contents) (sym turn.1)
-      (writes_faithful files opening old disk disk' h on ticket transition keeps brings turn.0)
+      subst (λ (p : Past). TurnsFaithful files caller opening old disk.contents (want.Write on ticket) transition p disk'.contents) (sym turn.1)
+      (writes_faithful files caller opening old disk disk' h on ticket transition keeps brings turn.0)
   want_faithful (want.End said) transition keeps brings turn =
-      subst (λ (p : Past). TurnsFaithful files opening old disk.contents (want.End said) transition p disk'.contents) (sym turn.1)
-      (subst (λ (d : Disk). TurnsFaithful files opening old disk.contents (want.End said) transition old d.contents) (sym turn.2) (ends_faithful said transition turn.0))
+      subst (λ (p : Past). TurnsFaithful files caller opening old disk.contents (want.End said) transition p disk'.contents) (sym turn.1)
+      (subst (λ (d : Disk). TurnsFaithful files caller opening old disk.contents (want.End said) transition old d.contents) (sym turn.2) (ends_faithful said transition turn.0))
 
 -- ---- worlds
 
@@ -599,7 +599,7 @@ module _ (files : FirstBytes) (opening : Opening) where
   faithful_turn : (old new : World) (who : Actor) (now : Stage) (outcome : Outcome) → IsAt old who now → StageTurn old who now outcome new → Faithful files opening old → Faithful files opening new × FineOutcome outcome
   faithful_turn old new who now outcome at turn h =
       let ticketed = tickets_turn opening old new who now outcome at turn h.tickets in
-      let turns = want_faithful files opening old.past new.past old.disk new.disk h.holds (wants_at old.past now) turn.transition (own_keeps opening old who now at h.tickets) (own_brings old who now at h) (first_turns opening old new who now outcome turn h.tickets) in (
+      let turns = want_faithful files old.caller opening old.past new.past old.disk new.disk h.holds (wants_at old.past now) turn.transition (own_keeps opening old who now at h.tickets) (own_brings old who now at h) turn.turns in (
         record {
           tickets = ticketed.0;
           holds = turns.holds;

@@ -19,7 +19,7 @@ use Rattle.machine.specs.Slots.{at}
 use Rattle.machine.specs.Tree.{chain_up, chain, under_at, chain_below, preorder_to}
 use Rattle.machine.specs.Protection.{effective_along}
 use Rattle.machine.specs.Pages.{OfFile, Residence, Held, Coming, Page, Pages, is_held_in, is_number}
-use Rattle.machine.specs.Counts.{no_limits, over_at}
+use Rattle.machine.specs.Counts.{no_limits, no_counts, over_at}
 use Rattle.machine.specs.Tasks.{task_of}
 use Rattle.machine.specs.State.{State}
 use Rattle.machine.specs.Generations.{Gens, Listed, new_gens}
@@ -58,7 +58,7 @@ with_pages pages = record {
   pages = pages;
   tasks = None ∷ Some (task_of 1 Live) ∷ [];
   page_tables = [] ∷ [] ∷ [];
-  counted = [];
+  counted = no_counts ∷ no_counts ∷ [];
 }
 
 abbrev coming : Pages

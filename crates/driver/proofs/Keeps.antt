@@ -1,6 +1,6 @@
 -- What each actor is at once one of them is at something else; and what every turn keeps, every run keeps.
 use Rattle.std.proofs.Common.{◌≡◌, inl, inr, ℕ, zero, suc, ◌==◌, Bool, true, false, List, [], ◌∷◌, ◌++◌, Option, Some, None, eqb-true, eq-eqb, ne_eqb, refl, sym, ap, ◌∙◌, subst}
-use Rattle.std.specs.Prelude.{◌⊎◌, if◌then◌else◌, nat_le, Ok, Err, slice_get}
+use Rattle.std.specs.Prelude.{◌⊎◌, if◌then◌else◌, nat_le, map, Ok, Err, slice_get}
 use Rattle.machine.specs.declared.amount.Amount.{Amount}
 use Rattle.machine.specs.declared.amount.Amount.TheVariants as amount
 use Rattle.machine.specs.declared.config.Watermarks.{Watermarks}
@@ -17,6 +17,7 @@ use Rattle.machine.specs.declared.command.Answer.{Answer}
 use Rattle.machine.specs.declared.command.Answer.TheVariants as answer
 use Rattle.machine.specs.declared.control.ControlFile.{ControlFile}
 use Rattle.machine.specs.declared.control.ControlFile.TheVariants as file
+use Rattle.machine.specs.Slots.{at}
 use Rattle.machine.specs.Tree.{Node, find_group}
 use Rattle.machine.specs.State.{free_frames}
 use Rattle.machine.specs.Call.{Past}
@@ -34,7 +35,7 @@ use Rattle.driver.specs.declared.turn.Outcome.TheVariants.{Goes, Kills, Ends}
 use Rattle.driver.specs.declared.turn.Activity.{Activity}
 use Rattle.driver.specs.declared.turn.Activity.TheVariants.{Rests, Begun, Does}
 use Rattle.driver.specs.declared.turn.Seat.{Seat}
-use Rattle.driver.specs.Turns.{wants, wants_pages, wants_balance, wants_watch, done, Judged, judged, task_judged, shell_judged, daemon_judged, with_group, with_file, with_amount, reads_file, writes_file, reclaims}
+use Rattle.driver.specs.Turns.{wants, wants_pages, wants_balance, wants_watch, done, Judged, paths_of, judged, task_judged, shell_judged, daemon_judged, with_group, with_file, with_amount, reads_file, writes_file, reclaims}
 use Rattle.driver.specs.Schedule.{number_of, is_of, activity_of, with_activity, World, wants_at, StageTurn, JudgedTurn, ActivityTurn, said_at, all_said, answer_by, Goings, EndsIn, RunsOut, Begins, Stepped, Runs}
 use Rattle.legal.proofs.Effects.{ends}
 
@@ -239,19 +240,19 @@ judged-plain tree who what = by_actor who
     writes g text file.Min = by_amount (amount_of text) _ (λ amount. refl)
     writes g text file.Reclaim = by_amount (amount_of text) _ (reclaimed g)
 
-    by_shell : (what : Command) → Plain (shell_judged tree what)
-    by_shell (command.Access place op) = λ e. cc
-    by_shell (command.Fork child) = λ e. cc
-    by_shell (command.Free page) = λ e. cc
-    by_shell command.Exit = λ e. cc
-    by_shell command.Daemon = λ e. cc
-    by_shell (command.Group path) = refl
-    by_shell (command.Rmdir path) = by_group (find_group tree path) _ (λ g. refl)
-    by_shell (command.Task t path) = by_group (find_group tree path) _ (λ g. refl)
-    by_shell (command.Attach t path) = by_group (find_group tree path) _ (λ g. refl)
-    by_shell (command.Set path name text) = by_group (find_group tree path) _ (λ g. by_file g (file_named name) _ (writes g text))
-    by_shell (command.Cat path name) = by_group (find_group tree path) _ (λ g. by_file g (file_named name) _ (reads g))
-    by_shell (command.Protection target path) = by_group (find_group tree target) _ (λ t. by_group (find_group tree path) _ (λ g. refl))
+    by_shell : (what : Command) (found : List (Option ℕ)) → Plain (shell_judged what found)
+    by_shell (command.Access place op) found = λ e. cc
+    by_shell (command.Fork child) found = λ e. cc
+    by_shell (command.Free page) found = λ e. cc
+    by_shell command.Exit found = λ e. cc
+    by_shell command.Daemon found = λ e. cc
+    by_shell (command.Group path) found = refl
+    by_shell (command.Rmdir path) found = by_group (at found 0) _ (λ g. refl)
+    by_shell (command.Task t path) found = by_group (at found 0) _ (λ g. refl)
+    by_shell (command.Attach t path) found = by_group (at found 0) _ (λ g. refl)
+    by_shell (command.Set path name text) found = by_group (at found 0) _ (λ g. by_file g (file_named name) _ (writes g text))
+    by_shell (command.Cat path name) found = by_group (at found 0) _ (λ g. by_file g (file_named name) _ (reads g))
+    by_shell (command.Protection target path) found = by_group (at found 0) _ (λ t. by_group (at found 1) _ (λ g. refl))
 
     by_daemon : (what : Command) → Plain (daemon_judged what)
     by_daemon command.Daemon = refl
@@ -266,8 +267,8 @@ judged-plain tree who what = by_actor who
 
     by_actor : (who : Actor) → Plain (judged tree who what)
     by_actor (actor.Task t) = by_task t what
-    by_actor actor.Shell = by_shell what
-    by_actor actor.Control = by_shell what
+    by_actor actor.Shell = by_shell what (map (find_group tree) (paths_of actor.Shell what))
+    by_actor actor.Control = by_shell what (map (find_group tree) (paths_of actor.Control what))
     by_actor actor.Daemon = by_daemon what
 
 -- ---- runs

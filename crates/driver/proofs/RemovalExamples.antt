@@ -12,7 +12,7 @@ use Rattle.machine.specs.declared.refusal.Refusal.TheVariants.{Invalid, NoEntry,
 use Rattle.machine.specs.declared.reply.Reply.TheVariants as reply
 use Rattle.machine.specs.Tree.{Node, root, chain_up, chain, under_at}
 use Rattle.machine.specs.Pages.{Memory, Held, Away, Page, page_at}
-use Rattle.machine.specs.Counts.{no_limits}
+use Rattle.machine.specs.Counts.{no_limits, no_counts}
 use Rattle.machine.specs.Tasks.{PageTables, task_of}
 use Rattle.machine.specs.State.{State}
 use Rattle.machine.specs.Refusals.{refusal}
@@ -51,7 +51,7 @@ with_groups groups h g = record {
   pages = Some (in_frame g) ∷ Some (on_block g) ∷ [];
   tasks = None ∷ Some (task_of h Live) ∷ [];
   page_tables = tables;
-  counted = [];
+  counted = no_counts ∷ no_counts ∷ [];
 }
 
 -- task 1 made its pages in /r, and is of the root since

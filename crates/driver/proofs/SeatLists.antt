@@ -253,25 +253,25 @@ seated actor (seat ∷ seats) busy = at (is_of actor seat) busy (seated actor se
 
 -- tickets in hand
 
-pub own-activity_of : (blocks : ℕ) (actor : Actor) (seats : List Seat) → OwnSeats blocks seats → OwnActivity blocks (activity_of actor seats)
-own-activity_of blocks actor [] own = tt
-own-activity_of blocks actor (seat ∷ seats) own = at (is_of actor seat) (own-activity_of blocks actor seats own.1)
+pub own-activity_of : (worker blocks : ℕ) (actor : Actor) (seats : List Seat) → OwnSeats worker blocks seats → OwnActivity worker blocks (activity_of actor seats)
+own-activity_of worker blocks actor [] own = tt
+own-activity_of worker blocks actor (seat ∷ seats) own = at (is_of actor seat) (own-activity_of worker blocks actor seats own.1)
   where
-    at : (b : Bool) → OwnActivity blocks (activity_of actor seats) → OwnActivity blocks (if b then seat.activity else activity_of actor seats)
+    at : (b : Bool) → OwnActivity worker blocks (activity_of actor seats) → OwnActivity worker blocks (if b then seat.activity else activity_of actor seats)
     at true ih = own.0
     at false ih = ih
 
-own-with_activity : (blocks : ℕ) (actor : Actor) (what : Activity) (seats : List Seat) → OwnSeats blocks seats → OwnActivity blocks what → OwnSeats blocks (with_activity actor what seats)
-own-with_activity blocks actor what [] own here = (here, tt)
-own-with_activity blocks actor what (seat ∷ seats) own here = at (is_of actor seat) (own-with_activity blocks actor what seats own.1 here)
+own-with_activity : (worker blocks : ℕ) (actor : Actor) (what : Activity) (seats : List Seat) → OwnSeats worker blocks seats → OwnActivity worker blocks what → OwnSeats worker blocks (with_activity actor what seats)
+own-with_activity worker blocks actor what [] own here = (here, tt)
+own-with_activity worker blocks actor what (seat ∷ seats) own here = at (is_of actor seat) (own-with_activity worker blocks actor what seats own.1 here)
   where
-    at : (b : Bool) → OwnSeats blocks (with_activity actor what seats) → OwnSeats blocks (if b then record { actor = seat.actor; activity = what } ∷ seats else seat ∷ with_activity actor what seats)
+    at : (b : Bool) → OwnSeats worker blocks (with_activity actor what seats) → OwnSeats worker blocks (if b then record { actor = seat.actor; activity = what } ∷ seats else seat ∷ with_activity actor what seats)
     at true ih = (here, own.1)
     at false ih = (own.0, ih)
 
-pub own-changed : (blocks : ℕ) (actor : Actor) (what : Activity) (old new : List Seat) → new ≡ with_activity actor what old → OwnSeats blocks old → OwnActivity blocks what → OwnSeats blocks new
-own-changed blocks actor what old new e own here = rw e (own-with_activity blocks actor what old own here)
+pub own-changed : (worker blocks : ℕ) (actor : Actor) (what : Activity) (old new : List Seat) → new ≡ with_activity actor what old → OwnSeats worker blocks old → OwnActivity worker blocks what → OwnSeats worker blocks new
+own-changed worker blocks actor what old new e own here = rw e (own-with_activity worker blocks actor what old own here)
 
-pub own-popped : (blocks : ℕ) (rest : List Seat) (last : Seat) → OwnSeats blocks (rest ++ last ∷ []) → OwnActivity blocks last.activity × OwnSeats blocks rest
-own-popped blocks [] last own = (own.0, tt)
-own-popped blocks (seat ∷ rest) last own = let below = own-popped blocks rest last own.1 in (below.0, (own.0, below.1))
+pub own-popped : (worker blocks : ℕ) (rest : List Seat) (last : Seat) → OwnSeats worker blocks (rest ++ last ∷ []) → OwnActivity worker blocks last.activity × OwnSeats worker blocks rest
+own-popped worker blocks [] last own = (own.0, tt)
+own-popped worker blocks (seat ∷ rest) last own = let below = own-popped worker blocks rest last own.1 in (below.0, (own.0, below.1))

@@ -15,7 +15,7 @@ use Rattle.machine.specs.declared.reply.Reply.TheVariants as reply
 use Rattle.machine.specs.Slots.{at}
 use Rattle.machine.specs.Tree.{Node, root, chain_up, chain, under_at}
 use Rattle.machine.specs.Pages.{Memory, Away, Page, page_at, is_held_in, is_number}
-use Rattle.machine.specs.Counts.{no_limits}
+use Rattle.machine.specs.Counts.{no_limits, no_counts}
 use Rattle.machine.specs.Tasks.{Tasks, PageTable, PageTables, task_of, mapped_at}
 use Rattle.machine.specs.State.{State}
 use Rattle.machine.specs.Step.{still}
@@ -58,7 +58,7 @@ with_tasks tasks tables = record {
   pages = Some away ∷ [];
   tasks = tasks;
   page_tables = tables;
-  counted = [];
+  counted = no_counts ∷ no_counts ∷ [];
 }
 
 -- task 1 of the root shows the page, and nobody else does

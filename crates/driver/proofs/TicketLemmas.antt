@@ -1,6 +1,6 @@
 -- Whose the tickets in hand are: the book gives out such as the worker took, of the machine's blocks, and a command goes on with what it was given.
-use Rattle.std.proofs.Common.{◌≡◌, ◌∙◌, ℕ, Bool, true, false, List, ap, sym, subst}
-use Rattle.std.specs.Prelude.{zero, suc, nat_le, Option, Some, None, Result, Ok, Err, IfOk, if◌then◌else◌}
+use Rattle.std.proofs.Common.{◌≡◌, ℕ, Bool, true, false, List, ap, sym, subst}
+use Rattle.std.specs.Prelude.{zero, suc, nat_le, map, Option, Some, None, Result, Ok, Err, IfOk, if◌then◌else◌}
 use Rattle.std.specs.declared.alloc.AllocError.{AllocError}
 use Rattle.machine.specs.Pages.{Residence, block_at}
 use Rattle.machine.specs.State.{free_frames}
@@ -20,6 +20,7 @@ use Rattle.machine.specs.declared.command.Command.TheVariants as command
 use Rattle.machine.specs.declared.command.Word.TheVariants as word
 use Rattle.machine.specs.declared.control.ControlFile.{ControlFile}
 use Rattle.machine.specs.declared.control.ControlFile.TheVariants as file
+use Rattle.machine.specs.Slots.{at}
 use Rattle.machine.specs.Tree.{Node, find_group}
 use Rattle.machine.specs.Control.{file_named, has_file, amount_of}
 use Rattle.driver.specs.declared.turn.Access.{Access}
@@ -33,46 +34,46 @@ use Rattle.driver.specs.declared.turn.Want.{Want}
 use Rattle.driver.specs.declared.turn.Want.TheVariants as want
 use Rattle.driver.specs.declared.turn.Transition.{Transition}
 use Rattle.driver.specs.declared.turn.Transition.TheVariants.{Goes}
-use Rattle.driver.specs.Turns.{done, wants_pages, wants_balance, wants, ends_with, resumes_at, Tried, MadeRoom, MaxSet, Lowered, Reclaimed, Balanced, Made, TaskDid, WasShown, Closed, Told, Judged, judged, task_judged, shell_judged, daemon_judged, with_group, with_file, with_amount, reads_file, reclaims, writes_file}
+use Rattle.driver.specs.Turns.{done, wants_pages, wants_balance, wants, ends_with, resumes_at, Tried, MadeRoom, MaxSet, Lowered, Reclaimed, Balanced, Made, TaskDid, WasShown, Closed, Told, Judged, paths_of, judged_with, judged, task_judged, shell_judged, daemon_judged, with_group, with_file, with_amount, reads_file, reclaims, writes_file}
 use Rattle.driver.specs.Schedule.{wants_at}
 use Rattle.legal.proofs.SoundLemmas.{block_below}
 use Rattle.driver.specs.Tickets.{blocks_in, IsOwn, OwnEvent, OwnReply, OwnStage, OwnTransition}
 
-pub gives_own : (past : Past) (worker : ℕ) → worker ≡ 0 → Legal past.state.opening past.history past.state
-    → (said : Reply) → HandsOut past worker said → OwnReply (blocks_in past.state.opening) said
-gives_own past worker first legal (reply.Fetch ticket) h =
+pub gives_own : (past : Past) (worker : ℕ) → Legal past.state.opening past.history past.state
+    → (said : Reply) → HandsOut past worker said → OwnReply worker (blocks_in past.state.opening) said
+gives_own past worker legal (reply.Fetch ticket) h =
     record {
-      own = h.own ∙ first;
+      own = h.own;
       block = block_below past.state.opening past.history past.state legal h.p ticket.block h.page h.there (ap (λ (r : Residence). block_at r) h.coming);
     }
-gives_own past worker first legal (reply.Out ticket) h =
+gives_own past worker legal (reply.Out ticket) h =
     record {
-      own = h.own ∙ first;
+      own = h.own;
       block = block_below past.state.opening past.history past.state legal h.p ticket.block h.page h.there (ap (λ (r : Residence). block_at r) h.going);
     }
-gives_own past worker first legal said h = tt
+gives_own past worker legal said h = tt
 
 -- ---- a command asks with the ticket that it holds
 
-abbrev pub OwnWant : ℕ → Want → Type 0
-OwnWant blocks (want.Call remembers what) = OwnEvent blocks what
-OwnWant blocks (want.Read access ticket) = IsOwn blocks ticket
-OwnWant blocks (want.Write on ticket) = IsOwn blocks ticket
-OwnWant blocks (want.End said) = Unit {0}
+abbrev pub OwnWant : ℕ → ℕ → Want → Type 0
+OwnWant worker blocks (want.Call remembers what) = OwnEvent worker blocks what
+OwnWant worker blocks (want.Read access ticket) = IsOwn worker blocks ticket
+OwnWant worker blocks (want.Write on ticket) = IsOwn worker blocks ticket
+OwnWant worker blocks (want.End said) = Unit {0}
 
-module _ (blocks : ℕ) (marks : Watermarks) (free : ℕ) where
-  unless_own : (enough : Bool) (next : Want) → OwnWant blocks next → OwnWant blocks (if enough then done else next)
+module _ (worker blocks : ℕ) (marks : Watermarks) (free : ℕ) where
+  unless_own : (enough : Bool) (next : Want) → OwnWant worker blocks next → OwnWant worker blocks (if enough then done else next)
   unless_own true next own = tt
   unless_own false next own = own
 
-  balance_own : OwnWant blocks (wants_balance marks free)
+  balance_own : OwnWant worker blocks (wants_balance marks free)
   balance_own = unless_own (nat_le marks.high free) _ tt
 
-  pages_own : (g left : ℕ) → OwnWant blocks (wants_pages g left)
+  pages_own : (g left : ℕ) → OwnWant worker blocks (wants_pages g left)
   pages_own g zero = tt
   pages_own g (suc left) = tt
 
-  wants_own : (next : Stage) → OwnStage blocks next → OwnWant blocks (wants marks free next)
+  wants_own : (next : Stage) → OwnStage worker blocks next → OwnWant worker blocks (wants marks free next)
   wants_own (stage.Try access) own = tt
   wants_own (stage.MakeRoom access why) own = tt
   wants_own (stage.SetMax g max) own = tt
@@ -96,115 +97,115 @@ module _ (blocks : ℕ) (marks : Watermarks) (free : ℕ) where
   wants_own (stage.Leave on ticket) own = own
   wants_own (stage.LeaveFail ticket) own = own
 
-pub wanted_own : (blocks : ℕ) (past : Past) (next : Stage) (wanted : Want) → OwnStage blocks next → wanted ≡ wants_at past next → OwnWant blocks wanted
-wanted_own blocks past next wanted own is = subst (λ (w : Want). OwnWant blocks w) (sym is) (wants_own blocks past.state.opening.watermarks (free_frames past.state) next own)
+pub wanted_own : (worker blocks : ℕ) (past : Past) (next : Stage) (wanted : Want) → OwnStage worker blocks next → wanted ≡ wants_at past next → OwnWant worker blocks wanted
+wanted_own worker blocks past next wanted own is = subst (λ (w : Want). OwnWant worker blocks w) (sym is) (wants_own worker blocks past.state.opening.watermarks (free_frames past.state) next own)
 
 -- ---- and goes on with the one that it is given
 
-tried_own : (blocks : ℕ) (access : Access) (said : Reply) (transition : Transition) → OwnReply blocks said → Tried access said transition → OwnTransition blocks transition
-tried_own blocks access (reply.Done byte hit) transition own h = rw h tt
-tried_own blocks access (reply.Fetch ticket) transition own h = rw h own
-tried_own blocks access (reply.Over group) transition own h = rw h tt
-tried_own blocks access reply.NoFrame transition own h = rw h tt
-tried_own blocks access reply.Busy transition own h = rw h tt
-tried_own blocks access reply.Killed transition own h = rw h tt
-tried_own blocks access (reply.Refused why) transition own h = rw h tt
-tried_own blocks access said transition own h = absurd h
+tried_own : (worker blocks : ℕ) (access : Access) (said : Reply) (transition : Transition) → OwnReply worker blocks said → Tried access said transition → OwnTransition worker blocks transition
+tried_own worker blocks access (reply.Done byte hit) transition own h = rw h tt
+tried_own worker blocks access (reply.Fetch ticket) transition own h = rw h own
+tried_own worker blocks access (reply.Over group) transition own h = rw h tt
+tried_own worker blocks access reply.NoFrame transition own h = rw h tt
+tried_own worker blocks access reply.Busy transition own h = rw h tt
+tried_own worker blocks access reply.Killed transition own h = rw h tt
+tried_own worker blocks access (reply.Refused why) transition own h = rw h tt
+tried_own worker blocks access said transition own h = absurd h
 
-made_room_own : (blocks : ℕ) (access : Access) (said : Reply) (transition : Transition) → OwnReply blocks said → MadeRoom access said transition → OwnTransition blocks transition
-made_room_own blocks access reply.Room transition own h = rw h tt
-made_room_own blocks access reply.Dropped transition own h = rw h tt
-made_room_own blocks access (reply.Out ticket) transition own h = rw h own
-made_room_own blocks access reply.Wait transition own h = rw h tt
-made_room_own blocks access (reply.KilledTask t) transition own h = rw h tt
-made_room_own blocks access reply.NoVictim transition own h = rw h tt
-made_room_own blocks access (reply.Refused why) transition own h = rw h tt
-made_room_own blocks access said transition own h = absurd h
+made_room_own : (worker blocks : ℕ) (access : Access) (said : Reply) (transition : Transition) → OwnReply worker blocks said → MadeRoom access said transition → OwnTransition worker blocks transition
+made_room_own worker blocks access reply.Room transition own h = rw h tt
+made_room_own worker blocks access reply.Dropped transition own h = rw h tt
+made_room_own worker blocks access (reply.Out ticket) transition own h = rw h own
+made_room_own worker blocks access reply.Wait transition own h = rw h tt
+made_room_own worker blocks access (reply.KilledTask t) transition own h = rw h tt
+made_room_own worker blocks access reply.NoVictim transition own h = rw h tt
+made_room_own worker blocks access (reply.Refused why) transition own h = rw h tt
+made_room_own worker blocks access said transition own h = absurd h
 
-max_set_own : (blocks : ℕ) (g : ℕ) (said : Reply) (transition : Transition) → OwnReply blocks said → MaxSet g said transition → OwnTransition blocks transition
-max_set_own blocks g reply.Ok transition own h = rw h tt
-max_set_own blocks g (reply.Refused why) transition own h = rw h tt
-max_set_own blocks g said transition own h = absurd h
+max_set_own : (worker blocks : ℕ) (g : ℕ) (said : Reply) (transition : Transition) → OwnReply worker blocks said → MaxSet g said transition → OwnTransition worker blocks transition
+max_set_own worker blocks g reply.Ok transition own h = rw h tt
+max_set_own worker blocks g (reply.Refused why) transition own h = rw h tt
+max_set_own worker blocks g said transition own h = absurd h
 
-lowered_own : (blocks : ℕ) (g : ℕ) (said : Reply) (transition : Transition) → OwnReply blocks said → Lowered g said transition → OwnTransition blocks transition
-lowered_own blocks g reply.Room transition own h = rw h tt
-lowered_own blocks g reply.Dropped transition own h = rw h tt
-lowered_own blocks g (reply.Out ticket) transition own h = rw h own
-lowered_own blocks g reply.Wait transition own h = rw h tt
-lowered_own blocks g (reply.KilledTask t) transition own h = rw h tt
-lowered_own blocks g reply.NoVictim transition own h = rw h tt
-lowered_own blocks g (reply.Refused why) transition own h = rw h tt
-lowered_own blocks g said transition own h = absurd h
+lowered_own : (worker blocks : ℕ) (g : ℕ) (said : Reply) (transition : Transition) → OwnReply worker blocks said → Lowered g said transition → OwnTransition worker blocks transition
+lowered_own worker blocks g reply.Room transition own h = rw h tt
+lowered_own worker blocks g reply.Dropped transition own h = rw h tt
+lowered_own worker blocks g (reply.Out ticket) transition own h = rw h own
+lowered_own worker blocks g reply.Wait transition own h = rw h tt
+lowered_own worker blocks g (reply.KilledTask t) transition own h = rw h tt
+lowered_own worker blocks g reply.NoVictim transition own h = rw h tt
+lowered_own worker blocks g (reply.Refused why) transition own h = rw h tt
+lowered_own worker blocks g said transition own h = absurd h
 
-reclaimed_own : (blocks : ℕ) (g left : ℕ) (said : Reply) (transition : Transition) → OwnReply blocks said → Reclaimed g left said transition → OwnTransition blocks transition
-reclaimed_own blocks g left reply.Dropped transition own h = rw h tt
-reclaimed_own blocks g left (reply.Out ticket) transition own h = rw h own
-reclaimed_own blocks g left reply.Wait transition own h = rw h tt
-reclaimed_own blocks g left reply.Nothing transition own h = rw h tt
-reclaimed_own blocks g left (reply.Refused why) transition own h = rw h tt
-reclaimed_own blocks g left said transition own h = absurd h
+reclaimed_own : (worker blocks : ℕ) (g left : ℕ) (said : Reply) (transition : Transition) → OwnReply worker blocks said → Reclaimed g left said transition → OwnTransition worker blocks transition
+reclaimed_own worker blocks g left reply.Dropped transition own h = rw h tt
+reclaimed_own worker blocks g left (reply.Out ticket) transition own h = rw h own
+reclaimed_own worker blocks g left reply.Wait transition own h = rw h tt
+reclaimed_own worker blocks g left reply.Nothing transition own h = rw h tt
+reclaimed_own worker blocks g left (reply.Refused why) transition own h = rw h tt
+reclaimed_own worker blocks g left said transition own h = absurd h
 
-balanced_own : (blocks : ℕ) (said : Reply) (transition : Transition) → OwnReply blocks said → Balanced said transition → OwnTransition blocks transition
-balanced_own blocks reply.Dropped transition own h = rw h tt
-balanced_own blocks (reply.Out ticket) transition own h = rw h own
-balanced_own blocks reply.Wait transition own h = rw h tt
-balanced_own blocks reply.Nothing transition own h = rw h tt
-balanced_own blocks (reply.Refused why) transition own h = rw h tt
-balanced_own blocks said transition own h = absurd h
+balanced_own : (worker blocks : ℕ) (said : Reply) (transition : Transition) → OwnReply worker blocks said → Balanced said transition → OwnTransition worker blocks transition
+balanced_own worker blocks reply.Dropped transition own h = rw h tt
+balanced_own worker blocks (reply.Out ticket) transition own h = rw h own
+balanced_own worker blocks reply.Wait transition own h = rw h tt
+balanced_own worker blocks reply.Nothing transition own h = rw h tt
+balanced_own worker blocks (reply.Refused why) transition own h = rw h tt
+balanced_own worker blocks said transition own h = absurd h
 
-made_own : (blocks : ℕ) (said : Reply) (transition : Transition) → OwnReply blocks said → Made said transition → OwnTransition blocks transition
-made_own blocks reply.Ok transition own h = rw h tt
-made_own blocks (reply.Refused why) transition own h = rw h tt
-made_own blocks said transition own h = absurd h
+made_own : (worker blocks : ℕ) (said : Reply) (transition : Transition) → OwnReply worker blocks said → Made said transition → OwnTransition worker blocks transition
+made_own worker blocks reply.Ok transition own h = rw h tt
+made_own worker blocks (reply.Refused why) transition own h = rw h tt
+made_own worker blocks said transition own h = absurd h
 
-did_own : (blocks : ℕ) (said : Reply) (transition : Transition) → OwnReply blocks said → TaskDid said transition → OwnTransition blocks transition
-did_own blocks reply.Ok transition own h = rw h tt
-did_own blocks reply.Killed transition own h = rw h tt
-did_own blocks (reply.Refused why) transition own h = rw h tt
-did_own blocks said transition own h = absurd h
+did_own : (worker blocks : ℕ) (said : Reply) (transition : Transition) → OwnReply worker blocks said → TaskDid said transition → OwnTransition worker blocks transition
+did_own worker blocks reply.Ok transition own h = rw h tt
+did_own worker blocks reply.Killed transition own h = rw h tt
+did_own worker blocks (reply.Refused why) transition own h = rw h tt
+did_own worker blocks said transition own h = absurd h
 
-shown_own : (blocks : ℕ) (said : Reply) (transition : Transition) → OwnReply blocks said → WasShown said transition → OwnTransition blocks transition
-shown_own blocks (reply.Shown numbers) transition own h = rw h tt
-shown_own blocks (reply.Refused why) transition own h = rw h tt
-shown_own blocks said transition own h = absurd h
+shown_own : (worker blocks : ℕ) (said : Reply) (transition : Transition) → OwnReply worker blocks said → WasShown said transition → OwnTransition worker blocks transition
+shown_own worker blocks (reply.Shown numbers) transition own h = rw h tt
+shown_own worker blocks (reply.Refused why) transition own h = rw h tt
+shown_own worker blocks said transition own h = absurd h
 
-closed_own : (blocks : ℕ) (resumed : Transition) → OwnTransition blocks resumed → (said : Reply) (transition : Transition) → OwnReply blocks said → Closed resumed said transition → OwnTransition blocks transition
-closed_own blocks resumed here reply.Ok transition own h = rw h here
-closed_own blocks resumed here (reply.StrangeIn ticket) transition own h = rw h tt
-closed_own blocks resumed here (reply.StrangeOut ticket) transition own h = rw h tt
-closed_own blocks resumed here said transition own h = absurd h
+closed_own : (worker blocks : ℕ) (resumed : Transition) → OwnTransition worker blocks resumed → (said : Reply) (transition : Transition) → OwnReply worker blocks said → Closed resumed said transition → OwnTransition worker blocks transition
+closed_own worker blocks resumed here reply.Ok transition own h = rw h here
+closed_own worker blocks resumed here (reply.StrangeIn ticket) transition own h = rw h tt
+closed_own worker blocks resumed here (reply.StrangeOut ticket) transition own h = rw h tt
+closed_own worker blocks resumed here said transition own h = absurd h
 
-resumes_at_own : (blocks : ℕ) (on : Resume) → OwnStage blocks (resumes_at on)
-resumes_at_own blocks (resume.Try access) = tt
-resumes_at_own blocks (resume.Lower g) = tt
-resumes_at_own blocks (resume.Reclaim g left) = tt
-resumes_at_own blocks resume.Balance = tt
+resumes_at_own : (worker blocks : ℕ) (on : Resume) → OwnStage worker blocks (resumes_at on)
+resumes_at_own worker blocks (resume.Try access) = tt
+resumes_at_own worker blocks (resume.Lower g) = tt
+resumes_at_own worker blocks (resume.Reclaim g left) = tt
+resumes_at_own worker blocks resume.Balance = tt
 
-pub told_own : (blocks : ℕ) (remembers : Pending) (said : Reply) (transition : Transition) → OwnReply blocks said → Told remembers said transition → OwnTransition blocks transition
-told_own blocks (pending.Try access) said transition own h = tried_own blocks access said transition own h
-told_own blocks (pending.MakeRoom access) said transition own h = made_room_own blocks access said transition own h
-told_own blocks (pending.SetMax g) said transition own h = max_set_own blocks g.0 said transition own h
-told_own blocks (pending.Lower g) said transition own h = lowered_own blocks g.0 said transition own h
-told_own blocks (pending.Reclaim g left) said transition own h = reclaimed_own blocks g.0 left said transition own h
-told_own blocks pending.Balance said transition own h = balanced_own blocks said transition own h
-told_own blocks pending.Make said transition own h = made_own blocks said transition own h
-told_own blocks pending.OfTask said transition own h = did_own blocks said transition own h
-told_own blocks pending.Show said transition own h = shown_own blocks said transition own h
-told_own blocks (pending.Arrive access) said transition own h = closed_own blocks (Goes (stage.Try access)) tt said transition own h
-told_own blocks pending.FetchFail said transition own h = closed_own blocks (ends_with word.Io) tt said transition own h
-told_own blocks (pending.Leave on) said transition own h = closed_own blocks (Goes (resumes_at on)) (resumes_at_own blocks on) said transition own h
-told_own blocks pending.LeaveFail said transition own h = closed_own blocks (ends_with word.Io) tt said transition own h
+pub told_own : (worker blocks : ℕ) (remembers : Pending) (said : Reply) (transition : Transition) → OwnReply worker blocks said → Told remembers said transition → OwnTransition worker blocks transition
+told_own worker blocks (pending.Try access) said transition own h = tried_own worker blocks access said transition own h
+told_own worker blocks (pending.MakeRoom access) said transition own h = made_room_own worker blocks access said transition own h
+told_own worker blocks (pending.SetMax g) said transition own h = max_set_own worker blocks g.0 said transition own h
+told_own worker blocks (pending.Lower g) said transition own h = lowered_own worker blocks g.0 said transition own h
+told_own worker blocks (pending.Reclaim g left) said transition own h = reclaimed_own worker blocks g.0 left said transition own h
+told_own worker blocks pending.Balance said transition own h = balanced_own worker blocks said transition own h
+told_own worker blocks pending.Make said transition own h = made_own worker blocks said transition own h
+told_own worker blocks pending.OfTask said transition own h = did_own worker blocks said transition own h
+told_own worker blocks pending.Show said transition own h = shown_own worker blocks said transition own h
+told_own worker blocks (pending.Arrive access) said transition own h = closed_own worker blocks (Goes (stage.Try access)) tt said transition own h
+told_own worker blocks pending.FetchFail said transition own h = closed_own worker blocks (ends_with word.Io) tt said transition own h
+told_own worker blocks (pending.Leave on) said transition own h = closed_own worker blocks (Goes (resumes_at on)) (resumes_at_own worker blocks on) said transition own h
+told_own worker blocks pending.LeaveFail said transition own h = closed_own worker blocks (ends_with word.Io) tt said transition own h
 
-pub told_result_own : (blocks : ℕ) (remembers : Pending) (said : Reply) (result : Result Transition AllocError) → OwnReply blocks said → IfOk result (λ transition. Told remembers said transition)
-    → IfOk result (λ transition. OwnTransition blocks transition)
-told_result_own blocks remembers said (Ok transition) own h = told_own blocks remembers said transition own h
-told_result_own blocks remembers said (Err e) own h = tt
+pub told_result_own : (worker blocks : ℕ) (remembers : Pending) (said : Reply) (result : Result Transition AllocError) → OwnReply worker blocks said → IfOk result (λ transition. Told remembers said transition)
+    → IfOk result (λ transition. OwnTransition worker blocks transition)
+told_result_own worker blocks remembers said (Ok transition) own h = told_own worker blocks remembers said transition own h
+told_result_own worker blocks remembers said (Err e) own h = tt
 
 -- ---- a command holds no ticket before its first turn
 
-module _ (blocks : ℕ) where
+module _ (worker blocks : ℕ) where
   abbrev pub OwnJudged : Judged → Type 0
-  OwnJudged found = IfOk found (λ next. OwnStage blocks next)
+  OwnJudged found = IfOk found (λ next. OwnStage worker blocks next)
 
   with_group_own : (found : Option ℕ) (next : ℕ → Judged) → ((g : ℕ) → OwnJudged (next g)) → OwnJudged (with_group found next)
   with_group_own None next own = tt
@@ -251,29 +252,29 @@ module _ (blocks : ℕ) where
   task_own t command.Exit = tt
   task_own t others = tt
 
-  shell_own : (tree : List Node) (what : Command) → OwnJudged (shell_judged tree what)
-  shell_own tree (command.Access place op) = tt
-  shell_own tree (command.Fork child) = tt
-  shell_own tree (command.Free page) = tt
-  shell_own tree command.Exit = tt
-  shell_own tree command.Daemon = tt
-  shell_own tree (command.Group path) = tt
-  shell_own tree (command.Rmdir path) = with_group_own (find_group tree path) _ (λ g. tt)
-  shell_own tree (command.Task t path) = with_group_own (find_group tree path) _ (λ g. tt)
-  shell_own tree (command.Attach t path) = with_group_own (find_group tree path) _ (λ g. tt)
-  shell_own tree (command.Set path name text) = with_group_own (find_group tree path) _ (λ g. with_file_own g (file_named name) _ (writes_own g text))
-  shell_own tree (command.Cat path name) = with_group_own (find_group tree path) _ (λ g. with_file_own g (file_named name) _ (reads_own g))
-  shell_own tree (command.Protection target path) = with_group_own (find_group tree target) _ (λ t. with_group_own (find_group tree path) _ (λ g. tt))
+  shell_own : (what : Command) (found : List (Option ℕ)) → OwnJudged (shell_judged what found)
+  shell_own (command.Access place op) found = tt
+  shell_own (command.Fork child) found = tt
+  shell_own (command.Free page) found = tt
+  shell_own command.Exit found = tt
+  shell_own command.Daemon found = tt
+  shell_own (command.Group path) found = tt
+  shell_own (command.Rmdir path) found = with_group_own (at found 0) _ (λ g. tt)
+  shell_own (command.Task t path) found = with_group_own (at found 0) _ (λ g. tt)
+  shell_own (command.Attach t path) found = with_group_own (at found 0) _ (λ g. tt)
+  shell_own (command.Set path name text) found = with_group_own (at found 0) _ (λ g. with_file_own g (file_named name) _ (writes_own g text))
+  shell_own (command.Cat path name) found = with_group_own (at found 0) _ (λ g. with_file_own g (file_named name) _ (reads_own g))
+  shell_own (command.Protection target path) found = with_group_own (at found 0) _ (λ t. with_group_own (at found 1) _ (λ g. tt))
 
   daemon_own : (what : Command) → OwnJudged (daemon_judged what)
   daemon_own command.Daemon = tt
   daemon_own others = tt
 
-  judged_own : (tree : List Node) (who : Actor) (what : Command) → OwnJudged (judged tree who what)
-  judged_own tree (actor.Task t) what = task_own t what
-  judged_own tree actor.Shell what = shell_own tree what
-  judged_own tree actor.Control what = shell_own tree what
-  judged_own tree actor.Daemon what = daemon_own what
+  judged_own : (who : Actor) (what : Command) (found : List (Option ℕ)) → OwnJudged (judged_with who what found)
+  judged_own (actor.Task t) what found = task_own t what
+  judged_own actor.Shell what found = shell_own what found
+  judged_own actor.Control what found = shell_own what found
+  judged_own actor.Daemon what found = daemon_own what
 
-  pub first_own : (tree : List Node) (who : Actor) (what : Command) (next : Stage) → Ok next ≡ judged tree who what → OwnStage blocks next
-  first_own tree who what next found = subst OwnJudged (sym found) (judged_own tree who what)
+  pub first_own : (tree : List Node) (who : Actor) (what : Command) (next : Stage) → Ok next ≡ judged tree who what → OwnStage worker blocks next
+  first_own tree who what next found = subst OwnJudged (sym found) (judged_own who what (map (find_group tree) (paths_of who what)))

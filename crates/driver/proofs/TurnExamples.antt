@@ -14,7 +14,7 @@ use Rattle.machine.specs.declared.event.Event.{Event as Plain_event}
 use Rattle.machine.specs.declared.id.GroupId.{GroupId}
 use Rattle.machine.specs.declared.reply.Reply.{Reply as Plain_reply}
 use Rattle.machine.specs.Tree.{root, chain_up, chain, under_at}
-use Rattle.machine.specs.Counts.{no_limits}
+use Rattle.machine.specs.Counts.{no_limits, no_counts}
 use Rattle.machine.specs.State.{State}
 use Rattle.machine.specs.Generations.{new_gens}
 use Rattle.machine.specs.Aging.{is_marked}
@@ -41,7 +41,7 @@ empty = record {
   pages = [];
   tasks = [];
   page_tables = [];
-  counted = [];
+  counted = no_counts ∷ no_counts ∷ [];
 }
 
 -- no page on a list, and none marked

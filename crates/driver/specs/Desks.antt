@@ -1,26 +1,25 @@
 -- A desk, with a device, as a world of a schedule.
-use Rattle.std.specs.Prelude.{◌≡◌, ℕ, ◌≤◌, length}
+use Rattle.std.specs.Prelude.{◌≡◌, ℕ, ◌<◌, ◌≤◌, length}
 use Rattle.block_store.specs.Device.{Disk}
 use Rattle.driver.specs.Schedule.{World}
 use Rattle.driver.specs.Tickets.{blocks_in, OwnSeats}
 use Rattle.driver.specs.declared.desk.Desk.{Desk}
 
 abbrev pub world : Desk → Disk → World
-world desk disk = record { past = desk.book; caller = desk.pass; disk = disk; seats = desk.seats }
+world desk disk = record { past = desk.book; caller = desk.pass.caller; disk = disk; seats = desk.seats }
 
 -- how many blocks its book uses
 abbrev pub blocks_of_desk : Desk → ℕ
 blocks_of_desk desk = blocks_in desk.book.state.opening
 
--- the desk asks with the first pass of its book
-pub record AsksFirst (desk : Desk) : Type 0 where
-  pub first : desk.pass.worker ≡ 0
-  pub given : desk.book.passes ≡ 1
+-- the worker whose pass it has
+abbrev pub worker_of_desk : Desk → ℕ
+worker_of_desk desk = desk.pass.caller.worker
 
--- the desk can go on with this device: that has the blocks, and the tickets in hand name some of them
+-- the desk can go on with this device: its book gave out its pass, the tickets in hand are that worker's, of blocks of the machine, and the device has these
 pub record IsOn (desk : Desk) (disk : Disk) : Type 0 where
-  pub asks : AsksFirst desk
-  pub own : OwnSeats (blocks_of_desk desk) desk.seats
+  pub known : worker_of_desk desk < desk.book.passes
+  pub own : OwnSeats (worker_of_desk desk) (blocks_of_desk desk) desk.seats
   pub blocks : blocks_of_desk desk ≤ length disk.contents
 
 -- the device has as many blocks as before, and as many calls of it can fail

@@ -1,4 +1,5 @@
 pub mod Turns
+pub mod Finds
 pub mod Schedule
 pub mod Tickets
 pub mod Seats

@@ -20,47 +20,47 @@ use Rattle.driver.specs.declared.turn.Seat.{Seat}
 abbrev pub blocks_in : Opening → ℕ
 blocks_in opening = opening.swap + sum opening.files
 
--- a ticket that the first worker took, of one of so many blocks
-pub record IsOwn (blocks : ℕ) (ticket : TicketOf) : Type 0 where
-  pub own : ticket.worker ≡ 0
+-- a ticket that this worker took, of one of so many blocks
+pub record IsOwn (worker blocks : ℕ) (ticket : TicketOf) : Type 0 where
+  pub own : ticket.worker ≡ worker
   pub block : ticket.block < blocks
 
 -- the ticket in hand is such a one, where there is one
-abbrev pub OwnEvent : ℕ → Event → Type 0
-OwnEvent blocks (event.Arrived ticket) = IsOwn blocks ticket
-OwnEvent blocks (event.FetchFailed ticket) = IsOwn blocks ticket
-OwnEvent blocks (event.Left ticket) = IsOwn blocks ticket
-OwnEvent blocks (event.LeaveFailed ticket) = IsOwn blocks ticket
-OwnEvent blocks what = Unit {0}
+abbrev pub OwnEvent : ℕ → ℕ → Event → Type 0
+OwnEvent worker blocks (event.Arrived ticket) = IsOwn worker blocks ticket
+OwnEvent worker blocks (event.FetchFailed ticket) = IsOwn worker blocks ticket
+OwnEvent worker blocks (event.Left ticket) = IsOwn worker blocks ticket
+OwnEvent worker blocks (event.LeaveFailed ticket) = IsOwn worker blocks ticket
+OwnEvent worker blocks what = Unit {0}
 
 -- one that a reply gives out
-abbrev pub OwnReply : ℕ → Reply → Type 0
-OwnReply blocks (reply.Fetch ticket) = IsOwn blocks ticket
-OwnReply blocks (reply.Out ticket) = IsOwn blocks ticket
-OwnReply blocks said = Unit {0}
+abbrev pub OwnReply : ℕ → ℕ → Reply → Type 0
+OwnReply worker blocks (reply.Fetch ticket) = IsOwn worker blocks ticket
+OwnReply worker blocks (reply.Out ticket) = IsOwn worker blocks ticket
+OwnReply worker blocks said = Unit {0}
 
-abbrev pub OwnStage : ℕ → Stage → Type 0
-OwnStage blocks (stage.Read access ticket) = IsOwn blocks ticket
-OwnStage blocks (stage.Arrive access ticket) = IsOwn blocks ticket
-OwnStage blocks (stage.FetchFail ticket) = IsOwn blocks ticket
-OwnStage blocks (stage.Write on ticket) = IsOwn blocks ticket
-OwnStage blocks (stage.Leave on ticket) = IsOwn blocks ticket
-OwnStage blocks (stage.LeaveFail ticket) = IsOwn blocks ticket
-OwnStage blocks other = Unit {0}
+abbrev pub OwnStage : ℕ → ℕ → Stage → Type 0
+OwnStage worker blocks (stage.Read access ticket) = IsOwn worker blocks ticket
+OwnStage worker blocks (stage.Arrive access ticket) = IsOwn worker blocks ticket
+OwnStage worker blocks (stage.FetchFail ticket) = IsOwn worker blocks ticket
+OwnStage worker blocks (stage.Write on ticket) = IsOwn worker blocks ticket
+OwnStage worker blocks (stage.Leave on ticket) = IsOwn worker blocks ticket
+OwnStage worker blocks (stage.LeaveFail ticket) = IsOwn worker blocks ticket
+OwnStage worker blocks other = Unit {0}
 
-abbrev pub OwnTransition : ℕ → Transition → Type 0
-OwnTransition blocks (Goes next) = OwnStage blocks next
-OwnTransition blocks (Kills t next) = OwnStage blocks next
-OwnTransition blocks (Ends said) = Unit {0}
+abbrev pub OwnTransition : ℕ → ℕ → Transition → Type 0
+OwnTransition worker blocks (Goes next) = OwnStage worker blocks next
+OwnTransition worker blocks (Kills t next) = OwnStage worker blocks next
+OwnTransition worker blocks (Ends said) = Unit {0}
 
-abbrev pub OwnActivity : ℕ → Activity → Type 0
-OwnActivity blocks Rests = Unit {0}
-OwnActivity blocks (Begun command) = Unit {0}
-OwnActivity blocks (Does next) = OwnStage blocks next
+abbrev pub OwnActivity : ℕ → ℕ → Activity → Type 0
+OwnActivity worker blocks Rests = Unit {0}
+OwnActivity worker blocks (Begun command) = Unit {0}
+OwnActivity worker blocks (Does next) = OwnStage worker blocks next
 
-abbrev pub OwnSeats : ℕ → List Seat → Type 0
-OwnSeats blocks [] = Unit {0}
-OwnSeats blocks (seat ∷ seats) = OwnActivity blocks seat.activity × OwnSeats blocks seats
+abbrev pub OwnSeats : ℕ → ℕ → List Seat → Type 0
+OwnSeats worker blocks [] = Unit {0}
+OwnSeats worker blocks (seat ∷ seats) = OwnActivity worker blocks seat.activity × OwnSeats worker blocks seats
 
 -- ---- tickets that were handed back
 

@@ -1,5 +1,5 @@
 -- The table of turns: what a command in a state asks of the book or of the device, and what it makes of the answer.
-use Rattle.std.specs.Prelude.{◌≡◌, ℕ, zero, suc, nat_le, if◌then◌else◌, List, Result, Ok, Err, Option, Some, None}
+use Rattle.std.specs.Prelude.{◌≡◌, ℕ, zero, suc, nat_le, if◌then◌else◌, List, [], ◌∷◌, map, Result, Ok, Err, Option, Some, None}
 use Rattle.machine.specs.declared.amount.Amount.{Amount}
 use Rattle.machine.specs.declared.amount.Amount.TheVariants as amount
 use Rattle.machine.specs.declared.config.Watermarks.{Watermarks}
@@ -20,6 +20,7 @@ use Rattle.machine.specs.declared.command.Answer.{Answer}
 use Rattle.machine.specs.declared.command.Answer.TheVariants as answer
 use Rattle.machine.specs.declared.control.ControlFile.{ControlFile}
 use Rattle.machine.specs.declared.control.ControlFile.TheVariants as file
+use Rattle.machine.specs.Slots.{at}
 use Rattle.machine.specs.Tree.{Node, find_group}
 use Rattle.machine.specs.Control.{file_named, has_file, amount_of, text_of}
 use Rattle.block_store.specs.declared.device.Fault.{Fault}
@@ -251,7 +252,7 @@ pub record WritesOut (old : Disk) (on : Resume) (ticket : TicketOf) (transition 
   pub writes : WritesBlock old ticket.block ticket.bytes answered new
   pub goes : transition ≡ Goes (after_write on answered ticket)
 
--- ---- the first turn: paths are found, and a control file's name, mode and amount are judged
+-- ---- the first turn: paths are found; then a control file's name, mode and amount are judged
 
 abbrev pub Judged : Type 0
 Judged = Result Stage Refusal
@@ -302,28 +303,50 @@ task_judged t (command.Free page) = Ok (stage.Free (record { 0 = t }) page)
 task_judged t command.Exit = Ok (stage.Exit (record { 0 = t }))
 task_judged t others = Err Invalid
 
-abbrev pub shell_judged : List Node → Command → Judged
-shell_judged tree (command.Access place op) = Err Invalid
-shell_judged tree (command.Fork child) = Err Invalid
-shell_judged tree (command.Free page) = Err Invalid
-shell_judged tree command.Exit = Err Invalid
-shell_judged tree command.Daemon = Err Invalid
-shell_judged tree (command.Group path) = Ok (stage.Mkdir path)
-shell_judged tree (command.Rmdir path) = with_group (find_group tree path) (λ g. Ok (stage.Rmdir (record { 0 = g })))
-shell_judged tree (command.Task t path) = with_group (find_group tree path) (λ g. Ok (stage.Spawn (record { 0 = t }) (record { 0 = g })))
-shell_judged tree (command.Attach t path) = with_group (find_group tree path) (λ g. Ok (stage.Attach (record { 0 = t }) (record { 0 = g })))
-shell_judged tree (command.Set path name text) = with_group (find_group tree path) (λ g. with_file g (file_named name) (writes_file g text))
-shell_judged tree (command.Cat path name) = with_group (find_group tree path) (λ g. with_file g (file_named name) (reads_file g))
-shell_judged tree (command.Protection target path) =
-    with_group (find_group tree target) (λ t. with_group (find_group tree path) (λ g. Ok (stage.Show (query.Protection (record { 0 = t }) (record { 0 = g })))))
+-- the paths that a command of the shell or of control looks up, in order
+abbrev pub shell_paths : Command → List (List ℕ)
+shell_paths (command.Rmdir path) = path ∷ []
+shell_paths (command.Task t path) = path ∷ []
+shell_paths (command.Attach t path) = path ∷ []
+shell_paths (command.Set path name text) = path ∷ []
+shell_paths (command.Cat path name) = path ∷ []
+shell_paths (command.Protection target path) = target ∷ path ∷ []
+shell_paths others = []
+
+-- and what becomes of it, given what was found for them
+abbrev pub shell_judged : Command → List (Option ℕ) → Judged
+shell_judged (command.Access place op) found = Err Invalid
+shell_judged (command.Fork child) found = Err Invalid
+shell_judged (command.Free page) found = Err Invalid
+shell_judged command.Exit found = Err Invalid
+shell_judged command.Daemon found = Err Invalid
+shell_judged (command.Group path) found = Ok (stage.Mkdir path)
+shell_judged (command.Rmdir path) found = with_group (at found 0) (λ g. Ok (stage.Rmdir (record { 0 = g })))
+shell_judged (command.Task t path) found = with_group (at found 0) (λ g. Ok (stage.Spawn (record { 0 = t }) (record { 0 = g })))
+shell_judged (command.Attach t path) found = with_group (at found 0) (λ g. Ok (stage.Attach (record { 0 = t }) (record { 0 = g })))
+shell_judged (command.Set path name text) found = with_group (at found 0) (λ g. with_file g (file_named name) (writes_file g text))
+shell_judged (command.Cat path name) found = with_group (at found 0) (λ g. with_file g (file_named name) (reads_file g))
+shell_judged (command.Protection target path) found =
+    with_group (at found 0) (λ t. with_group (at found 1) (λ g. Ok (stage.Show (query.Protection (record { 0 = t }) (record { 0 = g })))))
 
 abbrev pub daemon_judged : Command → Judged
 daemon_judged command.Daemon = Ok stage.Watch
 daemon_judged others = Err Invalid
 
--- what becomes of a command in its first turn; one that is none of its actor's is Invalid
+-- the paths that an actor's command looks up in its first turn, in order
+abbrev pub paths_of : Actor → Command → List (List ℕ)
+paths_of (actor.Task t) what = []
+paths_of actor.Shell what = shell_paths what
+paths_of actor.Control what = shell_paths what
+paths_of actor.Daemon what = []
+
+-- what becomes of it, given what was found for each of them; one that is none of its actor's is Invalid
+abbrev pub judged_with : Actor → Command → List (Option ℕ) → Judged
+judged_with (actor.Task t) what found = task_judged t what
+judged_with actor.Shell what found = shell_judged what found
+judged_with actor.Control what found = shell_judged what found
+judged_with actor.Daemon what found = daemon_judged what
+
+-- what becomes of a command in its first turn: all its paths are looked up, and then it is judged
 abbrev pub judged : List Node → Actor → Command → Judged
-judged tree (actor.Task t) what = task_judged t what
-judged tree actor.Shell what = shell_judged tree what
-judged tree actor.Control what = shell_judged tree what
-judged tree actor.Daemon what = daemon_judged what
+judged tree who what = judged_with who what (map (find_group tree) (paths_of who what))

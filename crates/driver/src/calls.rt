@@ -13,20 +13,19 @@ use crate::turn::{Access, Activity, Resume, Stage, Transition};
 use block_store::BlockDevice;
 use book::{Book, Event, InTicket, OutTicket, Pass, Reply};
 
-/// One event of the book, by its first pass. A ticket that is given out names a block of swap or of a
+/// One event of the book, which gave out the pass. A ticket that is given out names a block of swap or of a
 /// file, and one that comes back was handed back.
 pub fn call(book: &mut Book, pass: &mut Pass, event: Event) -> Reply
-    requires first { pass.old.worker ≡ 0 }
-    requires given { book.old.passes ≡ 1 }
-    requires own { OwnEvent (blocks_in book.old.state.opening) event }
-    ensures called { Called book.old pass.old (event_of event) (reply_of result) book.new }
-    ensures gives { HandsOut book.new pass.old.worker result }
-    ensures keeps { KeepsTicket pass.old.worker event result }
+    requires known { pass.old.caller.worker < book.old.passes }
+    requires own { OwnEvent pass.old.caller.worker (blocks_in book.old.state.opening) event }
+    ensures called { Called book.old pass.old.caller (event_of event) (reply_of result) book.new }
+    ensures gives { HandsOut book.new pass.old.caller.worker result }
+    ensures keeps { KeepsTicket pass.old.caller.worker event result }
     ensures replies { Replies event result }
-    ensures own { OwnReply (blocks_in book.old.state.opening) result }
+    ensures own { OwnReply pass.old.caller.worker (blocks_in book.old.state.opening) result }
     ensures handed { IsHanded result }
-    ensures first { pass.new.worker ≡ 0 }
-    ensures given { book.new.passes ≡ 1 }
+    ensures pass { pass.new.caller ≡ pass.old.caller }
+    ensures passes { book.new.passes ≡ book.old.passes }
     ensures opening { book.new.state.opening ≡ book.old.state.opening }
 {
     let reply = book.call(pass, event);
@@ -38,7 +37,7 @@ pub fn call(book: &mut Book, pass: &mut Pass, event: Event) -> Reply
 pub fn read_in<D: BlockDevice>(device: &mut D, access: Access, ticket: InTicket) -> Transition
     requires { ticket.block < length (D.disk device.old).contents }
     ensures read { ReadsIn (D.disk device.old) access ticket result (D.disk device.new) }
-    ensures own { (blocks : ℕ) → IsOwn blocks ticket → OwnTransition blocks result }
+    ensures own { (worker blocks : ℕ) → IsOwn worker blocks ticket → OwnTransition worker blocks result }
     ensures same { IsSame (D.disk device.old) (D.disk device.new) }
 {
     let mut ticket = ticket;
@@ -52,7 +51,7 @@ pub fn read_in<D: BlockDevice>(device: &mut D, access: Access, ticket: InTicket)
 pub fn write_out<D: BlockDevice>(device: &mut D, resume: Resume, ticket: OutTicket) -> Transition
     requires { ticket.block < length (D.disk device.old).contents }
     ensures write { WritesOut (D.disk device.old) resume ticket result (D.disk device.new) }
-    ensures own { (blocks : ℕ) → IsOwn blocks ticket → OwnTransition blocks result }
+    ensures own { (worker blocks : ℕ) → IsOwn worker blocks ticket → OwnTransition worker blocks result }
     ensures same { IsSame (D.disk device.old) (D.disk device.new) }
 {
     match ticket.write_to(device) {
@@ -63,11 +62,10 @@ pub fn write_out<D: BlockDevice>(device: &mut D, resume: Resume, ticket: OutTick
 
 /// Ends what an actor is at. The transfer of a ticket in hand ends as failed.
 pub fn give_up(book: &mut Book, pass: &mut Pass, activity: Activity)
-    requires first { pass.old.worker ≡ 0 }
-    requires given { book.old.passes ≡ 1 }
-    requires own { OwnActivity (blocks_in book.old.state.opening) activity }
-    ensures first { pass.new.worker ≡ 0 }
-    ensures given { book.new.passes ≡ 1 }
+    requires known { pass.old.caller.worker < book.old.passes }
+    requires own { OwnActivity pass.old.caller.worker (blocks_in book.old.state.opening) activity }
+    ensures pass { pass.new.caller ≡ pass.old.caller }
+    ensures passes { book.new.passes ≡ book.old.passes }
     ensures opening { book.new.state.opening ≡ book.old.state.opening }
 {
     match activity {
@@ -77,11 +75,10 @@ pub fn give_up(book: &mut Book, pass: &mut Pass, activity: Activity)
 }
 
 fn give_up_stage(book: &mut Book, pass: &mut Pass, stage: Stage)
-    requires first { pass.old.worker ≡ 0 }
-    requires given { book.old.passes ≡ 1 }
-    requires own { OwnActivity (blocks_in book.old.state.opening) (Activity.Does stage) }
-    ensures first { pass.new.worker ≡ 0 }
-    ensures given { book.new.passes ≡ 1 }
+    requires known { pass.old.caller.worker < book.old.passes }
+    requires own { OwnActivity pass.old.caller.worker (blocks_in book.old.state.opening) (Activity.Does stage) }
+    ensures pass { pass.new.caller ≡ pass.old.caller }
+    ensures passes { book.new.passes ≡ book.old.passes }
     ensures opening { book.new.state.opening ≡ book.old.state.opening }
 {
     match stage {
@@ -102,11 +99,10 @@ fn give_up_stage(book: &mut Book, pass: &mut Pass, stage: Stage)
 }
 
 fn give_in(book: &mut Book, pass: &mut Pass, ticket: InTicket)
-    requires first { pass.old.worker ≡ 0 }
-    requires given { book.old.passes ≡ 1 }
-    requires own { IsOwn (blocks_in book.old.state.opening) ticket }
-    ensures first { pass.new.worker ≡ 0 }
-    ensures given { book.new.passes ≡ 1 }
+    requires known { pass.old.caller.worker < book.old.passes }
+    requires own { IsOwn pass.old.caller.worker (blocks_in book.old.state.opening) ticket }
+    ensures pass { pass.new.caller ≡ pass.old.caller }
+    ensures passes { book.new.passes ≡ book.old.passes }
     ensures opening { book.new.state.opening ≡ book.old.state.opening }
 {
     match call(book, pass, Event::FetchFailed(ticket)) {
@@ -116,11 +112,10 @@ fn give_in(book: &mut Book, pass: &mut Pass, ticket: InTicket)
 }
 
 fn give_out(book: &mut Book, pass: &mut Pass, ticket: OutTicket)
-    requires first { pass.old.worker ≡ 0 }
-    requires given { book.old.passes ≡ 1 }
-    requires own { IsOwn (blocks_in book.old.state.opening) ticket }
-    ensures first { pass.new.worker ≡ 0 }
-    ensures given { book.new.passes ≡ 1 }
+    requires known { pass.old.caller.worker < book.old.passes }
+    requires own { IsOwn pass.old.caller.worker (blocks_in book.old.state.opening) ticket }
+    ensures pass { pass.new.caller ≡ pass.old.caller }
+    ensures passes { book.new.passes ≡ book.old.passes }
     ensures opening { book.new.state.opening ≡ book.old.state.opening }
 {
     match call(book, pass, Event::LeaveFailed(ticket)) {

@@ -8,7 +8,7 @@ ghost use Rattle.driver.specs.Turns.{AwaitsAll};
 ghost use Rattle.driver.specs.Schedule.{Asks, WantTurn, StageTurn, wants_at, Turn, Advances, Finishes, Begins, Stepped, Runs, activity_of, first_world};
 ghost use Rattle.driver.specs.Tickets.{OwnEvent, OwnStage, OwnTransition, OwnSeats};
 ghost use Rattle.driver.specs.Seats.{place_of, is_under_way};
-ghost use Rattle.driver.specs.Desks.{world, blocks_of_desk, AsksFirst, IsOn, IsSame};
+ghost use Rattle.driver.specs.Desks.{world, blocks_of_desk, worker_of_desk, IsOn, IsSame};
 ghost use Rattle.driver.specs.Sinks.{CutsStep, CutsRun};
 
 use crate::automaton::{ask, told};
@@ -38,7 +38,6 @@ impl Desk {
     /// A desk at which nobody has a command, over a new book. It fails as [`Book::open`] does.
     pub fn open(alloc: Global, config: Config) -> Result<Desk, Refusal>
         ensures opens { IfOk result (λ desk. (disk : Disk) → world desk disk ≡ first_world config disk) }
-        ensures asks { IfOk result (λ desk. AsksFirst desk) }
         ensures sized { IfOk result (λ desk. is_config config ≡ true) }
         ensures err { IfErr result (λ cause. (cause ≡ Refusal.Invalid) × (is_config config ≡ false) ⊎ (cause ≡ Refusal.NoMemory) × (is_config config ≡ true)) }
     {
@@ -59,12 +58,13 @@ impl Desk {
 
     /// One event of the book, and what the command makes of its reply.
     fn ask_book(&mut self, pending: Pending, event: Event) -> Result<Transition, AllocError>
-        requires first { AsksFirst self.old }
+        requires known { worker_of_desk self.old < self.old.book.passes }
         requires awaits { AwaitsAll (Want.Call pending event) }
-        requires own { OwnEvent (blocks_of_desk self.old) event }
-        ensures asks { IfOk result (λ transition. Asks self.old.pass self.old.book pending event transition self.new.book) }
-        ensures own { IfOk result (λ transition. OwnTransition (blocks_of_desk self.old) transition) }
-        ensures first { AsksFirst self.new }
+        requires own { OwnEvent (worker_of_desk self.old) (blocks_of_desk self.old) event }
+        ensures asks { IfOk result (λ transition. Asks self.old.pass.caller self.old.book pending event transition self.new.book) }
+        ensures own { IfOk result (λ transition. OwnTransition (worker_of_desk self.old) (blocks_of_desk self.old) transition) }
+        ensures pass { self.new.pass.caller ≡ self.old.pass.caller }
+        ensures passes { self.new.book.passes ≡ self.old.book.passes }
         ensures opening { self.new.book.state.opening ≡ self.old.book.state.opening }
         ensures seats { self.new.seats ≡ self.old.seats }
     {
@@ -88,10 +88,11 @@ impl Desk {
         stage: Stage,
     ) -> Result<Transition, AllocError>
         requires on { IsOn self.old (D.disk device.old) }
-        requires own { OwnStage (blocks_of_desk self.old) stage }
-        ensures turns { IfOk result (λ transition. WantTurn self.old.pass self.old.book (D.disk device.old) (wants_at self.old.book stage) transition self.new.book (D.disk device.new)) }
-        ensures own { IfOk result (λ transition. OwnTransition (blocks_of_desk self.old) transition) }
-        ensures first { AsksFirst self.new }
+        requires own { OwnStage (worker_of_desk self.old) (blocks_of_desk self.old) stage }
+        ensures turns { IfOk result (λ transition. WantTurn self.old.pass.caller self.old.book (D.disk device.old) (wants_at self.old.book stage) transition self.new.book (D.disk device.new)) }
+        ensures own { IfOk result (λ transition. OwnTransition (worker_of_desk self.old) (blocks_of_desk self.old) transition) }
+        ensures pass { self.new.pass.caller ≡ self.old.pass.caller }
+        ensures passes { self.new.book.passes ≡ self.old.book.passes }
         ensures opening { self.new.book.state.opening ≡ self.old.book.state.opening }
         ensures seats { self.new.seats ≡ self.old.seats }
         ensures same { IsSame (D.disk device.old) (D.disk device.new) }
@@ -113,7 +114,7 @@ impl Desk {
         stage: Stage,
     ) -> Result<Outcome, AllocError>
         requires on { IsOn self.old (D.disk device.old) }
-        requires own { OwnStage (blocks_of_desk self.old) stage }
+        requires own { OwnStage (worker_of_desk self.old) (blocks_of_desk self.old) stage }
         requires seated { place_of actor self.old.seats < length self.old.seats }
         requires free { is_under_way (activity_of actor self.old.seats) ≡ false }
         ensures turn { IfOk result (λ outcome. StageTurn (world self.old (D.disk device.old)) actor stage outcome (world self.new (D.disk device.new))) }
@@ -265,8 +266,8 @@ impl Desk {
 
     /// Spends what is left. Transfers whose tickets are in hand end as failed, with no answer.
     pub fn close(self)
-        requires first { AsksFirst self }
-        requires own { OwnSeats (blocks_of_desk self) self.seats }
+        requires known { worker_of_desk self < self.book.passes }
+        requires own { OwnSeats (worker_of_desk self) (blocks_of_desk self) self.seats }
     {
         let Desk {
             alloc: _,

@@ -1,8 +1,10 @@
-//! The first turn of a command: its paths are found, and a control file's name, mode and amount are
-//! judged.
+//! The first turn of a command: its paths are found, all of them; then a control file's name, mode and
+//! amount are judged.
 
-ghost use Rattle.std.specs.Prelude.{◌≡◌, ℕ, option_map};
-ghost use Rattle.driver.specs.Turns.{judged, task_judged, shell_judged, daemon_judged, with_group, with_file, reads_file, reclaims, writes_file};
+ghost use Rattle.std.specs.Prelude.{◌≡◌, ℕ, map, option_map};
+ghost use Rattle.driver.specs.Turns.{shell_paths, paths_of, judged_with, judged, task_judged, shell_judged, daemon_judged, with_group, with_file, reads_file, reclaims, writes_file};
+ghost use Rattle.driver.specs.Finds.{answers_of};
+ghost use Rattle.machine.specs.Slots.{at};
 ghost use Rattle.machine.specs.Tree.{find_group};
 ghost use Rattle.machine.specs.Control.{file_named};
 
@@ -16,14 +18,84 @@ use machine::event::Query;
 use machine::id::{GroupId, TaskId};
 use machine::refusal::Refusal;
 
-/// What becomes of a command in its first turn.
+/// What was found for the paths of a command, in their order.
+#[derive(Clone, Copy, Debug)]
+pub enum Found {
+    /// It has no paths.
+    Nothing,
+    One(Option<GroupId>),
+    Two(Option<GroupId>, Option<GroupId>),
+}
+
+impl Found {
+    /// The group of the first path.
+    fn first(self) -> Option<GroupId>
+        ensures { option_map (λ g. g.0) result ≡ at (answers_of self) 0 }
+    {
+        match self {
+            Found::Nothing => None,
+            Found::One(first) | Found::Two(first, _) => first,
+        }
+    }
+
+    /// The group of the second.
+    fn second(self) -> Option<GroupId>
+        ensures { option_map (λ g. g.0) result ≡ at (answers_of self) 1 }
+    {
+        match self {
+            Found::Nothing | Found::One(_) => None,
+            Found::Two(_, second) => second,
+        }
+    }
+}
+
+/// What becomes of a command in its first turn. All its paths are looked up, in order, before anything
+/// of it is judged.
 pub fn judge(book: &Book, pass: &mut Pass, actor: Actor, command: Command) -> Result<Stage, Refusal>
     ensures judged { result ≡ judged book.now.state.tree actor command }
-    ensures pass { pass.new.worker ≡ pass.old.worker }
+    ensures pass { pass.new.caller ≡ pass.old.caller }
+{
+    let found = look_up(book, pass, actor, &command);
+    judge_with(actor, command, found)
+}
+
+/// The groups of the paths of a command of this actor, each looked up once, in their order.
+fn look_up(book: &Book, pass: &mut Pass, actor: Actor, command: &Command) -> Found
+    ensures found { answers_of result ≡ map (find_group book.now.state.tree) (paths_of actor command.now) }
+    ensures pass { pass.new.caller ≡ pass.old.caller }
+{
+    match actor {
+        Actor::Task(_) | Actor::Daemon => Found::Nothing,
+        Actor::Shell | Actor::Control => look_up_shell(book, pass, command),
+    }
+}
+
+fn look_up_shell(book: &Book, pass: &mut Pass, command: &Command) -> Found
+    ensures found { answers_of result ≡ map (find_group book.now.state.tree) (shell_paths command.now) }
+    ensures pass { pass.new.caller ≡ pass.old.caller }
+{
+    match command {
+        Command::Access { .. } | Command::Fork { .. } | Command::Free { .. } => Found::Nothing,
+        Command::Exit | Command::Daemon | Command::Group(_) => Found::Nothing,
+        Command::Rmdir(path) => Found::One(book.find(pass, path.as_str())),
+        Command::Task { path, .. } => Found::One(book.find(pass, path.as_str())),
+        Command::Attach { path, .. } => Found::One(book.find(pass, path.as_str())),
+        Command::Set { path, .. } => Found::One(book.find(pass, path.as_str())),
+        Command::Cat { path, .. } => Found::One(book.find(pass, path.as_str())),
+        Command::Protection { target, path } => Found::Two(
+            book.find(pass, target.as_str()),
+            book.find(pass, path.as_str()),
+        ),
+    }
+}
+
+/// What becomes of a command for whose paths this was found.
+fn judge_with(actor: Actor, command: Command, found: Found) -> Result<Stage, Refusal>
+    ensures { result ≡ judged_with actor command (answers_of found) }
 {
     match actor {
         Actor::Task(task) => judge_task(task, command),
-        Actor::Shell | Actor::Control => judge_shell(book, pass, command),
+        Actor::Shell | Actor::Control => judge_shell(command, found),
         Actor::Daemon => judge_daemon(command),
     }
 }
@@ -59,9 +131,8 @@ fn judge_daemon(command: Command) -> Result<Stage, Refusal>
     }
 }
 
-fn judge_shell(book: &Book, pass: &mut Pass, command: Command) -> Result<Stage, Refusal>
-    ensures judged { result ≡ shell_judged book.now.state.tree command }
-    ensures pass { pass.new.worker ≡ pass.old.worker }
+fn judge_shell(command: Command, found: Found) -> Result<Stage, Refusal>
+    ensures { result ≡ shell_judged command (answers_of found) }
 {
     match command {
         Command::Access { .. } | Command::Fork { .. } | Command::Free { .. } => {
@@ -69,19 +140,18 @@ fn judge_shell(book: &Book, pass: &mut Pass, command: Command) -> Result<Stage, 
         }
         Command::Exit | Command::Daemon => Err(Refusal::Invalid),
         Command::Group(path) => Ok(Stage::Mkdir(path)),
-        Command::Rmdir(path) => judge_rmdir(book.find(pass, path.as_str())),
-        Command::Task { task, path } => judge_spawn(book.find(pass, path.as_str()), task),
-        Command::Attach { task, path } => judge_attach(book.find(pass, path.as_str()), task),
-        Command::Set { path, file, text } => judge_set(
-            book.find(pass, path.as_str()),
-            file.as_str(),
-            text.as_str(),
-        ),
-        Command::Cat { path, file } => judge_cat(book.find(pass, path.as_str()), file.as_str()),
-        Command::Protection { target, path } => judge_protection(
-            book.find(pass, target.as_str()),
-            book.find(pass, path.as_str()),
-        ),
+        Command::Rmdir(_) => judge_rmdir(found.first()),
+        Command::Task { task, path: _ } => judge_spawn(found.first(), task),
+        Command::Attach { task, path: _ } => judge_attach(found.first(), task),
+        Command::Set {
+            path: _,
+            file,
+            text,
+        } => { judge_set(found.first(), file.as_str(), text.as_str()) }
+        Command::Cat { path: _, file } => judge_cat(found.first(), file.as_str()),
+        Command::Protection { target: _, path: _ } => {
+            judge_protection(found.first(), found.second())
+        }
     }
 }
 

@@ -100,8 +100,8 @@ impl Seats {
         ensures was { result ≡ activity_of actor self.old }
         ensures rested { result ≡ Activity.Rests → self.new ≡ self.old }
         ensures taken { IsTaken actor self.old self.new }
-        ensures held { (blocks : ℕ) → OwnSeats blocks self.old → OwnActivity blocks result }
-        ensures own { (blocks : ℕ) → OwnSeats blocks self.old → OwnSeats blocks self.new }
+        ensures held { (worker blocks : ℕ) → OwnSeats worker blocks self.old → OwnActivity worker blocks result }
+        ensures own { (worker blocks : ℕ) → OwnSeats worker blocks self.old → OwnSeats worker blocks self.new }
     {
         match self.find(actor) {
             None => Activity::Rests,
@@ -114,7 +114,7 @@ impl Seats {
         requires seated { place_of actor self.old < length self.old }
         requires free { is_under_way (activity_of actor self.old) ≡ false }
         ensures put { self.new ≡ with_activity actor activity self.old }
-        ensures own { (blocks : ℕ) → OwnSeats blocks self.old → OwnActivity blocks activity → OwnSeats blocks self.new }
+        ensures own { (worker blocks : ℕ) → OwnSeats worker blocks self.old → OwnActivity worker blocks activity → OwnSeats worker blocks self.new }
     {
         let place = self.find(actor).unwrap();
         let_go(self.exchange(place, actor, activity));
@@ -125,7 +125,7 @@ impl Seats {
     pub fn seat(&mut self, actor: Actor, command: Command) -> Result<(), AllocError>
         requires { is_under_way (activity_of actor self.old) ≡ false }
         ensures seated { OnOk result (self.new ≡ with_activity actor (Activity.Begun command) self.old) }
-        ensures own { (blocks : ℕ) → OwnSeats blocks self.old → OwnSeats blocks self.new }
+        ensures own { (worker blocks : ℕ) → OwnSeats worker blocks self.old → OwnSeats worker blocks self.new }
         ensures err { OnErr result (self.new ≡ self.old) }
     {
         match self.find(actor) {
@@ -141,7 +141,7 @@ impl Seats {
     fn add(&mut self, actor: Actor, command: Command) -> Result<(), AllocError>
         requires { place_of actor self.old ≡ length self.old }
         ensures seated { OnOk result (self.new ≡ with_activity actor (Activity.Begun command) self.old) }
-        ensures own { (blocks : ℕ) → OwnSeats blocks self.old → OwnSeats blocks self.new }
+        ensures own { (worker blocks : ℕ) → OwnSeats worker blocks self.old → OwnSeats worker blocks self.new }
         ensures err { OnErr result (self.new ≡ self.old) }
     {
         self.list.reserve(1)?;
@@ -198,7 +198,7 @@ fn never(stage: Stage)
 pub fn settle(transition: Transition) -> (Outcome, Activity)
     ensures shows { result.0 ≡ outcome_of transition }
     ensures leaves { result.1 ≡ left_of transition }
-    ensures own { (blocks : ℕ) → OwnTransition blocks transition → OwnActivity blocks result.1 }
+    ensures own { (worker blocks : ℕ) → OwnTransition worker blocks transition → OwnActivity worker blocks result.1 }
 {
     match transition {
         Transition::Goes(stage) => (Outcome::Goes, Activity::Does(stage)),

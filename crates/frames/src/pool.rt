@@ -1,7 +1,8 @@
 //! The pool of free page frames.
 
 ghost use Rattle.std.specs.Prelude.{◌≡◌, ℕ, ◌+◌, ◌<◌, ◌≤◌, length, vec_len, vec_capacity, IfOk, OnOk, IfSome, IfNone, OnSome, if◌then◌else◌, ◌==◌};
-ghost use Rattle.frames.specs.Pool.{free_count, numbers_of};
+ghost use Rattle.counts.specs.Numbers.{times};
+ghost use Rattle.frames.specs.Pool.{numbers_of};
 
 use crate::frame::Frame;
 use crate::spare::Spare;
@@ -23,21 +24,22 @@ pub struct Pool {
 
 impl Model for Pool {
     ghost use Rattle.std.specs.Prelude.{vec_capacity, length};
-    ghost use Rattle.frames.specs.Pool.{PoolOf, IsPool, AreSpares, numbers_of};
+    ghost use Rattle.counts.specs.Numbers.{AreFree};
+    ghost use Rattle.frames.specs.Pool.{PoolOf, AreSpares, numbers_of};
 
     ghost Value = { PoolOf };
 
     ghost view = { λ p. record { free = numbers_of p.free.items; frames = p.frames; spares = length p.spares.items; most_spares = p.most_spares } };
 
-    ghost invariant = { λ p. IsPool (numbers_of p.free.items) p.frames (vec_capacity p.free) × AreSpares (length p.spares.items) p.most_spares (vec_capacity p.spares) };
+    ghost invariant = { λ p. AreFree (numbers_of p.free.items) p.frames (vec_capacity p.free) × AreSpares (length p.spares.items) p.most_spares (vec_capacity p.spares) };
 }
 
 impl Pool {
     /// So many frames, numbered from 0 on, and all of them free; and so many spares. `AllocError` where
     /// there is no memory for them: what was made of them by then is given back.
     pub fn open(alloc: Global, frames: u32, spares: u32) -> Result<Pool, AllocError>
-        ensures once { IfOk result (λ p. (n : ℕ) → n < frames → free_count p.free n ≡ 1) }
-        ensures none_beyond { IfOk result (λ p. (n : ℕ) → frames ≤ n → free_count p.free n ≡ 0) }
+        ensures once { IfOk result (λ p. (n : ℕ) → n < frames → times p.free n ≡ 1) }
+        ensures none_beyond { IfOk result (λ p. (n : ℕ) → frames ≤ n → times p.free n ≡ 0) }
         ensures all { IfOk result (λ p. length p.free ≡ frames) }
         ensures frames { IfOk result (λ p. p.frames ≡ frames) }
         ensures spares { IfOk result (λ p. p.spares ≡ spares) }
@@ -70,14 +72,14 @@ impl Pool {
     pub fn take(&mut self) -> Option<Frame>
         ensures none { IfNone result (length self.old.free ≡ 0) }
         ensures kept { IfNone result (self.new ≡ self.old) }
-        ensures counts { IfSome result (λ f. (n : ℕ) → free_count self.old.free n ≡ free_count self.new.free n + (if f.number == n then 1 else 0)) }
+        ensures counts { IfSome result (λ f. (n : ℕ) → times self.old.free n ≡ times self.new.free n + (if f.number == n then 1 else 0)) }
         ensures fewer { OnSome result (length self.old.free ≡ length self.new.free + 1) }
         ensures frames { self.new.frames ≡ self.old.frames }
         ensures spares { self.new.spares ≡ self.old.spares }
         ensures most_spares { self.new.most_spares ≡ self.old.most_spares }
 
         // The frame is no longer free, so that no two frames that are out have one number.
-        ensures out { IfSome result (λ f. free_count self.new.free f.number ≡ 0) }
+        ensures out { IfSome result (λ f. times self.new.free f.number ≡ 0) }
         ensures in_range { IfSome result (λ f. f.number < self.old.frames) }
     {
         self.free.pop()
@@ -85,9 +87,9 @@ impl Pool {
 
     /// Takes a frame back. This takes no memory.
     pub fn give(&mut self, frame: Frame)
-        requires out { free_count self.old.free frame.number ≡ 0 }
+        requires out { times self.old.free frame.number ≡ 0 }
         requires in_range { frame.number < self.old.frames }
-        ensures counts { (n : ℕ) → free_count self.new.free n ≡ free_count self.old.free n + (if frame.number == n then 1 else 0) }
+        ensures counts { (n : ℕ) → times self.new.free n ≡ times self.old.free n + (if frame.number == n then 1 else 0) }
         ensures more { length self.new.free ≡ length self.old.free + 1 }
         ensures frames { self.new.frames ≡ self.old.frames }
         ensures spares { self.new.spares ≡ self.old.spares }
@@ -131,8 +133,8 @@ impl Pool {
 
 /// New frames, numbered from 0 on. Where the memory ends, those made by then are given back.
 fn new_frames(alloc: Global, count: u32) -> Result<Vec<Frame>, AllocError>
-    ensures once { IfOk result (λ free. (n : ℕ) → n < count → free_count (numbers_of free.items) n ≡ 1) }
-    ensures none_beyond { IfOk result (λ free. (n : ℕ) → count ≤ n → free_count (numbers_of free.items) n ≡ 0) }
+    ensures once { IfOk result (λ free. (n : ℕ) → n < count → times (numbers_of free.items) n ≡ 1) }
+    ensures none_beyond { IfOk result (λ free. (n : ℕ) → count ≤ n → times (numbers_of free.items) n ≡ 0) }
     ensures all { IfOk result (λ free. length (numbers_of free.items) ≡ count) }
     ensures room { IfOk result (λ free. count ≤ vec_capacity free) }
 {
@@ -149,8 +151,8 @@ fn new_frames(alloc: Global, count: u32) -> Result<Vec<Frame>, AllocError>
 fn fill(alloc: Global, free: &mut Vec<Frame>, frames: u32) -> Result<(), AllocError>
     requires empty { vec_len free.old ≡ 0 }
     requires room { frames ≤ vec_capacity free.old }
-    ensures once { OnOk result ((n : ℕ) → n < frames → free_count (numbers_of free.new.items) n ≡ 1) }
-    ensures none_beyond { OnOk result ((n : ℕ) → frames ≤ n → free_count (numbers_of free.new.items) n ≡ 0) }
+    ensures once { OnOk result ((n : ℕ) → n < frames → times (numbers_of free.new.items) n ≡ 1) }
+    ensures none_beyond { OnOk result ((n : ℕ) → frames ≤ n → times (numbers_of free.new.items) n ≡ 0) }
     ensures all { OnOk result (length (numbers_of free.new.items) ≡ frames) }
     ensures room { frames ≤ vec_capacity free.new }
 {

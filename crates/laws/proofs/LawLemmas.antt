@@ -21,7 +21,7 @@ use Rattle.machine.specs.declared.record.Limits.{Limits}
 use Rattle.machine.specs.Slots.{at, Changes, there_and, count_there}
 use Rattle.machine.specs.Tree.{Node, chain, under_at, under}
 use Rattle.machine.specs.Amounts.{exceeds}
-use Rattle.machine.specs.Counts.{limits_at, is_full, over_at, Counted, local, total, counts_by}
+use Rattle.machine.specs.Counts.{limits_at, is_full, over_at, count_of_key, local, total, counts_by}
 use Rattle.machine.specs.Pages.{Content, Memory, OfFile, Residence, Held, Coming, Going, Away, Page, page_at, in_transfer_at, is_anon, frame_at, is_some_number, has_frame, is_charged, charged}
 use Rattle.machine.specs.Tasks.{task_at}
 use Rattle.machine.specs.State.{State, usage, stat_of, over_in, is_frame_free}
@@ -31,7 +31,8 @@ use Rattle.machine.specs.Step.{Only, Takes, LeavesFrom, LeavesBy, ChargeStep, Ma
 use Rattle.machine.proofs.Values.{unlike}
 use Rattle.machine.proofs.SlotLemmas.{one_if, count_there-changes}
 use Rattle.legal.proofs.MoveLemmas.{hits_held}
-use Rattle.laws.specs.Laws.{TransfersStayCharged, CurrentCountsPages, StatAddsUpToCurrent, EventsAreThoseCounted, count_for, ChargesStayWithinMax, KillsComeLast, ReadsGiveLastWrites}
+use Rattle.legal.proofs.NamedLemmas.{legal-tells}
+use Rattle.laws.specs.Laws.{TransfersStayCharged, CurrentCountsPages, StatAddsUpToCurrent, EventsAreThoseCounted, CountsAreOfTheHistory, ChargesStayWithinMax, KillsComeLast, ReadsGiveLastWrites}
 
 -- ---- memory.current
 
@@ -69,21 +70,24 @@ stat_adds_up_to_current before after g stat step =
 -- ---- memory.events and memory.events.local
 
 -- counts that are made of each key's count say that count of it
-count_for-counts_by : (count : Key → ℕ) (key : Key) → count_for (counts_by count) key ≡ count key
-count_for-counts_by count Low = refl
-count_for-counts_by count High = refl
-count_for-counts_by count Max = refl
-count_for-counts_by count Oom = refl
-count_for-counts_by count OomKill = refl
-count_for-counts_by count OomGroupKill = refl
+count_of_key-by : (count : Key → ℕ) (key : Key) → count_of_key (counts_by count) key ≡ count key
+count_of_key-by count Low = refl
+count_of_key-by count High = refl
+count_of_key-by count Max = refl
+count_of_key-by count Oom = refl
+count_of_key-by count OomKill = refl
+count_of_key-by count OomGroupKill = refl
 
-shows_counts : (counts : EventCounts) (count : Key → ℕ) (key : Key) → shown.Events counts ≡ shown.Events (counts_by count) → count_for counts key ≡ count key
+shows_counts : (counts : EventCounts) (count : Key → ℕ) (key : Key) → shown.Events counts ≡ shown.Events (counts_by count) → count_of_key counts key ≡ count key
 shows_counts counts count key shows =
-    let same : counts ≡ counts_by count = cc in ap (λ (c : EventCounts). count_for c key) same ∙ count_for-counts_by count key
+    let same : counts ≡ counts_by count = cc in ap (λ (c : EventCounts). count_of_key c key) same ∙ count_of_key-by count key
 
 pub events_are_those_counted : EventsAreThoseCounted
 events_are_those_counted before after g counts key =
     (λ step. shows_counts counts (total before.tree before.counted g) key step.0, λ step. shows_counts counts (local before.counted g) key step.0)
+
+pub counts_are_of_the_history : CountsAreOfTheHistory
+counts_are_of_the_history opening history s legal = let told = legal-tells opening history s legal in (told.events, told.counted, told.locals)
 
 -- ---- reads
 
@@ -155,7 +159,7 @@ module _ (before after : State) (a : ℕ) where
   unfolding Within
   same_within same more = absurd (let e : usage after a ≡ usage before a = ap (λ (s : State). usage s a) same in omega (arith, more, e))
 
-  counted_within : {counted : List Counted} → after ≡ record before { counted = counted } → Within
+  counted_within : {counted : List EventCounts} → after ≡ record before { counted = counted } → Within
   unfolding Within
   counted_within same more = absurd (let e : usage after a ≡ usage before a = ap (λ (s : State). usage s a) same in omega (arith, more, e))
 

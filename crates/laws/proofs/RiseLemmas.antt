@@ -4,6 +4,7 @@ use Rattle.std.specs.Prelude.{IfSome}
 use Rattle.std.proofs.lemmas.Bool.{cases_lt, and_parts}
 use Rattle.std.proofs.Math.ListN.{get_or-eq_default}
 use Rattle.machine.specs.declared.record.Limits.{Limits}
+use Rattle.machine.specs.declared.record.EventCounts.{EventCounts}
 use Rattle.machine.specs.declared.event.Event.{Event}
 use Rattle.machine.specs.declared.event.Event.TheVariants as event
 use Rattle.machine.specs.declared.reply.Reply.{Reply}
@@ -68,9 +69,9 @@ module _ (before after : State) (a : ℕ) where
       let stood : one_if (there_and (is_charged before.tree a) (at before.pages p)) ≡ one_if (there_and (is_charged before.tree a) slot) = ap (λ (x : Option Page). one_if (there_and (is_charged before.tree a) x)) there in
       omega (arith, same, both, stood)
 
-  made_less : (x : Node) (ls : List Limits) → IsTree before.tree → ((p : ℕ) → IfSome (page_at before.pages p) (λ page. is_live before.tree page.group ≡ true)) → after ≡ record before { tree = before.tree ++ x ∷ []; limits = ls } → Less
+  made_less : (x : Node) (ls : List Limits) (counted : List EventCounts) → IsTree before.tree → ((p : ℕ) → IfSome (page_at before.pages p) (λ page. is_live before.tree page.group ≡ true)) → after ≡ record before { tree = before.tree ++ x ∷ []; limits = ls; counted = counted } → Less
   unfolding Less
-  made_less x ls falls groups e =
+  made_less x ls counted falls groups e =
       let same : usage after a ≡ charged (before.tree ++ x ∷ []) before.pages a = ap (λ (s : State). usage s a) e in
       let le = tests-less (is_charged before.tree a) (is_charged (before.tree ++ x ∷ []) a) before.pages before.pages (λ n. grown_slot before.tree x a falls (page_at before.pages n) (groups n)) in
       omega (arith, same, le)
@@ -109,7 +110,7 @@ module _ (before after : State) (a : ℕ) where
   did_less what answer other falls groups (Freed t v is out alive frees) = stilled_less (ap (λ (s : State). s.tree) frees.state) frees.pages
   did_less what answer other falls groups (Attached t g is out sets e) = let same : usage after a ≡ usage before a = ap (λ (s : State). usage s a) e in omega (arith, same)
   did_less what answer other falls groups (Removed g is out removes) = usage-no_more before after g.0 removes falls a
-  did_less what answer other falls groups (Grown path is out e) = made_less _ _ falls groups e
+  did_less what answer other falls groups (Grown path is out e) = made_less _ _ _ falls groups e
 
   -- a page has a frame when it begins to be written out, and had one before
   framed_still : (what : Event) (answer : Reply) (page : Page) (dirty : Bool) (now : Residence) → is_out answer ≡ true → Moves before what answer page dirty now → frame_at now ≡ frame_at page.residence

@@ -16,7 +16,6 @@ use Rattle.machine.specs.declared.record.EventCounts.{EventCounts}
 use Rattle.machine.specs.declared.record.MemoryStat.{MemoryStat}
 use Rattle.machine.specs.declared.record.Kind.{Kind}
 use Rattle.machine.specs.declared.record.Key.{Key}
-use Rattle.machine.specs.declared.record.Key.TheVariants.{Low, High, Max, Oom, OomKill, OomGroupKill}
 use Rattle.machine.specs.declared.reply.Reply.{Reply}
 use Rattle.machine.specs.declared.reply.Reply.TheVariants as reply
 use Rattle.machine.specs.declared.reply.Shown.TheVariants as shown
@@ -24,7 +23,7 @@ use Rattle.machine.specs.declared.command.Step.{Step as Line}
 use Rattle.machine.specs.declared.command.Reply.{Reply as Told_by}
 use Rattle.machine.specs.Slots.{there_and}
 use Rattle.machine.specs.Amounts.{exceeds}
-use Rattle.machine.specs.Counts.{limits_at, local, total}
+use Rattle.machine.specs.Counts.{limits_at, count_of_key, local, total, Counted, how_often}
 use Rattle.machine.specs.Tree.{Node, node_at, is_live, under}
 use Rattle.machine.specs.Pages.{OfFile, Page, page_at, is_anon, is_held, frame_at, block_at, ticket_at, is_in_transfer, is_charged, in_transfer, IsFiled}
 use Rattle.machine.specs.Tasks.{lives, group_of_task, mapped_at, size_of}
@@ -38,6 +37,7 @@ use Rattle.machine.specs.Victim.{is_candidate}
 use Rattle.machine.specs.Step.{Step}
 use Rattle.machine.specs.Call.{Past, Caller, Called, AreAlike}
 use Rattle.machine.specs.Legal.{Legal}
+use Rattle.machine.specs.Events.{AreCounted}
 use Rattle.machine.specs.History.{Spot, InTask, at_first, last, Right, IsRight, Honest}
 use Rattle.machine.specs.declared.command.Answer.TheVariants as answer
 use Rattle.machine.specs.declared.command.Word.TheVariants as word
@@ -74,21 +74,19 @@ abbrev pub CurrentCountsPages : Type 0
 CurrentCountsPages =
     (before after : State) (g n : ℕ) → Step before (event.Show (query.Current (record { 0 = g }))) (reply.Shown (shown.Pages n)) after → n ≡ usage before g
 
--- how often these counts say that a key was counted
-abbrev pub count_for : EventCounts → Key → ℕ
-count_for counts Low = counts.low
-count_for counts High = counts.high
-count_for counts Max = counts.max
-count_for counts Oom = counts.oom
-count_for counts OomKill = counts.oom_kill
-count_for counts OomGroupKill = counts.oom_group_kill
-
 -- of each key memory.events shows how often it was counted at or under the group, and memory.events.local how often at the group itself
 abbrev pub EventsAreThoseCounted : Type 0
 EventsAreThoseCounted =
     (before after : State) (g : ℕ) (counts : EventCounts) (key : Key)
-    → (Step before (event.Show (query.Events (record { 0 = g }))) (reply.Shown (shown.Events counts)) after → count_for counts key ≡ total before.tree before.counted g key)
-    × (Step before (event.Show (query.EventsLocal (record { 0 = g }))) (reply.Shown (shown.Events counts)) after → count_for counts key ≡ local before.counted g key)
+    → (Step before (event.Show (query.Events (record { 0 = g }))) (reply.Shown (shown.Events counts)) after → count_of_key counts key ≡ total before.tree before.counted g key)
+    × (Step before (event.Show (query.EventsLocal (record { 0 = g }))) (reply.Shown (shown.Events counts)) after → count_of_key counts key ≡ local before.counted g key)
+
+-- by group and key the table has as many as events were counted, entry by entry: what the cases of its steps name, in the states that the history leads through, and nothing else.
+-- (Excludes a count that an event adds at another group, or twice, or that goes with its group.)
+abbrev pub CountsAreOfTheHistory : Type 0
+CountsAreOfTheHistory =
+    (opening : Opening) (history : List Entry) (s : State) → Legal opening history s
+    → (events : List Counted) × AreCounted opening history s events × ((g : ℕ) (key : Key) → local s.counted g key ≡ how_often events g key)
 
 -- an access that leaves more pages charged under a group leaves no more than the group's max
 abbrev pub ChargesStayWithinMax : Type 0

@@ -20,7 +20,8 @@ use Rattle.machine.specs.declared.reply.Reply.{Reply}
 use Rattle.machine.specs.declared.reply.Reply.TheVariants as reply
 use Rattle.machine.specs.Slots.{Changes, there_and}
 use Rattle.machine.specs.Pages.{in_transfer_at, Content, Memory, OfFile, Residence, Held, Coming, Going, Away, Page, page_at, file_page, home_block, is_anon, frame_at, block_at, ticket_at, is_frame_taken, is_ticket_taken}
-use Rattle.machine.specs.Counts.{Counted, no_limits}
+use Rattle.machine.specs.declared.record.EventCounts.{EventCounts}
+use Rattle.machine.specs.Counts.{no_limits, no_counts}
 use Rattle.machine.specs.Tasks.{PageTables, mapped_at, mappers, Shows, Copies, ShowsNothing, SetsTask, task_at, is_live_life, is_live_task, lives, group_of, group_of_task}
 use Rattle.machine.specs.State.{State, page_numbers, over_in, is_frame_free}
 use Rattle.machine.specs.Access.{Meeting, Unmapped, Hits, Transferring, NeedsPage, NeedsCopy, NeedsSwapIn, NeedsRead, Dangling, page_size, is_place, meets}
@@ -98,13 +99,13 @@ WasShared s t v = (q : ℕ) → mapped_at s.page_tables t v ≡ Some q → nat_l
 
 pub data Did (old : State) (what : Event) (answer : Reply) (new : State) : Type 0 where
   -- nothing, but for a setting and for what stands counted
-  Kept : (limits : List Limits) (counted : List Counted) → new ≡ record old { limits = limits; counted = counted } → Did old what answer new
+  Kept : (limits : List Limits) (counted : List EventCounts) → new ≡ record old { limits = limits; counted = counted } → Did old what answer new
   -- an access of a live task made a page, charged to its group, and a virtual page of the task shows it
   Made : (t v p frame : ℕ) → is_access what ≡ true → is_out answer ≡ false → lives old.tasks t ≡ true → WasShared old t v → p < page_numbers old.opening → page_at old.pages p ≡ None → is_frame_taken old.pages frame ≡ false
       → Changes old.pages new.pages p (Some (new_page (group_of_task old.tasks t) frame)) → Shows old.page_tables new.page_tables t v (Some p)
       → new ≡ record old { pages = new.pages; page_tables = new.page_tables } → Did old what answer new
   -- one page was written to, or stands elsewhere: in the end of a transfer it was of a file, or something maps it
-  Moved : (p : ℕ) (page : Page) (dirty : Bool) (now : Residence) (counted : List Counted) → page_at old.pages p ≡ Some page
+  Moved : (p : ℕ) (page : Page) (dirty : Bool) (now : Residence) (counted : List EventCounts) → page_at old.pages p ≡ Some page
       → Changes old.pages new.pages p (Some (record { content = page.content; group = page.group; dirty = dirty; residence = now })) → Moves old what answer page dirty now → (in_transfer_at page.residence ≡ true → MayStay old.page_tables p page)
       → new ≡ record old { pages = new.pages; counted = counted } → Did old what answer new
   -- an access of a live task reads a page of a file in, charged to its group; an access that nothing refuses is of a page that the file has
@@ -112,10 +113,10 @@ pub data Did (old : State) (what : Event) (answer : Reply) (new : State) : Type 
       → is_frame_taken old.pages frame ≡ false → is_ticket_taken old.pages ticket ≡ false → (refusal old what ≡ None → q < slice_index old.opening.files f)
       → Changes old.pages new.pages p (Some (read_page (group_of_task old.tasks t) f q (Coming frame (home_block old.opening.swap old.opening.files f q) ticket))) → new ≡ record old { pages = new.pages } → Did old what answer new
   -- one page is gone: it was of a file, or nothing mapped it
-  Dropped : (p : ℕ) (page : Page) (counted : List Counted) → is_out answer ≡ false → page_at old.pages p ≡ Some page → MayGo old.page_tables p page → Went what page → Changes old.pages new.pages p None
+  Dropped : (p : ℕ) (page : Page) (counted : List EventCounts) → is_out answer ≡ false → page_at old.pages p ≡ Some page → MayGo old.page_tables p page → Went what page → Changes old.pages new.pages p None
       → new ≡ record old { pages = new.pages; counted = counted } → Did old what answer new
   -- a task is dead, and shows nothing
-  Ended : (t : ℕ) (life : Life) (counted : List Counted) → is_out answer ≡ false → is_live_life life ≡ false → EndsTask old t life counted new → Did old what answer new
+  Ended : (t : ℕ) (life : Life) (counted : List EventCounts) → is_out answer ≡ false → is_live_life life ≡ false → EndsTask old t life counted new → Did old what answer new
   -- a task more
   Spawned : (t : TaskId) (g : GroupId) → what ≡ event.Spawn t g → SetsTask old.tasks t.0 g.0 Live new.tasks → ShowsNothing old.page_tables new.page_tables t.0
       → new ≡ record old { tasks = new.tasks; page_tables = new.page_tables } → Did old what answer new
@@ -129,7 +130,7 @@ pub data Did (old : State) (what : Event) (answer : Reply) (new : State) : Type 
   -- a group is removed, and its pages are its parent's
   Removed : (g : GroupId) → what ≡ event.Rmdir g → is_out answer ≡ false → Removes old g.0 new → Did old what answer new
   -- a group more
-  Grown : (path : List ℕ) → what ≡ event.Mkdir path → is_out answer ≡ false → new ≡ record old { tree = old.tree ++ new_node old.tree path ∷ []; limits = old.limits ++ no_limits ∷ [] } → Did old what answer new
+  Grown : (path : List ℕ) → what ≡ event.Mkdir path → is_out answer ≡ false → new ≡ record old { tree = old.tree ++ new_node old.tree path ∷ []; limits = old.limits ++ no_limits ∷ []; counted = old.counted ++ no_counts ∷ [] } → Did old what answer new
 
 -- ---- each step is one
 

@@ -23,7 +23,7 @@ use Rattle.machine.specs.declared.reply.Reply.TheVariants as reply
 use Rattle.machine.specs.Slots.{Changes, there_and}
 use Rattle.machine.specs.Tree.{Node}
 use Rattle.machine.specs.Pages.{Content, Memory, OfFile, Residence, Held, Coming, Going, Away, Page, Pages, page_at, file_page, home_block, is_anon, is_held_at, is_held, is_held_in, in_transfer_at, ticket_at, is_ticket_taken}
-use Rattle.machine.specs.Counts.{Counted}
+use Rattle.machine.specs.declared.record.EventCounts.{EventCounts}
 use Rattle.machine.specs.Tasks.{Tasks, PageTables, ShowsNothing, SetsTask, task_at, is_live_life, is_live_task, lives, mapped_at, mappers}
 use Rattle.machine.specs.State.{State, over_in, is_frame_free}
 use Rattle.machine.specs.Access.{Meeting, Unmapped, Hits, Transferring, NeedsPage, NeedsCopy, NeedsSwapIn, NeedsRead, Dangling, meets, is_shared_write}
@@ -358,7 +358,7 @@ module _ (old new : State) (alive : AllLive old.page_tables old.tasks) (shows : 
   -- ---- little changes
 
   -- no page, no place and no task changes, and nothing is said
-  quiet : {tree : List Node} {limits : List Limits} {counted : List Counted} (what : Event) (answer : Reply) → new ≡ record old { tree = tree; limits = limits; counted = counted } → Silent what answer
+  quiet : {tree : List Node} {limits : List Limits} {counted : List EventCounts} (what : Event) (answer : Reply) → new ≡ record old { tree = tree; limits = limits; counted = counted } → Silent what answer
       → ticket_given answer ≡ None → OnTasks old what answer new
   quiet what answer e silent none =
       record {
@@ -368,7 +368,7 @@ module _ (old new : State) (alive : AllLive old.page_tables old.tasks) (shows : 
       }
 
   -- one page changes, no place and no task, and nothing is said
-  one_page : {counted : List Counted} (what : Event) (answer : Reply) (q : ℕ) (to : Option Page) → new ≡ record old { pages = new.pages; counted = counted } → Changes old.pages new.pages q to
+  one_page : {counted : List EventCounts} (what : Event) (answer : Reply) (q : ℕ) (to : Option Page) → new ≡ record old { pages = new.pages; counted = counted } → Changes old.pages new.pages q to
       → MayMove what (ticket_in (page_at old.pages q)) → Stands what answer q to → Silent what answer → Fresh answer → OnTasks old what answer new
   one_page what answer q to e changes may_move stands silent fresh =
       record {
@@ -385,7 +385,7 @@ module _ (old new : State) (alive : AllLive old.page_tables old.tasks) (shows : 
     Accessed answer = OnTasks old (event.Access t place op) answer new
 
     -- an access that is not done
-    undone : {counted : List Counted} (answer expected : Reply) → answer ≡ expected → is_done expected ≡ false → ticket_given expected ≡ None → new ≡ record old { counted = counted } → Accessed answer
+    undone : {counted : List EventCounts} (answer expected : Reply) → answer ≡ expected → is_done expected ≡ false → ticket_given expected ≡ None → new ≡ record old { counted = counted } → Accessed answer
     undone answer expected is not_done none e = quiet _ answer e (λ t' v' o'. says_undone t place op answer t' v' o' (ap is_done is ∙ not_done)) (ap ticket_given is ∙ none)
 
     -- where a charge is needed
@@ -558,7 +558,7 @@ module _ (old new : State) (alive : AllLive old.page_tables old.tasks) (shows : 
   -- ---- ends of tasks
 
   -- a task is dead, and shows nothing
-  task_ends : (what : Event) (answer : Reply) (t : ℕ) (ended : Life) (counted : List Counted) → Silent what answer → ticket_given answer ≡ None → EndsTask old t ended counted new → OnTasks old what answer new
+  task_ends : (what : Event) (answer : Reply) (t : ℕ) (ended : Life) (counted : List EventCounts) → Silent what answer → ticket_given answer ≡ None → EndsTask old t ended counted new → OnTasks old what answer new
   task_ends what answer t ended counted silent none h =
       record {
         pages = pages_still what answer h.pages;
@@ -671,14 +671,14 @@ module _ (old new : State) (alive : AllLive old.page_tables old.tasks) (shows : 
   -- the event takes a page, and says nothing
   module _ (what : Event) (silent : (answer : Reply) → Silent what answer) where
     -- a page begins to be written out
-    sent : (p frame block : ℕ) (page : Page) (counted : List Counted) (answer : Reply) → page_at old.pages p ≡ Some page → page.residence ≡ Held frame → StartsLeave old p page frame block counted answer new → OnTasks old what answer new
+    sent : (p frame block : ℕ) (page : Page) (counted : List EventCounts) (answer : Reply) → page_at old.pages p ≡ Some page → page.residence ≡ Held frame → StartsLeave old p page frame block counted answer new → OnTasks old what answer new
     sent p frame block page counted answer there held h =
         one_page what answer p _ h.state h.placed (inl (ap ticket_in there ∙ ap ticket_at held))
         (ItLeaves (record { frame = frame; block = block; ticket = record { 0 = h.ticket }; answers = h.answers; going = refl })) (silent answer)
         (gives answer h.ticket (ap ticket_given h.answers) h.ticket_free)
 
     -- or is gone at once
-    dropped : (p frame : ℕ) (page : Page) (counted : List Counted) (answer : Reply) → page_at old.pages p ≡ Some page → page.residence ≡ Held frame → Drops old p counted answer new → OnTasks old what answer new
+    dropped : (p frame : ℕ) (page : Page) (counted : List EventCounts) (answer : Reply) → page_at old.pages p ≡ Some page → page.residence ≡ Held frame → Drops old p counted answer new → OnTasks old what answer new
     dropped p frame page counted answer there held h =
         one_page what answer p None h.state h.gone (inl (ap ticket_in there ∙ ap ticket_at held)) tt (silent answer) (gives_none answer (ap ticket_given h.answers))
 

@@ -11,3 +11,5 @@ pub mod SettledLemmas
 pub mod OrdersLemmas
 pub mod RemovedCounts
 pub mod StepLemmas
+pub mod CountedLemmas
+pub mod NamedLemmas

@@ -1,8 +1,7 @@
 -- What a removal leaves of counts and of lists, and that nothing is charged to a group that is not there.
-use Rattle.std.proofs.Common.{◌≡◌, ◌≢◌, inl, inr, ℕ, zero, suc, ◌<◌, ◌≤◌, ◌==◌, ◌&&◌, ◌||◌, Bool, true, false, cond, List, [], ◌∷◌, length, Option, Some, None, eqb-true, eq-eqb, refl, sym, ap, ◌∙◌, subst, arith, length-set}
+use Rattle.std.proofs.Common.{◌≡◌, ◌≢◌, inl, inr, ℕ, zero, suc, ◌<◌, ◌≤◌, ◌==◌, ◌&&◌, ◌||◌, Bool, true, false, cond, List, length, Option, Some, None, eqb-true, eq-eqb, refl, sym, ap, ◌∙◌, subst, arith, length-set}
 use Rattle.std.specs.Prelude.{IfSome, option_map}
 use Rattle.std.proofs.lemmas.Bool.{cases_lt, and_parts}
-use Rattle.std.proofs.lemmas.List.Sums.{sum_by-cons}
 use Rattle.std.proofs.Math.ListN.{get_or-eq_default}
 use Rattle.machine.specs.declared.id.GroupId.{GroupId}
 use Rattle.machine.specs.declared.event.Event.TheVariants as event
@@ -14,7 +13,7 @@ use Rattle.machine.specs.declared.reply.Reply.TheVariants as reply
 use Rattle.machine.specs.Slots.{there_and, count_there}
 use Rattle.machine.specs.Tree.{Node, no_node, node_at, is_live, under_at, under, IsTree, without_group}
 use Rattle.machine.specs.Pages.{Page, page_at, has_frame, is_charged, charged, is_in_transfer, in_transfer}
-use Rattle.machine.specs.Counts.{Counted, is_key, total}
+use Rattle.machine.specs.Counts.{total}
 use Rattle.machine.specs.State.{State, usage}
 use Rattle.machine.specs.Step.{regrouped, Removes, Step}
 use Rattle.machine.specs.Generations.{Gens, row_of, gens_at, with_gens, taken_over, emptied, handed_over}
@@ -22,11 +21,12 @@ use Rattle.machine.specs.Lists.{HeldLists, ListsHeld, AreGenerations}
 use Rattle.machine.proofs.Values.{never_some, unlike}
 use Rattle.machine.proofs.TreeLemmas.{eq_cases, under_at-None, under_at-step}
 use Rattle.machine.proofs.RemovedLemmas.{regrouped-test, without-parent, without-under, count-alike, usage-removed}
-use Rattle.machine.proofs.SlotLemmas.{one_if, count_there-none}
+use Rattle.machine.proofs.SlotLemmas.{count_there-none}
 use Rattle.machine.proofs.TestLemmas.{tests-less}
 use Rattle.legal.proofs.SoundLemmas.{IsFit, IsSound}
 use Rattle.machine.proofs.HeldLemmas.{at-set}
 use Rattle.machine.proofs.HandedLemmas.{held-handed, generations-handed}
+use Rattle.counts.proofs.CountLemmas.{total-alike}
 
 -- whatever answers a removal, the group is removed
 pub removal : (old new : State) (g : GroupId) (answer : Reply) → Step old (event.Rmdir g) answer new → Removes old g.0 new
@@ -79,17 +79,9 @@ module _ (old new : State) (g : ℕ) (removes : Removes old g new) where
 
   -- of each key as much was counted at or under each group
   pub total-removed : (a : ℕ) (key : Key) → total new.tree new.counted a key ≡ total old.tree old.counted a key
-  total-removed a key = ap (λ (s : State). total s.tree s.counted a key) removes.state ∙ alike old.counted
-    where
-      alike : (counted : List Counted) → total (without_group old.tree g) counted a key ≡ total old.tree counted a key
-      alike [] = refl
-      alike (c ∷ counted) =
-          let more = sum_by-cons (λ (c : Counted). one_if (under old.tree a c.group && is_key c.key key)) c counted in
-          let more' = sum_by-cons (λ (c : Counted). one_if (under (without_group old.tree g) a c.group && is_key c.key key)) c counted in
-          let here : one_if (under (without_group old.tree g) a c.group && is_key c.key key) ≡ one_if (under old.tree a c.group && is_key c.key key) =
-          ap (λ (b : Bool). one_if (b && is_key c.key key)) (without-under old.tree g a (Some c.group)) in
-          let rest = alike counted in
-          omega (arith, more, more', here, rest)
+  total-removed a key =
+      ap (λ (s : State). total s.tree s.counted a key) removes.state
+      ∙ total-alike (without_group old.tree g) old.tree old.counted a key (length-set old.tree g _) (λ h lt. without-under old.tree g a (Some h))
 
   module _ (falls : IsTree old.tree) where
     -- what is charged to the removed group now was so before

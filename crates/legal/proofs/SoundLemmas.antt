@@ -20,7 +20,7 @@ use Rattle.machine.specs.Names.{parent_path}
 use Rattle.machine.specs.Slots.{at, Changes, there_and, count_there, any_there}
 use Rattle.machine.specs.Tree.{Node, no_node, root, node_at, is_live, is_parent, is_child, has_children, is_at_path, find_group, IsBelow, IsTree, without_group}
 use Rattle.machine.specs.Pages.{Content, Memory, OfFile, is_page_of, file_page, home_block, IsAtHome, IsFiledAs, IsFiled, is_anon, in_transfer_at, Residence, Held, Coming, Going, Away, Page, Pages, page_at, frame_at, block_at, ticket_at, is_number, has_this_frame, is_frame_taken, is_swap_taken, is_ticket_taken}
-use Rattle.machine.specs.Counts.{Counted}
+use Rattle.machine.specs.declared.record.EventCounts.{EventCounts}
 use Rattle.machine.specs.Tasks.{is_live_in, has_tasks, Tasks, task_at, is_live_life, is_live_task, lives, group_of, group_of_task, SetsTask, PageTables, mappers}
 use Rattle.machine.specs.State.{Opening, State, first_state}
 use Rattle.machine.specs.declared.refusal.Refusal.{Refusal}
@@ -261,7 +261,7 @@ sound-task swap files pages tasks tasks' tree t task sets home sound =
     }
 
 -- a task ends, and the pages that nothing maps any more go
-sound-ended : (swap : ℕ) (files : List ℕ) (old new : State) (t : ℕ) (ended : Life) (counted : List Counted) → is_live_life ended ≡ false → EndsTask old t ended counted new
+sound-ended : (swap : ℕ) (files : List ℕ) (old new : State) (t : ℕ) (ended : Life) (counted : List EventCounts) → is_live_life ended ≡ false → EndsTask old t ended counted new
     → IsSound swap files old.pages old.tasks old.tree → IsSound swap files new.pages new.tasks old.tree
 sound-ended swap files old new t ended counted dead ends sound =
     sound-task swap files new.pages old.tasks new.tasks old.tree t _ ends.ends (λ lives_on. unlike (is_live_life ended) lives_on dead)
@@ -391,7 +391,7 @@ sound-removed swap files old new g live childless taskless removes sound =
 
 module _ (opening : Opening) (old new : State) (sound : sound_in opening old) where
   -- with new pages and counts, and the tasks and the groups as they were
-  pages_sound : {counted : List Counted} {tables : PageTables} → new ≡ record old { pages = new.pages; counted = counted; page_tables = tables } → IsSound opening.swap opening.files new.pages old.tasks old.tree → sound_in opening new
+  pages_sound : {counted : List EventCounts} {tables : PageTables} → new ≡ record old { pages = new.pages; counted = counted; page_tables = tables } → IsSound opening.swap opening.files new.pages old.tasks old.tree → sound_in opening new
   pages_sound e h = subst (sound_in opening) (sym e) (sound.0, h)
 
   swap_is : (b : ℕ) → b < old.opening.swap → b < opening.swap

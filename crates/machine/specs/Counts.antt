@@ -1,11 +1,11 @@
 -- Limits, charges against them (mm/page_counter.c: page_counter_try_charge), and event counts (admin-guide/cgroup-v2, memory.events).
-use Rattle.std.specs.Prelude.{ℕ, ◌+◌, ◌==◌, ◌&&◌, Bool, true, false, List, count_by, find, Option, Some, slice_index_or}
+use Rattle.std.specs.Prelude.{ℕ, ◌+◌, ◌==◌, ◌&&◌, Bool, true, false, List, count_by, filter, find, sum_by, Option, Some, slice_index_or, slice_set}
 use Rattle.machine.specs.declared.amount.Amount.TheVariants as amount
 use Rattle.machine.specs.declared.record.Limits.{Limits}
 use Rattle.machine.specs.declared.record.EventCounts.{EventCounts}
 use Rattle.machine.specs.declared.record.Key.{Key}
 use Rattle.machine.specs.declared.record.Key.TheVariants.{Low, High, Max, Oom, OomKill, OomGroupKill}
-use Rattle.machine.specs.Tree.{Node, chain, under}
+use Rattle.machine.specs.Tree.{Node, numbers, chain, under}
 use Rattle.machine.specs.Amounts.{exceeds}
 
 -- a new group's, and those of a number that is no group's: no limit and no protection
@@ -26,6 +26,49 @@ over_at tree limits count at = find (is_full limits count) (chain tree at)
 abbrev pub over : List Node → List Limits → (ℕ → ℕ) → ℕ → Option ℕ
 over tree limits count g = over_at tree limits count (Some g)
 
+-- a new group's, and those of a number that is no group's: nothing was counted
+abbrev pub no_counts : EventCounts
+no_counts = record { low = 0; high = 0; max = 0; oom = 0; oom_kill = 0; oom_group_kill = 0 }
+
+-- how often the key was counted, by these six numbers
+abbrev pub count_of_key : EventCounts → Key → ℕ
+count_of_key counts Low = counts.low
+count_of_key counts High = counts.high
+count_of_key counts Max = counts.max
+count_of_key counts Oom = counts.oom
+count_of_key counts OomKill = counts.oom_kill
+count_of_key counts OomGroupKill = counts.oom_group_kill
+
+-- the key is counted once more
+abbrev pub once_more : EventCounts → Key → EventCounts
+once_more counts Low = record counts { low = counts.low + 1 }
+once_more counts High = record counts { high = counts.high + 1 }
+once_more counts Max = record counts { max = counts.max + 1 }
+once_more counts Oom = record counts { oom = counts.oom + 1 }
+once_more counts OomKill = record counts { oom_kill = counts.oom_kill + 1 }
+once_more counts OomGroupKill = record counts { oom_group_kill = counts.oom_group_kill + 1 }
+
+abbrev pub counts_at : List EventCounts → ℕ → EventCounts
+counts_at counted g = slice_index_or counted g no_counts
+
+-- an event: the key is counted once more at the group, and nowhere else
+abbrev pub with_event : List EventCounts → ℕ → Key → List EventCounts
+with_event counted g key = slice_set counted g (once_more (counts_at counted g) key)
+
+-- how often the key was counted at the group itself (memory.events.local)
+abbrev pub local : List EventCounts → ℕ → Key → ℕ
+local counted g key = count_of_key (counts_at counted g) key
+
+-- and how often at the group or anywhere below it, removed groups too (memory.events)
+abbrev pub total : List Node → List EventCounts → ℕ → Key → ℕ
+total tree counted a key = sum_by (λ g. local counted g key) (filter (under tree a) (numbers tree))
+
+-- the counts of all six keys
+abbrev pub counts_by : (Key → ℕ) → EventCounts
+counts_by count = record { low = count Low; high = count High; max = count Max; oom = count Oom; oom_kill = count OomKill; oom_group_kill = count OomGroupKill }
+
+-- ---- events one by one
+
 -- a key was counted at a group
 pub record Counted : Type 0 where
   pub group : ℕ
@@ -40,14 +83,6 @@ is_key OomKill OomKill = true
 is_key OomGroupKill OomGroupKill = true
 is_key key other = false
 
--- how often it was counted at the group itself (memory.events.local)
-abbrev pub local : List Counted → ℕ → Key → ℕ
-local counted g key = count_by (λ c. (c.group == g) && is_key c.key key) counted
-
--- and how often at the group or anywhere below it, removed groups too (memory.events)
-abbrev pub total : List Node → List Counted → ℕ → Key → ℕ
-total tree counted a key = count_by (λ c. under tree a c.group && is_key c.key key) counted
-
--- the counts of all six keys
-abbrev pub counts_by : (Key → ℕ) → EventCounts
-counts_by count = record { low = count Low; high = count High; max = count Max; oom = count Oom; oom_kill = count OomKill; oom_group_kill = count OomGroupKill }
+-- how many of the events were of the key at the group
+abbrev pub how_often : List Counted → ℕ → Key → ℕ
+how_often events g key = count_by (λ c. (c.group == g) && is_key c.key key) events

@@ -21,5 +21,6 @@ pub mod Eviction
 pub mod Lists
 pub mod Call
 pub mod Legal
+pub mod Events
 pub mod Control
 pub mod Printed

@@ -1,4 +1,4 @@
--- The state of the plain machine: what the opening fixed, and its tables. Nothing in it is counted, linked or kept twice.
+-- The state of the plain machine: what the opening fixed, and its tables. Nothing in it is linked or kept twice, and nothing is counted in it but events.
 use Rattle.std.specs.Prelude.{ℕ, ◌+◌, ◌-◌, ◌&&◌, nat_lt, nat_le, not, Bool, true, false, List, [], ◌∷◌, length, map, sum, Option}
 use Rattle.std.specs.List.{list_all, list_any}
 use Rattle.std.specs.Str.{bytes_eq}
@@ -12,7 +12,8 @@ use Rattle.machine.specs.Pages.{Pages, charged, charged_anon, charged_file, used
 use Rattle.machine.specs.Tasks.{Tasks, PageTables}
 use Rattle.machine.specs.declared.record.Limits.{Limits}
 use Rattle.machine.specs.declared.record.MemoryStat.{MemoryStat}
-use Rattle.machine.specs.Counts.{no_limits, Counted, over}
+use Rattle.machine.specs.declared.record.EventCounts.{EventCounts}
+use Rattle.machine.specs.Counts.{no_limits, no_counts, over}
 use Rattle.machine.specs.Protection.{effective, min_of}
 
 -- what the opening fixes: frames, swap blocks, the sizes of the files in pages, the daemon's marks, the trace's limit, and whether protection is recursive
@@ -67,7 +68,7 @@ is_sized config =
 abbrev pub is_config : Config → Bool
 is_config config = is_sized config && (are_files config.files && nat_le (blocks_of config) 131072)
 
--- the groups, their settings, the pages, the tasks and their page tables, and the events that were counted
+-- the groups, their settings, the pages, the tasks and their page tables, and how often each event was counted at each group itself
 pub record State : Type 0 where
   pub opening : Opening
   pub tree : List Node
@@ -75,11 +76,11 @@ pub record State : Type 0 where
   pub pages : Pages
   pub tasks : Tasks
   pub page_tables : PageTables
-  pub counted : List Counted
+  pub counted : List EventCounts
 
 -- the root alone
 abbrev pub first_state : Opening → State
-first_state opening = record { opening = opening; tree = root ∷ []; limits = no_limits ∷ []; pages = []; tasks = []; page_tables = []; counted = [] }
+first_state opening = record { opening = opening; tree = root ∷ []; limits = no_limits ∷ []; pages = []; tasks = []; page_tables = []; counted = no_counts ∷ [] }
 
 -- how many pages with a frame are at or under a group
 abbrev pub usage : State → ℕ → ℕ

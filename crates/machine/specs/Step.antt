@@ -2,7 +2,6 @@
 -- Free are only: which takeable page is taken, and which free frame, swap block, page number and ticket number is used; and the byte that a read gives,
 -- which the history says (IsRight). With those given, nothing else that a look-up in a table can see is free.
 use Rattle.std.specs.Prelude.{◌≡◌, ℕ, ◌<◌, ◌==◌, ◌&&◌, ◌||◌, not, Bool, true, false, MatchBool, if◌then◌else◌, List, [], ◌∷◌, ◌++◌, slice_set, Option, Some, None, option_map}
-use Rattle.machine.specs.declared.record.Key.{Key}
 use Rattle.machine.specs.declared.record.Key.TheVariants as key
 use Rattle.machine.specs.declared.record.Life.{Life}
 use Rattle.machine.specs.declared.record.Life.TheVariants.{Live, Exited, Killed}
@@ -25,7 +24,8 @@ use Rattle.machine.specs.Names.{parent_path}
 use Rattle.machine.specs.Tree.{Node, node_at, find_group, without_group}
 use Rattle.machine.specs.Pages.{Content, Memory, OfFile, Residence, Held, Coming, Going, Away, Page, is_anon, in_transfer_at, page_at, home_block, is_frame_taken, is_swap_taken, is_ticket_taken}
 use Rattle.machine.specs.declared.record.Limits.{Limits}
-use Rattle.machine.specs.Counts.{no_limits, limits_at, Counted, local, total, counts_by}
+use Rattle.machine.specs.declared.record.EventCounts.{EventCounts}
+use Rattle.machine.specs.Counts.{no_limits, limits_at, no_counts, with_event, local, total, counts_by}
 use Rattle.machine.specs.Tasks.{PageTables, task_at, SetsTask, group_of_task, mappers, Shows, Copies, ShowsNothing}
 use Rattle.machine.specs.State.{State, page_numbers, usage, over_in, is_frame_free, effective_min, stat_of}
 use Rattle.machine.specs.Access.{Meeting, Unmapped, Hits, Transferring, NeedsPage, NeedsCopy, NeedsSwapIn, NeedsRead, Dangling, meets}
@@ -36,15 +36,12 @@ use Rattle.machine.specs.Victim.{IsVictim}
 abbrev pub Only : State → Reply → Reply → State → Type 0
 Only old expected answer new = (answer ≡ expected) × (new ≡ old)
 
-abbrev pub count_of : ℕ → Key → Counted
-count_of g what = record { group = g; key = what }
-
 -- ---- charges
 
 -- a charge to a group: refused at the lowest group without room, where `max` is counted; else wanting a frame, which counts nothing; else granted.
 -- (Excludes a NoFrame that hides an Over, and an Over that counts elsewhere.)
 abbrev pub ChargeStep : State → Option ℕ → Bool → Type 0 → Reply → State → Type 0
-ChargeStep old (Some a) free Granted answer new = (answer ≡ reply.Over (record { 0 = a })) × (new ≡ record old { counted = old.counted ++ count_of a key.Max ∷ [] })
+ChargeStep old (Some a) free Granted answer new = (answer ≡ reply.Over (record { 0 = a })) × (new ≡ record old { counted = with_event old.counted a key.Max })
 ChargeStep old None free Granted answer new = MatchBool free Granted (Only old reply.NoFrame answer new)
 
 abbrev pub TriesCharge : State → ℕ → Type 0 → Reply → State → Type 0
@@ -140,7 +137,7 @@ TaskStep old (Some task) Live_step answer new = LifeStep old task.life (Live_ste
 -- ---- reclaim
 
 -- write-out begins: the page goes from its frame to the block, charged still. `counted` is what stands counted then
-pub record StartsLeave (old : State) (p : ℕ) (page : Page) (frame block : ℕ) (counted : List Counted) (answer : Reply) (new : State) : Type 0 where
+pub record StartsLeave (old : State) (p : ℕ) (page : Page) (frame block : ℕ) (counted : List EventCounts) (answer : Reply) (new : State) : Type 0 where
   pub ticket : ℕ
   pub ticket_free : is_ticket_taken old.pages ticket ≡ false
   pub placed : Changes old.pages new.pages p (Some (record page { residence = Going frame block ticket }))
@@ -148,23 +145,23 @@ pub record StartsLeave (old : State) (p : ℕ) (page : Page) (frame block : ℕ)
   pub state : new ≡ record old { pages = new.pages; counted = counted }
 
 -- the same to a swap block that was free
-pub record StartsSwap (old : State) (p : ℕ) (page : Page) (frame : ℕ) (counted : List Counted) (answer : Reply) (new : State) : Type 0 where
+pub record StartsSwap (old : State) (p : ℕ) (page : Page) (frame : ℕ) (counted : List EventCounts) (answer : Reply) (new : State) : Type 0 where
   pub block : ℕ
   pub block_free : IsFreeBlock old block
   pub leave : StartsLeave old p page frame block counted answer new
 
 -- a clean file page is gone at once
-pub record Drops (old : State) (p : ℕ) (counted : List Counted) (answer : Reply) (new : State) : Type 0 where
+pub record Drops (old : State) (p : ℕ) (counted : List EventCounts) (answer : Reply) (new : State) : Type 0 where
   pub answers : answer ≡ reply.Dropped
   pub gone : Changes old.pages new.pages p None
   pub state : new ≡ record old { pages = new.pages; counted = counted }
 
-abbrev pub LeavesBy : State → ℕ → Page → Content → ℕ → List Counted → Reply → State → Type 0
+abbrev pub LeavesBy : State → ℕ → Page → Content → ℕ → List EventCounts → Reply → State → Type 0
 LeavesBy old p page Memory frame counted answer new = StartsSwap old p page frame counted answer new
 LeavesBy old p page (OfFile file q) frame counted answer new =
     MatchBool page.dirty (StartsLeave old p page frame (home_block old.opening.swap old.opening.files file q) counted answer new) (Drops old p counted answer new)
 
-abbrev pub LeavesFrom : State → ℕ → Page → Residence → List Counted → Reply → State → Type 0
+abbrev pub LeavesFrom : State → ℕ → Page → Residence → List EventCounts → Reply → State → Type 0
 LeavesFrom old p page (Held frame) counted answer new = LeavesBy old p page page.content frame counted answer new
 LeavesFrom old p page residence counted answer new = ⊥
 
@@ -193,7 +190,7 @@ still tables p None = None
 still tables p (Some page) = if is_anon page.content && ((mappers tables p == 0) && not (in_transfer_at page.residence)) then None else Some page
 
 -- the task ends: its page table shows nothing any more, and the pages that nothing maps go. `counted` is what stands counted then
-pub record EndsTask (old : State) (t : ℕ) (life : Life) (counted : List Counted) (new : State) : Type 0 where
+pub record EndsTask (old : State) (t : ℕ) (life : Life) (counted : List EventCounts) (new : State) : Type 0 where
   pub shown : ShowsNothing old.page_tables new.page_tables t
   pub pages : (p : ℕ) → page_at new.pages p ≡ still new.page_tables p (page_at old.pages p)
   pub ends : SetsTask old.tasks t (group_of_task old.tasks t) life new.tasks
@@ -225,9 +222,9 @@ Attaches old t g new = SetsTask old.tasks t g Live new.tasks × (new ≡ record 
 abbrev pub KillStep : State → ℕ → Reply → State → Type 0
 KillStep old limit (reply.KilledTask t) new =
     IsVictim old.tree old.tasks old.page_tables limit (Some t.0)
-    × EndsTask old t.0 Killed (old.counted ++ (count_of limit key.Oom ∷ count_of (group_of_task old.tasks t.0) key.OomKill ∷ [])) new
+    × EndsTask old t.0 Killed (with_event (with_event old.counted limit key.Oom) (group_of_task old.tasks t.0) key.OomKill) new
 KillStep old limit reply.NoVictim new =
-    IsVictim old.tree old.tasks old.page_tables limit None × (new ≡ record old { counted = old.counted ++ count_of limit key.Oom ∷ [] })
+    IsVictim old.tree old.tasks old.page_tables limit None × (new ≡ record old { counted = with_event old.counted limit key.Oom })
 KillStep old limit answer new = ⊥
 
 abbrev pub RelieveStep : State → Cause → Reply → State → Type 0
@@ -313,7 +310,7 @@ Step old (event.Fork t child) answer new = TaskStep old (task_at old.tasks t.0) 
 Step old (event.Exit t) answer new = TaskStep old (task_at old.tasks t.0) (λ task. Exits old t.0 answer new) answer new
 Step old (event.Free t v) answer new = TaskStep old (task_at old.tasks t.0) (λ task. Frees old t.0 v answer new) answer new
 Step old (event.Attach t g) reply.Ok new = Attaches old t.0 g.0 new
-Step old (event.Mkdir path) reply.Ok new = new ≡ record old { tree = old.tree ++ new_node old.tree path ∷ []; limits = old.limits ++ no_limits ∷ [] }
+Step old (event.Mkdir path) reply.Ok new = new ≡ record old { tree = old.tree ++ new_node old.tree path ∷ []; limits = old.limits ++ no_limits ∷ []; counted = old.counted ++ no_counts ∷ [] }
 Step old (event.Rmdir g) reply.Ok new = Removes old g.0 new
 Step old (event.Set g what) reply.Ok new = new ≡ record old { limits = slice_set old.limits g.0 (with_setting (limits_at old.limits g.0) what) }
 Step old (event.Show what) (reply.Shown numbers) new = (numbers ≡ shown_of old what) × (new ≡ old)

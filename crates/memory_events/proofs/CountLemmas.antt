@@ -1,58 +1,18 @@
--- Counts over events, and the numbers of one group.
-use Rattle.std.proofs.Common.{inl, inr, ◌≡◌, ℕ, ◌+◌, ◌<◌, ◌≤◌, ◌==◌, ◌&&◌, Bool, true, false, cond, List, [], ◌∷◌, ◌++◌, length, get_or, refl, sym, ap, ◌∙◌, arith, get_or-set_other, get_or-set_same}
-use Rattle.std.specs.Prelude.{slice_set, count_by, All}
+-- The numbers that are kept are the sums that they stand for, whatever is done.
+use Rattle.std.proofs.Common.{inl, inr, ◌≡◌, ℕ, zero, suc, ◌+◌, ◌<◌, ◌≤◌, ◌&&◌, true, false, cond, List, [], ◌∷◌, ◌++◌, length, get_or, Some, None, refl, sym, ap, ◌∙◌, arith, length-append, length-set, get_or-set_other, get_or-set_same}
+use Rattle.std.specs.Prelude.{slice_set}
 use Rattle.std.proofs.lemmas.Bool.Decides.{eqb_tells}
 use Rattle.std.proofs.lemmas.List.{get_or_read}
-use Rattle.std.proofs.lemmas.List.Elements.{All-head, All-tail}
-use Rattle.std.proofs.lemmas.List.Sums.{sum_by-cons}
 use Rattle.machine.specs.declared.record.EventCounts.{EventCounts}
 use Rattle.machine.specs.declared.record.Key.{Key}
 use Rattle.machine.specs.declared.record.Key.TheVariants.{Low, High, Max, Oom, OomKill, OomGroupKill}
-use Rattle.machine.specs.Tree.{Node, is_live, under}
-use Rattle.machine.specs.Counts.{Counted, is_key, total, local, counts_by}
-use Rattle.group_tree.specs.Lineages.{IsLineage}
+use Rattle.machine.specs.Tree.{Node, no_node, node_at, is_live, under, IsTree}
+use Rattle.machine.specs.Counts.{no_counts, count_of_key, once_more, with_event, local, total, counts_by, is_key}
+use Rattle.machine.proofs.TreeLemmas.{lt_cases, same_under}
+use Rattle.counts.proofs.CountLemmas.{count_of_key-none, local-push, local-beyond, total-alike, total-event, total-push, total-beyond, total-le, local-le}
+use Rattle.group_tree.specs.Lineages.{bare, IsLineage}
 use Rattle.group_tree.proofs.LineageLemmas.{live-within}
-use Rattle.memory_events.specs.Tallies.{no_counts, count_of_key, count_at}
-
--- counts over events of groups that there are
-module _ (p q : Counted → Bool) (n : ℕ) where
-  pub count_by-same : (xs : List Counted) → All (λ c. c.group < n) xs → ((c : Counted) → c.group < n → p c ≡ q c) → count_by p xs ≡ count_by q xs
-  count_by-same [] known same = refl
-  count_by-same (c ∷ xs) known same =
-      let head = same c (All-head (λ c. c.group < n) c xs known) in
-      let rest = count_by-same xs (All-tail (λ c. c.group < n) c xs known) same in
-      sum_by-cons (λ c. cond (p c) 1 0) c xs ∙ ap (λ b. cond b 1 0 + count_by p xs) head ∙ ap (λ m. cond (q c) 1 0 + m) rest ∙ sym (sum_by-cons (λ c. cond (q c) 1 0) c xs)
-
-  cond_le : (b d : Bool) → (b ≡ true → d ≡ true) → cond b 1 0 ≤ cond d 1 0
-  cond_le true true h = omega arith
-  cond_le true false h = absurd (let wrong = h refl in cc)
-  cond_le false true h = omega arith
-  cond_le false false h = omega arith
-
-  pub count_by-le : (xs : List Counted) → All (λ c. c.group < n) xs → ((c : Counted) → c.group < n → p c ≡ true → q c ≡ true) → count_by p xs ≤ count_by q xs
-  count_by-le [] known implies = omega arith
-  count_by-le (c ∷ xs) known implies =
-      let head = cond_le (p c) (q c) (implies c (All-head (λ c. c.group < n) c xs known)) in
-      let rest = count_by-le xs (All-tail (λ c. c.group < n) c xs known) implies in
-      let by_p = sum_by-cons (λ c. cond (p c) 1 0) c xs in
-      let by_q = sum_by-cons (λ c. cond (q c) 1 0) c xs in
-      omega (arith, head, rest, by_p, by_q)
-
-pub count_by-none : (p : Counted → Bool) (n : ℕ) (xs : List Counted) → All (λ c. c.group < n) xs → ((c : Counted) → c.group < n → p c ≡ false) → count_by p xs ≡ 0
-count_by-none p n [] known none = refl
-count_by-none p n (c ∷ xs) known none =
-    let head : cond (p c) 1 0 ≡ 0 = ap (λ (b : Bool). let m : ℕ = cond b 1 0 in m) (none c (All-head (λ c. c.group < n) c xs known)) in
-    let rest = count_by-none p n xs (All-tail (λ c. c.group < n) c xs known) none in
-    let is = sum_by-cons (λ c. cond (p c) 1 0) c xs in
-    omega (arith, head, rest, is)
-
-pub count_of_key-none : (k : Key) → count_of_key no_counts k ≡ 0
-count_of_key-none Low = refl
-count_of_key-none High = refl
-count_of_key-none Max = refl
-count_of_key-none Oom = refl
-count_of_key-none OomKill = refl
-count_of_key-none OomGroupKill = refl
+use Rattle.memory_events.specs.Tables.{AreSums}
 
 -- the six counts are those by their keys
 pub counts_by-same : (f g : Key → ℕ) → ((k : Key) → f k ≡ g k) → counts_by f ≡ counts_by g
@@ -70,41 +30,93 @@ none_by_key x none OomGroupKill = none.1.1.1.1.1
 pub pushed_none : (old new : List EventCounts) (x : EventCounts) → (x.low ≡ 0) × ((x.high ≡ 0) × ((x.max ≡ 0) × ((x.oom ≡ 0) × ((x.oom_kill ≡ 0) × (x.oom_group_kill ≡ 0))))) → new ≡ old ++ x ∷ [] → new ≡ old ++ no_counts ∷ []
 pushed_none old new x none is = is ∙ ap (λ y. old ++ y ∷ []) (counts_by-same (count_of_key x) (count_of_key no_counts) (none_by_key x none))
 
-and_right : (b d : Bool) → (b && d) ≡ true → d ≡ true
-and_right true d h = h
-and_right false d h = cc
-
--- no group has more of a key than the root
-module _ (tree : List Node) (is : IsLineage tree) (counted : List Counted) (known : All (λ c. c.group < length tree) counted) (k : Key) where
-  at_root : (c : Counted) → c.group < length tree → is_key c.key k ≡ true → (under tree 0 c.group && is_key c.key k) ≡ true
-  at_root c lt hit = ap (λ b. b && is_key c.key k) (is.rooted c.group lt) ∙ hit
-
-  pub total-le-root : (a : ℕ) → total tree counted a k ≤ total tree counted 0 k
-  total-le-root a =
-      count_by-le (λ c. under tree a c.group && is_key c.key k) (λ c. under tree 0 c.group && is_key c.key k) (length tree) counted known (λ c lt hit. at_root c lt (and_right (under tree a c.group) (is_key c.key k) hit))
-
-  pub local-le-root : (a : ℕ) → local counted a k ≤ total tree counted 0 k
-  local-le-root a =
-      count_by-le (λ c. (c.group == a) && is_key c.key k) (λ c. under tree 0 c.group && is_key c.key k) (length tree) counted known (λ c lt hit. at_root c lt (and_right (c.group == a) (is_key c.key k) hit))
-
 -- a live group has its counts
 pub within-counts : (tree : List Node) (counts : List EventCounts) (group : ℕ) → is_live tree group ≡ true → length counts ≡ length tree → group < length counts
 within-counts tree counts group live all = let lt = live-within tree group live in omega (arith, lt, all)
 
 -- a number that is read
-pub count_at-read : (counts : List EventCounts) (a : ℕ) (x : EventCounts) (k : Key) → a < length counts → x ≡ get_or counts a x → count_of_key x k ≡ count_at counts a k
-count_at-read counts a x k lt is = ap (λ c. count_of_key c k) (get_or_read counts a x lt is no_counts)
+pub local-read : (counts : List EventCounts) (a : ℕ) (x : EventCounts) (k : Key) → a < length counts → x ≡ get_or counts a x → count_of_key x k ≡ local counts a k
+local-read counts a x k lt is = ap (λ c. count_of_key c k) (get_or_read counts a x lt is no_counts)
 
--- one number of a group is counted once more
-pub count_at-set : (counts : List EventCounts) (group : ℕ) (after : EventCounts) (key : Key) → group < length counts → ((k : Key) → count_of_key after k ≡ count_at counts group k + cond (is_key key k) 1 0) → (a : ℕ) (k : Key)
-    → count_at (slice_set counts group after) a k ≡ count_at counts a k + cond ((a == group) && is_key key k) 1 0
-count_at-set counts group after key lt more a k =
-    elim (eqb_tells a group) [
-      | inl same ↦
-          (let at_group : count_at (slice_set counts group after) a k ≡ count_of_key after k = ap (λ i. count_at (slice_set counts group after) i k) same.1 ∙ ap (λ c. count_of_key c k) (get_or-set_same counts group after no_counts lt) in
-          at_group ∙ more k ∙ ap (λ i. count_at counts i k + cond (is_key key k) 1 0) (sym same.1) ∙ ap (λ b. count_at counts a k + cond (b && is_key key k) 1 0) (sym same.0))
-      | inr differs ↦
-          (let kept : count_at (slice_set counts group after) a k ≡ count_at counts a k = ap (λ c. count_of_key c k) (get_or-set_other counts group a after no_counts differs.1) in
-          let none : cond ((a == group) && is_key key k) 1 0 ≡ 0 = ap (λ (b : Bool). let n : ℕ = cond (b && is_key key k) 1 0 in n) differs.0 in
-          omega (arith, kept, none))
-    ]
+-- the root alone
+pub sums-root : (tree : List Node) (totals locals : List EventCounts) → tree ≡ bare None ∷ [] → totals ≡ no_counts ∷ [] → locals ≡ no_counts ∷ [] → AreSums tree totals locals
+sums-root tree totals locals is_tree is_totals is_locals = record {
+  all_totals = ap length is_totals ∙ sym (ap length is_tree);
+  all_locals = ap length is_locals ∙ sym (ap length is_tree);
+  sums = λ a k lt. ap (λ cs. local cs a k) is_totals ∙ none a k ∙ sym (ap (λ (ns : List Node). total ns locals a k) is_tree ∙ ap (λ cs. total (bare None ∷ []) cs a k) is_locals ∙ total-push-none a k);
+}
+  where
+    none : (a : ℕ) (k : Key) → local (no_counts ∷ []) a k ≡ 0
+    none zero k = count_of_key-none k
+    none (suc a) k = count_of_key-none k
+
+    total-push-none : (a : ℕ) (k : Key) → total (bare None ∷ []) (no_counts ∷ []) a k ≡ 0
+    total-push-none a k = total-push [] (bare None) [] (record { falls = λ g p e. cc }) refl a k
+
+-- a group more, with nothing counted
+module _ (tree : List Node) (totals locals : List EventCounts) (p : ℕ) (is : IsTree tree) (are : AreSums tree totals locals) where
+  one_more : (counts new : List EventCounts) (after : List Node) → length counts ≡ length tree → after ≡ tree ++ bare (Some p) ∷ [] → new ≡ counts ++ no_counts ∷ [] → length new ≡ length after
+  one_more counts new after all is_tree is_new =
+      let by_tree = ap length is_tree ∙ length-append tree (bare (Some p) ∷ []) in
+      let by_new = ap length is_new ∙ length-append counts (no_counts ∷ []) in
+      omega (arith, all, by_tree, by_new)
+
+  as_before : (a : ℕ) (k : Key) → local totals a k ≡ total tree locals a k
+  as_before a k =
+      elim (lt_cases a (length tree)) [
+        | inl lt ↦ are.sums a k lt
+        | inr (inl at) ↦ (let all = are.all_totals in local-beyond totals a k (omega (arith, at, all)) ∙ sym (total-beyond tree locals is a k (omega (arith, at))))
+        | inr (inr beyond) ↦ (let all = are.all_totals in local-beyond totals a k (omega (arith, beyond, all)) ∙ sym (total-beyond tree locals is a k (omega (arith, beyond))))
+      ]
+
+  pub sums-push : (after : List Node) (new_totals new_locals : List EventCounts) → after ≡ tree ++ bare (Some p) ∷ [] → new_totals ≡ totals ++ no_counts ∷ [] → new_locals ≡ locals ++ no_counts ∷ [] → AreSums after new_totals new_locals
+  sums-push after new_totals new_locals is_tree is_totals is_locals = record {
+    all_totals = one_more totals new_totals after are.all_totals is_tree is_totals;
+    all_locals = one_more locals new_locals after are.all_locals is_tree is_locals;
+    sums =
+        λ a k lt.
+        ap (λ cs. local cs a k) is_totals ∙ local-push totals a k ∙ as_before a k ∙ sym (total-push tree (bare (Some p)) locals is are.all_locals a k)
+        ∙ sym (ap (λ (ns : List Node). total ns new_locals a k) is_tree ∙ ap (λ cs. total (tree ++ bare (Some p) ∷ []) cs a k) is_locals);
+  }
+
+-- a group less: what it hung below stays known
+pub sums-remove : (tree : List Node) (group : ℕ) → is_live tree group ≡ true → (after : List Node) (totals locals : List EventCounts) → after ≡ slice_set tree group (record (node_at tree group) { live = false }) → AreSums tree totals locals → AreSums after totals locals
+sums-remove tree group live after totals locals is are =
+    let len : length after ≡ length tree = ap length is ∙ length-set tree group _ in
+    record {
+      all_totals = are.all_totals ∙ sym len;
+      all_locals = are.all_locals ∙ sym len;
+      sums = λ a k lt. are.sums a k (omega (arith, lt, len)) ∙ sym (total-alike after tree locals a k len (λ g within. same_under after tree same_parent a (Some g)));
+    }
+  where
+    same_parent : (g : ℕ) → (node_at after g).parent ≡ (node_at tree g).parent
+    same_parent g =
+        ap (λ (ns : List Node). (node_at ns g).parent) is
+        ∙ elim (eqb_tells g group) [
+          | inl same ↦ rw same.1 (ap (λ x. x.parent) (get_or-set_same tree group _ no_node (live-within tree group live)))
+          | inr differs ↦ ap (λ x. x.parent) (get_or-set_other tree group g _ no_node differs.1)
+        ]
+
+-- an event is counted: at its group, and in the numbers of all above it
+module _ (tree : List Node) (totals locals : List EventCounts) (group : ℕ) (key : Key) (was after : EventCounts) (live : is_live tree group ≡ true) (are : AreSums tree totals locals) (read : was ≡ get_or locals group was) (more : after ≡ once_more was key) where
+  pub with_event-is : slice_set locals group after ≡ with_event locals group key
+  with_event-is = ap (slice_set locals group) (more ∙ ap (λ x. once_more x key) (get_or_read locals group was (within-counts tree locals group live are.all_locals) read no_counts))
+
+  pub sums-count : (new_totals : List EventCounts) → length new_totals ≡ length totals → ((a : ℕ) (k : Key) → a < length tree → local new_totals a k ≡ local totals a k + cond (under tree a group && is_key key k) 1 0)
+      → AreSums tree new_totals (slice_set locals group after)
+  sums-count new_totals same_length by_totals = record {
+    all_totals = same_length ∙ are.all_totals;
+    all_locals = length-set locals group after ∙ are.all_locals;
+    sums =
+        λ a k lt.
+        by_totals a k lt ∙ ap (λ n. n + cond (under tree a group && is_key key k) 1 0) (are.sums a k lt) ∙ sym (total-event tree locals group key (live-within tree group live) are.all_locals a k)
+        ∙ ap (λ cs. total tree cs a k) (sym with_event-is);
+  }
+
+-- no number of a key passes the root's
+module _ (tree : List Node) (totals locals : List EventCounts) (is : IsLineage tree) (are : AreSums tree totals locals) (key : Key) where
+  pub totals-le-root : (a : ℕ) → a < length tree → local totals a key ≤ total tree locals 0 key
+  totals-le-root a lt = let here = are.sums a key lt in let le = total-le tree locals 0 is.rooted key a in omega (arith, here, le)
+
+  pub locals-le-root : (a : ℕ) → a < length tree → local locals a key ≤ total tree locals 0 key
+  locals-le-root a lt = local-le tree locals 0 is.rooted key a lt

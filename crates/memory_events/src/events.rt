@@ -2,12 +2,11 @@
 
 ghost use Rattle.std.specs.Prelude.{◌≡◌, ℕ, ◌+◌, ◌<◌, ◌≤◌, ◌==◌, ◌&&◌, ◌++◌, ◌∷◌, [], List, true, false, Some, None, length, slice_set, slice_index_or, if◌then◌else◌, IfOk, OnOk, OnErr, IsOk};
 ghost use Rattle.machine.specs.declared.record.Key.{Key};
-ghost use Rattle.machine.specs.Counts.{Counted, is_key, counts_by, total as total_counted, local as local_counted};
+ghost use Rattle.machine.specs.Counts.{no_counts, is_key, counts_by, with_event, total as total_counted, local as local_counted};
 ghost use Rattle.machine.specs.Tree.{node_at, is_live, has_children, under};
 ghost use Rattle.group_tree.specs.Lineages.{bare, IsLineage};
-ghost use Rattle.memory_events.specs.Tallies.{Tells, no_counts, count_at, total_of, local_of};
 
-use crate::counts::count_once;
+use crate::keys::count_once;
 use group_tree::Lineage;
 use machine::id::GroupId;
 use machine::record::{EventCounts, Key};
@@ -28,27 +27,24 @@ pub struct Events {
 
 impl Model for Events {
     ghost use Rattle.std.specs.Prelude.{◌-◌, min, vec_len, vec_capacity};
-    ghost use Rattle.memory_events.specs.Tallies.{Tallies, AreTold};
+    ghost use Rattle.memory_events.specs.Tables.{EventTable, AreSums};
 
-    ghost Value = { Tallies };
+    ghost Value = { EventTable };
 
     ghost view = { λ e. record {
       tree = e.lineage.tree;
-      totals = e.totals.items;
-      locals = e.locals.items;
+      counted = e.locals.items;
       room = min e.lineage.room (min (vec_capacity e.totals - vec_len e.totals) (vec_capacity e.locals - vec_len e.locals));
     } };
 
-    ghost invariant = { λ e. AreTold e.lineage.tree e.totals.items e.locals.items };
+    ghost invariant = { λ e. AreSums e.lineage.tree e.totals.items e.locals.items };
 }
 
 impl Events {
     /// The root alone, with nothing counted. `AllocError` where there is no memory for it.
     pub fn new(alloc: Global) -> Result<Self, AllocError>
         ensures tree { IfOk result (λ e. e.tree ≡ bare None ∷ []) }
-        ensures totals { IfOk result (λ e. e.totals ≡ no_counts ∷ []) }
-        ensures locals { IfOk result (λ e. e.locals ≡ no_counts ∷ []) }
-        ensures told { IfOk result (λ e. Tells e []) }
+        ensures counted { IfOk result (λ e. e.counted ≡ no_counts ∷ []) }
     {
         let lineage = Lineage::new(alloc)?;
         let mut totals = Vec::with_capacity(alloc, 1)?;
@@ -67,11 +63,9 @@ impl Events {
     pub fn reserve(&mut self) -> Result<(), AllocError>
         ensures room { OnOk result (0 < self.new.room) }
         ensures tree { self.new.tree ≡ self.old.tree }
-        ensures totals { self.new.totals ≡ self.old.totals }
-        ensures locals { self.new.locals ≡ self.old.locals }
+        ensures counted { self.new.counted ≡ self.old.counted }
         ensures succeeds { 0 < self.old.room → IsOk result }
         ensures kept { self.old.room ≤ self.new.room }
-        ensures told { (counted : List Counted) → Tells self.old counted → Tells self.new counted }
     {
         self.lineage.reserve()?;
         self.totals.reserve(1)?;
@@ -85,10 +79,8 @@ impl Events {
         requires next { group.0 ≡ length self.old.tree }
         requires parent { is_live self.old.tree parent.0 ≡ true }
         ensures tree { self.new.tree ≡ self.old.tree ++ bare (Some parent.0) ∷ [] }
-        ensures totals { self.new.totals ≡ self.old.totals ++ no_counts ∷ [] }
-        ensures locals { self.new.locals ≡ self.old.locals ++ no_counts ∷ [] }
+        ensures counted { self.new.counted ≡ self.old.counted ++ no_counts ∷ [] }
         ensures room { self.new.room + 1 ≡ self.old.room }
-        ensures told { (counted : List Counted) → Tells self.old counted → Tells self.new counted }
     {
         self.lineage.is_lineage();
         prove!(group.0 as usize == self.lineage.len());
@@ -103,14 +95,11 @@ impl Events {
         requires next { group.0 ≡ length self.old.tree }
         requires parent { is_live self.old.tree parent.0 ≡ true }
         ensures tree { OnOk result (self.new.tree ≡ self.old.tree ++ bare (Some parent.0) ∷ []) }
-        ensures totals { OnOk result (self.new.totals ≡ self.old.totals ++ no_counts ∷ []) }
-        ensures locals { OnOk result (self.new.locals ≡ self.old.locals ++ no_counts ∷ []) }
+        ensures counted { OnOk result (self.new.counted ≡ self.old.counted ++ no_counts ∷ []) }
         ensures succeeds { 0 < self.old.room → IsOk result }
-        ensures told { (counted : List Counted) → Tells self.old counted → Tells self.new counted }
 
         ensures err { OnErr result (self.new.tree ≡ self.old.tree) }
-        ensures err_totals { OnErr result (self.new.totals ≡ self.old.totals) }
-        ensures err_locals { OnErr result (self.new.locals ≡ self.old.locals) }
+        ensures err_counted { OnErr result (self.new.counted ≡ self.old.counted) }
     {
         self.reserve()?;
         self.add_reserved(group, parent);
@@ -123,10 +112,8 @@ impl Events {
         requires live { is_live self.old.tree group.0 ≡ true }
         requires childless { has_children self.old.tree group.0 ≡ false }
         ensures tree { self.new.tree ≡ slice_set self.old.tree group.0 (record (node_at self.old.tree group.0) { live = false }) }
-        ensures totals { self.new.totals ≡ self.old.totals }
-        ensures locals { self.new.locals ≡ self.old.locals }
+        ensures counted { self.new.counted ≡ self.old.counted }
         ensures room { self.new.room ≡ self.old.room }
-        ensures told { (counted : List Counted) → Tells self.old counted → Tells self.new counted }
     {
         self.lineage.remove(group);
     }
@@ -135,14 +122,10 @@ impl Events {
     /// `memcg_memory_event`).
     pub fn count(&mut self, group: GroupId, key: Key)
         requires live { is_live self.old.tree group.0 ≡ true }
-        requires room { total_of self.old 0 key < u64.MAX }
+        requires room { total_counted self.old.tree self.old.counted 0 key < u64.MAX }
         ensures tree { self.new.tree ≡ self.old.tree }
+        ensures counted { self.new.counted ≡ with_event self.old.counted group.0 key }
         ensures room { self.new.room ≡ self.old.room }
-        ensures locals { (a : ℕ) (k : Key) → a < length self.old.tree
-            → local_of self.new a k ≡ local_of self.old a k + (if (a == group.0) && is_key key k then 1 else 0) }
-        ensures totals { (a : ℕ) (k : Key) → a < length self.old.tree
-            → total_of self.new a k ≡ total_of self.old a k + (if under self.old.tree a group.0 && is_key key k then 1 else 0) }
-        ensures told { (counted : List Counted) → Tells self.old counted → Tells self.new (counted ++ record { group = group.0; key = key } ∷ []) }
     {
         self.lineage.is_lineage();
         count_once(&mut self.locals[group.0 as usize], key);
@@ -152,8 +135,7 @@ impl Events {
     /// The counts of all keys at the group or anywhere below it (kernel: the file `memory.events`).
     pub fn totals(&self, group: GroupId) -> EventCounts
         requires { is_live self.now.tree group.0 ≡ true }
-        ensures stored { result ≡ slice_index_or self.now.totals group.0 no_counts }
-        ensures told { (counted : List Counted) → Tells self.now counted → result ≡ counts_by (total_counted self.now.tree counted group.0) }
+        ensures { result ≡ counts_by (total_counted self.now.tree self.now.counted group.0) }
     {
         self.totals[group.0 as usize]
     }
@@ -161,18 +143,15 @@ impl Events {
     /// The counts of all keys at the group itself (kernel: the file `memory.events.local`).
     pub fn locals(&self, group: GroupId) -> EventCounts
         requires { is_live self.now.tree group.0 ≡ true }
-        ensures stored { result ≡ slice_index_or self.now.locals group.0 no_counts }
-        ensures told { (counted : List Counted) → Tells self.now counted → result ≡ counts_by (local_counted counted group.0) }
+        ensures { result ≡ counts_by (local_counted self.now.counted group.0) }
     {
         self.locals[group.0 as usize]
     }
 
-    /// Nothing is done: what holds of all counts. They are those of some events, in some order.
-    pub fn are_told(&self)
+    /// Nothing is done: what holds of all counts. Each group has its own.
+    pub fn are_counted(&self)
         ensures lineage { IsLineage self.now.tree }
-        ensures totals { length self.now.totals ≡ length self.now.tree }
-        ensures locals { length self.now.locals ≡ length self.now.tree }
-        ensures told { (counted : List Counted) × Tells self.now counted }
+        ensures counted { length self.now.counted ≡ length self.now.tree }
     {
         self.lineage.is_lineage();
     }
@@ -183,9 +162,9 @@ fn count_up(lineage: &Lineage, totals: &mut [EventCounts], group: GroupId, key: 
     requires lineage { IsLineage lineage.now.tree }
     requires same_length { length totals.old ≡ length lineage.now.tree }
     requires live { group.0 < length lineage.now.tree }
-    requires room { (a : ℕ) → a < length lineage.now.tree → count_at totals.old a key < u64.MAX }
+    requires room { (a : ℕ) → a < length lineage.now.tree → local_counted totals.old a key < u64.MAX }
     ensures { (a : ℕ) (k : Key) → a < length lineage.now.tree
-        → count_at totals.new a k ≡ count_at totals.old a k + (if under lineage.now.tree a group.0 && is_key key k then 1 else 0) }
+        → local_counted totals.new a k ≡ local_counted totals.old a k + (if under lineage.now.tree a group.0 && is_key key k then 1 else 0) }
 {
     let mut at = Some(group);
     while let Some(here) = at {

@@ -3,5 +3,5 @@
 
 pub use events::Events;
 
-mod counts;
 mod events;
+mod keys;

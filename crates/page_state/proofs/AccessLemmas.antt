@@ -19,7 +19,7 @@ use Rattle.page_state.proofs.JoinLemmas.{joined-pages}
 module _ (s : Inside) (is : IsJoined s) (now : HoldingsOf) where
   -- ---- read in
 
-  module _ (p : ℕ) (label : Label) (block worker entry : ℕ) (ticket : TicketOf) (begins : BeginsIn s.holdings now p label block worker entry ticket) where
+  module _ (p : ℕ) (label : Label) (block : ℕ) (ticket : TicketOf) (begins : BeginsIn s.holdings now p label block ticket) where
     -- a page that was there, and holds what it held
     pub joined-begun : (page : Page) → page_at s.holdings.stored.pages p ≡ Some page → label.content ≡ page.content → IsJoined (record s { holdings = now })
     joined-begun page stood same =
@@ -29,7 +29,7 @@ module _ (s : Inside) (is : IsJoined s) (now : HoldingsOf) where
     pub joined-new : page_at s.holdings.stored.pages p ≡ None → IsJoined (record s { holdings = now })
     joined-new free = joined-pages s is now s.cursors s.spaces begins.others (mapped-new s.holdings.stored.pages s.spaces.page_tables is.mapped now.stored.pages p _ free begins.placed refl) refl refl is.homes refl
 
-    pub begins-read_in : BeginsReadIn (joined_of s) (joined_of (record s { holdings = now })) p label block worker entry ticket
+    pub begins-read_in : BeginsReadIn (joined_of s) (joined_of (record s { holdings = now })) p label block ticket
     begins-read_in =
         let old : StateOf = joined_of s in
         record {
@@ -43,26 +43,25 @@ module _ (s : Inside) (is : IsJoined s) (now : HoldingsOf) where
           listed = begins.listed;
           held = begins.order;
           cursors = refl;
-          tallies = refl;
         }
 
   -- the home block is that of the opening
   home-same : (file q : ℕ) → home_block s.holdings.swap s.holdings.files file q ≡ home_block (joined_of s).tables.opening.swap (joined_of s).tables.opening.files file q
   home-same file q = ap (λ (n : ℕ). home_block n s.holdings.files file q) is.swap ∙ ap (λ sizes. home_block s.config.swap sizes file q) is.files
 
-  pub begins-read : (file q g worker entry : ℕ) (ticket : TicketOf) → BeginsInFile s.holdings now file q g worker entry ticket → BeginsRead (joined_of s) (joined_of (record s { holdings = now })) file q g worker entry ticket
-  begins-read file q g worker entry ticket reads =
+  pub begins-read : (file q g : ℕ) (ticket : TicketOf) → BeginsInFile s.holdings now file q g ticket → BeginsRead (joined_of s) (joined_of (record s { holdings = now })) file q g ticket
+  begins-read file q g ticket reads =
       record {
         page = reads.page;
         in_range = subst (λ n. reads.page < n) is.page_numbers reads.in_range;
         number_free = reads.number_free;
-        begins = subst (λ block. BeginsReadIn (joined_of s) (joined_of (record s { holdings = now })) reads.page (of_file file q g false) block worker entry ticket) (home-same file q)
-            (begins-read_in reads.page (of_file file q g false) (home_block s.holdings.swap s.holdings.files file q) worker entry ticket reads.begins);
+        begins = subst (λ block. BeginsReadIn (joined_of s) (joined_of (record s { holdings = now })) reads.page (of_file file q g false) block ticket) (home-same file q)
+            (begins-read_in reads.page (of_file file q g false) (home_block s.holdings.swap s.holdings.files file q) ticket reads.begins);
       }
 
-  pub joined-read : (file q g worker entry : ℕ) (ticket : TicketOf) → BeginsInFile s.holdings now file q g worker entry ticket → IsJoined (record s { holdings = now })
-  joined-read file q g worker entry ticket reads =
-      joined-new reads.page (of_file file q g false) (home_block s.holdings.swap s.holdings.files file q) worker entry ticket reads.begins reads.number_free
+  pub joined-read : (file q g : ℕ) (ticket : TicketOf) → BeginsInFile s.holdings now file q g ticket → IsJoined (record s { holdings = now })
+  joined-read file q g ticket reads =
+      joined-new reads.page (of_file file q g false) (home_block s.holdings.swap s.holdings.files file q) ticket reads.begins reads.number_free
 
   -- ---- written
 
@@ -85,5 +84,4 @@ module _ (s : Inside) (is : IsJoined s) (now : HoldingsOf) where
           bytes = bytes;
           flights = flights;
           order = ap (λ (h : HoldingsOf). let order : Order = record { held = h.held; cursors = s.cursors.cursors } in order) others;
-          tallies = refl;
         }

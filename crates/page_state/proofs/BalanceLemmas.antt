@@ -4,7 +4,7 @@ use Rattle.std.proofs.lemmas.Bool.{cases_lt}
 use Rattle.machine.specs.Slots.{at, Changes, there_and, any_there, count_there}
 use Rattle.machine.specs.Pages.{Page, Pages, page_at}
 use Rattle.machine.proofs.SlotLemmas.{one_if, any_there-none, count_there-some, count_there-changes}
-use Rattle.frames.specs.Pool.{free_count}
+use Rattle.counts.specs.Numbers.{times}
 use Rattle.page_state.specs.Owned.{IsBalanced}
 
 -- a count after a place changed, whatever stood there
@@ -18,7 +18,7 @@ changed-count test pages pages' p from to stood changes =
 module _ (this : ℕ → Page → Bool) (has : Page → Bool) where
   -- what a place gave up is free, and what it got is not
   pub record Trades (free free' : List ℕ) (from to : Option Page) : Type 0 where
-    pub counts : (n : ℕ) → free_count free' n + one_if (there_and (this n) to) ≡ free_count free n + one_if (there_and (this n) from)
+    pub counts : (n : ℕ) → times free' n + one_if (there_and (this n) to) ≡ times free n + one_if (there_and (this n) from)
     pub len : length free' + one_if (there_and has to) ≡ length free + one_if (there_and has from)
 
   pub balanced-step : (total : ℕ) (free free' : List ℕ) (pages pages' : Pages) (p : ℕ) (from to : Option Page) → page_at pages p ≡ from → Changes pages pages' p to → Trades free free' from to
@@ -31,7 +31,7 @@ module _ (this : ℕ → Page → Bool) (has : Page → Bool) where
       }
 
   -- what was free is no page's
-  pub taken-in : (total : ℕ) (free free' : List ℕ) (pages : Pages) (f : ℕ) → ((n : ℕ) → free_count free n ≡ free_count free' n + one_if (f == n)) → IsBalanced this has total free pages
+  pub taken-in : (total : ℕ) (free free' : List ℕ) (pages : Pages) (f : ℕ) → ((n : ℕ) → times free n ≡ times free' n + one_if (f == n)) → IsBalanced this has total free pages
       → (f < total) × (any_there (this f) pages ≡ false)
   taken-in total free free' pages f counts balanced =
       elim (cases_lt f total) [
@@ -42,11 +42,11 @@ module _ (this : ℕ → Page → Bool) (has : Page → Bool) where
       own : one_if (f == f) ≡ 1
       own = ap one_if (eq-eqb f f refl)
 
-      taken : free_count free f ≡ free_count free' f + 1
+      taken : times free f ≡ times free' f + 1
       taken = let k = counts f in omega (arith, k, own)
 
   -- what is a page's is not free
-  pub given-out : (total : ℕ) (free : List ℕ) (pages : Pages) (p f : ℕ) → there_and (this f) (page_at pages p) ≡ true → IsBalanced this has total free pages → (free_count free f ≡ 0) × (f < total)
+  pub given-out : (total : ℕ) (free : List ℕ) (pages : Pages) (p f : ℕ) → there_and (this f) (page_at pages p) ≡ true → IsBalanced this has total free pages → (times free f ≡ 0) × (f < total)
   given-out total free pages p f stood balanced =
       let some : 1 ≤ count_there (this f) pages = count_there-some (this f) pages p stood in
       elim (cases_lt f total) [
@@ -54,7 +54,7 @@ module _ (this : ℕ → Page → Bool) (has : Page → Bool) where
         | inr le ↦ absurd (let beyond = balanced.none_beyond f le in omega (arith, beyond, some))
       ]
 
-  pub balanced-open : (total : ℕ) (free : List ℕ) (pages : Pages) → pages ≡ [] → ((n : ℕ) → n < total → free_count free n ≡ 1) → ((n : ℕ) → total ≤ n → free_count free n ≡ 0) → length free ≡ total → IsBalanced this has total free pages
+  pub balanced-open : (total : ℕ) (free : List ℕ) (pages : Pages) → pages ≡ [] → ((n : ℕ) → n < total → times free n ≡ 1) → ((n : ℕ) → total ≤ n → times free n ≡ 0) → length free ≡ total → IsBalanced this has total free pages
   balanced-open total free pages empty once beyond all =
       rw empty
       (record {

@@ -93,7 +93,6 @@ drops-then old mid new sound first second less =
       held = goes-on-then Youngest Youngest old.tables.pages mid.tables.pages new.tables.pages old.order.held mid.order.held new.order.held first.held second.held sound
           (λ p held. second.pages p ∙ still-stays new.tables.page_tables p (page_at mid.tables.pages p) (sym (ap (there_and is_held) (second.pages p)) ∙ held));
       cursors = second.cursors ∙ first.cursors;
-      tallies = second.tallies ∙ first.tallies;
     }
 
 pub unmaps-none : (s : StateOf) (t : ℕ) → AreMapped s.tables.pages s.tables.page_tables → ListsHeld s.tables.pages s.order.held → UnmapsBelow s s t 0
@@ -108,7 +107,6 @@ unmaps-none s t mapped listed =
         flights = refl;
         held = goes-still Youngest s.tables.pages s.tables.pages s.order.held listed refl;
         cursors = refl;
-        tallies = refl;
       };
       tables = refl;
     }

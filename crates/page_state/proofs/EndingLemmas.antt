@@ -83,7 +83,6 @@ module _ (s : Inside) (is : IsJoined s) (sound : AreGenerations s.holdings.held)
           others = λ q k other. drops.others q k other ∙ settles.bytes q k other;
           held = goes;
           cursors = refl;
-          tallies = refl;
         }
 
 -- whichever page is in transfer under the ticket, its transfer ends

@@ -7,7 +7,7 @@ use Rattle.machine.specs.Tree.{Node, node_at, is_live, is_parent, is_child, has_
 use Rattle.machine.specs.Pages.{Page, page_at}
 use Rattle.machine.specs.declared.record.Task.{Task}
 use Rattle.machine.specs.Tasks.{Tasks, task_at, lives, is_live_task, is_live_in, has_tasks, group_of, group_of_task}
-use Rattle.machine.specs.Counts.{Counted}
+use Rattle.machine.specs.declared.record.EventCounts.{EventCounts}
 use Rattle.machine.specs.Refusals.{first_cause, rmdir_refusal}
 use Rattle.machine.specs.State.{State}
 use Rattle.machine.specs.Step.{regrouped}
@@ -23,14 +23,13 @@ use Rattle.group_tree.specs.Lineages.{IsLineage}
 use Rattle.group_tree.proofs.LineageLemmas.{live-within}
 use Rattle.group_tree.proofs.RemovedTables.{kin-removed}
 use Rattle.reclaim.specs.Cursors.{CursorsOf}
-use Rattle.memory_events.specs.Tallies.{Tallies, Tells}
+use Rattle.memory_events.specs.Tables.{EventTable}
 use Rattle.page_state.specs.declared.joined.State.TheInside.{Inside}
 use Rattle.page_state.specs.Holdings.{HoldingsOf, HandsUp}
 use Rattle.page_state.specs.States.{StateOf}
 use Rattle.page_state.specs.Changes.{RemovesGroup}
 use Rattle.page_state.specs.Joined.{joined_of, IsJoined}
 use Rattle.page_state.specs.Mapped.{is_settled}
-use Rattle.page_state.proofs.TallyLemmas.{tells-on}
 use Rattle.page_state.proofs.MappedLemmas.{is_cached, mapped-fits, file_unmapped}
 
 -- ---- whether it may go
@@ -96,7 +95,7 @@ none_was g parent None e = refl
 none_was g parent (Some page) e = let wrong : Some (regrouped g parent page) ≡ None = e in cc
 
 module _ (s : Inside) (is : IsJoined s) (g parent : ℕ) (may : MayGo (joined_of s).tables g) (h : HoldingsOf) (hands : HandsUp s.holdings h g parent) (cursors : CursorsOf) (served : cursors.cursors ≡ slice_set s.cursors.cursors g None)
-    (events : Tallies) (counted : events.tree ≡ without_group s.events.tree g) (tree : List Node) (fewer : tree ≡ without_group s.tree g) where
+    (events : EventTable) (counted : events.tree ≡ without_group s.events.tree g) (tree : List Node) (fewer : tree ≡ without_group s.tree g) where
   pub joined-gone : IsJoined (record s { tree = tree; holdings = h; cursors = cursors; events = events })
   joined-gone =
       record {
@@ -121,18 +120,18 @@ module _ (s : Inside) (is : IsJoined s) (g parent : ℕ) (may : MayGo (joined_of
         populated = is.populated ∙ sym (ap length fewer ∙ length-set s.tree g _);
       }
 
-  pub removes-group : (node_at s.tree g).parent ≡ Some parent → ((c : List Counted) → Tells s.events c → Tells events c) → RemovesGroup (joined_of s) (joined_of (record s { tree = tree; holdings = h; cursors = cursors; events = events })) g
-  removes-group below told =
+  pub removes-group : (node_at s.tree g).parent ≡ Some parent → events.counted ≡ s.events.counted → RemovesGroup (joined_of s) (joined_of (record s { tree = tree; holdings = h; cursors = cursors; events = events })) g
+  removes-group below same =
       let old : StateOf = joined_of s in
       record {
         parent = parent;
         below = below;
         pages = hands.pages;
-        tables = ap (λ (t : List Node). record (old.tables) { tree = t; limits = h.limits; pages = h.stored.pages }) fewer
-            ∙ ap (λ (x : HoldingsOf). record (old.tables) { tree = without_group s.tree g; limits = x.limits; pages = h.stored.pages }) hands.others;
+        tables = ap (λ (t : List Node). record (old.tables) { tree = t; limits = h.limits; pages = h.stored.pages; counted = events.counted }) fewer
+            ∙ ap (λ (x : HoldingsOf). record (old.tables) { tree = without_group s.tree g; limits = x.limits; pages = h.stored.pages; counted = events.counted }) hands.others
+            ∙ ap (λ (cs : List EventCounts). record (old.tables) { tree = without_group s.tree g; limits = s.holdings.limits; pages = h.stored.pages; counted = cs }) same;
         order = ap (λ (held : HeldLists). let o : Order = record { held = held; cursors = cursors.cursors } in o) hands.held
             ∙ ap (λ (cs : List (Option ℕ)). let o : Order = record { held = record { groups = handed_over g parent s.holdings.held.groups; marks = s.holdings.held.marks }; cursors = cs } in o) served;
         bytes = hands.bytes;
         flights = hands.flights;
-        tallied = tells-on s.events events (λ cs. cs) told;
       }

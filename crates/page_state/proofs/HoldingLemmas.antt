@@ -20,8 +20,9 @@ use Rattle.machine.specs.Tree.{is_live}
 use Rattle.group_tree.proofs.LineageLemmas.{live-within}
 use Rattle.aging.proofs.GroupLemmas.{unlisted-all}
 use Rattle.page_state.specs.Held.{HeldOf, entered, left}
-use Rattle.frames.specs.Pool.{PoolOf, free_count}
-use Rattle.block_store.specs.Slots.{SlotsOf, slot_count}
+use Rattle.counts.specs.Numbers.{times}
+use Rattle.frames.specs.Pool.{PoolOf}
+use Rattle.block_store.specs.Slots.{SlotsOf}
 use Rattle.page_counter.specs.Counts.{Counts, SameGroups}
 use Rattle.pages.proofs.TableLemmas.{any-some}
 use Rattle.pages.specs.declared.flight.Flight.{Flight}
@@ -30,7 +31,6 @@ use Rattle.pages.specs.Records.{page_of}
 use Rattle.pages.specs.PagesOf.{pages_there, Label, label_of, labelled, HasResidence, is_under_ticket, AreInFlight}
 use Rattle.files.specs.Files.{FilesOf}
 use Rattle.page_state.specs.declared.holdings.Holdings.TheInside.{Inside}
-use Rattle.page_state.specs.Queue.{page_count}
 use Rattle.page_state.specs.Holdings.{with_lists}
 use Rattle.page_state.specs.Owned.{holdings_of, has_this_block, is_leaving_at, is_going, AreKept, AreListed, IsCounted, IsHolding, pages_of}
 use Rattle.page_state.proofs.BalanceLemmas.{Trades, changed-count, balanced-step, given-out}
@@ -40,7 +40,7 @@ use Rattle.page_state.proofs.CountLemmas.{Recharges, counted-step}
 
 -- the list lacks what a place gave up, and has what it got
 pub record Relists (test : Page → Bool) (xs xs' : List ℕ) (p : ℕ) (from to : Option Page) : Type 0 where
-  pub once : (n : ℕ) → page_count xs' n + one_if (there_and test from && (p == n)) ≡ page_count xs n + one_if (there_and test to && (p == n))
+  pub once : (n : ℕ) → times xs' n + one_if (there_and test from && (p == n)) ≡ times xs n + one_if (there_and test to && (p == n))
   pub len : length xs' + one_if (there_and test from) ≡ length xs + one_if (there_and test to)
 
 and_true : (b : Bool) → one_if (b && true) ≡ one_if b
@@ -96,11 +96,11 @@ lists-open held pages groups n marks none =
     unmarked (suc n) (suc p) = unmarked n p
 
 pub relists-same : (test : Page → Bool) (xs : List ℕ) (p : ℕ) (from to : Option Page) → there_and test from ≡ there_and test to → Relists test xs xs p from to
-relists-same test xs p from to same = record { once = λ n. ap (λ b. page_count xs n + one_if (b && (p == n))) same; len = ap (λ b. length xs + one_if b) same }
+relists-same test xs p from to same = record { once = λ n. ap (λ b. times xs n + one_if (b && (p == n))) same; len = ap (λ b. length xs + one_if b) same }
 
 -- a page comes to the list's end
 pub relists-in : (test : Page → Bool) (xs xs' : List ℕ) (q p : ℕ) (from to : Option Page) → q ≡ p → there_and test from ≡ false → there_and test to ≡ true
-    → ((n : ℕ) → page_count xs' n ≡ page_count xs n + cond (q == n) 1 0) → length xs' ≡ length xs + 1 → Relists test xs xs' p from to
+    → ((n : ℕ) → times xs' n ≡ times xs n + cond (q == n) 1 0) → length xs' ≡ length xs + 1 → Relists test xs xs' p from to
 relists-in test xs xs' q p from to same fails passes counts more =
     record {
       once = λ n.
@@ -114,9 +114,9 @@ relists-in test xs xs' q p from to same fails passes counts more =
 
 -- a page that stood in the list is taken out
 pub relists-out : (test : Page → Bool) (xs xs' : List ℕ) (pages : Pages) (q p : ℕ) (from to : Option Page) → q ≡ p → page_at pages p ≡ from → there_and test to ≡ false → AreListed test xs pages
-    → ((n : ℕ) → page_count xs' n + cond (q == n) (page_count xs q) 0 ≡ page_count xs n) → length xs' + page_count xs q ≡ length xs → Relists test xs xs' p from to
+    → ((n : ℕ) → times xs' n + cond (q == n) (times xs q) 0 ≡ times xs n) → length xs' + times xs q ≡ length xs → Relists test xs xs' p from to
 relists-out test xs xs' pages q p from to same stood fails listed counts fewer =
-    let one : page_count xs q ≡ one_if (there_and test from) = ap (page_count xs) same ∙ listed.once p ∙ ap (λ (slot : Option Page). one_if (there_and test slot)) stood in
+    let one : times xs q ≡ one_if (there_and test from) = ap (times xs) same ∙ listed.once p ∙ ap (λ (slot : Option Page). one_if (there_and test slot)) stood in
     record {
       once = λ n.
           (let k = counts n in
@@ -197,12 +197,12 @@ kept-step c d pool pool' slots slots' pages pages' p from to stood changes frame
     }
 
 -- the frame of a page is not free, nor is the block of memory
-pub frame-out : (c : Counts) (pool : PoolOf) (slots : SlotsOf) (pages : Pages) (p : ℕ) (label : Label) (r : Residence) (f : ℕ) → HasResidence pages p label r → frame_at r ≡ Some f → AreKept c pool slots pages → (free_count pool.free f ≡ 0) × (f < pool.frames)
+pub frame-out : (c : Counts) (pool : PoolOf) (slots : SlotsOf) (pages : Pages) (p : ℕ) (label : Label) (r : Residence) (f : ℕ) → HasResidence pages p label r → frame_at r ≡ Some f → AreKept c pool slots pages → (times pool.free f ≡ 0) × (f < pool.frames)
 frame-out c pool slots pages p label r f stood is kept =
     given-out has_this_frame has_frame pool.frames pool.free pages p f (ap (there_and (has_this_frame f)) stood ∙ ap (λ (o : Option ℕ). is_number o f) is ∙ eq-eqb f f refl) kept.frames
 
 pub block-out : (c : Counts) (pool : PoolOf) (slots : SlotsOf) (pages : Pages) (p : ℕ) (label : Label) (r : Residence) (b : ℕ) → HasResidence pages p label r → is_anon label.content ≡ true → block_at r ≡ Some b → AreKept c pool slots pages
-    → (slot_count slots.free b ≡ 0) × (b < slots.blocks)
+    → (times slots.free b ≡ 0) × (b < slots.blocks)
 block-out c pool slots pages p label r b stood anon is kept =
     given-out has_this_block has_swap slots.blocks slots.free pages p b
     (ap (there_and (has_this_block b)) stood ∙ ap (λ (a : Bool). a && is_number (block_at r) b) anon ∙ ap (λ (o : Option ℕ). is_number o b) is ∙ eq-eqb b b refl) kept.blocks
@@ -447,7 +447,7 @@ holding-counted h d held groups room counted lists sized many numbers is =
 
 -- ---- whether a page of the list passes another test too
 
-pub any-listed : (test more : Page → Bool) (xs : List ℕ) (pages : Pages) → AreListed test xs pages → ((p : ℕ) → 1 ≤ page_count xs p → there_and more (page_at pages p) ≡ false) → any_there (λ page. test page && more page) pages ≡ false
+pub any-listed : (test more : Page → Bool) (xs : List ℕ) (pages : Pages) → AreListed test xs pages → ((p : ℕ) → 1 ≤ times xs p → there_and more (page_at pages p) ≡ false) → any_there (λ page. test page && more page) pages ≡ false
 any-listed test more xs pages listed none = any_there-none (λ page. test page && more page) pages (count_there-none (λ page. test page && more page) pages fails)
   where
     both : (slot : Option Page) → (one_if (there_and test slot) ≡ 1 → there_and more slot ≡ false) → there_and (λ page. test page && more page) slot ≡ false
@@ -461,7 +461,7 @@ any-listed test more xs pages listed none = any_there-none (λ page. test page &
     fails : (p : ℕ) → there_and (λ page. test page && more page) (at pages p) ≡ false
     fails p = both (at pages p) (λ one. none p (let k = listed.once p in omega (arith, k, one)))
 
-pub listed-any : (test more : Page → Bool) (xs : List ℕ) (pages : Pages) (p : ℕ) → AreListed test xs pages → 1 ≤ page_count xs p → there_and more (page_at pages p) ≡ true → any_there (λ page. test page && more page) pages ≡ true
+pub listed-any : (test more : Page → Bool) (xs : List ℕ) (pages : Pages) (p : ℕ) → AreListed test xs pages → 1 ≤ times xs p → there_and more (page_at pages p) ≡ true → any_there (λ page. test page && more page) pages ≡ true
 listed-any test more xs pages p listed some passes =
     any-some (λ page. test page && more page) pages p (both (page_at pages p) (let k = listed.once p in omega (arith, k, some)) passes)
   where

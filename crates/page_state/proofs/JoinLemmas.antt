@@ -13,7 +13,7 @@ use Rattle.machine.proofs.CursorLemmas.{cursors-push}
 use Rattle.group_tree.specs.Kin.{AreKin}
 use Rattle.group_tree.specs.Lineages.{bare, IsLineage}
 use Rattle.group_tree.proofs.LineageLemmas.{live-within}
-use Rattle.memory_events.specs.Tallies.{Tallies}
+use Rattle.memory_events.specs.Tables.{EventTable}
 use Rattle.reclaim.specs.Cursors.{CursorsOf}
 use Rattle.spaces.specs.Space.{Space}
 use Rattle.page_state.specs.declared.joined.State.TheInside.{Inside}
@@ -67,7 +67,7 @@ joined-tasks s is spaces mapped numbers groups homes =
 
 -- a group more, below one that is there
 pub joined-group : (s : Inside) → IsJoined s → (path : List ℕ) (parent : ℕ) → find_group s.tree (parent_path path) ≡ Some parent
-    → (tree : List Node) (h : HoldingsOf) (cursors : CursorsOf) (events : Tallies) (room : ℕ) → tree ≡ s.tree ++ new_node s.tree path ∷ []
+    → (tree : List Node) (h : HoldingsOf) (cursors : CursorsOf) (events : EventTable) (room : ℕ) → tree ≡ s.tree ++ new_node s.tree path ∷ []
     → h.kin ≡ s.holdings.kin ++ bare (Some parent) ∷ [] → events.tree ≡ s.events.tree ++ bare (Some parent) ∷ []
     → h.stored ≡ s.holdings.stored → h.frames ≡ s.holdings.frames → h.swap ≡ s.holdings.swap → h.numbers ≡ s.holdings.numbers → h.files ≡ s.holdings.files
     → cursors.cursors ≡ s.cursors.cursors ++ None ∷ [] → IsJoined (record s { tree = tree; holdings = h; cursors = cursors; events = events; spaces = record (s.spaces) { groups = s.spaces.groups + 1; room = room } })

@@ -1,6 +1,6 @@
 -- Groups without their paths are the same tree.
 use Rattle.std.proofs.Common.{◌≡◌, inl, inr, ℕ, zero, suc, ◌+◌, ◌<◌, ◌&&◌, Bool, true, false, cond, List, [], ◌∷◌, ◌++◌, length, Option, Some, None, refl, sym, ap, ◌∙◌, arith, length-append}
-use Rattle.std.specs.Prelude.{find, count_by}
+use Rattle.std.specs.Prelude.{find}
 use Rattle.std.proofs.lemmas.List.{get_or_append_left}
 use Rattle.std.proofs.Math.Seq.{get_or-append_seam}
 use Rattle.std.proofs.Math.ListN.{get_or-eq_default}
@@ -9,8 +9,10 @@ use Rattle.machine.specs.declared.record.Key.{Key}
 use Rattle.machine.specs.Slots.{count_there}
 use Rattle.machine.specs.Tree.{Node, no_node, root, node_at, is_live, under_at}
 use Rattle.machine.specs.Pages.{Page, Pages, has_frame, charged}
-use Rattle.machine.specs.Counts.{Counted, is_full, over_at, over, is_key, total}
+use Rattle.machine.specs.declared.record.EventCounts.{EventCounts}
+use Rattle.machine.specs.Counts.{is_full, over_at, over, total}
 use Rattle.machine.proofs.Values.{some_inj}
+use Rattle.counts.proofs.CountLemmas.{total-alike}
 use Rattle.machine.proofs.TreeLemmas.{same_chain, same_under, lt_cases, over_at-None, over_at-step}
 use Rattle.group_tree.specs.Lineages.{bare, IsLineage}
 use Rattle.group_tree.proofs.LineageLemmas.{live-within}
@@ -29,8 +31,8 @@ module _ (kin tree : List Node) (are : AreKin kin tree) where
   pub kin-charged : (pages : Pages) (a : ℕ) → charged kin pages a ≡ charged tree pages a
   kin-charged pages a = ap (λ (test : Page → Bool). count_there test pages) (same_tests (λ (page : Page). ap (λ b. has_frame page && b) (kin-under a (Some page.group))))
 
-  pub kin-total : (counted : List Counted) (a : ℕ) (k : Key) → total kin counted a k ≡ total tree counted a k
-  kin-total counted a k = ap (λ (test : Counted → Bool). count_by test counted) (same_tests (λ (c : Counted). ap (λ b. b && is_key c.key k) (kin-under a (Some c.group))))
+  pub kin-total : (counted : List EventCounts) (a : ℕ) (k : Key) → total kin counted a k ≡ total tree counted a k
+  kin-total counted a k = total-alike kin tree counted a k are.len (λ g lt. kin-under a (Some g))
 
   over-chain : (limits : List Limits) (count : ℕ → ℕ) (at : Option ℕ) → over_at kin limits count at ≡ over_at tree limits count at
   unfolding over_at

@@ -47,13 +47,13 @@ module _ (s : Inside) (is : IsJoined s) (lists : ListsHeld s.holdings.stored.pag
 
   takeable : is_takeable (joined_of s).tables target (labelled picks.label (Held picks.frame)) ≡ true
   takeable =
-      taken-page s.config s.tree s.holdings s.spaces.tasks s.spaces.page_tables is.swap target lists sound s.cursors.cursors g p looked.held picks.label picks.frame turn picks.group picks.stands picks.picked
+      taken-page s.config s.tree s.holdings s.spaces.tasks s.spaces.page_tables s.events.counted is.swap target lists sound s.cursors.cursors g p looked.held picks.label picks.frame turn picks.group picks.stands picks.picked
 
   -- for memory a swap block is free
   pub leaves-swap : (x : Page) → page_at looked.stored.pages p ≡ Some x → is_anon x.content ≡ true → used_swap looked.stored.pages < looked.swap
   leaves-swap x there anon =
       subst (λ (h : HoldingsOf). used_swap h.stored.pages < h.swap) (sym picks.others)
-      (taken-swap s.config s.tree s.holdings s.spaces.tasks s.spaces.page_tables is.swap target (labelled picks.label (Held picks.frame)) takeable
+      (taken-swap s.config s.tree s.holdings s.spaces.tasks s.spaces.page_tables s.events.counted is.swap target (labelled picks.label (Held picks.frame)) takeable
       (ap (λ (y : Page). is_anon y.content) (some_inj (sym leaves-from ∙ there)) ∙ anon))
 
   -- it is taken of its list, and the target's cursor names the group
@@ -70,16 +70,16 @@ module _ (s : Inside) (is : IsJoined s) (lists : ListsHeld s.holdings.stored.pag
 
     next : there_and is_held to ≡ false → TakesNext (joined_of s).tables (joined_of s).order target (joined_of (record s { holdings = now; cursors = cursors })).tables (joined_of (record s { holdings = now; cursors = cursors })).order
     next leaves =
-        takes-next s.config s.tree s.holdings s.spaces.tasks s.spaces.page_tables is.swap target s.cursors.cursors cursors.cursors g p looked.held turn picks.picked _ now.held (ap (there_and is_held) picks.stands)
+        takes-next s.config s.tree s.holdings s.spaces.tasks s.spaces.page_tables s.events.counted is.swap target s.cursors.cursors cursors.cursors g p looked.held turn picks.picked _ now.held (ap (there_and is_held) picks.stands)
         (ap (there_and is_held) changes.changed ∙ leaves) (subst (λ (st : Stored). GoesOn Youngest st.pages looked.held now.stored.pages now.held) stored order) moves
 
     ages : (h : ℕ) → (gens_at now.held.groups h).max_seq ≤ (gens_at s.holdings.held.groups h).max_seq + 3
     ages h =
         subst (λ (n : ℕ). n ≤ (gens_at s.holdings.held.groups h).max_seq + 3) (sym (goes-max Youngest looked.stored.pages now.stored.pages looked.held now.held order h)) (picks.ages h)
 
-  module _ (now : HoldingsOf) (cursors : CursorsOf) (moves : cursors.cursors ≡ slice_set s.cursors.cursors target (Some g)) (worker entry : ℕ) where
+  module _ (now : HoldingsOf) (cursors : CursorsOf) (moves : cursors.cursors ≡ slice_set s.cursors.cursors target (Some g)) where
     -- it begins to be written out
-    module _ (ticket : TicketOf) (out : BeginsOut looked now p picks.label picks.frame worker entry ticket) where
+    module _ (ticket : TicketOf) (out : BeginsOut looked now p picks.label picks.frame ticket) where
       abbrev going : Option Page
       going = Some (labelled picks.label (Going picks.frame ticket.block ticket.number))
 
@@ -99,7 +99,7 @@ module _ (s : Inside) (is : IsJoined s) (lists : ListsHeld s.holdings.stored.pag
           (changes now cursors moves out.others going out.placed out.order) refl refl)
           refl refl is.homes (cursors-set s.cursors.cursors cursors.cursors target g moves)
 
-      begins-out : BeginsWriteOut (joined_of s) (joined_of (record s { holdings = now; cursors = cursors })) target worker entry ticket
+      begins-out : BeginsWriteOut (joined_of s) (joined_of (record s { holdings = now; cursors = cursors })) target ticket
       begins-out =
           record {
             p = p;
@@ -114,10 +114,9 @@ module _ (s : Inside) (is : IsJoined s) (lists : ListsHeld s.holdings.stored.pag
             placed = changes now cursors moves out.others going out.placed out.order;
             tables = tables now cursors moves out.others going out.placed out.order;
             bytes = λ q o. out.bytes q o ∙ ap (λ (st : Stored). byte_in st.bytes q o) stored;
-            listed = subst (λ (st : Stored). Changes st.flights now.stored.flights ticket.number (Some (flight p worker Out))) stored out.listed;
+            listed = subst (λ (st : Stored). Changes st.flights now.stored.flights ticket.number (Some (flight p Out))) stored out.listed;
             next = next now cursors moves out.others going out.placed out.order refl;
             ages = ages now cursors moves out.others going out.placed out.order;
-            tallies = refl;
           }
 
     -- or it is gone, a page of a file as its home block has it
@@ -147,14 +146,13 @@ module _ (s : Inside) (is : IsJoined s) (lists : ListsHeld s.holdings.stored.pag
             flights = drops.flights ∙ ap (λ (st : Stored). st.flights) stored;
             next = next now cursors moves drops.others None drops.gone drops.order refl;
             ages = ages now cursors moves drops.others None drops.gone drops.order;
-            tallies = refl;
           }
 
-    pub joined-left : (result : Option TicketOf) → LeavesSo looked now p picks.label picks.frame worker entry result → IsJoined (record s { holdings = now; cursors = cursors })
+    pub joined-left : (result : Option TicketOf) → LeavesSo looked now p picks.label picks.frame result → IsJoined (record s { holdings = now; cursors = cursors })
     joined-left (Some ticket) out = joined-out ticket out
     joined-left None gone = let is_clean = dropped-file picks.label.content picks.label.dirty gone.0 in joined-gone is_clean.0 is_clean.1 is_clean.2 is_clean.3 gone.1
 
-    pub takes-page : (result : Option TicketOf) → LeavesSo looked now p picks.label picks.frame worker entry result
-        → TakesPage (joined_of s) (joined_of (record s { holdings = now; cursors = cursors })) target worker entry result
+    pub takes-page : (result : Option TicketOf) → LeavesSo looked now p picks.label picks.frame result
+        → TakesPage (joined_of s) (joined_of (record s { holdings = now; cursors = cursors })) target result
     takes-page (Some ticket) out = begins-out ticket out
     takes-page None gone = let is_clean = dropped-file picks.label.content picks.label.dirty gone.0 in drops-clean is_clean.0 is_clean.1 is_clean.2 is_clean.3 gone.1

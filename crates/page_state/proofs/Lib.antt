@@ -11,7 +11,7 @@ pub mod SettleLemmas
 pub mod ReleaseLemmas
 pub mod NextLemmas
 pub mod KinLemmas
-pub mod TallyLemmas
+pub mod EventLemmas
 pub mod TransferLemmas
 pub mod DropLemmas
 pub mod MappedLemmas

@@ -45,5 +45,4 @@ module _ (s : Inside) (is : IsJoined s) (t v p g offset byte : â„•) (begins : â„
         flights = adds.flights;
         held = adds.order;
         cursors = refl;
-        tallies = refl;
       }

@@ -33,12 +33,13 @@ use Rattle.pages.specs.PagesOf.{Label, label_of, labelled, HasResidence}
 use Rattle.reclaim.specs.Pass.{is_unprotected_by_counts, gives_by_lists, GivesNone}
 use Rattle.reclaim.proofs.PassLemmas.{found-passes, asked-order}
 use Rattle.page_state.specs.declared.holdings.Holdings.TheInside.{Inside}
-use Rattle.page_state.specs.Queue.{numbers_of, page_count}
+use Rattle.counts.specs.Numbers.{times}
+use Rattle.page_state.specs.Queue.{numbers_of}
 use Rattle.page_state.specs.Held.{KeepsRows}
 use Rattle.page_state.specs.Holdings.{HoldingsOf, is_swap_left, may_take, gives_of}
 use Rattle.page_state.specs.Owned.{holdings_of, AreListed, IsHolding}
 use Rattle.page_state.proofs.KinLemmas.{kin-charged}
-use Rattle.page_state.proofs.QueueLemmas.{number-at, at-counted}
+use Rattle.counts.proofs.NumberLemmas.{number-at, at-counted}
 use Rattle.pages.proofs.TableLemmas.{any-some}
 use Rattle.page_state.proofs.HoldingLemmas.{any-listed, listed-any, held-stands-in}
 
@@ -105,7 +106,7 @@ module _ (test : Page → Bool) (more : ℕ → Bool) (numbers : List ℕ) (page
   any-queued =
       elim (list_any passes numbers) as (λ b. list_any passes numbers ≡ b → b ≡ any_there (λ page. test page && more page.group) pages) [
         | true ↦ λ is. sym
-            (one_passes (λ q. 1 ≤ page_count numbers q) passes numbers (λ k d lt. number-at numbers k d lt) is
+            (one_passes (λ q. 1 ≤ times numbers q) passes numbers (λ k d lt. number-at numbers k d lt) is
             (λ q counted is_more. listed-any test (λ page. more page.group) numbers pages q listed counted is_more))
         | false ↦ λ is. sym
             (any-listed test (λ page. more page.group) numbers pages listed (λ p counted. at-counted (λ q. passes q ≡ false) numbers (none_passes passes numbers is) p counted))

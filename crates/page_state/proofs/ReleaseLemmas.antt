@@ -4,8 +4,9 @@ use Rattle.machine.specs.Slots.{Changes}
 use Rattle.machine.specs.Tree.{IsTree, under}
 use Rattle.machine.proofs.SlotLemmas.{one_if}
 use Rattle.machine.specs.Pages.{Residence, Pages, is_anon, is_number, has_swap, frame_at, block_at, is_some_number}
-use Rattle.frames.specs.Pool.{PoolOf, free_count}
-use Rattle.block_store.specs.Slots.{SlotsOf, slot_count}
+use Rattle.counts.specs.Numbers.{times}
+use Rattle.frames.specs.Pool.{PoolOf}
+use Rattle.block_store.specs.Slots.{SlotsOf}
 use Rattle.page_counter.specs.Counts.{Counts, Charges, IsOut}
 use Rattle.pages.specs.declared.owned_page.OwnedPage.{OwnedPage}
 use Rattle.pages.specs.declared.owned_page.Backing.{Backing}
@@ -54,10 +55,10 @@ module _ (c : Counts) (pool : PoolOf) (slots : SlotsOf) (owned : OwnedPage) (lab
   stood : HasResidence leaves.pages leaves.p label r
   stood = leaves.stood ∙ ap Some is
 
-  pub leaves-frame : (f : ℕ) → frame_at r ≡ Some f → (free_count pool.free f ≡ 0) × (f < pool.frames)
+  pub leaves-frame : (f : ℕ) → frame_at r ≡ Some f → (times pool.free f ≡ 0) × (f < pool.frames)
   leaves-frame f framed = frame-out c pool slots leaves.pages leaves.p label r f stood framed leaves.kept
 
-  pub leaves-block : (b : ℕ) → is_anon label.content ≡ true → block_at r ≡ Some b → (slot_count slots.free b ≡ 0) × (b < slots.blocks)
+  pub leaves-block : (b : ℕ) → is_anon label.content ≡ true → block_at r ≡ Some b → (times slots.free b ≡ 0) × (b < slots.blocks)
   leaves-block b anon blocked = block-out c pool slots leaves.pages leaves.p label r b stood anon blocked leaves.kept
 
   pub leaves-charge : IsTree c.tree → is_some_number (frame_at r) ≡ true → IsOut c label.group
@@ -82,7 +83,7 @@ released c c' pool pool' slots slots' label r f charge framed own back charged b
     kept
 
 -- what is backed had its slot, if it is memory
-pub backed-trades : (slots slots' : SlotsOf) (from : Backing) (g : ℕ) (r : Residence) → block_at r ≡ Some (block_of from) → ((b : ℕ) → slot_count slots'.free b ≡ slot_count slots.free b + as_number (is_slot from b)) → length slots'.free ≡ length slots.free + as_number (has_slot from)
+pub backed-trades : (slots slots' : SlotsOf) (from : Backing) (g : ℕ) (r : Residence) → block_at r ≡ Some (block_of from) → ((b : ℕ) → times slots'.free b ≡ times slots.free b + as_number (is_slot from b)) → length slots'.free ≡ length slots.free + as_number (has_slot from)
     → Trades has_this_block has_swap slots.free slots'.free (Some (labelled (label_backed from g) r)) None
 backed-trades slots slots' from g r blocked counts more =
     record {

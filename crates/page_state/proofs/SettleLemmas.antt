@@ -8,8 +8,9 @@ use Rattle.machine.specs.Tree.{is_live, under, IsTree}
 use Rattle.machine.specs.Pages.{Content, Memory, OfFile, Held, Page, Pages, is_anon, has_frame, has_this_frame, has_swap, frame_at, block_at, is_number, is_some_number, is_held_at, in_transfer_at, is_held, is_in_transfer}
 use Rattle.machine.proofs.SlotLemmas.{one_if}
 use Rattle.std.proofs.lemmas.Bool.{true≢false}
-use Rattle.frames.specs.Pool.{PoolOf, free_count}
-use Rattle.block_store.specs.Slots.{SlotsOf, slot_count}
+use Rattle.counts.specs.Numbers.{times}
+use Rattle.frames.specs.Pool.{PoolOf}
+use Rattle.block_store.specs.Slots.{SlotsOf}
 use Rattle.page_counter.specs.Counts.{Counts, Charges, SameGroups, IsOut}
 use Rattle.pages.specs.declared.end.End.{End}
 use Rattle.pages.specs.declared.end.End.TheVariants.{InFrame, OnBlock}
@@ -63,11 +64,11 @@ module _ (c : Counts) (pool : PoolOf) (slots : SlotsOf) (pages : Pages) (d : Dir
   abbrev is : (frame_at (moving d f b n) ≡ Some f) × (block_at (moving d f b n) ≡ Some b) × (in_transfer_at (moving d f b n) ≡ true) × (is_held_at (moving d f b n) ≡ false)
   is = moving-is d f b n
 
-  pub settled-block : (x : ℕ) → is_anon label.content ≡ true → x ≡ b → (slot_count slots.free x ≡ 0) × (x < slots.blocks)
-  settled-block x anon same = subst (λ y. (slot_count slots.free y ≡ 0) × (y < slots.blocks)) (sym same) (block-out c pool slots pages p label (moving d f b n) b stood anon is.1 kept)
+  pub settled-block : (x : ℕ) → is_anon label.content ≡ true → x ≡ b → (times slots.free x ≡ 0) × (x < slots.blocks)
+  settled-block x anon same = subst (λ y. (times slots.free y ≡ 0) × (y < slots.blocks)) (sym same) (block-out c pool slots pages p label (moving d f b n) b stood anon is.1 kept)
 
-  pub settled-frame : (x : ℕ) → x ≡ f → (free_count pool.free x ≡ 0) × (x < pool.frames)
-  settled-frame x same = subst (λ y. (free_count pool.free y ≡ 0) × (y < pool.frames)) (sym same) (frame-out c pool slots pages p label (moving d f b n) f stood is.0 kept)
+  pub settled-frame : (x : ℕ) → x ≡ f → (times pool.free x ≡ 0) × (x < pool.frames)
+  settled-frame x same = subst (λ y. (times pool.free y ≡ 0) × (y < pool.frames)) (sym same) (frame-out c pool slots pages p label (moving d f b n) f stood is.0 kept)
 
   pub settled-charge : (pages' : Pages) (x : ℕ) → x ≡ label.group → IsTree c.tree → Changes pages pages' p (page_after OnBlock label f b) → IsOut c x
   settled-charge pages' x same tree placed =
@@ -94,7 +95,7 @@ module _ (c : Counts) (pool : PoolOf) (slots : SlotsOf) (pages : Pages) (d : Dir
 
   -- the slot of memory goes back
   pub kept-in_frame : (pages' : Pages) (slots' : SlotsOf) (x : ℕ) → is_anon label.content ≡ true → x ≡ b → Changes pages pages' p (page_after InFrame label f b)
-      → ((m : ℕ) → slot_count slots'.free m ≡ slot_count slots.free m + one_if (x == m)) → length slots'.free ≡ length slots.free + 1 → slots'.blocks ≡ slots.blocks → AreKept c pool slots' pages'
+      → ((m : ℕ) → times slots'.free m ≡ times slots.free m + one_if (x == m)) → length slots'.free ≡ length slots.free + 1 → slots'.blocks ≡ slots.blocks → AreKept c pool slots' pages'
   kept-in_frame pages' slots' x anon same placed given more blocks =
       kept_framed pages' slots' placed
       (record {

@@ -105,7 +105,6 @@ module _ (s : Inside) (is : IsJoined s) (lists : ListsHeld s.holdings.stored.pag
             flights = refl;
             held = goes-still Youngest s.holdings.stored.pages s.holdings.stored.pages s.holdings.held lists refl;
             cursors = refl;
-            tallies = refl;
           };
           tables = (let old : StateOf = joined_of s in ap (λ (ts : Tasks). record (old.tables) { tasks = ts; page_tables = spaces.page_tables }) tasks);
         }
@@ -134,7 +133,7 @@ module _ (s : Inside) (is : IsJoined s) (lists : ListsHeld s.holdings.stored.pag
     unmaps-unmapped =
         record {
           shown = shown;
-          drops = record { pages = all; bytes = drops.bytes; flights = drops.flights; held = drops.order; cursors = refl; tallies = refl };
+          drops = record { pages = all; bytes = drops.bytes; flights = drops.flights; held = drops.order; cursors = refl };
           tables = (let old : StateOf = joined_of s in
               ap (λ (h : HoldingsOf). record (old.tables) { limits = h.limits; pages = now.stored.pages; tasks = spaces.tasks; page_tables = spaces.page_tables }) drops.rest
               ∙ ap (λ (ts : Tasks). record (old.tables) { pages = now.stored.pages; tasks = ts; page_tables = spaces.page_tables }) tasks);
@@ -159,7 +158,6 @@ ends-unmapped old s spaces t life all ends same =
         flights = all.drops.flights;
         held = all.drops.held;
         cursors = all.drops.cursors;
-        tallies = all.drops.tallies;
       };
       tables = ap (λ (st : State). record st { tasks = spaces.tasks; page_tables = spaces.page_tables }) all.tables;
     }

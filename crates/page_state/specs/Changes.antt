@@ -8,22 +8,20 @@ use Rattle.machine.specs.Slots.{Changes}
 use Rattle.machine.specs.Tree.{is_live, node_at, without_group}
 use Rattle.machine.specs.Pages.{Content, Memory, OfFile, Held, Coming, Going, Page, page_at, home_block, is_held_in, is_ticket_taken}
 use Rattle.machine.specs.declared.event.Op.TheVariants.{Write}
-use Rattle.machine.specs.Counts.{Counted, no_limits}
+use Rattle.machine.specs.Counts.{no_limits, no_counts, with_event}
 use Rattle.machine.specs.Tasks.{PageTables, SetsTask, group_of_task, mapped_at, mappers, Shows, Copies, ShowsNothing}
 use Rattle.machine.specs.State.{State, page_numbers, over_in, is_frame_free}
 use Rattle.machine.specs.Access.{page_size}
 use Rattle.machine.specs.Reclaim.{is_takeable}
 use Rattle.machine.specs.Generations.{gens_at}
 use Rattle.machine.specs.Lists.{Generation, Youngest, entry_after, with_mark, GoesOn, TakesNext, AddsLists, RemovesLists}
-use Rattle.machine.specs.Step.{IsFreeFrame, IsFreeBlock, touched, still, in_frame, on_block, count_of, new_node, new_page, regrouped}
+use Rattle.machine.specs.Step.{IsFreeFrame, IsFreeBlock, touched, still, in_frame, on_block, new_node, new_page, regrouped}
 use Rattle.pages.specs.declared.end.End.{End}
 use Rattle.pages.specs.declared.end.End.TheVariants.{InFrame, OnBlock}
 use Rattle.pages.specs.PagesOf.{byte_in, Label, labelled, of_file, flight, HasResidence}
 use Rattle.machine.specs.declared.record.Direction.{Direction}
 use Rattle.machine.specs.declared.record.Direction.TheVariants.{In, Out}
-use Rattle.pages.specs.Tickets.{TicketOf}
-use Rattle.pages.specs.Transfers.{given_ticket}
-use Rattle.memory_events.specs.Tallies.{Tells}
+use Rattle.pages.specs.Tickets.{TicketOf, new_ticket}
 use Rattle.page_state.specs.declared.room.NoRoom.{NoRoom}
 use Rattle.page_state.specs.declared.room.NoRoom.TheVariants as lacks
 use Rattle.page_state.specs.States.{StateOf, byte_shown}
@@ -47,9 +45,8 @@ abbrev pub KeepsLists : Generation → StateOf → StateOf → Type 0
 KeepsLists generation old new = GoesOn generation old.tables.pages old.order.held new.tables.pages new.order.held
 
 -- an event is counted, and all else is as it was
-pub record CountsEvent (old new : StateOf) (g : ℕ) (key : Key) : Type 0 where
-  pub others : new ≡ record old { tallies = new.tallies }
-  pub tallied : (counted : List Counted) → Tells old.tallies counted → Tells new.tallies (counted ++ count_of g key ∷ [])
+abbrev pub counts_event : StateOf → ℕ → Key → StateOf
+counts_event old g key = record old { tables = record (old.tables) { counted = with_event old.tables.counted g key } }
 
 -- ---- pages
 
@@ -73,7 +70,6 @@ pub record MakesPage (old new : StateOf) (t v g o byte : ℕ) : Type 0 where
   pub flights : new.flights ≡ old.flights
   pub held : KeepsLists Youngest old new
   pub cursors : new.order.cursors ≡ old.order.cursors
-  pub tallies : new.tallies ≡ old.tallies
 
 -- a page in a frame is marked as accessed, and all else is as it was
 abbrev pub MarksPage : StateOf → StateOf → ℕ → Type 0
@@ -86,28 +82,26 @@ pub record WritesByte (old new : StateOf) (p o byte : ℕ) : Type 0 where
   pub bytes : (q k : ℕ) → byte_in new.bytes q k ≡ (if (q == p) && (o == k) then byte else byte_in old.bytes q k)
   pub flights : new.flights ≡ old.flights
   pub order : new.order ≡ old.order
-  pub tallies : new.tallies ≡ old.tallies
 
 -- a page is from now on being read from this block into a frame that no page had
-pub record BeginsReadIn (old new : StateOf) (p : ℕ) (label : Label) (block worker entry : ℕ) (ticket : TicketOf) : Type 0 where
+pub record BeginsReadIn (old new : StateOf) (p : ℕ) (label : Label) (block : ℕ) (ticket : TicketOf) : Type 0 where
   pub frame : ℕ
   pub frame_free : IsFreeFrame old.tables frame
   pub ticket_free : is_ticket_taken old.tables.pages ticket.number ≡ false
-  pub given : ticket ≡ given_ticket ticket.number worker entry block ticket.bytes
+  pub given : ticket ≡ new_ticket ticket.number block ticket.bytes
   pub placed : Changes old.tables.pages new.tables.pages p (Some (labelled label (Coming frame block ticket.number)))
   pub tables : new.tables ≡ record old.tables { pages = new.tables.pages }
   pub bytes : (q k : ℕ) → q ≢ p → byte_in new.bytes q k ≡ byte_in old.bytes q k
-  pub listed : Changes old.flights new.flights ticket.number (Some (flight p worker In))
+  pub listed : Changes old.flights new.flights ticket.number (Some (flight p In))
   pub held : KeepsLists Youngest old new
   pub cursors : new.order.cursors ≡ old.order.cursors
-  pub tallies : new.tallies ≡ old.tallies
 
 -- a page of a file, charged to g, is from now on being read from its home block under a number that no page had
-pub record BeginsRead (old new : StateOf) (file q g worker entry : ℕ) (ticket : TicketOf) : Type 0 where
+pub record BeginsRead (old new : StateOf) (file q g : ℕ) (ticket : TicketOf) : Type 0 where
   pub page : ℕ
   pub in_range : page < page_numbers old.tables.opening
   pub number_free : page_at old.tables.pages page ≡ None
-  pub begins : BeginsReadIn old new page (of_file file q g false) (home_block old.tables.opening.swap old.tables.opening.files file q) worker entry ticket
+  pub begins : BeginsReadIn old new page (of_file file q g false) (home_block old.tables.opening.swap old.tables.opening.files file q) ticket
 
 -- where a page that leaves its frame is written: memory to a swap block that no page has, a page of a file that was written to to its home block
 abbrev pub IsWrittenTo : State → Content → Bool → ℕ → Type 0
@@ -115,7 +109,7 @@ IsWrittenTo s Memory dirty block = IsFreeBlock s block
 IsWrittenTo s (OfFile file q) dirty block = (dirty ≡ true) × (block ≡ home_block s.opening.swap s.opening.files file q)
 
 -- the page that is next for the target is from now on being written out; the ticket has its bytes
-pub record BeginsWriteOut (old new : StateOf) (target worker entry : ℕ) (ticket : TicketOf) : Type 0 where
+pub record BeginsWriteOut (old new : StateOf) (target : ℕ) (ticket : TicketOf) : Type 0 where
   pub p : ℕ
   pub label : Label
   pub frame : ℕ
@@ -123,16 +117,15 @@ pub record BeginsWriteOut (old new : StateOf) (target worker entry : ℕ) (ticke
   pub takeable : is_takeable old.tables target (labelled label (Held frame)) ≡ true
   pub block : IsWrittenTo old.tables label.content label.dirty ticket.block
   pub ticket_free : is_ticket_taken old.tables.pages ticket.number ≡ false
-  pub given : ticket ≡ given_ticket ticket.number worker entry ticket.block ticket.bytes
+  pub given : ticket ≡ new_ticket ticket.number ticket.block ticket.bytes
   pub holds : (k : ℕ) → k < page_size → slice_index ticket.bytes k ≡ byte_in new.bytes p k
   pub placed : Changes old.tables.pages new.tables.pages p (Some (labelled label (Going frame ticket.block ticket.number)))
   pub tables : new.tables ≡ record old.tables { pages = new.tables.pages }
   pub bytes : (q k : ℕ) → byte_in new.bytes q k ≡ byte_in old.bytes q k
-  pub listed : Changes old.flights new.flights ticket.number (Some (flight p worker Out))
+  pub listed : Changes old.flights new.flights ticket.number (Some (flight p Out))
   pub next : TakesNext old.tables old.order target new.tables new.order
   -- three generations more are begun at most
   pub ages : (h : ℕ) → (gens_at new.order.held.groups h).max_seq ≤ (gens_at old.order.held.groups h).max_seq + 3
-  pub tallies : new.tallies ≡ old.tallies
 
 -- the page that is next for the target, a page of a file as its home block has it, is gone
 pub record DropsClean (old new : StateOf) (target : ℕ) : Type 0 where
@@ -150,12 +143,11 @@ pub record DropsClean (old new : StateOf) (target : ℕ) : Type 0 where
   pub next : TakesNext old.tables old.order target new.tables new.order
   -- three generations more are begun at most
   pub ages : (h : ℕ) → (gens_at new.order.held.groups h).max_seq ≤ (gens_at old.order.held.groups h).max_seq + 3
-  pub tallies : new.tallies ≡ old.tallies
 
 -- the page that is next for the target begins to be written out under this ticket, or is dropped
-abbrev pub TakesPage : StateOf → StateOf → ℕ → ℕ → ℕ → Option TicketOf → Type 0
-TakesPage old new target worker entry (Some ticket) = BeginsWriteOut old new target worker entry ticket
-TakesPage old new target worker entry None = DropsClean old new target
+abbrev pub TakesPage : StateOf → StateOf → ℕ → Option TicketOf → Type 0
+TakesPage old new target (Some ticket) = BeginsWriteOut old new target ticket
+TakesPage old new target None = DropsClean old new target
 
 -- what becomes of a page whose transfer between a frame and a block ends so, with these page tables
 abbrev pub ended_as : End → PageTables → ℕ → Page → ℕ → ℕ → Option Page
@@ -170,7 +162,6 @@ pub record EndsTransfer (old new : StateOf) (direction : Direction) (p n : ℕ) 
   pub others : (q k : ℕ) → q ≢ p → byte_in new.bytes q k ≡ byte_in old.bytes q k
   pub held : KeepsLists (entry_after direction) old new
   pub cursors : new.order.cursors ≡ old.order.cursors
-  pub tallies : new.tallies ≡ old.tallies
 
 -- ---- tasks
 
@@ -183,7 +174,6 @@ pub record StartsTask (old new : StateOf) (t g : ℕ) : Type 0 where
   pub order : new.order ≡ old.order
   pub bytes : new.bytes ≡ old.bytes
   pub flights : new.flights ≡ old.flights
-  pub tallies : new.tallies ≡ old.tallies
 
 -- a task begins in the group of another, and shows what that one shows
 pub record ForksTask (old new : StateOf) (parent child : ℕ) : Type 0 where
@@ -193,7 +183,6 @@ pub record ForksTask (old new : StateOf) (parent child : ℕ) : Type 0 where
   pub order : new.order ≡ old.order
   pub bytes : new.bytes ≡ old.bytes
   pub flights : new.flights ≡ old.flights
-  pub tallies : new.tallies ≡ old.tallies
 
 -- a live task is of another group, and nothing else changes
 pub record MovesTask (old new : StateOf) (t g : ℕ) : Type 0 where
@@ -202,7 +191,6 @@ pub record MovesTask (old new : StateOf) (t g : ℕ) : Type 0 where
   pub order : new.order ≡ old.order
   pub bytes : new.bytes ≡ old.bytes
   pub flights : new.flights ≡ old.flights
-  pub tallies : new.tallies ≡ old.tallies
 
 -- pages that nothing maps any more are gone, unless they are in transfer, and the others are as they were
 pub record DropsPages (old new : StateOf) : Type 0 where
@@ -211,7 +199,6 @@ pub record DropsPages (old new : StateOf) : Type 0 where
   pub flights : new.flights ≡ old.flights
   pub held : KeepsLists Youngest old new
   pub cursors : new.order.cursors ≡ old.order.cursors
-  pub tallies : new.tallies ≡ old.tallies
 
 -- a virtual page of a task shows nothing any more
 pub record Unmaps (old new : StateOf) (t v : ℕ) : Type 0 where
@@ -236,11 +223,10 @@ pub record EndsTask (old new : StateOf) (t : ℕ) (life : Life) : Type 0 where
 
 -- a group of this path more, without limits and without a page, for which as a target no group was served
 pub record AddsGroup (old new : StateOf) (path : List ℕ) : Type 0 where
-  pub tables : new.tables ≡ record old.tables { tree = old.tables.tree ++ new_node old.tables.tree path ∷ []; limits = old.tables.limits ++ no_limits ∷ [] }
+  pub tables : new.tables ≡ record old.tables { tree = old.tables.tree ++ new_node old.tables.tree path ∷ []; limits = old.tables.limits ++ no_limits ∷ []; counted = old.tables.counted ++ no_counts ∷ [] }
   pub order : AddsLists old.order new.order
   pub bytes : new.bytes ≡ old.bytes
   pub flights : new.flights ≡ old.flights
-  pub tallied : (counted : List Counted) → Tells old.tallies counted → Tells new.tallies counted
 
 -- a group goes, and its pages, in transfer and on their blocks too, are its parent's
 pub record RemovesGroup (old new : StateOf) (g : ℕ) : Type 0 where
@@ -251,7 +237,6 @@ pub record RemovesGroup (old new : StateOf) (g : ℕ) : Type 0 where
   pub order : RemovesLists (Some parent) g old.order new.order
   pub bytes : (p k : ℕ) → byte_in new.bytes p k ≡ byte_in old.bytes p k
   pub flights : new.flights ≡ old.flights
-  pub tallied : (counted : List Counted) → Tells old.tallies counted → Tells new.tallies counted
 
 -- other limits for a group
 abbrev pub sets_limits : StateOf → ℕ → Limits → StateOf

@@ -11,8 +11,7 @@ use Rattle.machine.specs.Lists.{HeldLists, Generation, Youngest, entry_after, Pi
 use Rattle.machine.specs.Counts.{over}
 use Rattle.machine.specs.Access.{page_size}
 use Rattle.machine.specs.Step.{new_page, regrouped}
-use Rattle.pages.specs.Tickets.{TicketOf}
-use Rattle.pages.specs.Transfers.{given_ticket}
+use Rattle.pages.specs.Tickets.{TicketOf, new_ticket}
 use Rattle.pages.specs.declared.way.WayOut.TheVariants as way
 use Rattle.pages.specs.PagesOf.{byte_in, Label, labelled, of_file, flight, HasResidence, way_of}
 use Rattle.machine.specs.declared.record.Direction.{Direction}
@@ -83,24 +82,24 @@ Lacks h g (lacks.Over a) = over_of h g ≡ Some a.0
 Lacks h g lacks.NoFrame = (over_of h g ≡ None) × (used_frames h.stored.pages ≡ h.frames)
 
 -- a page is from now on being read from this block into a frame that no page had
-pub record BeginsIn (old new : HoldingsOf) (p : ℕ) (label : Label) (block worker entry : ℕ) (ticket : TicketOf) : Type 0 where
+pub record BeginsIn (old new : HoldingsOf) (p : ℕ) (label : Label) (block : ℕ) (ticket : TicketOf) : Type 0 where
   pub frame : ℕ
   pub in_range : frame < old.frames
   pub unused : is_frame_taken old.stored.pages frame ≡ false
   pub ticket_free : is_ticket_taken old.stored.pages ticket.number ≡ false
-  pub given : ticket ≡ given_ticket ticket.number worker entry block ticket.bytes
+  pub given : ticket ≡ new_ticket ticket.number block ticket.bytes
   pub placed : Changes old.stored.pages new.stored.pages p (Some (labelled label (Coming frame block ticket.number)))
   pub bytes : (q o : ℕ) → q ≢ p → byte_in new.stored.bytes q o ≡ byte_in old.stored.bytes q o
-  pub listed : Changes old.stored.flights new.stored.flights ticket.number (Some (flight p worker In))
+  pub listed : Changes old.stored.flights new.stored.flights ticket.number (Some (flight p In))
   pub order : ListsGoOn Youngest old new
   pub others : new ≡ with_lists old new.stored new.held
 
 -- a page of a file, charged to g, is from now on being read from its home block under a number that no page had
-pub record BeginsInFile (old new : HoldingsOf) (file q g worker entry : ℕ) (ticket : TicketOf) : Type 0 where
+pub record BeginsInFile (old new : HoldingsOf) (file q g : ℕ) (ticket : TicketOf) : Type 0 where
   pub page : ℕ
   pub in_range : page < old.numbers
   pub number_free : page_at old.stored.pages page ≡ None
-  pub begins : BeginsIn old new page (of_file file q g false) (home_block old.swap old.files file q) worker entry ticket
+  pub begins : BeginsIn old new page (of_file file q g false) (home_block old.swap old.files file q) ticket
 
 -- where a page that leaves its frame is written: memory to a swap block that no page has, a page of a file that was written to to its home block
 abbrev pub GoesTo : HoldingsOf → Content → Bool → ℕ → Type 0
@@ -108,14 +107,14 @@ GoesTo h Memory dirty block = (block < h.swap) × (is_swap_taken h.stored.pages 
 GoesTo h (OfFile file q) dirty block = (dirty ≡ true) × (block ≡ home_block h.swap h.files file q)
 
 -- a page in a frame is from now on being written out; the ticket has its bytes
-pub record BeginsOut (old new : HoldingsOf) (p : ℕ) (label : Label) (frame worker entry : ℕ) (ticket : TicketOf) : Type 0 where
+pub record BeginsOut (old new : HoldingsOf) (p : ℕ) (label : Label) (frame : ℕ) (ticket : TicketOf) : Type 0 where
   pub block : GoesTo old label.content label.dirty ticket.block
   pub ticket_free : is_ticket_taken old.stored.pages ticket.number ≡ false
-  pub given : ticket ≡ given_ticket ticket.number worker entry ticket.block ticket.bytes
+  pub given : ticket ≡ new_ticket ticket.number ticket.block ticket.bytes
   pub holds : (o : ℕ) → o < page_size → slice_index ticket.bytes o ≡ byte_in old.stored.bytes p o
   pub placed : Changes old.stored.pages new.stored.pages p (Some (labelled label (Going frame ticket.block ticket.number)))
   pub bytes : (q o : ℕ) → byte_in new.stored.bytes q o ≡ byte_in old.stored.bytes q o
-  pub listed : Changes old.stored.flights new.stored.flights ticket.number (Some (flight p worker Out))
+  pub listed : Changes old.stored.flights new.stored.flights ticket.number (Some (flight p Out))
   pub order : ListsGoOn Youngest old new
   pub others : new ≡ with_lists old new.stored new.held
 
@@ -136,9 +135,9 @@ pub record DropsPage (old new : HoldingsOf) (p : ℕ) : Type 0 where
   pub others : new ≡ with_lists old new.stored new.held
 
 -- a page in a frame leaves it: it begins to be written out under this ticket; or it is a page of a file as its home block has it, and is gone
-abbrev pub LeavesSo : HoldingsOf → HoldingsOf → ℕ → Label → ℕ → ℕ → ℕ → Option TicketOf → Type 0
-LeavesSo old new p label frame worker entry (Some ticket) = BeginsOut old new p label frame worker entry ticket
-LeavesSo old new p label frame worker entry None = (way_of label.content label.dirty ≡ way.Dropped) × DropsPage old new p
+abbrev pub LeavesSo : HoldingsOf → HoldingsOf → ℕ → Label → ℕ → Option TicketOf → Type 0
+LeavesSo old new p label frame (Some ticket) = BeginsOut old new p label frame ticket
+LeavesSo old new p label frame None = (way_of label.content label.dirty ≡ way.Dropped) × DropsPage old new p
 
 -- a group goes, and its pages are its parent's
 pub record HandsUp (old new : HoldingsOf) (g parent : ℕ) : Type 0 where

@@ -1,11 +1,11 @@
 -- What the fields of the joined parts mean, and how the parts agree. No public clause cites it.
-use Rattle.std.specs.Prelude.{◌≡◌, ℕ, ◌+◌, true, [], length}
+use Rattle.std.specs.Prelude.{◌≡◌, ℕ, ◌+◌, true, length}
 use Rattle.machine.specs.Tree.{is_live}
 use Rattle.machine.specs.Tasks.{lives, group_of_task}
 use Rattle.machine.specs.State.{sizes_of, opening_of, is_config}
 use Rattle.group_tree.specs.Kin.{AreKin}
 use Rattle.page_state.specs.declared.joined.State.TheInside.{Inside}
-use Rattle.page_state.specs.States.{StateOf, without_room}
+use Rattle.page_state.specs.States.{StateOf}
 use Rattle.page_state.specs.Mapped.{AreMapped}
 
 abbrev pub joined_of : Inside → StateOf
@@ -18,11 +18,10 @@ joined_of s =
         pages = s.holdings.stored.pages;
         tasks = s.spaces.tasks;
         page_tables = s.spaces.page_tables;
-        counted = [];
+        counted = s.events.counted;
       };
       order = record { held = s.holdings.held; cursors = s.cursors.cursors };
       bytes = s.holdings.stored.bytes;
-      tallies = without_room s.events;
       flights = s.holdings.stored.flights;
     }
 

@@ -4,14 +4,14 @@ use Rattle.machine.specs.Slots.{Changes, there_and, count_there}
 use Rattle.machine.specs.Tree.{is_live}
 use Rattle.machine.specs.Pages.{Residence, Going, Page, Pages, page_at, is_anon, is_number, block_at, charged, has_frame, has_this_frame, has_swap, is_in_transfer, in_transfer}
 use Rattle.machine.specs.Lists.{ListsHeld}
-use Rattle.frames.specs.Pool.{PoolOf, free_count}
+use Rattle.counts.specs.Numbers.{times}
+use Rattle.frames.specs.Pool.{PoolOf}
 use Rattle.block_store.specs.Slots.{SlotsOf}
 use Rattle.page_counter.specs.Counts.{Counts, usage_of}
 use Rattle.pages.specs.declared.owned_page.OwnedPage.{OwnedPage}
 use Rattle.pages.specs.declared.owned_page.Backing.{Backing}
 use Rattle.pages.specs.declared.owned_page.Backing.TheVariants as backing
 use Rattle.pages.specs.Records.{page_of}
-use Rattle.page_state.specs.Queue.{page_count}
 use Rattle.page_state.specs.Holdings.{HoldingsOf}
 use Rattle.page_state.specs.declared.holdings.Holdings.TheInside.{Inside}
 
@@ -45,8 +45,8 @@ as_number b = if b then 1 else 0
 
 -- each of so many is free or a page's, once: `has` tells whether a page has one at all
 pub record IsBalanced (this : ℕ → Page → Bool) (has : Page → Bool) (total : ℕ) (free : List ℕ) (pages : Pages) : Type 0 where
-  pub once : (n : ℕ) → n < total → free_count free n + count_there (this n) pages ≡ 1
-  pub none_beyond : (n : ℕ) → total ≤ n → free_count free n + count_there (this n) pages ≡ 0
+  pub once : (n : ℕ) → n < total → times free n + count_there (this n) pages ≡ 1
+  pub none_beyond : (n : ℕ) → total ≤ n → times free n + count_there (this n) pages ≡ 0
   pub all : length free + count_there has pages ≡ total
 
 -- the counters count the pages that have a frame, and each page is of a group that is there
@@ -62,7 +62,7 @@ pub record AreKept (counters : Counts) (pool : PoolOf) (slots : SlotsOf) (pages 
 
 -- these are the numbers of the pages that pass the test, each once
 pub record AreListed (test : Page → Bool) (numbers : List ℕ) (pages : Pages) : Type 0 where
-  pub once : (p : ℕ) → page_count numbers p ≡ as_number (there_and test (page_at pages p))
+  pub once : (p : ℕ) → times numbers p ≡ as_number (there_and test (page_at pages p))
   pub len : length numbers ≡ count_there test pages
 
 pub record IsHolding (h : Inside) : Type 0 where

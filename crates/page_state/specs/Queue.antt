@@ -9,7 +9,3 @@ pub record QueueOf : Type 0 where
 
 abbrev pub numbers_of : List PageId → List ℕ
 numbers_of pages = map (λ page. page.0) pages
-
--- how often a page is among them
-abbrev pub page_count : List ℕ → ℕ → ℕ
-page_count numbers p = count_by (λ m. m == p) numbers

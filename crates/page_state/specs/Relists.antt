@@ -6,14 +6,15 @@ use Rattle.machine.specs.declared.record.Kind.{Kind}
 use Rattle.machine.specs.Lists.{entry_after}
 use Rattle.pages.specs.declared.end.End.{End}
 use Rattle.pages.specs.declared.end.End.TheVariants.{InFrame, OnBlock}
-use Rattle.page_state.specs.Queue.{QueueOf, page_count}
+use Rattle.counts.specs.Numbers.{times}
+use Rattle.page_state.specs.Queue.{QueueOf}
 use Rattle.page_state.specs.Held.{HeldOf, entered}
 
 -- a page is in the queue no more, and all others stay in their order
 pub record LeavesQueue (old new : QueueOf) (p : ℕ) : Type 0 where
   pub numbers : new.numbers ≡ filter (λ n. not (n == p)) old.numbers
-  pub counts : (n : ℕ) → page_count new.numbers n + (if p == n then page_count old.numbers p else 0) ≡ page_count old.numbers n
-  pub fewer : length new.numbers + page_count old.numbers p ≡ length old.numbers
+  pub counts : (n : ℕ) → times new.numbers n + (if p == n then times old.numbers p else 0) ≡ times old.numbers n
+  pub fewer : length new.numbers + times old.numbers p ≡ length old.numbers
   pub room : new.room ≡ old.room
 
 -- a page whose transfer in this direction ends in its frame is listed in its group

@@ -1,22 +1,23 @@
 -- Room for a page: a charge and a frame, taken together.
 use Rattle.std.specs.Prelude.{◌≡◌, ℕ, ◌+◌, ◌<◌, ◌==◌, if◌then◌else◌, List, ◌∷◌, length, None}
-use Rattle.frames.specs.Pool.{PoolOf, free_count}
-use Rattle.block_store.specs.Slots.{SlotsOf, slot_count}
+use Rattle.counts.specs.Numbers.{times}
+use Rattle.frames.specs.Pool.{PoolOf}
+use Rattle.block_store.specs.Slots.{SlotsOf}
 use Rattle.page_counter.specs.Counts.{Counts, AreCounts, Charges, over_in}
 
 -- new lacks this frame, which old has free
 pub record LacksFrame (old new : PoolOf) (f : ℕ) : Type 0 where
-  pub counts : (n : ℕ) → free_count old.free n ≡ free_count new.free n + (if f == n then 1 else 0)
+  pub counts : (n : ℕ) → times old.free n ≡ times new.free n + (if f == n then 1 else 0)
   pub fewer : length old.free ≡ length new.free + 1
   pub frames : new.frames ≡ old.frames
   pub spares : new.spares ≡ old.spares
   pub most_spares : new.most_spares ≡ old.most_spares
-  pub out : free_count new.free f ≡ 0
+  pub out : times new.free f ≡ 0
   pub in_range : f < old.frames
 
 -- new lacks this swap block, which old has free
 pub record LacksBlock (old new : SlotsOf) (b : ℕ) : Type 0 where
-  pub counts : (n : ℕ) → slot_count old.free n ≡ slot_count new.free n + (if b == n then 1 else 0)
+  pub counts : (n : ℕ) → times old.free n ≡ times new.free n + (if b == n then 1 else 0)
   pub fewer : length old.free ≡ length new.free + 1
   pub blocks : new.blocks ≡ old.blocks
 

@@ -2,29 +2,23 @@
 use Rattle.std.specs.Prelude.{ℕ, ◌+◌, ◌<◌, ◌^◌, List, Option, Some, None}
 use Rattle.machine.specs.declared.record.Key.{Key}
 use Rattle.machine.specs.Tasks.{mapped_at}
+use Rattle.machine.specs.Counts.{total}
 use Rattle.machine.specs.State.{State}
 use Rattle.machine.specs.Generations.{gens_at}
 use Rattle.machine.specs.Lists.{HeldLists, Order}
 use Rattle.pages.specs.PagesOf.{byte_in}
 use Rattle.pages.specs.declared.flight.Flight.{Flight}
-use Rattle.memory_events.specs.Tallies.{Tallies, total_of}
 
--- the tables, without the events counted so far, which a history tells; the lists of held pages with the cursors; by page number the bytes; how often events
--- were counted; and by ticket number the transfers in flight
+-- the tables; the lists of held pages with the cursors; by page number the bytes; and by ticket number the transfers in flight
 pub record StateOf : Type 0 where
   pub tables : State
   pub order : Order
   pub bytes : List (Option (List ℕ))
-  pub tallies : Tallies
   pub flights : List (Option Flight)
 
--- what was counted, whatever memory there is for groups to come
-abbrev pub without_room : Tallies → Tallies
-without_room t = record t { room = 0 }
-
 -- each key was counted less often than a number of 64 bits holds
-abbrev pub AreFew : Tallies → Type 0
-AreFew t = (k : Key) → total_of t 0 k < 18446744073709551615
+abbrev pub AreFew : State → Type 0
+AreFew s = (k : Key) → total s.tree s.counted 0 k < 18446744073709551615
 
 -- the number of each group's youngest generation is one that a search for a page may still raise
 abbrev pub AreYoung : HeldLists → Type 0

@@ -11,7 +11,7 @@ ghost use Rattle.page_state.specs.Changes.{HasRoom, LacksRoom, SharesPage, Makes
 
 use crate::joined::State;
 use crate::room::NoRoom;
-use machine::id::{GroupId, PageId, TaskId, WorkerId};
+use machine::id::{GroupId, PageId, TaskId};
 use pages::{FilePage, InTicket};
 use std::alloc::{AllocError, Global};
 
@@ -85,44 +85,33 @@ impl State {
     }
 
     /// Begins to read in memory that is on its block. It is charged to its group, which has room for it.
-    /// `entry` is the place that the trace's entry will have. `AllocError` where memory is refused, and then
-    /// nothing changes.
-    pub fn start_in(
-        &mut self,
-        alloc: Global,
-        page: PageId,
-        worker: WorkerId,
-        entry: u32,
-    ) -> Result<InTicket, AllocError>
+    /// `AllocError` where memory is refused, and then nothing changes.
+    pub fn start_in(&mut self, alloc: Global, page: PageId) -> Result<InTicket, AllocError>
         requires away { (g b : ℕ) × HasResidence self.old.tables.pages page.0 (memory_of g) (residence.Away b) × HasRoom self.old.tables g }
-        ensures begins { IfOk result (λ ticket. (g b : ℕ) → HasResidence self.old.tables.pages page.0 (memory_of g) (residence.Away b) → BeginsReadIn self.old self.new page.0 (memory_of g) b worker.0 entry ticket) }
+        ensures begins { IfOk result (λ ticket. (g b : ℕ) → HasResidence self.old.tables.pages page.0 (memory_of g) (residence.Away b) → BeginsReadIn self.old self.new page.0 (memory_of g) b ticket) }
         ensures err { OnErr result (self.new ≡ self.old) }
     {
-        let ticket = self.holdings.start_in(alloc, page, worker, entry)?;
+        let ticket = self.holdings.start_in(alloc, page)?;
         Ok(ticket)
     }
 
     /// Begins to read a page of a file, which no page holds, from its home block. It is charged to the group,
-    /// which has room for it (kernel: filemap_add_folio). `entry` is the place that the trace's entry will
-    /// have. `AllocError` where memory is refused, and then nothing changes.
+    /// which has room for it (kernel: filemap_add_folio). `AllocError` where memory is refused, and then
+    /// nothing changes.
     pub fn start_in_file(
         &mut self,
         alloc: Global,
         at: FilePage,
         group: GroupId,
-        worker: WorkerId,
-        entry: u32,
     ) -> Result<InTicket, AllocError>
         requires inside { at.page < slice_index self.old.tables.opening.files at.file }
         requires none { file_page self.old.tables.pages at.file at.page ≡ None }
         requires live { is_live self.old.tables.tree group.0 ≡ true }
         requires room { HasRoom self.old.tables group.0 }
-        ensures begins { IfOk result (λ ticket. BeginsRead self.old self.new at.file at.page group.0 worker.0 entry ticket) }
+        ensures begins { IfOk result (λ ticket. BeginsRead self.old self.new at.file at.page group.0 ticket) }
         ensures err { OnErr result (self.new ≡ self.old) }
     {
-        let ticket = self
-            .holdings
-            .start_in_file(alloc, at, group, worker, entry)?;
+        let ticket = self.holdings.start_in_file(alloc, at, group)?;
         Ok(ticket)
     }
 }

@@ -1,14 +1,13 @@
 //! Groups: made and set, what they show, and the events that are counted at them.
 
-ghost use Rattle.std.specs.Prelude.{◌≡◌, ◌≢◌, ◌<◌, List, Some, None, true, false, OnOk, OnErr};
+ghost use Rattle.std.specs.Prelude.{◌≡◌, ◌≢◌, ◌<◌, Some, None, true, false, OnOk, OnErr};
 ghost use Rattle.machine.specs.declared.record.Key.{Key as Key_of};
 ghost use Rattle.machine.specs.Names.{parent_path};
 ghost use Rattle.machine.specs.Tree.{is_live, under, find_group};
-ghost use Rattle.machine.specs.Counts.{Counted, is_key, limits_at, counts_by, total, local};
+ghost use Rattle.machine.specs.Counts.{is_key, limits_at, counts_by, total, local};
 ghost use Rattle.machine.specs.State.{usage, stat_of, effective_min};
 ghost use Rattle.machine.specs.Refusals.{mkdir_refusal, rmdir_refusal, bars_children};
-ghost use Rattle.memory_events.specs.Tallies.{Tells, total_of};
-ghost use Rattle.page_state.specs.Changes.{CountsEvent, AddsGroup, RemovesGroup, sets_limits};
+ghost use Rattle.page_state.specs.Changes.{counts_event, AddsGroup, RemovesGroup, sets_limits};
 
 use crate::joined::State;
 use machine::amount::Amount;
@@ -64,7 +63,7 @@ impl State {
     /// How often each key was counted at the group or anywhere below it.
     pub fn events(&self, group: GroupId) -> EventCounts
         requires { is_live self.now.tables.tree group.0 ≡ true }
-        ensures { (counted : List Counted) → Tells self.now.tallies counted → result ≡ counts_by (total self.now.tables.tree counted group.0) }
+        ensures { result ≡ counts_by (total self.now.tables.tree self.now.tables.counted group.0) }
     {
         self.events.totals(group)
     }
@@ -72,7 +71,7 @@ impl State {
     /// How often each key was counted at the group itself.
     pub fn local_events(&self, group: GroupId) -> EventCounts
         requires { is_live self.now.tables.tree group.0 ≡ true }
-        ensures { (counted : List Counted) → Tells self.now.tallies counted → result ≡ counts_by (local counted group.0) }
+        ensures { result ≡ counts_by (local self.now.tables.counted group.0) }
     {
         self.events.locals(group)
     }
@@ -80,11 +79,11 @@ impl State {
     /// Counts the key once at the group (kernel: `memcg_memory_event`).
     pub fn count(&mut self, group: GroupId, key: Key)
         requires live { is_live self.old.tables.tree group.0 ≡ true }
-        requires few { total_of self.old.tallies 0 key < u64.MAX }
-        ensures counts { CountsEvent self.old self.new group.0 key }
-        ensures others { (k : Key_of) → is_key key k ≡ false → total_of self.new.tallies 0 k ≡ total_of self.old.tallies 0 k }
+        requires few { total self.old.tables.tree self.old.tables.counted 0 key < u64.MAX }
+        ensures counts { self.new ≡ counts_event self.old group.0 key }
+        ensures others { (k : Key_of) → is_key key k ≡ false → total self.new.tables.tree self.new.tables.counted 0 k ≡ total self.old.tables.tree self.old.tables.counted 0 k }
     {
-        self.events.are_told();
+        self.events.are_counted();
         self.events.count(group, key);
     }
 

@@ -33,7 +33,7 @@ use frames::{FRAME_BYTES, Frame, Pool};
 use group_tree::Tree;
 use machine::amount::Amount;
 use machine::bytes::PageBytes;
-use machine::id::{GroupId, PageId, WorkerId};
+use machine::id::{GroupId, PageId};
 use machine::record::{Direction, Kind};
 use page_counter::{Charge, Counters};
 use pages::{End, FilePage, InTicket, OutTicket, Pages, WayOut};
@@ -340,15 +340,9 @@ impl Holdings {
 
     /// Begins to read in memory that is on its block. There is room for it. The memory of the bytes that
     /// will arrive is asked for; where it is wanting, nothing changes.
-    pub fn start_in(
-        &mut self,
-        alloc: Global,
-        page: PageId,
-        worker: WorkerId,
-        entry: u32,
-    ) -> Result<InTicket, AllocError>
+    pub fn start_in(&mut self, alloc: Global, page: PageId) -> Result<InTicket, AllocError>
         requires away { (g b : ℕ) × HasResidence self.old.stored.pages page.0 (memory_of g) (residence.Away b) × IsGranted self.old g }
-        ensures begins { IfOk result (λ ticket. (g b : ℕ) → HasResidence self.old.stored.pages page.0 (memory_of g) (residence.Away b) → BeginsIn self.old self.new page.0 (memory_of g) b worker.0 entry ticket) }
+        ensures begins { IfOk result (λ ticket. (g b : ℕ) → HasResidence self.old.stored.pages page.0 (memory_of g) (residence.Away b) → BeginsIn self.old self.new page.0 (memory_of g) b ticket) }
         ensures err { OnErr result (self.new ≡ self.old) }
     {
         self.counters.are_counted();
@@ -356,9 +350,7 @@ impl Holdings {
         let group = group_of(&self.pages, page);
         let buffer = buffer(alloc)?;
         let (frame, charge) = take_room(&mut self.counters, &mut self.pool, group);
-        let ticket = self
-            .pages
-            .start_in(page, frame, charge, worker, entry, buffer);
+        let ticket = self.pages.start_in(page, frame, charge, buffer);
         self.moving.push(page);
         Ok(ticket)
     }
@@ -371,14 +363,12 @@ impl Holdings {
         alloc: Global,
         at: FilePage,
         group: GroupId,
-        worker: WorkerId,
-        entry: u32,
     ) -> Result<InTicket, AllocError>
         requires inside { at.page < slice_index self.old.files at.file }
         requires none { file_page self.old.stored.pages at.file at.page ≡ None }
         requires live { is_live self.old.kin group.0 ≡ true }
         requires granted { IsGranted self.old group.0 }
-        ensures begins { IfOk result (λ ticket. BeginsInFile self.old self.new at.file at.page group.0 worker.0 entry ticket) }
+        ensures begins { IfOk result (λ ticket. BeginsInFile self.old self.new at.file at.page group.0 ticket) }
         ensures err { OnErr result (self.new ≡ self.old) }
     {
         self.counters.are_counted();
@@ -386,9 +376,7 @@ impl Holdings {
         self.pages.are_filed();
         let buffer = buffer(alloc)?;
         let (frame, charge) = take_room(&mut self.counters, &mut self.pool, group);
-        let (page, ticket) = self
-            .pages
-            .start_in_file(at, frame, charge, worker, entry, buffer);
+        let (page, ticket) = self.pages.start_in_file(at, frame, charge, buffer);
         self.moving.push(page);
         Ok(ticket)
     }
@@ -396,15 +384,15 @@ impl Holdings {
     /// The page, which is in a frame, leaves it: it begins to be written out, memory to a swap block, of which
     /// one is free then, a page of a file that was written to to its home block; or, where there is no
     /// ticket, it is a page of a file as its home block has it, and is gone. Takes no memory.
-    pub fn take_out(&mut self, page: PageId, worker: WorkerId, entry: u32) -> Option<OutTicket>
+    pub fn take_out(&mut self, page: PageId) -> Option<OutTicket>
         requires held { is_held_in self.old.stored.pages page.0 ≡ true }
         requires swap { (x : Page) → page_at self.old.stored.pages page.0 ≡ Some x → is_anon x.content ≡ true → used_swap self.old.stored.pages < self.old.swap }
-        ensures { (label : Label) (f : ℕ) → HasResidence self.old.stored.pages page.0 label (residence.Held f) → LeavesSo self.old self.new page.0 label f worker.0 entry result }
+        ensures { (label : Label) (f : ℕ) → HasResidence self.old.stored.pages page.0 label (residence.Held f) → LeavesSo self.old self.new page.0 label f result }
     {
         self.pages.are_filed();
         match self.pages.way_out(page) {
-            WayOut::ToSwap => Some(self.start_out(page, worker, entry)),
-            WayOut::ToHome => Some(self.start_home(page, worker, entry)),
+            WayOut::ToSwap => Some(self.start_out(page)),
+            WayOut::ToHome => Some(self.start_home(page)),
             WayOut::Dropped => {
                 self.drop_page(page);
                 None
@@ -413,10 +401,10 @@ impl Holdings {
     }
 
     /// Begins to write out memory that is in a frame, a swap block being free.
-    fn start_out(&mut self, page: PageId, worker: WorkerId, entry: u32) -> OutTicket
+    fn start_out(&mut self, page: PageId) -> OutTicket
         requires held { (g f : ℕ) × HasResidence self.old.stored.pages page.0 (memory_of g) (residence.Held f) }
         requires swap { used_swap self.old.stored.pages < self.old.swap }
-        ensures { (g f : ℕ) → HasResidence self.old.stored.pages page.0 (memory_of g) (residence.Held f) → BeginsOut self.old self.new page.0 (memory_of g) f worker.0 entry result }
+        ensures { (g f : ℕ) → HasResidence self.old.stored.pages page.0 (memory_of g) (residence.Held f) → BeginsOut self.old self.new page.0 (memory_of g) f result }
     {
         self.pages.are_in_flight();
         self.pages.are_numbered();
@@ -424,24 +412,24 @@ impl Holdings {
         self.held.are_generations();
         let slot = take_slot(&mut self.slots);
         let spare = take_spare(&mut self.pool);
-        let ticket = self.pages.start_out(page, slot, spare, worker, entry);
+        let ticket = self.pages.start_out(page, slot, spare);
         self.held.leave(page);
         self.moving.push(page);
         ticket
     }
 
     /// Begins to write a page of a file, which was written to and is in a frame, to its home block.
-    fn start_home(&mut self, page: PageId, worker: WorkerId, entry: u32) -> OutTicket
+    fn start_home(&mut self, page: PageId) -> OutTicket
         requires held { (file q g f : ℕ) × HasResidence self.old.stored.pages page.0 (of_file file q g true) (residence.Held f) }
         ensures { (file q g f : ℕ) → HasResidence self.old.stored.pages page.0 (of_file file q g true) (residence.Held f)
-            → BeginsOut self.old self.new page.0 (of_file file q g true) f worker.0 entry result }
+            → BeginsOut self.old self.new page.0 (of_file file q g true) f result }
     {
         self.pages.are_in_flight();
         self.pages.are_numbered();
         self.pages.are_filed();
         self.held.are_generations();
         let spare = take_spare(&mut self.pool);
-        let ticket = self.pages.start_home(page, spare, worker, entry);
+        let ticket = self.pages.start_home(page, spare);
         self.held.leave(page);
         self.moving.push(page);
         ticket

@@ -7,8 +7,6 @@ ghost use Rattle.machine.specs.Pages.{page_at, used_frames, in_transfer};
 ghost use Rattle.machine.specs.Tasks.{lives, group_of_task, mapped_at};
 ghost use Rattle.machine.specs.Access.{task_pages};
 ghost use Rattle.machine.specs.Lists.{first_order, ListsHeld, AreGenerations};
-ghost use Rattle.group_tree.specs.Lineages.{IsLineage};
-ghost use Rattle.memory_events.specs.Tallies.{Tells};
 ghost use Rattle.pages.specs.PagesOf.{AreInFlight, AreFiled};
 ghost use Rattle.page_state.specs.States.{byte_at};
 ghost use Rattle.page_state.specs.Mapped.{AreMapped};
@@ -56,7 +54,6 @@ impl State {
         ensures order { IfOk result (λ s. s.order ≡ first_order (opening_of config)) }
         ensures bytes { IfOk result (λ s. (t v o : ℕ) → byte_at s t v o ≡ 0) }
         ensures flights { IfOk result (λ s. s.flights ≡ []) }
-        ensures told { IfOk result (λ s. Tells s.tallies []) }
     {
         let tree = Tree::open(alloc)?;
         let events = Events::new(alloc)?;
@@ -143,15 +140,14 @@ impl State {
         self.holdings.pages()
     }
 
-    /// Nothing is done: what holds of all joined parts. What the opening fixed is within its limits; the
-    /// groups whose events are counted hang together; the root is there, and so is the group of each live
+    /// Nothing is done: what holds of all joined parts. What the opening fixed is within its limits;
+    /// the root is there, and so is the group of each live
     /// task and of each page; the pages that are mapped are there, live tasks map them, and no page of a
     /// file is mapped; the transfers in flight are those of the pages in transfer; no page of a file is
     /// there twice, and each is at home; each held page is on the list of its group and type, once, and no
     /// other page is; and each group has its lists, two to four generations of a type, and its cursor.
     pub fn is_joined(&self)
         ensures limit { self.now.tables.opening.trace_limit ≤ 1048576 }
-        ensures lineage { IsLineage self.now.tallies.tree }
         ensures root { is_live self.now.tables.tree 0 ≡ true }
         ensures homes { (t : ℕ) → lives self.now.tables.tasks t ≡ true → is_live self.now.tables.tree (group_of_task self.now.tables.tasks t) ≡ true }
         ensures groups { (p : ℕ) → IfSome (page_at self.now.tables.pages p) (λ page. is_live self.now.tables.tree page.group ≡ true) }
@@ -165,7 +161,6 @@ impl State {
         ensures lists { length self.now.order.held.groups ≡ length self.now.tables.tree }
         ensures cursors { length self.now.order.cursors ≡ length self.now.tables.tree }
     {
-        self.events.are_told();
         self.holdings.are_counted();
         self.spaces.owners();
     }

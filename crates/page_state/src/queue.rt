@@ -2,7 +2,8 @@
 
 ghost use Rattle.std.specs.Prelude.{◌≡◌, ℕ, ◌+◌, ◌<◌, ◌==◌, ◌++◌, ◌∷◌, [], not, length, IfOk, if◌then◌else◌};
 ghost use Rattle.std.specs.List.{filter};
-ghost use Rattle.page_state.specs.Queue.{numbers_of, page_count};
+ghost use Rattle.counts.specs.Numbers.{times};
+ghost use Rattle.page_state.specs.Queue.{numbers_of};
 
 use machine::id::PageId;
 use std::alloc::{AllocError, Global};
@@ -51,7 +52,7 @@ impl Queue {
     pub fn push(&mut self, page: PageId)
         requires room { length self.old.numbers < self.old.room }
         ensures last { self.new.numbers ≡ self.old.numbers ++ page.0 ∷ [] }
-        ensures counts { (n : ℕ) → page_count self.new.numbers n ≡ page_count self.old.numbers n + (if page.0 == n then 1 else 0) }
+        ensures counts { (n : ℕ) → times self.new.numbers n ≡ times self.old.numbers n + (if page.0 == n then 1 else 0) }
         ensures more { length self.new.numbers ≡ length self.old.numbers + 1 }
         ensures room { self.new.room ≡ self.old.room }
     {
@@ -61,8 +62,8 @@ impl Queue {
     /// The page is no longer in the queue, and all others stay in their order.
     pub fn remove(&mut self, page: PageId)
         ensures others { self.new.numbers ≡ filter (λ n. not (n == page.0)) self.old.numbers }
-        ensures counts { (n : ℕ) → page_count self.new.numbers n + (if page.0 == n then page_count self.old.numbers page.0 else 0) ≡ page_count self.old.numbers n }
-        ensures fewer { length self.new.numbers + page_count self.old.numbers page.0 ≡ length self.old.numbers }
+        ensures counts { (n : ℕ) → times self.new.numbers n + (if page.0 == n then times self.old.numbers page.0 else 0) ≡ times self.old.numbers n }
+        ensures fewer { length self.new.numbers + times self.old.numbers page.0 ≡ length self.old.numbers }
         ensures room { self.new.room ≡ self.old.room }
     {
         self.order.retain(|other| *other != page);

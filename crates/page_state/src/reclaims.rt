@@ -8,7 +8,7 @@ ghost use Rattle.page_state.specs.States.{AreYoung};
 ghost use Rattle.page_state.specs.Changes.{TakesPage};
 
 use crate::joined::State;
-use machine::id::{GroupId, WorkerId};
+use machine::id::GroupId;
 use pages::OutTicket;
 
 impl State {
@@ -31,23 +31,17 @@ impl State {
 
     /// Of the group that is served the page that is evicted next leaves its frame, and the target's cursor
     /// names the group: the page begins to be written out under the ticket; or, where there is none, it is a
-    /// page of a file as its home block has it, and is dropped (kernel: shrink_folio_list). `entry` is the
-    /// place that the trace's entry will have. Takes no memory.
-    pub fn take_out(
-        &mut self,
-        target: GroupId,
-        group: GroupId,
-        worker: WorkerId,
-        entry: u32,
-    ) -> Option<OutTicket>
+    /// page of a file as its home block has it, and is dropped (kernel: shrink_folio_list). Takes no
+    /// memory.
+    pub fn take_out(&mut self, target: GroupId, group: GroupId) -> Option<OutTicket>
         requires live { is_live self.old.tables.tree target.0 ≡ true }
         requires next { served self.old.tables self.old.order target.0 ≡ Some group.0 }
         requires young { AreYoung self.old.order.held }
-        ensures { TakesPage self.old self.new target.0 worker.0 entry result }
+        ensures { TakesPage self.old self.new target.0 result }
     {
         self.holdings.are_counted();
         let page = self.holdings.pick(group);
         self.cursors.serve(target, group);
-        self.holdings.take_out(page, worker, entry)
+        self.holdings.take_out(page)
     }
 }

@@ -1,7 +1,7 @@
 //! What pages owned is given back.
 
 ghost use Rattle.std.specs.Prelude.{◌≡◌, ℕ, ◌+◌, ◌<◌, true, false, length, vec_len};
-ghost use Rattle.block_store.specs.Slots.{slot_count};
+ghost use Rattle.counts.specs.Numbers.{times};
 ghost use Rattle.page_counter.specs.Counts.{SameGroups};
 ghost use Rattle.pages.specs.Records.{page_of};
 ghost use Rattle.page_state.specs.Owned.{AreKept, Leaves, Releases, as_number, is_slot, has_slot, pages_of};
@@ -53,9 +53,9 @@ pub fn release(owned: OwnedPage, counters: &mut Counters, pool: &mut Pool, slots
 
 /// Gives back the slot of memory that was in transfer. A home block is nobody's.
 fn give_backing(backing: Backing, slots: &mut Slots)
-    requires out { (b : ℕ) → is_slot backing b ≡ true → slot_count slots.old.free b ≡ 0 }
+    requires out { (b : ℕ) → is_slot backing b ≡ true → times slots.old.free b ≡ 0 }
     requires in_range { (b : ℕ) → is_slot backing b ≡ true → b < slots.old.blocks }
-    ensures counts { (b : ℕ) → slot_count slots.new.free b ≡ slot_count slots.old.free b + as_number (is_slot backing b) }
+    ensures counts { (b : ℕ) → times slots.new.free b ≡ times slots.old.free b + as_number (is_slot backing b) }
     ensures more { length slots.new.free ≡ length slots.old.free + as_number (has_slot backing) }
     ensures blocks { slots.new.blocks ≡ slots.old.blocks }
 {

@@ -2,7 +2,7 @@
 
 ghost use Rattle.std.specs.Prelude.{◌≡◌, ℕ, ◌+◌, ◌<◌, true, length, None};
 ghost use Rattle.machine.specs.Tree.{is_live};
-ghost use Rattle.frames.specs.Pool.{free_count};
+ghost use Rattle.counts.specs.Numbers.{times};
 ghost use Rattle.page_counter.specs.Counts.{Charges, IsOut, usage_of, over_in};
 ghost use Rattle.page_state.specs.Room.{LacksFrame, LacksBlock, TakesRoom};
 
@@ -40,7 +40,7 @@ pub fn take_room(counters: &mut Counters, pool: &mut Pool, group: GroupId) -> (F
 
 /// Gives a frame back, and takes the charge back.
 pub fn give_room(frame: Frame, charge: Charge, counters: &mut Counters, pool: &mut Pool)
-    requires out { free_count pool.old.free frame.number ≡ 0 }
+    requires out { times pool.old.free frame.number ≡ 0 }
     requires in_range { frame.number < pool.old.frames }
     requires charged { IsOut counters.old charge }
     ensures frame { LacksFrame pool.new pool.old frame.number }

@@ -93,8 +93,8 @@ module _ (old new : Pages) (p : ℕ) (to : Option Page) (placed : Changes old ne
   }
 
   -- a transfer begins under a free ticket
-  pub AreInFlight-begun : (flights later : List (Option Flight)) (n worker : ℕ) (direction : Direction) (label : Label) (frame block : ℕ) → to ≡ Some (labelled label (moving direction frame block n)) → AreInFlight old flights → IsSettled (page_at old p) → at flights n ≡ None → Changes flights later n (Some (flight p worker direction)) → AreInFlight new later
-  AreInFlight-begun flights later n worker direction label frame block begun is before free listed = record {
+  pub AreInFlight-begun : (flights later : List (Option Flight)) (n : ℕ) (direction : Direction) (label : Label) (frame block : ℕ) → to ≡ Some (labelled label (moving direction frame block n)) → AreInFlight old flights → IsSettled (page_at old p) → at flights n ≡ None → Changes flights later n (Some (flight p direction)) → AreInFlight new later
+  AreInFlight-begun flights later n direction label frame block begun is before free listed = record {
     known = λ m. elim (eqb_tells m n) [
       | inl same ↦ subst (λ k. IfSome (at later k) (IsInTransfer new k)) (sym same.1) (subst (λ slot. IfSome slot (IsInTransfer new n)) (sym listed.changed) (record { label = label; frame = frame; block = block; stands = placed.changed ∙ begun }))
       | inr apart ↦ subst (λ slot. IfSome slot (IsInTransfer new m)) (sym (listed.others m apart.1)) (known-apart m (at flights m) (λ moves. let not = sym (before m) ∙ moves in cc) (is.known m))

@@ -21,7 +21,8 @@ use Rattle.pages.specs.declared.owned_page.Content.{Content as Holds}
 use Rattle.pages.specs.declared.owned_page.Content.TheVariants as holds
 use Rattle.files.specs.Files.{FilesOf}
 use Rattle.pages.specs.PagesOf.{Label, label_of, labelled, of_file, moving, flight, byte_of, byte_in, HasResidence, is_under_ticket, IsInTransfer, AreInFlight}
-use Rattle.pages.specs.Transfers.{Starts, Ends, on_block_as, page_after, IsFreed, given_ticket}
+use Rattle.pages.specs.Tickets.{new_ticket}
+use Rattle.pages.specs.Transfers.{Starts, Ends, on_block_as, page_after, IsFreed}
 use Rattle.rings.specs.Rings.{RingsOf, list_at, without}
 use Rattle.pages.specs.Records.{page_of, bytes_of, label_holding, file_at, place_in, is_of, AreMembers, AreCached, AreHome, view_of, ArePages}
 use Rattle.pages.proofs.TableLemmas.{at-map, is_some-map, map-set, place_within, Changes-map, Changes-set, taken-changes, free-page}
@@ -311,10 +312,10 @@ module _ {T : Type 0} {numbers numbers' : Slab T} {old new : List (Option OwnedP
 -- ---- how a transfer begins
 
 -- the steps of a beginning: the transfer is listed under a free ticket, and what its page owns is another thing
-pub record Takeoff {T : Type 0} (numbers numbers' : Slab T) (old new : List (Option OwnedPage)) (places room : ℕ) (flights later : Slab Flight) (members members' : RingsOf) (files : FilesOf) (cache cache' : List (Option PageId)) (n p worker : ℕ) (direction : Direction) (label : Label) (frame block : ℕ) (to : OwnedPage) : Type 0 where
+pub record Takeoff {T : Type 0} (numbers numbers' : Slab T) (old new : List (Option OwnedPage)) (places room : ℕ) (flights later : Slab Flight) (members members' : RingsOf) (files : FilesOf) (cache cache' : List (Option PageId)) (n p : ℕ) (direction : Direction) (label : Label) (frame block : ℕ) (to : OwnedPage) : Type 0 where
   pub are : ArePages numbers old places flights members files cache
   pub free : at flights.slots n ≡ None
-  pub listed : Changes flights.slots later.slots n (Some (flight p worker direction))
+  pub listed : Changes flights.slots later.slots n (Some (flight p direction))
   pub len : slab_len later ≡ slab_len flights + 1
   pub fits : HasRoomFor flights 1
   pub capacity : later.capacity ≡ flights.capacity
@@ -325,18 +326,18 @@ pub record Takeoff {T : Type 0} (numbers numbers' : Slab T) (old new : List (Opt
   pub filed : IsFiled files.first files.sizes (page_of to)
   pub beside : Fits numbers numbers' new members members' files cache cache'
 
-module _ {T : Type 0} {numbers numbers' : Slab T} {old new : List (Option OwnedPage)} {places room : ℕ} {flights later : Slab Flight} {members members' : RingsOf} {files : FilesOf} {cache cache' : List (Option PageId)} {n p worker : ℕ} {direction : Direction} {label : Label} {frame block : ℕ} {to : OwnedPage} (takeoff : Takeoff numbers numbers' old new places room flights later members members' files cache cache' n p worker direction label frame block to) where
+module _ {T : Type 0} {numbers numbers' : Slab T} {old new : List (Option OwnedPage)} {places room : ℕ} {flights later : Slab Flight} {members members' : RingsOf} {files : FilesOf} {cache cache' : List (Option PageId)} {n p : ℕ} {direction : Direction} {label : Label} {frame block : ℕ} {to : OwnedPage} (takeoff : Takeoff numbers numbers' old new places room flights later members members' files cache cache' n p direction label frame block to) where
   pub Takeoff-are : ArePages numbers' new room later members' files cache'
   Takeoff-are =
       let is = takeoff.are in
       let placed = Changes-map page_of old new p (Some to) takeoff.changes in
       Fits-are takeoff.beside is takeoff.same_places takeoff.capacity
-      (AreInFlight-begun (pages_of old) (pages_of new) p (Some (page_of to)) placed flights.slots later.slots n worker direction label frame block (ap Some takeoff.moves) is.in_flight takeoff.settled takeoff.free takeoff.listed)
+      (AreInFlight-begun (pages_of old) (pages_of new) p (Some (page_of to)) placed flights.slots later.slots n direction label frame block (ap Some takeoff.moves) is.in_flight takeoff.settled takeoff.free takeoff.listed)
       (AreHome-changes files (pages_of old) (pages_of new) p (Some (page_of to)) placed takeoff.filed is.filed)
 
-  pub Takeoff-starts : (l : Label) (f b entry : ℕ) (bytes : List ℕ) → page_of to ≡ labelled l (moving direction f b n)
-      → Starts (view_of numbers old flights members files) (view_of numbers' new later members' files) p l direction f b worker entry (given_ticket n worker entry b bytes)
-  Takeoff-starts l f b entry bytes is = record {
+  pub Takeoff-starts : (l : Label) (f b : ℕ) (bytes : List ℕ) → page_of to ≡ labelled l (moving direction f b n)
+      → Starts (view_of numbers old flights members files) (view_of numbers' new later members' files) p l direction f b (new_ticket n b bytes)
+  Takeoff-starts l f b bytes is = record {
     free = takeoff.free;
     listed = takeoff.listed;
     placed = changed-page old new p (Some to) takeoff.changes p _ refl (ap Some is);

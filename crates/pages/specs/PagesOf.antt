@@ -79,8 +79,8 @@ is_moving_in pages p = there_and is_in_transfer (page_at pages p)
 abbrev pub is_under_ticket : Pages → ℕ → ℕ → Bool
 is_under_ticket pages p n = there_and (λ page. is_number (ticket_at page.residence) n) (page_at pages p)
 
-abbrev pub flight : ℕ → ℕ → Direction → Flight
-flight p worker direction = record { page = record { 0 = p }; worker = record { 0 = worker }; direction = direction }
+abbrev pub flight : ℕ → Direction → Flight
+flight p direction = record { page = record { 0 = p }; direction = direction }
 
 abbrev pub is_direction : Direction → Direction → Bool
 is_direction In In = true

@@ -1,5 +1,5 @@
 -- How transfers begin and end.
-use Rattle.std.specs.Prelude.{◌≡◌, ◌≢◌, ℕ, ◌+◌, ◌<◌, true, false, List, Option, Some, None, slice_index}
+use Rattle.std.specs.Prelude.{◌≡◌, ◌≢◌, ℕ, ◌+◌, ◌<◌, true, false, Option, Some, None, slice_index}
 use Rattle.machine.specs.Slots.{at, Changes}
 use Rattle.machine.specs.Pages.{Content, Memory, OfFile, Held, Away, Page, is_anon}
 use Rattle.machine.specs.Access.{page_size}
@@ -9,19 +9,15 @@ use Rattle.pages.specs.declared.end.End.{End}
 use Rattle.pages.specs.declared.end.End.TheVariants.{InFrame, OnBlock}
 use Rattle.pages.specs.declared.end.Freed.{Freed}
 use Rattle.pages.specs.declared.end.Freed.TheVariants as freed
-use Rattle.pages.specs.Tickets.{TicketOf}
+use Rattle.pages.specs.Tickets.{TicketOf, new_ticket}
 use Rattle.pages.specs.PagesOf.{PagesOf, byte_in, Label, labelled, moving, flight}
 
--- a ticket as it is given out
-abbrev pub given_ticket : ℕ → ℕ → ℕ → ℕ → List ℕ → TicketOf
-given_ticket n worker entry block bytes = record { number = n; worker = worker; entry = entry; block = block; handed = false; bytes = bytes }
-
 -- a transfer of a page begins, in this direction, under a ticket that was free
-pub record Starts (old new : PagesOf) (p : ℕ) (label : Label) (direction : Direction) (frame block worker entry : ℕ) (ticket : TicketOf) : Type 0 where
+pub record Starts (old new : PagesOf) (p : ℕ) (label : Label) (direction : Direction) (frame block : ℕ) (ticket : TicketOf) : Type 0 where
   pub free : at old.flights ticket.number ≡ None
-  pub listed : Changes old.flights new.flights ticket.number (Some (flight p worker direction))
+  pub listed : Changes old.flights new.flights ticket.number (Some (flight p direction))
   pub placed : Changes old.pages new.pages p (Some (labelled label (moving direction frame block ticket.number)))
-  pub given : ticket ≡ given_ticket ticket.number worker entry block ticket.bytes
+  pub given : ticket ≡ new_ticket ticket.number block ticket.bytes
   pub fewer : old.tickets ≡ new.tickets + 1
   pub numbers : new.numbers ≡ old.numbers
   pub groups : new.groups ≡ old.groups
@@ -29,13 +25,13 @@ pub record Starts (old new : PagesOf) (p : ℕ) (label : Label) (direction : Dir
   pub files : new.files ≡ old.files
 
 -- a page is read from its block into a frame
-pub record StartsIn (old new : PagesOf) (p : ℕ) (label : Label) (frame block worker entry : ℕ) (ticket : TicketOf) : Type 0 where
-  pub starts : Starts old new p label In frame block worker entry ticket
+pub record StartsIn (old new : PagesOf) (p : ℕ) (label : Label) (frame block : ℕ) (ticket : TicketOf) : Type 0 where
+  pub starts : Starts old new p label In frame block ticket
   pub bytes : (q o : ℕ) → q ≢ p → byte_in new.bytes q o ≡ byte_in old.bytes q o
 
 -- a page in a frame is written to a block; the ticket has a copy of its bytes
-pub record StartsOut (old new : PagesOf) (p : ℕ) (label : Label) (frame block worker entry : ℕ) (ticket : TicketOf) : Type 0 where
-  pub starts : Starts old new p label Out frame block worker entry ticket
+pub record StartsOut (old new : PagesOf) (p : ℕ) (label : Label) (frame block : ℕ) (ticket : TicketOf) : Type 0 where
+  pub starts : Starts old new p label Out frame block ticket
   pub holds : (o : ℕ) → o < page_size → slice_index ticket.bytes o ≡ byte_in old.bytes p o
   pub bytes : (q o : ℕ) → byte_in new.bytes q o ≡ byte_in old.bytes q o
 

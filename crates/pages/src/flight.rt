@@ -1,6 +1,6 @@
 //! Transfers in flight.
 
-use machine::id::{PageId, WorkerId};
+use machine::id::PageId;
 use machine::record::Direction;
 
 /// A transfer in flight, by its ticket.
@@ -8,8 +8,6 @@ use machine::record::Direction;
 pub struct Flight {
     /// The page that is in transfer.
     pub page: PageId,
-    /// The worker that has the ticket.
-    pub worker: WorkerId,
     /// Which way it goes.
     pub direction: Direction,
 }

@@ -40,7 +40,7 @@ mod way;
 use block_store::Slot;
 use files::Files;
 use frames::{FRAME_BYTES, Frame, Spare};
-use machine::id::{GroupId, PageId, TicketId, WorkerId};
+use machine::id::{GroupId, PageId, TicketId};
 use machine::record::{Direction, Kind};
 use page_counter::{Charge, Counters};
 use rings::{ListId, Rings};
@@ -312,13 +312,11 @@ impl Pages {
         page: PageId,
         frame: Frame,
         charge: Charge,
-        worker: WorkerId,
-        entry: u32,
         buffer: Box<[u8; FRAME_BYTES]>,
     ) -> InTicket
         requires away { (block : ℕ) × HasResidence self.old.pages page.0 (memory_of charge) (Away block) }
         requires room { 0 < self.old.tickets }
-        ensures { (block : ℕ) → HasResidence self.old.pages page.0 (memory_of charge) (Away block) → StartsIn self.old self.new page.0 (memory_of charge) frame.number block worker.0 entry result }
+        ensures { (block : ℕ) → HasResidence self.old.pages page.0 (memory_of charge) (Away block) → StartsIn self.old self.new page.0 (memory_of charge) frame.number block result }
     {
         let slot = into_away(take_at(&mut self.owned, page));
         let block = slot.block();
@@ -326,7 +324,6 @@ impl Pages {
             &mut self.flights,
             Flight {
                 page,
-                worker,
                 direction: Direction::In,
             },
         );
@@ -337,7 +334,7 @@ impl Pages {
             ticket,
         };
         place(&mut self.owned, page, coming);
-        InTicket::new(ticket, worker, entry, block, buffer)
+        InTicket::new(ticket, block, buffer)
     }
 
     /// A page of a file that no page holds is from now on being read from its home block into the frame,
@@ -347,8 +344,6 @@ impl Pages {
         at: FilePage,
         frame: Frame,
         charge: Charge,
-        worker: WorkerId,
-        entry: u32,
         buffer: Box<[u8; FRAME_BYTES]>,
     ) -> (PageId, InTicket)
         requires inside { at.page < slice_index self.old.files.sizes at.file }
@@ -359,7 +354,7 @@ impl Pages {
         ensures within { result.0.0 < self.old.numbers }
         ensures free { page_at self.old.pages result.0.0 ≡ None }
         ensures starts { StartsIn self.old self.new result.0.0 (of_file at.file at.page charge false) frame.number
-            (home_block self.old.files.first self.old.files.sizes at.file at.page) worker.0 entry result.1 }
+            (home_block self.old.files.first self.old.files.sizes at.file at.page) result.1 }
     {
         let index = home_place(&self.files, at.file, at.page);
         let block = home(&self.files, at.file, at.page);
@@ -369,7 +364,6 @@ impl Pages {
             &mut self.flights,
             Flight {
                 page,
-                worker,
                 direction: Direction::In,
             },
         );
@@ -386,23 +380,16 @@ impl Pages {
         place(&mut self.owned, page, coming);
         self.members.push_back(ListId(group.0), page);
         self.cache[index] = Some(page);
-        let ticket = InTicket::new(ticket, worker, entry, block, buffer);
+        let ticket = InTicket::new(ticket, block, buffer);
         (page, ticket)
     }
 
     /// Memory in a frame is from now on being written to the slot. The ticket has a copy of its bytes
     /// in the spare. Takes no memory.
-    pub fn start_out(
-        &mut self,
-        page: PageId,
-        slot: Slot,
-        mut spare: Spare,
-        worker: WorkerId,
-        entry: u32,
-    ) -> OutTicket
+    pub fn start_out(&mut self, page: PageId, slot: Slot, mut spare: Spare) -> OutTicket
         requires held { (g f : ℕ) × HasResidence self.old.pages page.0 (memory_of g) (Held f) }
         requires room { 0 < self.old.tickets }
-        ensures { (g f : ℕ) → HasResidence self.old.pages page.0 (memory_of g) (Held f) → StartsOut self.old self.new page.0 (memory_of g) f slot worker.0 entry result }
+        ensures { (g f : ℕ) → HasResidence self.old.pages page.0 (memory_of g) (Held f) → StartsOut self.old self.new page.0 (memory_of g) f slot result }
     {
         let (frame, charge, _) = into_held(take_at(&mut self.owned, page));
         spare.fill(frame.bytes());
@@ -411,7 +398,6 @@ impl Pages {
             &mut self.flights,
             Flight {
                 page,
-                worker,
                 direction: Direction::Out,
             },
         );
@@ -422,22 +408,16 @@ impl Pages {
             ticket,
         };
         place(&mut self.owned, page, going);
-        OutTicket::new(ticket, worker, entry, block, spare)
+        OutTicket::new(ticket, block, spare)
     }
 
     /// A page of a file in a frame, which was written to, is from now on being written to its home block.
     /// The ticket has a copy of its bytes in the spare. Takes no memory.
-    pub fn start_home(
-        &mut self,
-        page: PageId,
-        mut spare: Spare,
-        worker: WorkerId,
-        entry: u32,
-    ) -> OutTicket
+    pub fn start_home(&mut self, page: PageId, mut spare: Spare) -> OutTicket
         requires held { (file q g f : ℕ) × HasResidence self.old.pages page.0 (of_file file q g true) (Held f) }
         requires room { 0 < self.old.tickets }
         ensures { (file q g f : ℕ) → HasResidence self.old.pages page.0 (of_file file q g true) (Held f)
-            → StartsOut self.old self.new page.0 (of_file file q g true) f (home_block self.old.files.first self.old.files.sizes file q) worker.0 entry result }
+            → StartsOut self.old self.new page.0 (of_file file q g true) f (home_block self.old.files.first self.old.files.sizes file q) result }
     {
         let (frame, charge, content) = into_held(take_at(&mut self.owned, page));
         let at = file_page_of(content);
@@ -447,7 +427,6 @@ impl Pages {
             &mut self.flights,
             Flight {
                 page,
-                worker,
                 direction: Direction::Out,
             },
         );
@@ -462,7 +441,7 @@ impl Pages {
             ticket,
         };
         place(&mut self.owned, page, going);
-        OutTicket::new(ticket, worker, entry, block, spare)
+        OutTicket::new(ticket, block, spare)
     }
 
     /// The transfer of a ticket's number, if it is in flight.

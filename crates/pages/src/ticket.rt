@@ -1,8 +1,8 @@
 //! Tickets of transfers in flight.
 
-ghost use Rattle.std.specs.Prelude.{◌≡◌, ℕ, List, ◌<◌, true, false, length};
+ghost use Rattle.std.specs.Prelude.{◌≡◌, ℕ, List, ◌<◌, true, length};
 ghost use Rattle.block_store.specs.Device.{ReadsBlock, WritesBlock};
-ghost use Rattle.pages.specs.Tickets.{handed_back};
+ghost use Rattle.pages.specs.Tickets.{new_ticket, stamped, handed_back};
 
 use block_store::{BlockDevice, Fault};
 use frames::{FRAME_BYTES, Spare};
@@ -66,21 +66,38 @@ impl<B: Carries> Model for Ticket<B> {
 }
 
 impl<B: Carries> Ticket<B> {
-    pub(crate) fn new(
-        number: TicketId,
-        worker: WorkerId,
-        entry: u32,
-        block: u32,
-        carried: B,
-    ) -> Self
-        ensures { result ≡ record { number = number.0; worker = worker.0; entry = entry; block = block; handed = false; bytes = B.bytes carried } }
+    // It is nobody's yet: whoever gives it out stamps it.
+    pub(crate) fn new(number: TicketId, block: u32, carried: B) -> Self
+        ensures { result ≡ new_ticket number.0 block (B.bytes carried) }
     {
+        Ticket {
+            number,
+            worker: WorkerId(0),
+            entry: 0,
+            block,
+            handed: false,
+            carried,
+        }
+    }
+
+    /// The same ticket, given out to the worker by the entry at this place of the trace, from 1.
+    pub fn stamp(self, worker: WorkerId, entry: u32) -> Self
+        ensures { result ≡ stamped self worker.0 entry }
+    {
+        let Ticket {
+            number,
+            worker: _,
+            entry: _,
+            block,
+            handed,
+            carried,
+        } = self;
         Ticket {
             number,
             worker,
             entry,
             block,
-            handed: false,
+            handed,
             carried,
         }
     }
@@ -92,14 +109,14 @@ impl<B: Carries> Ticket<B> {
         self.number
     }
 
-    /// The worker that it was given to.
+    /// The worker that it was given to, and 0 before it was stamped.
     pub fn worker(&self) -> WorkerId
         ensures { result.0 ≡ self.now.worker }
     {
         self.worker
     }
 
-    /// The place in the trace of the entry that gave it out, from 1.
+    /// The place in the trace of the entry that gave it out, from 1, and 0 before it was stamped.
     pub fn entry(&self) -> u32
         ensures { result ≡ self.now.entry }
     {

@@ -1,5 +1,5 @@
 use Rattle.std.proofs.Common.{arith, length-append, ◌∷◌, []}
-use Rattle.block_store.proofs.SlotLemmas.{filled_more, beyond_more}
+use Rattle.counts.proofs.NumberLemmas.{filled_more, beyond_more}
 use Rattle.block_store.proofs.slots.fill.Goals as goal
 
 pub loop-block-preserved : goal.loop-block-preserved

@@ -10,7 +10,6 @@ count-requires-2-clause-few c = subst (λ (n : ℕ). n < 18446744073709551615) (
 
 pub returns : goal.returns
 returns c =
-    λ worker entry.
-    carries-kill c.args.state.now c.count.new.self c.count-2.new.self c.end_task.new.self worker entry c.args.limit c.args.task c.in-Some.known.group.0 c.count.ensures.counts c.count-2.ensures.counts
+    carries-kill c.args.state.now c.count.new.self c.count-2.new.self c.end_task.new.self c.args.limit c.args.task c.in-Some.known.group.0 c.count.ensures.counts c.count-2.ensures.counts
     (known-home c.args.state.now.tables.tasks c.args.task.0 c.in-Some.known (sym (c.task.ensures ∙ ap (λ (ts : Tasks). task_at ts c.args.task.0) c.spaces.ensures.tasks) ∙ c.in-Some.is))
     c.end_task.ensures

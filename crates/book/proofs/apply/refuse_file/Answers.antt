@@ -11,13 +11,13 @@ count-requires-clause-live c = (subst (λ (why : NoRoom). MeetsInCache c.args.st
 pub returns-in-Over : goal.returns-in-Over
 returns-in-Over c =
     let s = c.args.state.now in
-    λ worker entry. rw c.in-Over.is
-    (carries-file_over s c.count.new.self worker entry c.args.touch c.in-Over.full c.is_joined.ensures.listed c.requires.touch
+    rw c.in-Over.is
+    (carries-file_over s c.count.new.self c.args.touch c.in-Over.full c.is_joined.ensures.listed c.requires.touch
     (subst (λ (why : NoRoom). MeetsInCache s.tables c.args.touch (cache.Lacks why)) c.in-Over.is c.requires.meets) c.count.ensures.counts)
 
 pub returns-in-NoFrame : goal.returns-in-NoFrame
 returns-in-NoFrame c =
     let s = c.args.state.now in
-    λ worker entry. rw c.in-NoFrame.is
-    (carries-file_no_frame s worker entry c.args.touch c.is_joined.ensures.listed c.requires.touch
+    rw c.in-NoFrame.is
+    (carries-file_no_frame s c.args.touch c.is_joined.ensures.listed c.requires.touch
     (subst (λ (why : NoRoom). MeetsInCache s.tables c.args.touch (cache.Lacks why)) c.in-NoFrame.is c.requires.meets))

@@ -10,9 +10,9 @@ pub returns-clause-own : goal.returns-clause-own
 returns-clause-own c =
     let past = c.call-reply.new.self in
     let said = c.call-reply.result in
-    let kept : past.state.opening ≡ c.args.book.now.state.opening = called_opening c.args.book.now past c.args.pass.now (event_of c.args.event) (reply_of said) c.call-reply.ensures.called in
-    let Own : Opening → Type 0 = λ o. OwnReply (blocks_in o) said in
-    subst Own kept (gives_own past c.args.pass.now.worker c.requires.first c.history_is_right.ensures.legal said c.call-reply.ensures.gives)
+    let kept : past.state.opening ≡ c.args.book.now.state.opening = called_opening c.args.book.now past c.args.pass.now.caller (event_of c.args.event) (reply_of said) c.call-reply.ensures.called in
+    let Own : Opening → Type 0 = λ o. OwnReply c.args.pass.now.caller.worker (blocks_in o) said in
+    subst Own kept (gives_own past c.args.pass.now.caller.worker c.history_is_right.ensures.legal said c.call-reply.ensures.gives)
 
 pub returns-clause-opening : goal.returns-clause-opening
-returns-clause-opening c = called_opening c.args.book.now c.call-reply.new.self c.args.pass.now (event_of c.args.event) (reply_of c.call-reply.result) c.call-reply.ensures.called
+returns-clause-opening c = called_opening c.args.book.now c.call-reply.new.self c.args.pass.now.caller (event_of c.args.event) (reply_of c.call-reply.result) c.call-reply.ensures.called

@@ -23,7 +23,7 @@ returns-in-Err-clause-starts g c =
 pub run_all-ran-requires : goal.run_all-ran-requires
 run_all-ran-requires g c =
     let disk : Disk = g.D.BlockDevice.disk c.args.device.now in
-    opened_on c.in-Ok.desk c.args.config disk (c.in-Ok.ensures.opens disk) c.in-Ok.ensures.asks (omega (arith, c.if-blocks.false, c.blocks-2.ensures, blocks_known c.args.config c.in-Some.blocks c.in-Some.ensures))
+    opened_on c.in-Ok.desk c.args.config disk (c.in-Ok.ensures.opens disk) (omega (arith, c.if-blocks.false, c.blocks-2.ensures, blocks_known c.args.config c.in-Some.blocks c.in-Some.ensures))
 
 pub returns-in-Ok-ran-clause-gives : goal.returns-in-Ok-ran-clause-gives
 returns-in-Ok-ran-clause-gives g c =

@@ -1,6 +1,7 @@
 use Rattle.std.proofs.Common.{arith, length-append, ◌∷◌, []}
 use Rattle.frames.specs.Pool.{numbers_of}
-use Rattle.frames.proofs.PoolLemmas.{filled_more, beyond_more, numbers_of-push}
+use Rattle.counts.proofs.NumberLemmas.{filled_more, beyond_more}
+use Rattle.frames.proofs.PoolLemmas.{numbers_of-push}
 use Rattle.frames.proofs.pool.fill.Goals as goal
 
 pub loop-number-preserved : goal.loop-number-preserved

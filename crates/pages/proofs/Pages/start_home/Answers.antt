@@ -8,7 +8,7 @@ use Rattle.pages.specs.declared.owned_page.OwnedPage.TheVariants as owned_page
 use Rattle.pages.specs.declared.owned_page.Backing.TheVariants as backing
 use Rattle.machine.specs.declared.record.Direction.TheVariants.{Out}
 use Rattle.pages.specs.PagesOf.{HasResidence, Label, of_file, labelled}
-use Rattle.pages.specs.Transfers.{given_ticket}
+use Rattle.pages.specs.Tickets.{new_ticket}
 use Rattle.pages.specs.Records.{page_of}
 use Rattle.pages.proofs.TableLemmas.{Changes-twice}
 use Rattle.pages.proofs.FlightLemmas.{IsSettled-is}
@@ -55,7 +55,7 @@ changes c = Changes-twice _ _ _ _ None _ c.take_at.ensures.gone c.place.ensures.
 own_charge : (c : goal.After-new) → c.into_held-frame.result.1 ≡ (page_of c.take_at.result).group
 own_charge c = sym (ap (λ label. label.group) c.into_held-frame.ensures.label ∙ holding-group c.into_held-frame.result.2 c.into_held-frame.result.1)
 
-takeoff : (c : goal.After-new) → Takeoff c.self.inside.numbers c.self.inside.numbers c.self.inside.owned.items c.place.new.slots.items (vec_capacity c.self.inside.owned) (vec_capacity c.place.new.slots) c.self.inside.flights c.list-ticket.new.flights c.self.inside.members c.self.inside.members c.self.inside.files c.self.inside.cache.items c.self.inside.cache.items c.list-ticket.result.0 c.args.page.0 c.args.worker.0 Out (own_label c) c.into_held-frame.result.0.number c.home-block.result (going c)
+takeoff : (c : goal.After-new) → Takeoff c.self.inside.numbers c.self.inside.numbers c.self.inside.owned.items c.place.new.slots.items (vec_capacity c.self.inside.owned) (vec_capacity c.place.new.slots) c.self.inside.flights c.list-ticket.new.flights c.self.inside.members c.self.inside.members c.self.inside.files c.self.inside.cache.items c.self.inside.cache.items c.list-ticket.result.0 c.args.page.0 Out (own_label c) c.into_held-frame.result.0.number c.home-block.result (going c)
 takeoff c =
     let requires = rw (← c.self.view_is) at c.requires in
     let held = c.requires.held in
@@ -90,10 +90,10 @@ returns c = λ file q g f stands.
     let block = c.home-block.ensures ∙ ap (λ (a : FilePage). home_block files.first files.sizes a.file a.page) at in
     let n = c.list-ticket.result.0 in
     let copied = c.fill.ensures ∙ c.bytes.ensures ∙ sym c.into_held-frame.ensures.bytes in
-    let ticket = c.new.ensures ∙ ap (λ b. given_ticket n c.args.worker.0 c.args.entry b c.fill.new.self) block in
+    let ticket = c.new.ensures ∙ ap (λ b. new_ticket n b c.fill.new.self) block in
     rw (ticket, ← c.self.view_is) (
     record {
-      starts = Takeoff-starts (takeoff c) (of_file file q g true) f (home_block files.first files.sizes file q) c.args.entry c.fill.new.self
+      starts = Takeoff-starts (takeoff c) (of_file file q g true) f (home_block files.first files.sizes file q) c.fill.new.self
           (ap (λ (a : FilePage). labelled (of_file a.file a.page c.into_held-frame.result.1 true) (Going c.into_held-frame.result.0.number c.home-block.result n)) at
           ∙ ap (λ x. labelled (of_file file q x true) (Going c.into_held-frame.result.0.number c.home-block.result n)) charge
           ∙ ap (λ x. labelled (of_file file q g true) (Going x c.home-block.result n)) frame

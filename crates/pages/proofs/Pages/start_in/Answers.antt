@@ -6,7 +6,7 @@ use Rattle.pages.specs.declared.owned_page.OwnedPage.TheVariants as owned_page
 use Rattle.pages.specs.declared.owned_page.Backing.TheVariants as backing
 use Rattle.machine.specs.declared.record.Direction.TheVariants.{In}
 use Rattle.pages.specs.PagesOf.{HasResidence, memory_of, labelled}
-use Rattle.pages.specs.Transfers.{given_ticket}
+use Rattle.pages.specs.Tickets.{new_ticket}
 use Rattle.pages.specs.Records.{page_of}
 use Rattle.pages.proofs.TableLemmas.{Changes-twice}
 use Rattle.pages.proofs.FlightLemmas.{IsSettled-is}
@@ -22,7 +22,7 @@ coming c = owned_page.Coming c.args.frame c.args.charge (backing.Swap c.into_awa
 changes : (c : goal.After-new) → Changes c.self.inside.owned.items c.place.new.slots.items c.args.page.0 (Some (coming c))
 changes c = Changes-twice _ _ _ _ None _ c.take_at.ensures.gone c.place.ensures.placed
 
-takeoff : (c : goal.After-new) → Takeoff c.self.inside.numbers c.self.inside.numbers c.self.inside.owned.items c.place.new.slots.items (vec_capacity c.self.inside.owned) (vec_capacity c.place.new.slots) c.self.inside.flights c.list-ticket.new.flights c.self.inside.members c.self.inside.members c.self.inside.files c.self.inside.cache.items c.self.inside.cache.items c.list-ticket.result.0 c.args.page.0 c.args.worker.0 In (memory_of c.args.charge) c.args.frame.number c.into_away-slot.result (coming c)
+takeoff : (c : goal.After-new) → Takeoff c.self.inside.numbers c.self.inside.numbers c.self.inside.owned.items c.place.new.slots.items (vec_capacity c.self.inside.owned) (vec_capacity c.place.new.slots) c.self.inside.flights c.list-ticket.new.flights c.self.inside.members c.self.inside.members c.self.inside.files c.self.inside.cache.items c.self.inside.cache.items c.list-ticket.result.0 c.args.page.0 In (memory_of c.args.charge) c.args.frame.number c.into_away-slot.result (coming c)
 takeoff c =
     let requires = rw (← c.self.view_is) at c.requires in
     let was = was_away c c.requires.away.0 c.requires.away.1 in
@@ -47,9 +47,9 @@ invariant_of-self c = Takeoff-are (takeoff c)
 pub returns : goal.returns
 returns c = λ block stands.
     let slot = part-slot c.take_at.result _ _ (was_away c block stands) _ block c.into_away-slot.ensures refl in
-    let ticket = c.new.ensures ∙ ap (λ b. given_ticket c.list-ticket.result.0 c.args.worker.0 c.args.entry b c.args.buffer.value) (c.block-block.ensures ∙ slot) in
+    let ticket = c.new.ensures ∙ ap (λ b. new_ticket c.list-ticket.result.0 b c.args.buffer.value) (c.block-block.ensures ∙ slot) in
     rw (ticket, ← c.self.view_is) (
     record {
-      starts = Takeoff-starts (takeoff c) (memory_of c.args.charge) c.args.frame.number block c.args.entry c.args.buffer.value (ap (λ b. labelled (memory_of c.args.charge) (Coming c.args.frame.number b c.list-ticket.result.0)) slot);
+      starts = Takeoff-starts (takeoff c) (memory_of c.args.charge) c.args.frame.number block c.args.buffer.value (ap (λ b. labelled (memory_of c.args.charge) (Coming c.args.frame.number b c.list-ticket.result.0)) slot);
       bytes = Takeoff-apart (takeoff c);
     })

@@ -8,7 +8,7 @@ use Rattle.pages.specs.declared.owned_page.OwnedPage.TheVariants as owned_page
 use Rattle.pages.specs.declared.owned_page.Backing.TheVariants as backing
 use Rattle.machine.specs.declared.record.Direction.TheVariants.{In}
 use Rattle.pages.specs.PagesOf.{of_file}
-use Rattle.pages.specs.Transfers.{given_ticket}
+use Rattle.pages.specs.Tickets.{new_ticket}
 use Rattle.pages.specs.Records.{page_of, place_in, AreCached}
 use Rattle.pages.proofs.TableLemmas.{Changes-map, Changes-set, free-page, taken-there}
 use Rattle.pages.proofs.FlightLemmas.{IsSettled-is}
@@ -57,7 +57,7 @@ beside c =
     Fits-added c.self.inside.numbers _ _ _ _ c.self.inside.flights c.self.inside.members _ c.self.inside.files c.self.inside.cache.items _ c.self.invariant c.insert_reserved.result (coming c) tt c.insert_reserved.ensures.was_vacant c.place.ensures.placed c.insert_reserved.ensures.updates c.insert_reserved.ensures.capacity
     c.group-group.result.0 (omega (arith, room, group)) (sym group) (rw (← c.push_back.ensures.lists) c.push_back.ensures.others) (cached c) (length-set c.self.inside.cache.items c.home_place-index.result (Some (found c)))
 
-takeoff : (c : goal.After-new-ticket) → Takeoff c.self.inside.numbers c.insert_reserved.new.self c.self.inside.owned.items c.place.new.slots.items (vec_capacity c.self.inside.owned) (vec_capacity c.place.new.slots) c.self.inside.flights c.list-ticket.new.flights c.self.inside.members c.push_back.new.self c.self.inside.files c.self.inside.cache.items (set c.self.inside.cache.items c.home_place-index.result (Some (found c))) c.list-ticket.result.0 c.insert_reserved.result c.args.worker.0 In (of_file c.args.at.file c.args.at.page c.args.charge false) c.args.frame.number c.home-block.result (coming c)
+takeoff : (c : goal.After-new-ticket) → Takeoff c.self.inside.numbers c.insert_reserved.new.self c.self.inside.owned.items c.place.new.slots.items (vec_capacity c.self.inside.owned) (vec_capacity c.place.new.slots) c.self.inside.flights c.list-ticket.new.flights c.self.inside.members c.push_back.new.self c.self.inside.files c.self.inside.cache.items (set c.self.inside.cache.items c.home_place-index.result (Some (found c))) c.list-ticket.result.0 c.insert_reserved.result In (of_file c.args.at.file c.args.at.page c.args.charge false) c.args.frame.number c.home-block.result (coming c)
 takeoff c =
     let requires = rw (← c.self.view_is) at c.requires in
     record {
@@ -85,10 +85,10 @@ pub returns-clause-starts : goal.returns-clause-starts
 returns-clause-starts c =
     let files = c.self.inside.files in
     let n = c.list-ticket.result.0 in
-    let ticket = c.new-ticket.ensures ∙ ap (λ b. given_ticket n c.args.worker.0 c.args.entry b c.args.buffer.value) c.home-block.ensures in
+    let ticket = c.new-ticket.ensures ∙ ap (λ b. new_ticket n b c.args.buffer.value) c.home-block.ensures in
     rw (ticket, ← c.self.view_is) (
     record {
-      starts = Takeoff-starts (takeoff c) (of_file c.args.at.file c.args.at.page c.args.charge false) c.args.frame.number (home_block files.first files.sizes c.args.at.file c.args.at.page) c.args.entry c.args.buffer.value
+      starts = Takeoff-starts (takeoff c) (of_file c.args.at.file c.args.at.page c.args.charge false) c.args.frame.number (home_block files.first files.sizes c.args.at.file c.args.at.page) c.args.buffer.value
           (ap (λ b. page_of (owned_page.Coming c.args.frame c.args.charge (backing.Home c.args.at b false) c.list-ticket.result)) c.home-block.ensures);
       bytes = Takeoff-apart (takeoff c);
     })

@@ -7,7 +7,7 @@ use Rattle.pages.specs.declared.owned_page.OwnedPage.TheVariants as owned_page
 use Rattle.pages.specs.declared.owned_page.Backing.TheVariants as backing
 use Rattle.machine.specs.declared.record.Direction.TheVariants.{Out}
 use Rattle.pages.specs.PagesOf.{HasResidence, memory_of, labelled}
-use Rattle.pages.specs.Transfers.{given_ticket}
+use Rattle.pages.specs.Tickets.{new_ticket}
 use Rattle.pages.specs.Records.{page_of}
 use Rattle.pages.proofs.TableLemmas.{Changes-twice}
 use Rattle.pages.proofs.FlightLemmas.{IsSettled-is}
@@ -26,7 +26,7 @@ changes c = Changes-twice _ _ _ _ None _ c.take_at.ensures.gone c.place.ensures.
 own_charge : (c : goal.After-new) → c.into_held-frame.result.1 ≡ (page_of c.take_at.result).group
 own_charge c = sym (ap (λ label. label.group) c.into_held-frame.ensures.label ∙ holding-group c.into_held-frame.result.2 c.into_held-frame.result.1)
 
-takeoff : (c : goal.After-new) → Takeoff c.self.inside.numbers c.self.inside.numbers c.self.inside.owned.items c.place.new.slots.items (vec_capacity c.self.inside.owned) (vec_capacity c.place.new.slots) c.self.inside.flights c.list-ticket.new.flights c.self.inside.members c.self.inside.members c.self.inside.files c.self.inside.cache.items c.self.inside.cache.items c.list-ticket.result.0 c.args.page.0 c.args.worker.0 Out (memory_of c.into_held-frame.result.1) c.into_held-frame.result.0.number c.args.slot (going c)
+takeoff : (c : goal.After-new) → Takeoff c.self.inside.numbers c.self.inside.numbers c.self.inside.owned.items c.place.new.slots.items (vec_capacity c.self.inside.owned) (vec_capacity c.place.new.slots) c.self.inside.flights c.list-ticket.new.flights c.self.inside.members c.self.inside.members c.self.inside.files c.self.inside.cache.items c.self.inside.cache.items c.list-ticket.result.0 c.args.page.0 Out (memory_of c.into_held-frame.result.1) c.into_held-frame.result.0.number c.args.slot (going c)
 takeoff c =
     let requires = rw (← c.self.view_is) at c.requires in
     let was = was_held c c.requires.held.0 c.requires.held.1 c.requires.held.2 in
@@ -55,10 +55,10 @@ returns c = λ g f stands.
     let frame = part-frame c.take_at.result _ _ from _ f c.into_held-frame.ensures.frame refl in
     let n = c.list-ticket.result.0 in
     let copied = c.fill.ensures ∙ c.bytes.ensures ∙ sym c.into_held-frame.ensures.bytes in
-    let ticket = c.new.ensures ∙ ap (λ b. given_ticket n c.args.worker.0 c.args.entry b c.fill.new.self) c.block-block.ensures in
+    let ticket = c.new.ensures ∙ ap (λ b. new_ticket n b c.fill.new.self) c.block-block.ensures in
     rw (ticket, ← c.self.view_is) (
     record {
-      starts = Takeoff-starts (takeoff c) (memory_of g) f c.args.slot c.args.entry c.fill.new.self (ap (λ x. labelled (memory_of x) (Going c.into_held-frame.result.0.number c.args.slot n)) charge ∙ ap (λ x. labelled (memory_of g) (Going x c.args.slot n)) frame);
+      starts = Takeoff-starts (takeoff c) (memory_of g) f c.args.slot c.fill.new.self (ap (λ x. labelled (memory_of x) (Going c.into_held-frame.result.0.number c.args.slot n)) charge ∙ ap (λ x. labelled (memory_of g) (Going x c.args.slot n)) frame);
       holds = λ o within. ap (λ b. slice_index b o) copied ∙ sym (own-byte c.self.inside.owned.items c.args.page.0 _ c.take_at.ensures.owned o);
       bytes = Takeoff-kept (takeoff c) c.take_at.result c.take_at.ensures.owned (sym c.into_held-frame.ensures.bytes);
     })

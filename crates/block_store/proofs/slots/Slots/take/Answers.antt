@@ -1,9 +1,9 @@
-use Rattle.block_store.proofs.SlotLemmas.{IsSlots-taken, taken_out, taken_in_range}
+use Rattle.counts.proofs.NumberLemmas.{AreFree-taken, taken_out, taken_in_range}
 use Rattle.block_store.proofs.slots.Slots.take.Goals as goal
 use Rattle.block_store.proofs.slots.Slots.take.Goals.{in-None, in-Some}
 
 pub invariant_of-self : goal.invariant_of-self
-invariant_of-self c = rw c.pop.ensures.capacity (IsSlots-taken c.self.inside.free.items c.pop.new.self.items c.pop.result _ _ c.pop.ensures.items c.self.invariant)
+invariant_of-self c = rw c.pop.ensures.capacity (AreFree-taken c.self.inside.free.items c.pop.new.self.items c.pop.result _ _ c.pop.ensures.items c.self.invariant)
 
 pub returns-clause-out : goal.returns-clause-out
 returns-clause-out c =

@@ -1,25 +1,22 @@
-use Rattle.std.proofs.Common.{◌+◌, ◌∙◌, length, sym, subst, arith}
+use Rattle.std.proofs.Common.{◌≡◌, ◌+◌, ◌∙◌, length, sym, ap, subst, arith}
 use Rattle.std.specs.Prelude.{reverse}
-use Rattle.std.proofs.lemmas.List.{length-reverse}
 use Rattle.machine.specs.declared.reply.Reply.{Reply}
 use Rattle.book.specs.declared.book.Book.TheInside.{Inside}
+use Rattle.machine.specs.History.{ticket_given, at_first, IsRight}
+use Rattle.machine.specs.Call.{Called}
+use Rattle.book.specs.declared.event.Reply.{Reply as Given}
+use Rattle.book.specs.Books.{past_of}
 use Rattle.book.specs.Events.{reply_of}
+use Rattle.book.specs.MakesStep.{RepliesTo, noted}
+use Rattle.book.specs.Replies.{HandsOut}
 use Rattle.book.specs.Decisions.{AnswersTo, IsDecided}
-use Rattle.book.specs.Told.{counted_in}
-use Rattle.page_state.proofs.TallyLemmas.{few-tallied}
-use Rattle.book.proofs.HistoryLemmas.{read_on}
-use Rattle.book.proofs.TicketLemmas.{gives_more}
+use Rattle.book.proofs.HistoryLemmas.{read_on, flights_within}
+use Rattle.book.proofs.TicketLemmas.{gives_more, reply_of-stamped, replies-stamped}
 use Rattle.book.proofs.CallLemmas.{history_of, asks, full-decided, called-full, has_room, few_of, few-counted, Appends, told_more, longer, called_more, book_more}
 use Rattle.book.proofs.book.Book.ask.Goals as goal
 
 pub apply-requires-clause-few : goal.apply-requires-clause-few
-apply-requires-clause-few c =
-    let b = c.self.inside in
-    let few = few-counted (history_of b) in
-    let all = length-reverse b.entries.items in
-    let within = c.self.invariant.within in
-    let limit = c.is_joined.ensures.limit in
-    few-tallied b.state.tallies (counted_in (history_of b)) 2097152 c.is_joined.ensures.lineage c.self.invariant.told.tallied (omega (arith, few, all, within, limit)) (omega arith)
+apply-requires-clause-few c = few-counted c.self.inside c.self.invariant c.is_joined.ensures.limit
 
 pub returns-then-is_full-clause-called : goal.returns-then-is_full-clause-called
 returns-then-is_full-clause-called c =
@@ -33,8 +30,8 @@ append-requires-clause-room c =
     let b = c.self.inside in
     let is : IsDecided b.state c.args.event c.in-Ok.decided = c.in-Ok.ensures in
     let room = sym (full-decided b c.args.self.now c.self.view_is c.args.event c.in-Ok.decided is c.entries.result c.entries.ensures c.is_full.result c.is_full.ensures) ∙ c.if-is_full.false in
-    let answers : AnswersTo b.state c.args.worker.0 (c.len.result + 1) c.args.event c.in-Ok-apply.reply c.apply.new.state = c.in-Ok-apply.ensures.carries c.args.event is in
-    let extending = asks b c.args.self.now c.self.invariant c.self.view_is c.apply.new.state c.args.worker.0 c.requires.known c.args.event (reply_of c.in-Ok-apply.reply) c.requires.asked is.none room answers.makes_step in
+    let answers : AnswersTo b.state c.args.event c.in-Ok-apply.reply c.apply.new.state = c.in-Ok-apply.ensures.carries c.args.event is in
+    let extending = asks b c.args.self.now c.self.invariant c.self.view_is c.apply.new.state c.is_joined-in-Ok-apply.ensures.flights c.args.worker.0 c.requires.known c.args.event (reply_of c.in-Ok-apply.reply) c.requires.asked is.none room answers.makes_step in
     has_room b c.apply.new.state c.args.worker.0 c.args.event (reply_of c.in-Ok-apply.reply) extending c.self.invariant
 
 pub append-requires-clause-few : goal.append-requires-clause-few
@@ -45,10 +42,10 @@ invariant_of-self-in-Ok-apply c =
     let b = c.self.inside in
     let is : IsDecided b.state c.args.event c.in-Ok.decided = c.in-Ok.ensures in
     let room = sym (full-decided b c.args.self.now c.self.view_is c.args.event c.in-Ok.decided is c.entries.result c.entries.ensures c.is_full.result c.is_full.ensures) ∙ c.if-is_full.false in
-    let answers : AnswersTo b.state c.args.worker.0 (c.len.result + 1) c.args.event c.in-Ok-apply.reply c.apply.new.state = c.in-Ok-apply.ensures.carries c.args.event is in
-    let extending = asks b c.args.self.now c.self.invariant c.self.view_is c.apply.new.state c.args.worker.0 c.requires.known c.args.event (reply_of c.in-Ok-apply.reply) c.requires.asked is.none room answers.makes_step in
-    let after : Inside = record { alloc = b.alloc; state = c.apply.new.state; entries = c.append.new.entries; counts = c.append.new.counts } in
-    let appends = subst (λ (answer : Reply). Appends b after c.args.worker c.args.event answer) c.plain-said.ensures (record { entries = c.append.ensures.entries; room = c.append.ensures.room; counts = c.append.ensures.counts }) in
+    let answers : AnswersTo b.state c.args.event c.in-Ok-apply.reply c.apply.new.state = c.in-Ok-apply.ensures.carries c.args.event is in
+    let extending = asks b c.args.self.now c.self.invariant c.self.view_is c.apply.new.state c.is_joined-in-Ok-apply.ensures.flights c.args.worker.0 c.requires.known c.args.event (reply_of c.in-Ok-apply.reply) c.requires.asked is.none room answers.makes_step in
+    let after : Inside = record { alloc = b.alloc; state = c.apply.new.state; entries = c.append.new.entries; counts = c.append.new.counts; takers = c.hand_out.new.takers } in
+    let appends = subst (λ (answer : Reply). Appends b after c.args.worker c.args.event answer) c.plain-said.ensures (record { entries = c.append.ensures.entries; room = c.append.ensures.room; counts = c.append.ensures.counts; takers = c.hand_out.ensures.noted ∙ ap (λ (a : Reply). noted c.apply.new.state.flights b.takers.items c.args.worker.0 (ticket_given a)) (sym c.plain-said.ensures) }) in
     book_more b after c.args.worker c.args.event (reply_of c.in-Ok-apply.reply) c.self.invariant extending appends
 
 pub returns-in-Ok-apply-clause-called : goal.returns-in-Ok-apply-clause-called
@@ -56,32 +53,56 @@ returns-in-Ok-apply-clause-called c =
     let b = c.self.inside in
     let is : IsDecided b.state c.args.event c.in-Ok.decided = c.in-Ok.ensures in
     let room = sym (full-decided b c.args.self.now c.self.view_is c.args.event c.in-Ok.decided is c.entries.result c.entries.ensures c.is_full.result c.is_full.ensures) ∙ c.if-is_full.false in
-    let answers : AnswersTo b.state c.args.worker.0 (c.len.result + 1) c.args.event c.in-Ok-apply.reply c.apply.new.state = c.in-Ok-apply.ensures.carries c.args.event is in
-    let extending = asks b c.args.self.now c.self.invariant c.self.view_is c.apply.new.state c.args.worker.0 c.requires.known c.args.event (reply_of c.in-Ok-apply.reply) c.requires.asked is.none room answers.makes_step in
-    let after : Inside = record { alloc = b.alloc; state = c.apply.new.state; entries = c.append.new.entries; counts = c.append.new.counts } in
-    let appends = subst (λ (answer : Reply). Appends b after c.args.worker c.args.event answer) c.plain-said.ensures (record { entries = c.append.ensures.entries; room = c.append.ensures.room; counts = c.append.ensures.counts }) in
-    rw (← c.self.view_is) (called_more b after c.args.worker c.args.event (reply_of c.in-Ok-apply.reply) c.self.invariant extending appends)
+    let answers : AnswersTo b.state c.args.event c.in-Ok-apply.reply c.apply.new.state = c.in-Ok-apply.ensures.carries c.args.event is in
+    let extending = asks b c.args.self.now c.self.invariant c.self.view_is c.apply.new.state c.is_joined-in-Ok-apply.ensures.flights c.args.worker.0 c.requires.known c.args.event (reply_of c.in-Ok-apply.reply) c.requires.asked is.none room answers.makes_step in
+    let after : Inside = record { alloc = b.alloc; state = c.apply.new.state; entries = c.append.new.entries; counts = c.append.new.counts; takers = c.hand_out.new.takers } in
+    let appends = subst (λ (answer : Reply). Appends b after c.args.worker c.args.event answer) c.plain-said.ensures (record { entries = c.append.ensures.entries; room = c.append.ensures.room; counts = c.append.ensures.counts; takers = c.hand_out.ensures.noted ∙ ap (λ (a : Reply). noted c.apply.new.state.flights b.takers.items c.args.worker.0 (ticket_given a)) (sym c.plain-said.ensures) }) in
+    let said : reply_of c.hand_out.result ≡ reply_of c.in-Ok-apply.reply = ap reply_of c.hand_out.ensures.stamped ∙ reply_of-stamped c.args.worker.0 (c.len.result + 1) c.in-Ok-apply.reply in
+    rw (← c.self.view_is)
+    (subst (λ (answer : Reply). Called (past_of b) (record { worker = c.args.worker.0 }) c.args.event answer (past_of after)) (sym said)
+    (called_more b after c.args.worker c.args.event (reply_of c.in-Ok-apply.reply) c.self.invariant extending appends))
 
 pub returns-in-Ok-apply-clause-reads : goal.returns-in-Ok-apply-clause-reads
 returns-in-Ok-apply-clause-reads c =
     let b = c.self.inside in
     let is : IsDecided b.state c.args.event c.in-Ok.decided = c.in-Ok.ensures in
     let room = sym (full-decided b c.args.self.now c.self.view_is c.args.event c.in-Ok.decided is c.entries.result c.entries.ensures c.is_full.result c.is_full.ensures) ∙ c.if-is_full.false in
-    let answers : AnswersTo b.state c.args.worker.0 (c.len.result + 1) c.args.event c.in-Ok-apply.reply c.apply.new.state = c.in-Ok-apply.ensures.carries c.args.event is in
-    let extending = asks b c.args.self.now c.self.invariant c.self.view_is c.apply.new.state c.args.worker.0 c.requires.known c.args.event (reply_of c.in-Ok-apply.reply) c.requires.asked is.none room answers.makes_step in
-    rw (← c.self.view_is) (read_on b.state c.apply.new.state (history_of b) b.counts.items c.args.worker.0 c.args.event (reply_of c.in-Ok-apply.reply) extending)
+    let answers : AnswersTo b.state c.args.event c.in-Ok-apply.reply c.apply.new.state = c.in-Ok-apply.ensures.carries c.args.event is in
+    let extending = asks b c.args.self.now c.self.invariant c.self.view_is c.apply.new.state c.is_joined-in-Ok-apply.ensures.flights c.args.worker.0 c.requires.known c.args.event (reply_of c.in-Ok-apply.reply) c.requires.asked is.none room answers.makes_step in
+    let said : reply_of c.hand_out.result ≡ reply_of c.in-Ok-apply.reply = ap reply_of c.hand_out.ensures.stamped ∙ reply_of-stamped c.args.worker.0 (c.len.result + 1) c.in-Ok-apply.reply in
+    rw (← c.self.view_is)
+    (λ files honest. subst (λ (answer : Reply). IsRight (at_first files) (history_of b) c.args.event answer) (sym said)
+    (read_on b.state c.apply.new.state (history_of b) b.counts.items b.takers.items c.args.worker.0 c.args.event (reply_of c.in-Ok-apply.reply) extending files honest))
+
+pub returns-in-Ok-apply-clause-replies : goal.returns-in-Ok-apply-clause-replies
+returns-in-Ok-apply-clause-replies c =
+    let b = c.self.inside in
+    let is : IsDecided b.state c.args.event c.in-Ok.decided = c.in-Ok.ensures in
+    let answers : AnswersTo b.state c.args.event c.in-Ok-apply.reply c.apply.new.state = c.in-Ok-apply.ensures.carries c.args.event is in
+    subst (λ (reply : Given). RepliesTo c.args.event reply) (sym c.hand_out.ensures.stamped) (replies-stamped c.args.worker.0 (c.len.result + 1) c.args.event c.in-Ok-apply.reply answers.replies)
+
+pub hand_out-requires : goal.hand_out-requires
+hand_out-requires c =
+    let b = c.self.inside in
+    let is : IsDecided b.state c.args.event c.in-Ok.decided = c.in-Ok.ensures in
+    let room = sym (full-decided b c.args.self.now c.self.view_is c.args.event c.in-Ok.decided is c.entries.result c.entries.ensures c.is_full.result c.is_full.ensures) ∙ c.if-is_full.false in
+    let answers : AnswersTo b.state c.args.event c.in-Ok-apply.reply c.apply.new.state = c.in-Ok-apply.ensures.carries c.args.event is in
+    let extending = asks b c.args.self.now c.self.invariant c.self.view_is c.apply.new.state c.is_joined-in-Ok-apply.ensures.flights c.args.worker.0 c.requires.known c.args.event (reply_of c.in-Ok-apply.reply) c.requires.asked is.none room answers.makes_step in
+    record { known = flights_within b.state c.apply.new.state (history_of b) b.counts.items b.takers.items c.args.worker.0 c.args.event (reply_of c.in-Ok-apply.reply) extending }
 
 pub returns-in-Ok-apply-clause-gives : goal.returns-in-Ok-apply-clause-gives
 returns-in-Ok-apply-clause-gives c =
     let b = c.self.inside in
     let is : IsDecided b.state c.args.event c.in-Ok.decided = c.in-Ok.ensures in
     let room = sym (full-decided b c.args.self.now c.self.view_is c.args.event c.in-Ok.decided is c.entries.result c.entries.ensures c.is_full.result c.is_full.ensures) ∙ c.if-is_full.false in
-    let answers : AnswersTo b.state c.args.worker.0 (c.len.result + 1) c.args.event c.in-Ok-apply.reply c.apply.new.state = c.in-Ok-apply.ensures.carries c.args.event is in
-    let extending = asks b c.args.self.now c.self.invariant c.self.view_is c.apply.new.state c.args.worker.0 c.requires.known c.args.event (reply_of c.in-Ok-apply.reply) c.requires.asked is.none room answers.makes_step in
-    let after : Inside = record { alloc = b.alloc; state = c.apply.new.state; entries = c.append.new.entries; counts = c.append.new.counts } in
-    let appends = subst (λ (answer : Reply). Appends b after c.args.worker c.args.event answer) c.plain-said.ensures (record { entries = c.append.ensures.entries; room = c.append.ensures.room; counts = c.append.ensures.counts }) in
+    let answers : AnswersTo b.state c.args.event c.in-Ok-apply.reply c.apply.new.state = c.in-Ok-apply.ensures.carries c.args.event is in
+    let extending = asks b c.args.self.now c.self.invariant c.self.view_is c.apply.new.state c.is_joined-in-Ok-apply.ensures.flights c.args.worker.0 c.requires.known c.args.event (reply_of c.in-Ok-apply.reply) c.requires.asked is.none room answers.makes_step in
+    let after : Inside = record { alloc = b.alloc; state = c.apply.new.state; entries = c.append.new.entries; counts = c.append.new.counts; takers = c.hand_out.new.takers } in
+    let appends = subst (λ (answer : Reply). Appends b after c.args.worker c.args.event answer) c.plain-said.ensures (record { entries = c.append.ensures.entries; room = c.append.ensures.room; counts = c.append.ensures.counts; takers = c.hand_out.ensures.noted ∙ ap (λ (a : Reply). noted c.apply.new.state.flights b.takers.items c.args.worker.0 (ticket_given a)) (sym c.plain-said.ensures) }) in
     let told = told_more b after c.args.worker c.args.event (reply_of c.in-Ok-apply.reply) c.self.invariant extending appends in
     let more = longer b after c.args.worker c.args.event (reply_of c.in-Ok-apply.reply) c.self.invariant extending appends in
     let len = c.len.ensures in
     let ok = b.entries.ok.0 in
-    gives_more c.apply.new.state (reverse c.append.new.entries.items) c.append.new.counts.items (length c.append.new.counts.items) c.args.worker.0 (c.len.result + 1) c.in-Ok-apply.reply told (omega (arith, more, len, ok)) answers.gives
+    subst (λ (reply : Given). HandsOut (past_of after) c.args.worker.0 reply) (sym c.hand_out.ensures.stamped)
+    (gives_more c.apply.new.state (reverse c.append.new.entries.items) c.append.new.counts.items c.hand_out.new.takers.items (length c.append.new.counts.items) c.args.worker.0 (c.len.result + 1) c.in-Ok-apply.reply told
+    (omega (arith, more, len, ok)) answers.gives)

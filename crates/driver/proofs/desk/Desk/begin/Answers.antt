@@ -1,11 +1,11 @@
 use Rattle.std.proofs.Common.{◌∙◌, refl, sym, arith}
-use Rattle.driver.specs.Desks.{world, blocks_of_desk}
+use Rattle.driver.specs.Desks.{world, blocks_of_desk, worker_of_desk}
 use Rattle.driver.proofs.SinkLemmas.{on_err, cut_before, cut_behind, begins_over}
 use Rattle.driver.proofs.desk.Desk.begin.Goals as goal
 
 pub returns-clause-on : goal.returns-clause-on
 returns-clause-on g c =
-    λ disk on. record { asks = record { first = on.asks.first; given = on.asks.given }; own = c.seat.ensures.own (blocks_of_desk c.args.self.now) on.own; blocks = on.blocks }
+    λ disk on. record { known = on.known; own = c.seat.ensures.own (worker_of_desk c.args.self.now) (blocks_of_desk c.args.self.now) on.own; blocks = on.blocks }
 
 pub returns-in_err-answer-clause-cut : goal.returns-in_err-answer-clause-cut
 returns-in_err-answer-clause-cut g c =

@@ -20,7 +20,7 @@ returns-clause-own c =
     let sits : c.push_reserved.new.self.items ≡ with_activity c.args.actor (Begun c.args.command) c.args.self.now =
     rw c.reserve.ensures.items at c.push_reserved.ensures.items
     ∙ rw view (sym (with_activity-none c.args.actor (Begun c.args.command) c.self.inside.list.items (rw view at c.requires))) in
-    λ blocks own. own-changed blocks c.args.actor (Begun c.args.command) c.args.self.now c.push_reserved.new.self.items sits own tt
+    λ worker blocks own. own-changed worker blocks c.args.actor (Begun c.args.command) c.args.self.now c.push_reserved.new.self.items sits own tt
 
 -- the number goes behind the others, as the seat does
 pub invariant_of-self-2 : goal.invariant_of-self-2

@@ -23,7 +23,7 @@ returns-in-Some-clause-taken c =
     taken-seated c.args.actor c.args.self.now c.exchange.new.self within c.exchange.ensures.now
 
 pub returns-in-Some-clause-held : goal.returns-in-Some-clause-held
-returns-in-Some-clause-held c = λ blocks own. subst (λ (a : Activity). OwnActivity blocks a) (sym c.exchange.ensures.was) (own-activity_of blocks c.args.actor c.args.self.now own)
+returns-in-Some-clause-held c = λ worker blocks own. subst (λ (a : Activity). OwnActivity worker blocks a) (sym c.exchange.ensures.was) (own-activity_of worker blocks c.args.actor c.args.self.now own)
 
 pub returns-in-Some-clause-own : goal.returns-in-Some-clause-own
-returns-in-Some-clause-own c = λ blocks own. own-changed blocks c.args.actor Rests c.args.self.now c.exchange.new.self c.exchange.ensures.now own tt
+returns-in-Some-clause-own c = λ worker blocks own. own-changed worker blocks c.args.actor Rests c.args.self.now c.exchange.new.self c.exchange.ensures.now own tt

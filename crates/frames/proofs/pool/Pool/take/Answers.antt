@@ -1,9 +1,9 @@
-use Rattle.frames.proofs.PoolLemmas.{IsPool-taken, taken_out, taken_in_range}
+use Rattle.frames.proofs.PoolLemmas.{AreFree-taken, taken_out, taken_in_range}
 use Rattle.frames.proofs.pool.Pool.take.Goals as goal
 
 pub invariant_of-self : goal.invariant_of-self
 invariant_of-self c = (
-  rw c.pop.ensures.capacity (IsPool-taken c.self.inside.free.items c.pop.new.self.items c.pop.result _ _ c.pop.ensures.items c.self.invariant.0),
+  rw c.pop.ensures.capacity (AreFree-taken c.self.inside.free.items c.pop.new.self.items c.pop.result _ _ c.pop.ensures.items c.self.invariant.0),
   c.self.invariant.1,
 )
 

@@ -1,16 +1,15 @@
 use Rattle.std.proofs.Common.{◌∙◌, ap, length, arith}
 use Rattle.std.proofs.lemmas.List.{with_items_is}
+use Rattle.machine.specs.Counts.{local}
 use Rattle.group_tree.proofs.LineageLemmas.{live-within}
-use Rattle.memory_events.specs.Tallies.{count_at}
-use Rattle.memory_events.proofs.CountLemmas.{count_at-read, within-counts}
-use Rattle.memory_events.proofs.TellLemmas.{totals-le-root, locals-le-root, AreTold-counted, Tells-counted}
+use Rattle.memory_events.proofs.CountLemmas.{local-read, within-counts, with_event-is, sums-count, totals-le-root, locals-le-root}
 use Rattle.memory_events.proofs.events.Events.count.Goals as goal
 
 pub count_once-requires : goal.count_once-requires
 count_once-requires c =
     let inside = c.self.inside in
     let requires = rw (← c.self.view_is) at c.requires in
-    let read = count_at-read inside.locals.items c.args.group.0 c.index_mut.result.now c.args.key (within-counts inside.lineage.tree inside.locals.items c.args.group.0 requires.live c.self.invariant.all_locals) c.index_mut.ensures.value in
+    let read = local-read inside.locals.items c.args.group.0 c.index_mut.result.now c.args.key (within-counts inside.lineage.tree inside.locals.items c.args.group.0 requires.live c.self.invariant.all_locals) c.index_mut.ensures.value in
     let le = locals-le-root inside.lineage.tree inside.totals.items inside.locals.items c.is_lineage.ensures c.self.invariant c.args.key c.args.group.0 (live-within inside.lineage.tree c.args.group.0 requires.live) in
     let room = requires.room in
     omega (arith, read, le, room)
@@ -28,17 +27,13 @@ invariant_of-self c =
     let requires = rw (← c.self.view_is) at c.requires in
     let items = with_items_is inside.totals c.count_up.new.totals (omega arith) in
     let totals = rw c.as_mut_slice.ensures.value at c.count_up.ensures in
-    AreTold-counted inside.lineage.tree inside.totals.items inside.locals.items _ c.args.group.0 c.args.key c.index_mut.result.now c.count_once.new.counts requires.live c.self.invariant c.index_mut.ensures.value c.count_once.ensures
+    sums-count inside.lineage.tree inside.totals.items inside.locals.items c.args.group.0 c.args.key c.index_mut.result.now c.count_once.new.counts requires.live c.self.invariant c.index_mut.ensures.value c.count_once.ensures _
     (ap length items ∙ omega arith)
-    (λ a k lt. ap (λ counts. count_at counts a k) items ∙ totals a k lt)
+    (λ a k lt. ap (λ counts. local counts a k) items ∙ totals a k lt)
 
-pub returns-clause-told : goal.returns-clause-told
-returns-clause-told c =
+pub returns-clause-counted : goal.returns-clause-counted
+returns-clause-counted c =
     let inside = c.self.inside in
     let requires = rw (← c.self.view_is) at c.requires in
-    let items = with_items_is inside.totals c.count_up.new.totals (omega arith) in
-    let totals = rw c.as_mut_slice.ensures.value at c.count_up.ensures in
     rw (← c.self.view_is)
-    (Tells-counted inside.lineage.tree inside.totals.items inside.locals.items _ c.args.group.0 c.args.key c.index_mut.result.now c.count_once.new.counts requires.live c.self.invariant c.index_mut.ensures.value c.count_once.ensures
-    (ap length items ∙ omega arith)
-    (λ a k lt. ap (λ counts. count_at counts a k) items ∙ totals a k lt) _ _)
+    (with_event-is inside.lineage.tree inside.totals.items inside.locals.items c.args.group.0 c.args.key c.index_mut.result.now c.count_once.new.counts requires.live c.self.invariant c.index_mut.ensures.value c.count_once.ensures)

@@ -4,10 +4,10 @@ use Rattle.machine.specs.Slots.{Changes}
 use Rattle.machine.specs.Pages.{Held, Going, Page, is_held, is_in_transfer, home_block}
 use Rattle.machine.specs.Lists.{HeldLists, Youngest, GoesOn}
 use Rattle.aging.proofs.GroupLemmas.{listed-in}
-use Rattle.frames.specs.Pool.{PoolOf, free_count}
+use Rattle.counts.specs.Numbers.{times}
+use Rattle.frames.specs.Pool.{PoolOf}
 use Rattle.pages.specs.PagesOf.{of_file, labelled, HasResidence}
-use Rattle.pages.specs.Transfers.{given_ticket}
-use Rattle.pages.specs.Tickets.{TicketOf}
+use Rattle.pages.specs.Tickets.{TicketOf, new_ticket}
 use Rattle.page_state.specs.Held.{HeldOf, left}
 use Rattle.page_state.proofs.HoldingLemmas.{Stays, kept-step, holding-step, relists-in, same-view, ticket-free, stands-listed, goes-out}
 use Rattle.page_state.proofs.GrantLemmas.{home-same, stands-live, room-held}
@@ -90,7 +90,7 @@ invariant_of-self c =
       changes = starts.placed;
       kept = kept-step h.counters h.counters h.pool c.take_spare-spare.new.pool h.slots h.slots h.pages.pages c.start_home-ticket.new.self.pages p from to w.4 starts.placed (sym frames)
           (record {
-            counts = λ m. (let k = ap (λ (q : PoolOf). free_count q.free m) pool in omega (arith, k));
+            counts = λ m. (let k = ap (λ (q : PoolOf). times q.free m) pool in omega (arith, k));
             len = (let k = ap (λ (q : PoolOf). length q.free) pool in omega (arith, k));
           })
           refl
@@ -118,7 +118,7 @@ returns c =
     record {
       block = (refl, sym block ∙ home-same h c.self.invariant file q);
       ticket_free = ticket-free h.pages.pages h.pages.flights ticket.number c.are_in_flight.ensures begins.starts.free;
-      given = subst (λ x. ticket ≡ given_ticket ticket.number c.args.worker.0 c.args.entry x ticket.bytes) block begins.starts.given;
+      given = subst (λ x. ticket ≡ new_ticket ticket.number x ticket.bytes) block begins.starts.given;
       holds = begins.holds;
       placed = subst (λ x. Changes h.pages.pages c.start_home-ticket.new.self.pages p (Some (labelled (of_file file q g true) (Going f x ticket.number)))) block begins.starts.placed;
       bytes = begins.bytes;

@@ -100,7 +100,7 @@ returns-clause-begins c =
     rw (← c.self.view_is) (λ g b stood.
     let owned = c.group_of-group.ensures _ stood in
     let same : c.take_room-frame.result.1 ≡ g = room.group ∙ owned in
-    let begins = subst (λ x. StartsIn h.pages c.start_in-ticket.new.self p (memory_of x) f b c.args.worker.0 c.args.entry c.start_in-ticket.result) same
+    let begins = subst (λ x. StartsIn h.pages c.start_in-ticket.new.self p (memory_of x) f b c.start_in-ticket.result) same
     (c.start_in-ticket.ensures b (subst (λ x. HasResidence h.pages.pages p (memory_of x) (Away b)) (sym same) stood)) in
     record {
       frame = f;

@@ -50,10 +50,10 @@ stays c numbers groups room files = record {
 
 -- the page begins to be read in, charged to the group
 starts : (c : goal.After-push) → StartsIn c.self.inside.pages c.start_in_file-ticket.new.self c.start_in_file-ticket.result.0.0 (of_file c.args.at.file c.args.at.page c.args.group.0 false) c.take_room-frame.result.0.number
-    (home_block c.self.inside.pages.files.first c.self.inside.pages.files.sizes c.args.at.file c.args.at.page) c.args.worker.0 c.args.entry c.start_in_file-ticket.result.1
+    (home_block c.self.inside.pages.files.first c.self.inside.pages.files.sizes c.args.at.file c.args.at.page) c.start_in_file-ticket.result.1
 starts c =
     subst (λ x. StartsIn c.self.inside.pages c.start_in_file-ticket.new.self c.start_in_file-ticket.result.0.0 (of_file c.args.at.file c.args.at.page x false) c.take_room-frame.result.0.number
-    (home_block c.self.inside.pages.files.first c.self.inside.pages.files.sizes c.args.at.file c.args.at.page) c.args.worker.0 c.args.entry c.start_in_file-ticket.result.1) c.take_room-frame.ensures.group c.start_in_file-ticket.ensures.starts
+    (home_block c.self.inside.pages.files.first c.self.inside.pages.files.sizes c.args.at.file c.args.at.page) c.start_in_file-ticket.result.1) c.take_room-frame.ensures.group c.start_in_file-ticket.ensures.starts
 
 pub invariant_of-self : goal.invariant_of-self
 invariant_of-self c =
@@ -96,7 +96,7 @@ returns-clause-begins c =
     let ticket = c.start_in_file-ticket.result.1 in
     let frame = granted-frame h c.self.invariant c.take_room-frame.new.counters c.take_room-frame.new.pool _ _ _ c.take_room-frame.ensures in
     let free = c.start_in_file-ticket.ensures.free in
-    let begins = subst (λ b. StartsIn h.pages c.start_in_file-ticket.new.self p (of_file c.args.at.file c.args.at.page c.args.group.0 false) c.take_room-frame.result.0.number b c.args.worker.0 c.args.entry ticket) (home-same h c.self.invariant c.args.at.file c.args.at.page) (starts c) in
+    let begins = subst (λ b. StartsIn h.pages c.start_in_file-ticket.new.self p (of_file c.args.at.file c.args.at.page c.args.group.0 false) c.take_room-frame.result.0.number b ticket) (home-same h c.self.invariant c.args.at.file c.args.at.page) (starts c) in
     rw (← c.self.view_is)
     (record {
       page = p;

@@ -37,7 +37,7 @@ returns-in-ToSwap c label f stood =
     let pages = c.self.inside.pages in
     let stands = rw (← c.self.view_is) at stood in
     let memory = stands-to-swap pages.files pages.pages c.args.page.0 label (Held f) c.are_filed.ensures stands (sym (c.way_out.ensures label (Held f) stands) ∙ c.in-ToSwap.is) in
-    subst (λ (l : Label). BeginsOut c.args.self.now c.start_out.new.self c.args.page.0 l f c.args.worker.0 c.args.entry c.start_out.result) (sym memory)
+    subst (λ (l : Label). BeginsOut c.args.self.now c.start_out.new.self c.args.page.0 l f c.start_out.result) (sym memory)
     (c.start_out.ensures label.group f (subst (λ (l : Label). HasResidence c.args.self.now.stored.pages c.args.page.0 l (Held f)) memory stood))
 
 pub returns-in-ToHome : goal.returns-in-ToHome
@@ -45,5 +45,5 @@ returns-in-ToHome c label f stood =
     let pages = c.self.inside.pages in
     let stands = rw (← c.self.view_is) at stood in
     let home = to-home pages.files label (Held f) (sym (c.way_out.ensures label (Held f) stands) ∙ c.in-ToHome.is) in
-    subst (λ (l : Label). BeginsOut c.args.self.now c.start_home.new.self c.args.page.0 l f c.args.worker.0 c.args.entry c.start_home.result) (sym home.2)
+    subst (λ (l : Label). BeginsOut c.args.self.now c.start_home.new.self c.args.page.0 l f c.start_home.result) (sym home.2)
     (c.start_home.ensures home.0 home.1 label.group f (subst (λ (l : Label). HasResidence c.args.self.now.stored.pages c.args.page.0 l (Held f)) home.2 stood))

@@ -1,7 +1,20 @@
-use Rattle.std.proofs.Common.{refl}
-use Rattle.page_state.proofs.TallyLemmas.{tells-on}
+use Rattle.std.proofs.Common.{◌<◌, ◌∙◌, ℕ, List, sym, ap, subst}
+use Rattle.machine.specs.declared.record.EventCounts.{EventCounts}
+use Rattle.machine.specs.Counts.{total}
+use Rattle.page_state.proofs.KinLemmas.{kin-total}
+use Rattle.page_state.proofs.EventLemmas.{other-keys}
 use Rattle.page_state.proofs.joined.State.count.Goals as goal
 
-pub returns-clause-counts : goal.returns-clause-counts
-returns-clause-counts c =
-    rw (← c.self.view_is) (record { others = refl; tallied = tells-on c.self.inside.events c.count.new.self _ c.count.ensures.told })
+pub count-requires-clause-room : goal.count-requires-clause-room
+count-requires-clause-room c =
+    let s = c.self.inside in
+    let requires = rw (← c.self.view_is) at c.requires in
+    subst (λ (n : ℕ). n < 18446744073709551615) (sym (kin-total s.events.tree s.tree c.self.invariant.counted_kin s.events.counted 0 c.args.key)) requires.few
+
+pub returns-clause-others : goal.returns-clause-others
+returns-clause-others c =
+    let s = c.self.inside in
+    let requires = rw (← c.self.view_is) at c.requires in
+    rw (← c.self.view_is)
+    (λ k other. ap (λ (cs : List EventCounts). total s.tree cs 0 k) c.count.ensures.counted
+    ∙ other-keys s.tree s.events.counted c.args.group.0 c.args.key requires.live (c.are_counted.ensures.counted ∙ c.self.invariant.counted_kin.len) 0 k other)

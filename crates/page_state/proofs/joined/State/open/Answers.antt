@@ -3,7 +3,6 @@ use Rattle.files.specs.Files.{FilesOf}
 use Rattle.page_state.specs.Holdings.{Stored}
 use Rattle.page_state.proofs.KinLemmas.{kin-root}
 use Rattle.page_state.proofs.MappedLemmas.{mapped-open, homes-open}
-use Rattle.page_state.proofs.TallyLemmas.{tells-roomless}
 use Rattle.page_state.proofs.joined.State.open.Goals as goal
 
 pub invariant_of-result : goal.invariant_of-result
@@ -23,6 +22,3 @@ invariant_of-result c =
       cursors = rw (c.in_ok-cursors.ensures, tree) refl;
       populated = c.in-Ok.ensures.groups ∙ sym (ap length tree);
     }
-
-pub returns-clause-told : goal.returns-clause-told
-returns-clause-told c = tells-roomless c.in_ok-events.events [] c.in_ok-events.ensures.told

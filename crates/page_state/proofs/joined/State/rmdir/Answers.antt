@@ -57,4 +57,4 @@ returns c =
     let may : MayGo (joined_of s).tables g = may-go (joined_of s).tables g (subst (λ (x : StateOf). rmdir_refusal x.tables g ≡ None) (sym c.self.view_is) c.requires) in
     let below : (node_at s.tree g).parent ≡ Some c.in-Some.parent.0 = sym c.parent.ensures.parent ∙ ap (λ (o : Option GroupId). option_map (λ (x : GroupId). x.0) o) c.in-Some.is in
     rw (← c.self.view_is)
-    (removes-group s c.self.invariant g c.in-Some.parent.0 may c.remove_group.new.self c.remove_group.ensures c.remove-2.new.self c.remove-2.ensures.cursors c.remove.new.self c.remove.ensures.tree c.rmdir.new.self c.rmdir.ensures below c.remove.ensures.told)
+    (removes-group s c.self.invariant g c.in-Some.parent.0 may c.remove_group.new.self c.remove_group.ensures c.remove-2.new.self c.remove-2.ensures.cursors c.remove.new.self c.remove.ensures.tree c.rmdir.new.self c.rmdir.ensures below c.remove.ensures.counted)

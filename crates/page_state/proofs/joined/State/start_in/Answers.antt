@@ -13,9 +13,9 @@ start_in-requires c =
 pub invariant_of-self-2 : goal.invariant_of-self-2
 invariant_of-self-2 c =
     let away = rw (← c.self.view_is) at c.requires.away in
-    joined-begun c.self.inside c.self.invariant c.start_in.new.self c.args.page.0 (memory_of away.0) away.1 c.args.worker.0 c.args.entry c.in_ok-ticket.ticket (c.in_ok-ticket.ensures.begins away.0 away.1 away.2) (labelled (memory_of away.0) (Away away.1)) away.2 refl
+    joined-begun c.self.inside c.self.invariant c.start_in.new.self c.args.page.0 (memory_of away.0) away.1 c.in_ok-ticket.ticket (c.in_ok-ticket.ensures.begins away.0 away.1 away.2) (labelled (memory_of away.0) (Away away.1)) away.2 refl
 
 pub returns-clause-begins : goal.returns-clause-begins
 returns-clause-begins c =
     rw (← c.self.view_is)
-    (λ g b stood. begins-read_in c.self.inside c.self.invariant c.start_in.new.self c.args.page.0 (memory_of g) b c.args.worker.0 c.args.entry c.in_ok-ticket.ticket (c.in_ok-ticket.ensures.begins g b stood))
+    (λ g b stood. begins-read_in c.self.inside c.self.invariant c.start_in.new.self c.args.page.0 (memory_of g) b c.in_ok-ticket.ticket (c.in_ok-ticket.ensures.begins g b stood))

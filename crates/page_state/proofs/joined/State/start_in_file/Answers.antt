@@ -22,9 +22,9 @@ start_in_file-requires c =
 
 pub invariant_of-self-2 : goal.invariant_of-self-2
 invariant_of-self-2 c =
-    joined-read c.self.inside c.self.invariant c.start_in_file.new.self c.args.at.file c.args.at.page c.args.group.0 c.args.worker.0 c.args.entry c.in_ok-ticket.ticket c.in_ok-ticket.ensures.begins
+    joined-read c.self.inside c.self.invariant c.start_in_file.new.self c.args.at.file c.args.at.page c.args.group.0 c.in_ok-ticket.ticket c.in_ok-ticket.ensures.begins
 
 pub returns-clause-begins : goal.returns-clause-begins
 returns-clause-begins c =
     rw (← c.self.view_is)
-    (begins-read c.self.inside c.self.invariant c.start_in_file.new.self c.args.at.file c.args.at.page c.args.group.0 c.args.worker.0 c.args.entry c.in_ok-ticket.ticket c.in_ok-ticket.ensures.begins)
+    (begins-read c.self.inside c.self.invariant c.start_in_file.new.self c.args.at.file c.args.at.page c.args.group.0 c.in_ok-ticket.ticket c.in_ok-ticket.ensures.begins)

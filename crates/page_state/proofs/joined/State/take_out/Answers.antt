@@ -27,7 +27,7 @@ invariant_of-self c =
     let s = c.self.inside in
     let turn = turn-of s c.self.invariant c.args.target.0 c.args.group.0 _ c.self.view_is c.requires.next in
     let picks = c.pick-page.ensures in
-    joined-left s c.self.invariant c.are_counted.ensures.held c.are_counted.ensures.generations c.args.target.0 c.args.group.0 turn c.pick-page.new.self c.pick-page.result.0 picks c.take_out.new.self c.serve.new.self c.serve.ensures.cursors c.args.worker.0 c.args.entry
+    joined-left s c.self.invariant c.are_counted.ensures.held c.are_counted.ensures.generations c.args.target.0 c.args.group.0 turn c.pick-page.new.self c.pick-page.result.0 picks c.take_out.new.self c.serve.new.self c.serve.ensures.cursors
     c.take_out.result
     (c.take_out.ensures picks.label picks.frame (leaves-from s c.self.invariant c.are_counted.ensures.held c.are_counted.ensures.generations c.args.target.0 c.args.group.0 turn c.pick-page.new.self c.pick-page.result.0 picks))
 
@@ -37,6 +37,6 @@ returns c =
     let turn = turn-of s c.self.invariant c.args.target.0 c.args.group.0 _ c.self.view_is c.requires.next in
     let picks = c.pick-page.ensures in
     rw (← c.self.view_is)
-    (takes-page s c.self.invariant c.are_counted.ensures.held c.are_counted.ensures.generations c.args.target.0 c.args.group.0 turn c.pick-page.new.self c.pick-page.result.0 picks c.take_out.new.self c.serve.new.self c.serve.ensures.cursors c.args.worker.0 c.args.entry
+    (takes-page s c.self.invariant c.are_counted.ensures.held c.are_counted.ensures.generations c.args.target.0 c.args.group.0 turn c.pick-page.new.self c.pick-page.result.0 picks c.take_out.new.self c.serve.new.self c.serve.ensures.cursors
     c.take_out.result
     (c.take_out.ensures picks.label picks.frame (leaves-from s c.self.invariant c.are_counted.ensures.held c.are_counted.ensures.generations c.args.target.0 c.args.group.0 turn c.pick-page.new.self c.pick-page.result.0 picks)))

@@ -3,7 +3,8 @@ use Rattle.std.specs.List.{filter}
 use Rattle.std.proofs.lemmas.Fn.{filter_same}
 use Rattle.machine.specs.declared.id.PageId.{PageId}
 use Rattle.page_state.specs.Queue.{numbers_of}
-use Rattle.page_state.proofs.QueueLemmas.{numbers_of-others, count-others, length-others}
+use Rattle.counts.proofs.NumberLemmas.{count-others, length-others}
+use Rattle.page_state.proofs.QueueLemmas.{numbers_of-others}
 use Rattle.page_state.proofs.queue.Queue.remove.Goals as goal
 
 pub returns-clause-others : goal.returns-clause-others

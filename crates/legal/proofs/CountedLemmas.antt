@@ -1,0 +1,234 @@
+-- What a step counts, and that no key is counted more often than entries allow.
+use Rattle.std.proofs.Common.{◌≡◌, ◌⊎◌, inl, inr, ℕ, zero, suc, ◌+◌, ◌<◌, ◌≤◌, ◌==◌, ◌&&◌, Bool, true, false, cond, List, [], ◌∷◌, ◌++◌, length, Option, Some, None, refl, sym, ap, ◌∙◌, add-one, eqb-true, arith}
+use Rattle.std.specs.Prelude.{MatchBool, slice_set}
+use Rattle.machine.specs.declared.record.EventCounts.{EventCounts}
+use Rattle.machine.specs.declared.record.Key.{Key}
+use Rattle.machine.specs.declared.record.Life.{Life}
+use Rattle.machine.specs.declared.record.Life.TheVariants.{Live, Exited, Killed}
+use Rattle.machine.specs.declared.record.Task.{Task}
+use Rattle.machine.specs.declared.entry.Entry.{Entry}
+use Rattle.machine.specs.declared.id.TaskId.{TaskId}
+use Rattle.machine.specs.declared.event.Cause.{Cause}
+use Rattle.machine.specs.declared.event.Op.{Op}
+use Rattle.machine.specs.declared.event.Op.TheVariants.{Read, Write}
+use Rattle.machine.specs.declared.event.Place.{Place}
+use Rattle.machine.specs.declared.event.Event.{Event}
+use Rattle.machine.specs.declared.event.Event.TheVariants as event
+use Rattle.machine.specs.declared.reply.Reply.{Reply}
+use Rattle.machine.specs.declared.reply.Reply.TheVariants as reply
+use Rattle.machine.specs.Pages.{Content, Memory, OfFile, Residence, Held, Coming, Going, Away, Page, home_block}
+use Rattle.machine.specs.Tree.{Node, under}
+use Rattle.machine.specs.Counts.{Counted, no_counts, once_more, counts_at, with_event, local, total, is_key}
+use Rattle.machine.specs.Tasks.{task_at}
+use Rattle.machine.specs.State.{Opening, State, over_in, is_frame_free}
+use Rattle.machine.specs.Access.{Meeting, Unmapped, Hits, Transferring, NeedsPage, NeedsCopy, NeedsSwapIn, NeedsRead, Dangling, meets}
+use Rattle.machine.specs.Reclaim.{has_takeable, has_transfer, stands, target_of}
+use Rattle.machine.specs.Step.{ChargeStep, HitStep, UnmappedStep, MeetStep, LifeStep, TaskStep, StartsLeave, Drops, LeavesBy, LeavesFrom, Takes, ReclaimStep, KillStep, Step}
+use Rattle.machine.specs.Legal.{Legal}
+use Rattle.machine.specs.Events.{counts_named, with_events, for_groups}
+use Rattle.machine.proofs.TreeLemmas.{lt_cases}
+use Rattle.counts.proofs.CountLemmas.{count_of_key-none, local-event, local-push, sum_from, sum_from-same, sum_from-le, sum_from-zero, part_under, total-is}
+
+-- ---- what a step counts
+
+-- the table of counts after an event that is answered so
+abbrev pub counted_after : State → Event → Reply → List EventCounts
+counted_after old what answer = with_events (for_groups old.counted what) (counts_named old what answer)
+
+module _ (old new : State) (what : Event) where
+  -- an answer that counts nothing
+  quiet : (answer expected : Reply) → counted_after old what expected ≡ old.counted → answer ≡ expected → new.counted ≡ old.counted → new.counted ≡ counted_after old what answer
+  quiet answer expected none is same = same ∙ sym (ap (counted_after old what) is ∙ none)
+
+  by_test : {Yes No : Type 0} {Goal : Type 0} (b : Bool) → (Yes → Goal) → (No → Goal) → MatchBool b Yes No → Goal
+  by_test true on off h = on h
+  by_test false on off h = off h
+
+  -- a page that leaves its frame counts nothing
+  module _ (answer : Reply) (out : (n : ℕ) → counted_after old what (reply.Out (record { 0 = n })) ≡ old.counted) (dropped : counted_after old what reply.Dropped ≡ old.counted) where
+    sent : (p frame block : ℕ) (page : Page) → StartsLeave old p page frame block old.counted answer new → new.counted ≡ counted_after old what answer
+    sent p frame block page h = quiet answer _ (out h.ticket) h.answers (ap (λ (s : State). s.counted) h.state)
+
+    dropped_counts : (p : ℕ) → Drops old p old.counted answer new → new.counted ≡ counted_after old what answer
+    dropped_counts p h = quiet answer _ dropped h.answers (ap (λ (s : State). s.counted) h.state)
+
+    leaves_by : (p frame : ℕ) (page : Page) (content : Content) → LeavesBy old p page content frame old.counted answer new → new.counted ≡ counted_after old what answer
+    leaves_by p frame page Memory h = sent p frame h.block page h.leave
+    leaves_by p frame page (OfFile file q) h = by_test page.dirty (sent p frame (home_block old.opening.swap old.opening.files file q) page) (dropped_counts p) h
+
+    leaves_from : (p : ℕ) (page : Page) (residence : Residence) → LeavesFrom old p page residence old.counted answer new → new.counted ≡ counted_after old what answer
+    leaves_from p page (Held frame) h = leaves_by p frame page page.content h
+    leaves_from p page (Coming frame block ticket) h = absurd h
+    leaves_from p page (Going frame block ticket) h = absurd h
+    leaves_from p page (Away block) h = absurd h
+
+    reclaims : (target : ℕ) (Idle : Type 0) → counted_after old what reply.Wait ≡ old.counted → (Idle → new.counted ≡ counted_after old what answer) → ReclaimStep old target Idle answer new → new.counted ≡ counted_after old what answer
+    reclaims target Idle wait idle h =
+        by_test (has_takeable old target) (λ (k : Takes old target answer new). leaves_from k.p k.page k.page.residence k.leaves)
+        (by_test (has_transfer old target) (λ w. quiet answer reply.Wait wait w.0 (ap (λ (s : State). s.counted) w.1)) idle) h
+
+  -- an event of a task
+  of_task : (slot : Option Task) (Live_step : Task → Type 0) (answer : Reply) → counted_after old what reply.Killed ≡ old.counted → ((task : Task) → Live_step task → new.counted ≡ counted_after old what answer)
+      → TaskStep old slot Live_step answer new → new.counted ≡ counted_after old what answer
+  of_task None Live_step answer killed living h = absurd h
+  of_task (Some task) Live_step answer killed living h = by_life task.life h
+    where
+      by_life : (life : Life) → LifeStep old life (Live_step task) answer new → new.counted ≡ counted_after old what answer
+      by_life Live k = living task k
+      by_life Exited k = absurd k
+      by_life Killed k = quiet answer reply.Killed killed k.0 (ap (λ (s : State). s.counted) k.1)
+
+-- an access
+module _ (old new : State) (t : TaskId) (place : Place) (op : Op) where
+  abbrev access : Event
+  access = event.Access t place op
+
+  charged : (low : Option ℕ) (free : Bool) (Granted : Type 0) (answer : Reply) → (Granted → new.counted ≡ counted_after old access answer) → ChargeStep old low free Granted answer new → new.counted ≡ counted_after old access answer
+  charged (Some a) free Granted answer granted h = ap (λ (s : State). s.counted) h.1 ∙ sym (ap (counted_after old access) h.0)
+  charged None free Granted answer granted h = by_test old new access free granted (λ k. quiet old new access answer reply.NoFrame refl k.0 (ap (λ (s : State). s.counted) k.1)) h
+
+  hit : (p frame : ℕ) (page : Page) (op' : Op) (answer : Reply) → HitStep old p page frame op' answer new → new.counted ≡ counted_after old access answer
+  hit p frame page Read (reply.Done byte at) h = ap (λ (s : State). s.counted) h.1
+  hit p frame page (Write b) (reply.Done byte at) h = ap (λ (s : State). s.counted) h.3
+  hit p frame page op' answer h = absurd h
+
+  unmapped : (answer : Reply) → UnmappedStep old answer new → new.counted ≡ counted_after old access answer
+  unmapped (reply.Done byte at) h = ap (λ (s : State). s.counted) h.1
+  unmapped answer h = absurd h
+
+  meeting : (g : ℕ) (met : Meeting) (answer : Reply) → MeetStep old t.0 g op met answer new → new.counted ≡ counted_after old access answer
+  meeting g Unmapped answer h = unmapped answer h
+  meeting g (Hits p page frame) answer h = hit p frame page op answer h
+  meeting g Transferring answer h = quiet old new access answer reply.Busy refl h.0 (ap (λ (s : State). s.counted) h.1)
+  meeting g (NeedsPage v) answer h = charged (over_in old g) (is_frame_free old) _ answer (λ k. quiet old new access answer _ refl k.answers (ap (λ (s : State). s.counted) k.state)) h
+  meeting g (NeedsCopy v) answer h = charged (over_in old g) (is_frame_free old) _ answer (λ k. quiet old new access answer _ refl k.answers (ap (λ (s : State). s.counted) k.state)) h
+  meeting g (NeedsSwapIn p page block) answer h = charged (over_in old page.group) (is_frame_free old) _ answer (λ k. quiet old new access answer _ refl k.answers (ap (λ (s : State). s.counted) k.state)) h
+  meeting g (NeedsRead file q) answer h = charged (over_in old g) (is_frame_free old) _ answer (λ k. quiet old new access answer _ refl k.fetch.answers (ap (λ (s : State). s.counted) k.fetch.state)) h
+  meeting g Dangling answer h = absurd h
+
+-- a relief
+kills : (old new : State) (why : Cause) (answer : Reply) → KillStep old (target_of why) answer new → new.counted ≡ counted_after old (event.Relieve why) answer
+kills old new why (reply.KilledTask t) h = ap (λ (s : State). s.counted) h.1.state
+kills old new why reply.NoVictim h = ap (λ (s : State). s.counted) h.1
+kills old new why answer h = absurd h
+
+-- a step counts what its case names, and nothing else
+pub step-counted : (old new : State) (what : Event) (answer : Reply) → Step old what answer new → new.counted ≡ counted_after old what answer
+step-counted old new (event.Access t place op) answer h =
+    of_task old new (event.Access t place op) (task_at old.tasks t.0) _ answer refl (λ task k. meeting old new t place op task.group.0 (meets old t.0 place op) answer k) h
+step-counted old new (event.Arrived ticket bytes) answer h = ap (λ (s : State). s.counted) h.state
+step-counted old new (event.FetchFailed ticket) answer h = ap (λ (s : State). s.counted) h.state
+step-counted old new (event.Left ticket) answer h = ap (λ (s : State). s.counted) h.state
+step-counted old new (event.LeaveFailed ticket) answer h = ap (λ (s : State). s.counted) h.state
+step-counted old new (event.Relieve why) answer h =
+    by_test old new (event.Relieve why) (stands old why) (reclaims old new (event.Relieve why) answer (λ n. refl) refl (target_of why) _ refl (kills old new why answer))
+    (λ k. quiet old new (event.Relieve why) answer reply.Room refl k.0 (ap (λ (s : State). s.counted) k.1)) h
+step-counted old new (event.ReclaimOne g) answer h = reclaims old new (event.ReclaimOne g) answer (λ n. refl) refl g.0 _ refl (λ k. ap (λ (s : State). s.counted) k.1) h
+step-counted old new (event.Spawn t g) reply.Ok h = ap (λ (s : State). s.counted) h.2
+step-counted old new (event.Fork t child) answer h = of_task old new (event.Fork t child) (task_at old.tasks t.0) _ answer refl (λ task k. ap (λ (s : State). s.counted) k.3) h
+step-counted old new (event.Exit t) answer h = of_task old new (event.Exit t) (task_at old.tasks t.0) _ answer refl (λ task k. ap (λ (s : State). s.counted) k.1.state) h
+step-counted old new (event.Free t v) answer h = of_task old new (event.Free t v) (task_at old.tasks t.0) _ answer refl (λ task k. ap (λ (s : State). s.counted) k.state) h
+step-counted old new (event.Attach t g) reply.Ok h = ap (λ (s : State). s.counted) h.1
+step-counted old new (event.Mkdir path) reply.Ok h = ap (λ (s : State). s.counted) h
+step-counted old new (event.Rmdir g) reply.Ok h = ap (λ (s : State). s.counted) h.state
+step-counted old new (event.Set g what) reply.Ok h = ap (λ (s : State). s.counted) h
+step-counted old new (event.Show what) (reply.Shown numbers) h = ap (λ (s : State). s.counted) h.1
+step-counted old new what answer h = absurd h
+
+-- ---- how often at most
+
+-- of the key, at all of the first n groups together
+abbrev pub everywhere : List EventCounts → Key → ℕ → ℕ
+everywhere counted k n = sum_from (λ g. local counted g k) 0 n
+
+set-beyond : (counted : List EventCounts) (g : ℕ) (x : EventCounts) → length counted ≤ g → slice_set counted g x ≡ counted
+set-beyond [] zero x le = refl
+set-beyond [] (suc g) x le = refl
+set-beyond (c ∷ counted) zero x le = absurd (omega (arith, le))
+set-beyond (c ∷ counted) (suc g) x le = ap (λ cs. c ∷ cs) (set-beyond counted g x (omega (arith, le)))
+
+-- at most one more
+local-event-le : (counted : List EventCounts) (group : ℕ) (key : Key) (g : ℕ) (k : Key) → local (with_event counted group key) g k ≤ local counted g k + cond (g == group) 1 0
+local-event-le counted group key g k =
+    elim (lt_cases group (length counted)) [
+      | inl lt ↦ (let e = local-event counted group key lt g k in let le = both (g == group) (is_key key k) in omega (arith, e, le))
+      | inr beyond ↦ (let same = ap (λ (cs : List EventCounts). local cs g k) (set-beyond counted group (once_more (counts_at counted group) key) (from beyond)) in omega (arith, same))
+    ]
+  where
+    both : (a b : Bool) → cond (a && b) 1 0 ≤ cond a 1 0
+    both true true = omega arith
+    both true false = omega arith
+    both false b = omega arith
+
+    from : (group ≡ length counted) ⊎ (length counted < group) → length counted ≤ group
+    from (inl e) = omega (arith, e)
+    from (inr lt) = omega (arith, lt)
+
+sum_from-one-le : (f h : ℕ → ℕ) (at k n : ℕ) → ((g : ℕ) → h g ≤ f g + cond (g == at) 1 0) → sum_from h k n ≤ sum_from f k n + 1
+sum_from-one-le f h at k zero more = omega arith
+sum_from-one-le f h at k (suc n) more = by_case (k == at) refl (sum_from-one-le f h at (k + 1) n more)
+  where
+    later : k ≡ at → (g : ℕ) → k + 1 ≤ g → h g ≤ f g
+    later is g above =
+        let e = more g in
+        let none : ◌≡◌ {A = ℕ} (cond (g == at) 1 0) 0 = (let other : (g == at) ≡ false = grind (arith, above, is) in ap (λ (b : Bool). let m : ℕ = cond b 1 0 in m) other) in
+        omega (arith, e, none)
+
+    by_case : (b : Bool) → (k == at) ≡ b → sum_from h (k + 1) n ≤ sum_from f (k + 1) n + 1 → sum_from h k (suc n) ≤ sum_from f k (suc n) + 1
+    by_case true same rest =
+        let here = more k in
+        let one : ◌≡◌ {A = ℕ} (cond (k == at) 1 0) 1 = ap (λ (b : Bool). let m : ℕ = cond b 1 0 in m) same in
+        let none = sum_from-le h f (k + 1) n (λ g above within. later (eqb-true k at same) g above) in
+        omega (arith, here, one, none)
+    by_case false other rest =
+        let here = more k in
+        let none : ◌≡◌ {A = ℕ} (cond (k == at) 1 0) 0 = ap (λ (b : Bool). let m : ℕ = cond b 1 0 in m) other in
+        omega (arith, here, none, rest)
+
+everywhere-event : (counted : List EventCounts) (group : ℕ) (key k : Key) (n : ℕ) → everywhere (with_event counted group key) k n ≤ everywhere counted k n + 1
+everywhere-event counted group key k n = sum_from-one-le (λ g. local counted g k) (λ g. local (with_event counted group key) g k) group 0 n (λ g. local-event-le counted group key g k)
+
+everywhere-events : (counted : List EventCounts) (events : List Counted) (k : Key) (n : ℕ) → everywhere (with_events counted events) k n ≤ everywhere counted k n + length events
+everywhere-events counted [] k n = omega arith
+everywhere-events counted (c ∷ events) k n =
+    let rest = everywhere-events (with_event counted c.group c.key) events k n in
+    let one = everywhere-event counted c.group c.key k n in
+    omega (arith, rest, one)
+
+everywhere-groups : (counted : List EventCounts) (what : Event) (k : Key) (n : ℕ) → everywhere (for_groups counted what) k n ≤ everywhere counted k n
+everywhere-groups counted (event.Mkdir path) k n =
+    let same = sum_from-same (λ g. local (counted ++ no_counts ∷ []) g k) (λ g. local counted g k) 0 n (λ g from to. local-push counted g k) in omega (arith, same)
+everywhere-groups counted what k n = omega arith
+
+named-two : (s : State) (what : Event) (answer : Reply) → length (counts_named s what answer) ≤ 2
+named-two s (event.Access t place op) (reply.Over g) = omega arith
+named-two s (event.Relieve why) (reply.KilledTask t) = omega arith
+named-two s (event.Relieve why) reply.NoVictim = omega arith
+named-two s what answer = omega arith
+
+-- each entry counts at most two events
+pub few-everywhere : (opening : Opening) (history : List Entry) (s : State) → Legal opening history s → (k : Key) (n : ℕ) → everywhere s.counted k n ≤ length history + length history
+few-everywhere opening [] s legal k n = let none = ap (λ (t : State). everywhere t.counted k n) legal ∙ sum_from-zero _ 0 n (λ g from to. nothing g) in omega (arith, none)
+  where
+    nothing : (g : ℕ) → local (no_counts ∷ []) g k ≡ 0
+    nothing zero = count_of_key-none k
+    nothing (suc g) = count_of_key-none k
+few-everywhere opening (entry ∷ earlier) s (before, legal, extends) k n =
+    let so_far = few-everywhere opening earlier before legal k n in
+    let is = ap (λ (cs : List EventCounts). everywhere cs k n) (step-counted before s entry.event entry.reply extends.steps) in
+    let more = everywhere-events (for_groups before.counted entry.event) (counts_named before entry.event entry.reply) k n in
+    let groups = everywhere-groups before.counted entry.event k n in
+    let two = named-two before entry.event entry.reply in
+    let longer = add-one (length earlier) in
+    omega (arith, so_far, is, more, groups, two, longer)
+
+pub few-total : (opening : Opening) (history : List Entry) (s : State) → Legal opening history s → (tree : List Node) (a : ℕ) (k : Key) → total tree s.counted a k ≤ length history + length history
+few-total opening history s legal tree a k =
+    let is = total-is tree s.counted a k in
+    let le = sum_from-le (part_under tree s.counted a k) (λ g. local s.counted g k) 0 (length tree) (λ g from to. part-le (under tree a g) (local s.counted g k)) in
+    let all = few-everywhere opening history s legal k (length tree) in
+    omega (arith, is, le, all)
+  where
+    part-le : (b : Bool) (n : ℕ) → cond b n 0 ≤ n
+    part-le true n = omega arith
+    part-le false n = omega arith

@@ -1,0 +1,308 @@
+-- In every legal history the table of counts tells the events that the entries counted, one by one: each is counted at a group that is there.
+use Rattle.std.proofs.Common.{◌≡◌, ◌⊎◌, inl, inr, ℕ, zero, suc, ◌+◌, ◌<◌, ◌≤◌, ◌==◌, ◌&&◌, Bool, true, false, cond, MatchBool, List, [], ◌∷◌, ◌++◌, length, Option, Some, None, refl, sym, ap, ◌∙◌, subst, eq-eqb, ne_eqb, arith, length-append, length-set}
+use Rattle.std.proofs.lemmas.Bool.Decides.{eqb_tells}
+use Rattle.std.proofs.lemmas.Bool.{and_parts}
+use Rattle.std.proofs.lemmas.List.Sums.{sum_by-append, sum_by-cons}
+use Rattle.std.proofs.Math.ListN.{get_or-eq_default}
+use Rattle.machine.specs.declared.entry.Entry.{Entry}
+use Rattle.machine.specs.declared.record.EventCounts.{EventCounts}
+use Rattle.machine.specs.declared.record.Key.{Key}
+use Rattle.machine.specs.declared.record.Life.{Life}
+use Rattle.machine.specs.declared.record.Life.TheVariants.{Live, Exited, Killed}
+use Rattle.machine.specs.declared.record.Limits.{Limits}
+use Rattle.machine.specs.declared.record.Task.{Task}
+use Rattle.machine.specs.declared.event.Cause.{Cause}
+use Rattle.machine.specs.declared.event.Cause.TheVariants as cause
+use Rattle.machine.specs.declared.event.Op.{Op}
+use Rattle.machine.specs.declared.event.Op.TheVariants.{Read, Write}
+use Rattle.machine.specs.declared.event.Place.{Place}
+use Rattle.machine.specs.declared.event.Place.TheVariants.{Virtual, File}
+use Rattle.machine.specs.declared.event.Event.{Event}
+use Rattle.machine.specs.declared.event.Event.TheVariants as event
+use Rattle.machine.specs.declared.reply.Reply.{Reply}
+use Rattle.machine.specs.declared.reply.Reply.TheVariants as reply
+use Rattle.machine.specs.Slots.{there_and}
+use Rattle.machine.specs.Tree.{Node, IsTree, node_at, no_node, is_live}
+use Rattle.machine.specs.Pages.{Content, Memory, OfFile, Residence, Held, Coming, Going, Away, Page, home_block}
+use Rattle.machine.specs.Counts.{Counted, is_full, over_at, no_counts, once_more, counts_at, with_event, local, is_key, how_often}
+use Rattle.machine.specs.Tasks.{Tasks, task_at, is_live_life, is_live_task, lives, group_of, group_of_task}
+use Rattle.machine.specs.State.{Opening, State, usage, over_in, is_frame_free}
+use Rattle.machine.specs.Access.{Meeting, Unmapped, Hits, Transferring, NeedsPage, NeedsCopy, NeedsSwapIn, NeedsRead, Dangling, meets}
+use Rattle.machine.specs.Reclaim.{has_takeable, has_transfer, stands, target_of}
+use Rattle.machine.specs.Victim.{is_live_under, is_candidate}
+use Rattle.machine.specs.Step.{Only, ChargeStep, HitStep, MeetStep, LifeStep, TaskStep, StartsLeave, Drops, LeavesBy, LeavesFrom, Takes, ReclaimStep, KillStep, RelieveStep, new_node, Step}
+use Rattle.machine.specs.Legal.{Legal}
+use Rattle.machine.specs.Events.{counts_named, AreCounted, with_events, for_groups}
+use Rattle.machine.proofs.Values.{some_inj, unlike}
+use Rattle.machine.proofs.TreeLemmas.{lt_cases, over_at-None, over_at-step}
+use Rattle.counts.proofs.CountLemmas.{count_of_key-none, local-event, local-push}
+use Rattle.legal.proofs.OpeningLemmas.{tree_after, step_tree}
+use Rattle.legal.proofs.MoveLemmas.{MetFile, met_file, swaps_away}
+use Rattle.legal.proofs.SoundLemmas.{IsSound, legal-sound, legal-fit}
+use Rattle.legal.proofs.CountedLemmas.{step-counted}
+
+-- ---- the lowest group without room is there
+
+live-within : (tree : List Node) (g : ℕ) → is_live tree g ≡ true → g < length tree
+live-within tree g live =
+    elim (lt_cases g (length tree)) [
+      | inl lt ↦ lt
+      | inr beyond ↦ absurd (let none : is_live tree g ≡ false = ap (λ (x : Node). x.live) (get_or-eq_default tree no_node (from beyond)) in unlike (is_live tree g) live none)
+    ]
+  where
+    from : (g ≡ length tree) ⊎ (length tree < g) → length tree ≤ g
+    from (inl e) = omega (arith, e)
+    from (inr lt) = omega (arith, lt)
+
+module _ (tree : List Node) (falls : IsTree tree) (above : (g p : ℕ) → is_live tree g ≡ true → (node_at tree g).parent ≡ Some p → is_live tree p ≡ true) (limits : List Limits) (count : ℕ → ℕ) (a : ℕ) where
+  over-by : (g : ℕ) → ((p : ℕ) → p < g → is_live tree p ≡ true → over_at tree limits count (Some p) ≡ Some a → is_live tree a ≡ true) → is_live tree g ≡ true → over_at tree limits count (Some g) ≡ Some a → is_live tree a ≡ true
+  over-by g lower live e = by_full (is_full limits count g) (sym (over_at-step tree falls limits count g) ∙ e)
+    where
+      by_parent : (at : Option ℕ) → (node_at tree g).parent ≡ at → over_at tree limits count at ≡ Some a → is_live tree a ≡ true
+      by_parent None up e = let none : None ≡ Some a = sym (over_at-None tree falls limits count) ∙ e in cc
+      by_parent (Some p) up e = lower p (falls.falls g p up) (above g p live up) e
+
+      by_full : (b : Bool) → cond b (Some g) (over_at tree limits count (node_at tree g).parent) ≡ Some a → is_live tree a ≡ true
+      by_full true e = ap (is_live tree) (sym (some_inj e)) ∙ live
+      by_full false e = by_parent (node_at tree g).parent refl e
+
+  over-below : (n g : ℕ) → g < n → is_live tree g ≡ true → over_at tree limits count (Some g) ≡ Some a → is_live tree a ≡ true
+  over-below zero g lt live e = absurd (omega (arith, lt))
+  over-below (suc n) g lt live e = over-by g (λ p below. over-below n p (omega (arith, below, lt))) live e
+
+  pub over-there : (g : ℕ) → is_live tree g ≡ true → over_at tree limits count (Some g) ≡ Some a → a < length tree
+  over-there g live e = live-within tree a (over-below (suc g) g (omega arith) live e)
+
+-- ---- replies that no step gives
+
+-- the group that a refused charge names
+abbrev group_over : Reply → ℕ
+group_over (reply.Over g) = g.0
+group_over answer = 0
+
+hit_never : (old new : State) (a p frame : ℕ) (page : Page) (op : Op) → HitStep old p page frame op (reply.Over (record { 0 = a })) new → ⊥
+hit_never old new a p frame page Read h = h
+hit_never old new a p frame page (Write b) h = h
+
+-- it says that a page was taken
+abbrev is_taking : Reply → Bool
+is_taking (reply.Out ticket) = true
+is_taking reply.Dropped = true
+is_taking answer = false
+
+taking_by : (old new : State) (p frame : ℕ) (page : Page) (content : Content) (counted : List EventCounts) (answer : Reply) → LeavesBy old p page content frame counted answer new → is_taking answer ≡ true
+taking_by old new p frame page Memory counted answer h = ap is_taking h.leave.answers
+taking_by old new p frame page (OfFile file q) counted answer h = by_dirty page.dirty h
+  where
+    by_dirty : (b : Bool) → MatchBool b (StartsLeave old p page frame (home_block old.opening.swap old.opening.files file q) counted answer new) (Drops old p counted answer new) → is_taking answer ≡ true
+    by_dirty true k = ap is_taking k.answers
+    by_dirty false k = ap is_taking k.answers
+
+taking_from : (old new : State) (p : ℕ) (page : Page) (residence : Residence) (counted : List EventCounts) (answer : Reply) → LeavesFrom old p page residence counted answer new → is_taking answer ≡ true
+taking_from old new p page (Held frame) counted answer h = taking_by old new p frame page page.content counted answer h
+taking_from old new p page (Coming frame block ticket) counted answer h = absurd h
+taking_from old new p page (Going frame block ticket) counted answer h = absurd h
+taking_from old new p page (Away block) counted answer h = absurd h
+
+never_taken : (old : State) (target : ℕ) (answer : Reply) (new : State) → is_taking answer ≡ false → Takes old target answer new → ⊥
+never_taken old target answer new other h = unlike (is_taking answer) (taking_from old new h.p h.page h.page.residence old.counted answer h.leaves) other
+
+-- who can be killed is live
+candidate_lives : (tree : List Node) (tasks : Tasks) (limit t : ℕ) → is_candidate tree tasks limit t ≡ true → lives tasks t ≡ true
+candidate_lives tree tasks limit t among = by_slot (task_at tasks t) among
+  where
+    by_slot : (slot : Option Task) → there_and (is_live_under tree limit) slot ≡ true → there_and is_live_task slot ≡ true
+    by_slot None is = cc
+    by_slot (Some task) is = (and_parts (is_live_task task) _ is).0
+
+-- ---- what a step counts is counted at groups that are there
+
+-- so many groups there are, and these events are of them
+abbrev pub AreOf : ℕ → List Counted → Type 0
+AreOf n [] = Unit {0}
+AreOf n (c ∷ events) = (c.group < n) × AreOf n events
+
+module _ (opening : Opening) (history : List Entry) (old new : State) (legal : Legal opening history old) where
+  sound : IsSound opening.swap opening.files old.pages old.tasks old.tree
+  sound = (legal-sound opening history old legal).1
+
+  by_test : {P Q R : Type 0} (b : Bool) → (P → R) → (Q → R) → MatchBool b P Q → R
+  by_test true f g h = f h
+  by_test false f g h = g h
+
+  module _ (t : ℕ) (place : Place) (op : Op) (a : ℕ) where
+    abbrev over : Reply
+    over = reply.Over (record { 0 = a })
+
+    lowest : (low : ℕ) → over ≡ reply.Over (record { 0 = low }) → low ≡ a
+    lowest low e = sym (ap group_over e)
+
+    charged : (g : ℕ) (Granted : Type 0) → is_live old.tree g ≡ true → (Granted → ⊥) → ChargeStep old (over_in old g) (is_frame_free old) Granted over new → a < length old.tree
+    charged g Granted live never h = by_over (over_in old g) refl h
+      where
+        by_over : (low : Option ℕ) → over_in old g ≡ low → ChargeStep old low (is_frame_free old) Granted over new → a < length old.tree
+        by_over (Some low) is h =
+            over-there old.tree sound.falls sound.above old.limits (usage old) a g live (is ∙ ap (λ (n : ℕ). Some n) (lowest low h.0))
+        by_over None is h = absurd (by_test (is_frame_free old) never (λ k. let e = k.0 in cc) h)
+
+    meets_virtual : (v o g : ℕ) (met : Meeting) → meets old t (Virtual v o) op ≡ met → is_live old.tree g ≡ true → MeetStep old t g op met over new → a < length old.tree
+    meets_virtual v o g Unmapped is live h = absurd h
+    meets_virtual v o g (Hits p page frame) is live h = absurd (hit_never old new a p frame page op h)
+    meets_virtual v o g Transferring is live h = absurd (let e = h.0 in cc)
+    meets_virtual v o g (NeedsPage w) is live h = charged g _ live (λ k. let e = k.answers in cc) h
+    meets_virtual v o g (NeedsCopy w) is live h = charged g _ live (λ k. let e = k.answers in cc) h
+    meets_virtual v o g (NeedsSwapIn p page block) is live h =
+        charged page.group _ (legal-fit opening history old legal p page (swaps_away old t v o op p page block is).0).live (λ k. let e = k.answers in cc) h
+    meets_virtual v o g (NeedsRead file q) is live h = charged g _ live (λ k. let e = k.fetch.answers in cc) h
+    meets_virtual v o g Dangling is live h = absurd h
+
+    meets_file : (f q g : ℕ) (met : Meeting) → MetFile old f q met → is_live old.tree g ≡ true → MeetStep old t g op met over new → a < length old.tree
+    meets_file f q g Unmapped met live h = absurd h
+    meets_file f q g (Hits p page frame) met live h = absurd (hit_never old new a p frame page op h)
+    meets_file f q g Transferring met live h = absurd (let e = h.0 in cc)
+    meets_file f q g (NeedsPage w) met live h = absurd met
+    meets_file f q g (NeedsCopy w) met live h = absurd met
+    meets_file f q g (NeedsSwapIn p page block) met live h = absurd met
+    meets_file f q g (NeedsRead file q') met live h = charged g _ live (λ k. let e = k.fetch.answers in cc) h
+    meets_file f q g Dangling met live h = absurd h
+
+    at_place : (g : ℕ) → is_live old.tree g ≡ true → (where_to : Place) → MeetStep old t g op (meets old t where_to op) over new → a < length old.tree
+    at_place g live (Virtual v o) h = meets_virtual v o g (meets old t (Virtual v o) op) refl live h
+    at_place g live (File f q o) h = meets_file f q g (meets old t (File f q o) op) (met_file old t f q o op) live h
+
+    accesses : TaskStep old (task_at old.tasks t) (λ task. MeetStep old t task.group.0 op (meets old t place op) over new) over new → a < length old.tree
+    accesses h = by_slot (task_at old.tasks t) refl h
+      where
+        by_life : (task : Task) (life : Life) → task_at old.tasks t ≡ Some task → task.life ≡ life → LifeStep old life (MeetStep old t task.group.0 op (meets old t place op) over new) over new → a < length old.tree
+        by_life task Live known lives_on h =
+            at_place task.group.0
+            (ap (λ (g : ℕ). is_live old.tree g) (sym (ap group_of known)) ∙ sound.homes t (ap (there_and is_live_task) known ∙ ap is_live_life lives_on)) place h
+        by_life task Exited known ended h = absurd h
+        by_life task Killed known ended h = absurd (let e = h.0 in cc)
+
+        by_slot : (slot : Option Task) → task_at old.tasks t ≡ slot → TaskStep old slot (λ task. MeetStep old t task.group.0 op (meets old t place op) over new) over new → a < length old.tree
+        by_slot None is h = absurd h
+        by_slot (Some task) is h = by_life task task.life is refl h
+
+  -- a cause that stands is one of a group that is there
+  target-there : 0 < length old.tree → (why : Cause) → stands old why ≡ true → target_of why < length old.tree
+  target-there some (cause.Charge g) is = live-within old.tree g.0 (and_parts (is_live old.tree g.0) _ is).0
+  target-there some (cause.Lower g) is = live-within old.tree g.0 (and_parts (is_live old.tree g.0) _ is).0
+  target-there some cause.Frame is = some
+
+  -- where a relief is answered so, nobody gave a page
+  module _ (why : Cause) (answer : Reply) (other : is_taking answer ≡ false) (not_room : answer ≡ reply.Room → ⊥) (not_wait : answer ≡ reply.Wait → ⊥) where
+    relieves : RelieveStep old why answer new → (stands old why ≡ true) × KillStep old (target_of why) answer new
+    relieves h = by_cause (stands old why) refl h
+      where
+        wanted : ReclaimStep old (target_of why) (KillStep old (target_of why) answer new) answer new → KillStep old (target_of why) answer new
+        wanted h = by_test (has_takeable old (target_of why)) (λ (k : Takes old (target_of why) answer new). absurd (never_taken old (target_of why) answer new other k)) (by_test (has_transfer old (target_of why)) (λ w. absurd (not_wait w.0)) (λ k. k)) h
+
+        by_cause : (b : Bool) → stands old why ≡ b
+            → MatchBool b (ReclaimStep old (target_of why) (KillStep old (target_of why) answer new) answer new) (Only old reply.Room answer new) → (stands old why ≡ true) × KillStep old (target_of why) answer new
+        by_cause true is h = (is, wanted h)
+        by_cause false is h = absurd (not_room h.0)
+
+  pub named-there : 0 < length old.tree → (what : Event) (answer : Reply) → Step old what answer new → AreOf (length old.tree) (counts_named old what answer)
+  named-there some (event.Access t place op) (reply.Over g) h = (accesses t.0 place op g.0 h, tt)
+  named-there some (event.Relieve why) (reply.KilledTask t) h =
+      let kill = relieves why (reply.KilledTask t) refl (λ e. cc) (λ e. cc) h in (
+        target-there some why kill.0,
+        (live-within old.tree (group_of_task old.tasks t.0) (sound.homes t.0 (candidate_lives old.tree old.tasks (target_of why) t.0 kill.1.0.among)), tt),
+      )
+  named-there some (event.Relieve why) reply.NoVictim h = let kill = relieves why reply.NoVictim refl (λ e. cc) (λ e. cc) h in (target-there some why kill.0, tt)
+  named-there some what answer h = tt
+
+-- ---- the table and the events
+
+-- each group has its counts, and there is a group: the root
+record HasCounts (s : State) : Type 0 where
+  pub all : length s.counted ≡ length s.tree
+  pub some : 0 < length s.tree
+
+length-events : (counted : List EventCounts) (events : List Counted) → length (with_events counted events) ≡ length counted
+length-events counted [] = refl
+length-events counted (c ∷ events) = length-events (with_event counted c.group c.key) events ∙ length-set counted c.group _
+
+length-groups : (before : State) (what : Event) → length before.counted ≡ length before.tree → length (for_groups before.counted what) ≡ length (tree_after before what)
+length-groups before (event.Mkdir path) all =
+    let counts = length-append before.counted (no_counts ∷ []) in
+    let groups = length-append before.tree (new_node before.tree path ∷ []) in
+    omega (arith, counts, groups, all)
+length-groups before (event.Rmdir g) all = all ∙ sym (length-set before.tree g.0 _)
+length-groups before what all = all
+
+-- no group goes from the list
+more-groups : (before : State) (what : Event) → length before.tree ≤ length (tree_after before what)
+more-groups before (event.Mkdir path) = let groups = length-append before.tree (new_node before.tree path ∷ []) in omega (arith, groups)
+more-groups before (event.Rmdir g) = let same = length-set before.tree g.0 (record (node_at before.tree g.0) { live = false }) in omega (arith, same)
+more-groups before what = omega arith
+
+has-counts : (opening : Opening) (history : List Entry) (s : State) → Legal opening history s → HasCounts s
+has-counts opening [] s legal = subst HasCounts (sym legal) (record { all = refl; some = omega arith })
+has-counts opening (entry ∷ earlier) s (before, legal, extends) =
+    let so_far = has-counts opening earlier before legal in
+    let tree = step_tree before entry.event entry.reply s extends.steps in
+    let same : length s.tree ≡ length (tree_after before entry.event) = ap length tree in
+    let more = more-groups before entry.event in
+    let some = so_far.some in
+    record {
+      all = ap length (step-counted before s entry.event entry.reply extends.steps) ∙ length-events (for_groups before.counted entry.event) (counts_named before entry.event entry.reply)
+          ∙ length-groups before entry.event so_far.all ∙ sym same;
+      some = omega (arith, same, more, some);
+    }
+
+eq_sym : (a b : ℕ) → (a == b) ≡ (b == a)
+eq_sym a b =
+    elim (eqb_tells a b) [
+      | inl same ↦ same.0 ∙ sym (eq-eqb b a (sym same.1))
+      | inr differs ↦ differs.0 ∙ sym (ne_eqb b a (λ e. differs.1 (sym e)))
+    ]
+
+more-of : (n m : ℕ) → n ≤ m → (events : List Counted) → AreOf n events → AreOf m events
+more-of n m le [] are = tt
+more-of n m le (c ∷ events) are = (let lt = are.0 in omega (arith, lt, le), more-of n m le events are.1)
+
+-- a table tells as much more as events were counted in it
+local-events : (counted : List EventCounts) (events : List Counted) → AreOf (length counted) events → (g : ℕ) (k : Key) → local (with_events counted events) g k ≡ local counted g k + how_often events g k
+local-events counted [] are g k = omega arith
+local-events counted (c ∷ events) are g k =
+    let longer = length-set counted c.group (once_more (counts_at counted c.group) c.key) in
+    let rest = local-events (with_event counted c.group c.key) events (more-of (length counted) _ (omega (arith, longer)) events are.1) g k in
+    let one = local-event counted c.group c.key are.0 g k in
+    let same : ◌≡◌ {A = ℕ} (cond ((g == c.group) && is_key c.key k) 1 0) (cond ((c.group == g) && is_key c.key k) 1 0) = ap (λ (b : Bool). let n : ℕ = cond (b && is_key c.key k) 1 0 in n) (eq_sym g c.group) in
+    let more = sum_by-cons (λ (x : Counted). cond ((x.group == g) && is_key x.key k) 1 0) c events in
+    omega (arith, rest, one, same, more)
+
+local-groups : (counted : List EventCounts) (what : Event) (g : ℕ) (k : Key) → local (for_groups counted what) g k ≡ local counted g k
+local-groups counted (event.Mkdir path) g k = local-push counted g k
+local-groups counted what g k = refl
+
+-- the events of a history, and that the table tells them
+pub record Tells (opening : Opening) (history : List Entry) (s : State) : Type 0 where
+  pub events : List Counted
+  pub counted : AreCounted opening history s events
+  pub locals : (g : ℕ) (k : Key) → local s.counted g k ≡ how_often events g k
+
+pub legal-tells : (opening : Opening) (history : List Entry) (s : State) → Legal opening history s → Tells opening history s
+legal-tells opening [] s legal = record { events = []; counted = (legal, refl); locals = λ g k. ap (λ (t : State). local t.counted g k) legal ∙ nothing g k }
+  where
+    nothing : (g : ℕ) (k : Key) → local (no_counts ∷ []) g k ≡ 0
+    nothing zero k = count_of_key-none k
+    nothing (suc g) k = count_of_key-none k
+legal-tells opening (entry ∷ earlier) s (before, legal, extends) =
+    let so_far = legal-tells opening earlier before legal in
+    let has = has-counts opening earlier before legal in
+    let named = counts_named before entry.event entry.reply in
+    let there = named-there opening earlier before s legal has.some entry.event entry.reply extends.steps in
+    let all = length-groups before entry.event has.all in
+    let more = more-groups before entry.event in
+    record {
+      events = so_far.events ++ named;
+      counted = (before, so_far.events, so_far.counted, extends, refl);
+      locals = λ g k.
+          ap (λ (cs : List EventCounts). local cs g k) (step-counted before s entry.event entry.reply extends.steps)
+          ∙ local-events (for_groups before.counted entry.event) named (more-of (length before.tree) _ (omega (arith, all, more)) named there) g k
+          ∙ ap (λ n. n + how_often named g k) (local-groups before.counted entry.event g k ∙ so_far.locals g k)
+          ∙ sym (sum_by-append (λ (x : Counted). cond ((x.group == g) && is_key x.key k) 1 0) so_far.events named);
+    }
