@@ -1,6 +1,6 @@
 -- One call: what it answers, and the book after it.
 use Rattle.std.proofs.Common.{◌≡◌, ℕ, ◌+◌, ◌<◌, ◌≤◌, Bool, true, false, List, [], ◌∷◌, ◌++◌, Option, None, refl, sym, ap, ◌∙◌, subst, arith, Some, length, length-append, add-one}
-use Rattle.std.specs.Prelude.{slice_index, slice_set, reverse, nat_lt, vec_len, vec_capacity}
+use Rattle.std.specs.Prelude.{slice_index, slice_set, reverse, nat_lt}
 use Rattle.std.proofs.lemmas.List.{reverse-append, length-reverse, length-set}
 use Rattle.std.proofs.lemmas.List.Sums.{length-filter, count_by-le-length}
 use Rattle.std.proofs.lemmas.Bool.Decides.{nat_tests}
@@ -61,7 +61,7 @@ called-served old new caller what answer known none room given h = rw known (rw 
 -- ---- in a book
 
 abbrev pub history_of : Inside → List Entry
-history_of b = reverse b.entries.items
+history_of b = reverse b.trace.entries
 
 -- the newest entry stands first
 reverse-entries : (entries : List Entry) (counts : List ℕ) (worker : ℕ) (what : Event) (answer : Reply) → slice_index counts worker ≡ length (entries_by worker (reverse entries))
@@ -78,7 +78,7 @@ pub few_of : (b : Inside) → IsBook b → b.state.tables.opening.trace_limit �
 few_of b is limit worker =
     let counted = is.told.counted worker in
     let few = few_by (history_of b) worker in
-    let all = length-reverse b.entries.items in
+    let all = length-reverse b.trace.entries in
     let within = is.within in
     omega (arith, counted, few, all, within, limit)
 
@@ -86,7 +86,7 @@ few_of b is limit worker =
 pub few-counted : (b : Inside) → IsBook b → b.state.tables.opening.trace_limit ≤ 1048576 → AreFew b.state.tables
 few-counted b is limit k =
     let most = few-total b.state.tables.opening (history_of b) b.state.tables is.told.legal b.state.tables.tree 0 k in
-    let all = length-reverse b.entries.items in
+    let all = length-reverse b.trace.entries in
     let within = is.within in
     omega (arith, most, all, within, limit)
 
@@ -100,20 +100,19 @@ fits limit wanted e = grind (arith, nat_tests, e)
 
 -- where an entry extends the history, all entries and all transfers in flight have room
 module _ (b : Inside) (new : StateOf) (worker : ℕ) (what : Event) (answer : Reply) (h : Extending b.state new (history_of b) b.counts.items b.takers.items worker what answer) where
-  pub fits_more : length b.entries.items + 1 + in_transfer new.tables.pages ≤ b.state.tables.opening.trace_limit
+  pub fits_more : length b.trace.entries + 1 + in_transfer new.tables.pages ≤ b.state.tables.opening.trace_limit
   fits_more =
       let s = b.state.tables in
       let full = fits b.state.tables.opening.trace_limit (length (history_of b) + in_transfer b.state.tables.pages + need s what) h.room in
       let kept = h.makes_step.kept in
-      let all = length-reverse b.entries.items in
+      let all = length-reverse b.trace.entries in
       omega (arith, full, kept, all)
 
-  pub has_room : IsBook b → vec_len b.entries < vec_capacity b.entries
+  pub has_room : IsBook b → length b.trace.entries < b.trace.limit
   has_room is =
       let fits = fits_more in
       let room = is.room in
-      let ok = b.entries.ok.0 in
-      omega (arith, fits, room, ok)
+      omega (arith, fits, room)
 
 -- what is asked of a book, as its callers see it
 module _ (b : Inside) (past : Past) (is : IsBook b) (view_is : past_of b ≡ past) (new : StateOf) (in_flight : AreInFlight new.tables.pages new.flights) (worker : ℕ) (passed : worker < past.passes) (what : Event) where
@@ -144,7 +143,7 @@ module _ (b : Inside) (past : Past) (is : IsBook b) (view_is : past_of b ≡ pas
         known = subst (λ (p : Past). knows_pass p.state p.history (record { worker = worker }) what ≡ true) (sym view_is) known;
         none = none;
         room = not_full b.state.tables.opening.trace_limit (length (history_of b) + in_transfer b.state.tables.pages + need b.state.tables what)
-            (let within = is.within in let all = length-reverse b.entries.items in omega (arith, within, all, free));
+            (let within = is.within in let all = length-reverse b.trace.entries in omega (arith, within, all, free));
         makes_step = makes_step;
         in_flight = in_flight;
         sized = is.takers;
@@ -197,14 +196,14 @@ noted-length flights takers worker (Some n) = by_slot (at flights n)
 
 -- the worker's entry stands at the end, who took the ticket is noted, and all else as it was
 pub record Appends (b c : Inside) (w : WorkerId) (what : Event) (answer : Reply) : Type 0 where
-  pub entries : c.entries.items ≡ b.entries.items ++ record { worker = w; count = slice_index b.counts.items w.0 + 1; event = what; reply = answer } ∷ []
-  pub room : vec_capacity c.entries ≡ vec_capacity b.entries
+  pub entries : c.trace.entries ≡ b.trace.entries ++ record { worker = w; count = slice_index b.counts.items w.0 + 1; event = what; reply = answer } ∷ []
+  pub room : c.trace.limit ≡ b.trace.limit
   pub counts : c.counts.items ≡ slice_set b.counts.items w.0 (slice_index b.counts.items w.0 + 1)
   pub takers : c.takers.items ≡ noted c.state.flights b.takers.items w.0 (ticket_given answer)
 
 module _ (b c : Inside) (w : WorkerId) (what : Event) (answer : Reply) (is : IsBook b) (h : Extending b.state c.state (history_of b) b.counts.items b.takers.items w.0 what answer) (appends : Appends b c w what answer) where
   history_is : history_of c ≡ entry_of (record { worker = w.0 }) (history_of b) what answer ∷ history_of b
-  history_is = ap reverse appends.entries ∙ reverse-entries b.entries.items b.counts.items w.0 what answer (is.told.counted w.0)
+  history_is = ap reverse appends.entries ∙ reverse-entries b.trace.entries b.counts.items w.0 what answer (is.told.counted w.0)
 
   pub told_more : IsHistory c.state (history_of c) c.counts.items c.takers.items
   told_more =
@@ -214,8 +213,8 @@ module _ (b c : Inside) (w : WorkerId) (what : Event) (answer : Reply) (is : IsB
       (λ (takers : List WorkerId). IsHistory c.state (entry_of (record { worker = w.0 }) (history_of b) what answer ∷ history_of b) (slice_set b.counts.items w.0 (slice_index b.counts.items w.0 + 1)) takers)
       (sym appends.takers) (extends b.state c.state (history_of b) b.counts.items b.takers.items w.0 what answer h)))
 
-  pub longer : length (history_of c) ≡ length b.entries.items + 1
-  longer = let more = ap length history_is in let all = length-reverse b.entries.items in let one = add-one (length (history_of b)) in omega (arith, more, all, one)
+  pub longer : length (history_of c) ≡ length b.trace.entries + 1
+  longer = let more = ap length history_is in let all = length-reverse b.trace.entries in let one = add-one (length (history_of b)) in omega (arith, more, all, one)
 
   answers_more : Answers (past_of b) (record { worker = w.0 }) what answer (past_of c)
   answers_more =
@@ -234,7 +233,7 @@ module _ (b c : Inside) (w : WorkerId) (what : Event) (answer : Reply) (is : IsB
       let same = ap (λ (o : Opening). o.trace_limit) h.makes_step.opening in
       record {
         told = told_more;
-        within = (let more = ap length appends.entries ∙ length-append b.entries.items _ in let fits = fits_more b c.state w.0 what answer h in omega (arith, more, fits, same));
+        within = (let more = ap length appends.entries ∙ length-append b.trace.entries _ in let fits = fits_more b c.state w.0 what answer h in omega (arith, more, fits, same));
         room = (let room = is.room in let kept = appends.room in omega (arith, room, kept, same));
         few = (let few = is.few in let kept = ap length appends.counts ∙ length-set b.counts.items w.0 _ in omega (arith, few, kept));
         takers = (let sized = is.takers in let kept = ap length appends.takers ∙ noted-length c.state.flights b.takers.items w.0 (ticket_given answer) in let numbers = ap page_numbers h.makes_step.opening in omega (arith, sized, kept, numbers));

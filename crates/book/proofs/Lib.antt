@@ -10,3 +10,4 @@ pub mod CarryLemmas
 pub mod HistoryLemmas
 pub mod TicketLemmas
 pub mod CallLemmas
+pub mod PassLemmas

@@ -1,4 +1,5 @@
 pub mod Passes
+pub mod Keeping
 pub mod Spots
 pub mod Events
 pub mod Replies

@@ -1,25 +1,33 @@
 //! The book: one event a call, and the history of what was answered.
 
-ghost use Rattle.std.specs.Prelude.{◌≡◌, ◌⊎◌, ℕ, ◌+◌, ◌<◌, ◌≤◌, ◌++◌, ◌∷◌, List, [], None, true, false, length, reverse, nat_lt, slice_index, slice_set, option_map, IfSome, IfOk, IfErr, OnErr, vec_len, vec_capacity};
+ghost use Rattle.std.specs.Prelude.{◌≡◌, ◌⊎◌, ℕ, ◌+◌, ◌<◌, ◌≤◌, ◌++◌, ◌∷◌, List, [], None, true, false, length, reverse, nat_lt, slice_index, slice_set, option_map, IfSome, IfOk, IfErr, OnErr};
 ghost use Rattle.machine.specs.Tree.{find_group};
 ghost use Rattle.machine.specs.Pages.{used_frames, in_transfer};
-ghost use Rattle.machine.specs.State.{opening_of, is_config};
+ghost use Rattle.machine.specs.State.{State as Tables, opening_of, is_config};
 ghost use Rattle.machine.specs.Legal.{Legal};
 ghost use Rattle.machine.specs.Lists.{ListsHeld, AreGenerations};
 ghost use Rattle.machine.specs.Slots.{at};
 ghost use Rattle.machine.specs.History.{Right, IsRight, Honest, Numbered, at_first, ticket_given};
-ghost use Rattle.machine.specs.Call.{first_past, took, Called};
+ghost use Rattle.machine.specs.declared.reply.Reply.TheVariants as said;
+ghost use Rattle.machine.specs.FirstBytes.{first_of};
+ghost use Rattle.machine.specs.Audit.{Passes};
+ghost use Rattle.machine.specs.Transfers.{transfers_begun, transfers_ended};
+ghost use Rattle.machine.specs.Call.{first_past, took, grows, Caller, Called};
 ghost use Rattle.book.specs.Events.{event_of, reply_of, ended, ended_with};
+ghost use Rattle.book.specs.Decisions.{makes};
+ghost use Rattle.book.specs.Passes.{asked_of, call_of, find_of, keeping, is_current, CalledWith};
 ghost use Rattle.book.specs.Replies.{Replies, IsInReply, IsOutReply, IsBack, HandsBack, KeepsTicket, HandsOut};
 ghost use Rattle.book.specs.MakesStep.{IsAsked, RepliesTo, stamped_reply, noted, noted_at};
 
 use crate::apply::apply;
 use crate::decide::decide;
+use crate::decision::Decision;
 use crate::event::{Event, Reply};
+use crate::kept::{Asked, Kept};
 use crate::pass::Pass;
 use files::blocks_for;
 use machine::bytes::PageBytes;
-use machine::config::{Config, Watermarks};
+use machine::config::{Config, FileList, Watermarks};
 use machine::entry::Entry;
 use machine::event::Event as PlainEvent;
 use machine::id::{GroupId, TicketId, WorkerId};
@@ -27,6 +35,7 @@ use machine::limit::MOST_PASSES;
 use machine::record::Direction;
 use machine::refusal::Refusal;
 use machine::reply::Reply as PlainReply;
+use machine::text::Text;
 use page_state::State;
 use pages::{Carries, End, InTicket, OutTicket, Ticket};
 use std::alloc::{AllocError, Global};
@@ -45,7 +54,7 @@ use trace::Trace;
 pub struct Book {
     alloc: Global,
     state: State,
-    entries: Vec<Entry>,
+    trace: Trace,
     /// How many entries each worker has.
     counts: Vec<u64>,
     /// By page number, the worker who took the ticket of the page's transfer, while it is in transfer.
@@ -88,13 +97,14 @@ impl Book {
         requires { is_config config ≡ true }
         ensures { IfOk result (λ b. b ≡ first_past (opening_of config)) }
     {
-        let entries = Vec::with_capacity(alloc, config.trace as usize)?;
+        let sizes = sizes_of(alloc, &config.files)?;
+        let trace = Trace::open(alloc, config.trace as usize, &sizes)?;
         let takers = nobody(alloc, config.frames as usize + config.swap as usize)?;
         let state = State::open(alloc, config)?;
         Ok(Book {
             alloc,
             state,
-            entries,
+            trace,
             counts: Vec::new(alloc),
             takers,
         })
@@ -104,6 +114,8 @@ impl Book {
     /// where memory is refused; nothing changes then.
     pub fn pass(&mut self) -> Result<Pass, Refusal>
         ensures pass { IfOk result (λ pass. pass.caller.worker ≡ self.old.passes) }
+        ensures kept { IfOk result (λ pass. pass.kept ≡ []) }
+        ensures current { IfOk result (λ pass. is_current self.new pass ≡ true) }
         ensures ok { IfOk result (λ pass. self.new ≡ record self.old { passes = self.old.passes + 1 }) }
         ensures err { IfErr result (λ cause. (cause ≡ Refusal.NoSpace) × (131072 ≤ self.old.passes) ⊎ (cause ≡ Refusal.NoMemory) × (self.old.passes < 131072)) }
         ensures unchanged { OnErr result (self.new ≡ self.old) }
@@ -116,48 +128,169 @@ impl Book {
             return Err(Refusal::NoMemory);
         }
         self.counts.push_reserved(0);
-        Ok(Pass::new(WorkerId(worker)))
+        Ok(Pass::new(self.alloc, WorkerId(worker)))
     }
 
-    /// One event, asked by the pass's worker, the pass being one of this book's.
+    /// One event, asked with a pass, which keeps it with its answer.
     ///
-    /// Either it is refused, for the first cause that stands, and nothing changes; or it is one step
-    /// of the machine and exactly one entry more. A refused ticket comes back.
+    /// Either it is refused, for the first cause that stands, and nothing changes but what the pass keeps; or it
+    /// is one step of the machine and exactly one entry more, the worker's next. A refused ticket comes back.
+    ///
+    /// A pass that is not current is refused as `Stranger`: one that this book did not give out, or one that has
+    /// not as many answers as its worker has entries. The pass has to have room, which [`Pass::reserve`] makes.
     pub fn call(&mut self, pass: &mut Pass, event: Event) -> Reply
-        requires { pass.old.caller.worker < self.old.passes }
-        ensures called { Called self.old pass.old.caller (event_of event) (reply_of result) self.new }
+        requires { 0 < pass.old.room }
+        ensures called { CalledWith self.old pass.old (event_of event) (reply_of result) self.new }
         ensures reads { (files : ℕ → ℕ → ℕ → ℕ) → Honest (at_first files) self.old.history → IsRight (at_first files) self.old.history (event_of event) (reply_of result) }
         ensures replies { Replies event result }
         ensures gives { HandsOut self.new pass.old.caller.worker result }
         ensures keeps { KeepsTicket pass.old.caller.worker event result }
-        ensures pass { pass.new.caller ≡ pass.old.caller }
+        ensures kept { pass.new ≡ keeping pass.old (call_of (event_of event) (reply_of result)) }
+        ensures current { is_current self.new pass.new ≡ is_current self.old pass.old }
         ensures passes { self.new.passes ≡ self.old.passes }
     {
-        let worker = pass.worker();
         match event {
             Event::Access { task, place, op } => {
-                self.ask(worker, PlainEvent::Access { task, place, op })
+                self.serve(pass, PlainEvent::Access { task, place, op })
             }
-            Event::Arrived(ticket) => self.settle_in(worker, ticket, End::InFrame),
-            Event::FetchFailed(ticket) => self.settle_in(worker, ticket, End::OnBlock),
-            Event::Left(ticket) => self.settle_out(worker, ticket, End::OnBlock),
-            Event::LeaveFailed(ticket) => self.settle_out(worker, ticket, End::InFrame),
-            Event::Relieve(cause) => self.ask(worker, PlainEvent::Relieve(cause)),
-            Event::ReclaimOne(group) => self.ask(worker, PlainEvent::ReclaimOne(group)),
-            Event::Spawn { task, group } => self.ask(worker, PlainEvent::Spawn { task, group }),
-            Event::Fork { task, child } => self.ask(worker, PlainEvent::Fork { task, child }),
-            Event::Exit(task) => self.ask(worker, PlainEvent::Exit(task)),
-            Event::Free { task, page } => self.ask(worker, PlainEvent::Free { task, page }),
+            Event::Arrived(ticket) => self.end_in(pass, ticket, End::InFrame),
+            Event::FetchFailed(ticket) => self.end_in(pass, ticket, End::OnBlock),
+            Event::Left(ticket) => self.end_out(pass, ticket, End::OnBlock),
+            Event::LeaveFailed(ticket) => self.end_out(pass, ticket, End::InFrame),
+            Event::Relieve(cause) => self.serve(pass, PlainEvent::Relieve(cause)),
+            Event::ReclaimOne(group) => self.serve(pass, PlainEvent::ReclaimOne(group)),
+            Event::Spawn { task, group } => self.serve(pass, PlainEvent::Spawn { task, group }),
+            Event::Fork { task, child } => self.serve(pass, PlainEvent::Fork { task, child }),
+            Event::Exit(task) => self.serve(pass, PlainEvent::Exit(task)),
+            Event::Free { task, page } => self.serve(pass, PlainEvent::Free { task, page }),
             Event::Attach { task, group } => {
-                self.ask(worker, PlainEvent::Attach { task, group })
+                self.serve(pass, PlainEvent::Attach { task, group })
             }
-            Event::Mkdir(path) => self.ask(worker, PlainEvent::Mkdir(path)),
-            Event::Rmdir(group) => self.ask(worker, PlainEvent::Rmdir(group)),
+            Event::Mkdir(path) => self.serve(pass, PlainEvent::Mkdir(path)),
+            Event::Rmdir(group) => self.serve(pass, PlainEvent::Rmdir(group)),
             Event::Set { group, setting } => {
-                self.ask(worker, PlainEvent::Set { group, setting })
+                self.serve(pass, PlainEvent::Set { group, setting })
             }
-            Event::Show(query) => self.ask(worker, PlainEvent::Show(query)),
+            Event::Show(query) => self.serve(pass, PlainEvent::Show(query)),
         }
+    }
+
+    /// Whether this book gave out the pass, and has as many entries of its worker as the pass has answers that
+    /// stand in the trace.
+    fn is_current(&self, pass: &Pass) -> bool
+        ensures { result ≡ is_current self.now pass.now }
+    {
+        let worker = pass.worker().0 as usize;
+        worker < self.counts.len() && self.counts[worker] == pass.count() as u64
+    }
+
+    /// An event without a ticket, asked with a pass. The pass keeps a copy, since the trace keeps the event;
+    /// where there is no memory for that, none is asked for the event itself.
+    fn serve(&mut self, pass: &mut Pass, event: PlainEvent) -> Reply
+        requires room { 0 < pass.old.room }
+        requires asked { IsAsked event }
+        ensures called { CalledWith self.old pass.old event (reply_of result) self.new }
+        ensures reads { (files : ℕ → ℕ → ℕ → ℕ) → Honest (at_first files) self.old.history → IsRight (at_first files) self.old.history event (reply_of result) }
+        ensures replies { RepliesTo event result }
+        ensures gives { HandsOut self.new pass.old.caller.worker result }
+        ensures kept { pass.new ≡ keeping pass.old (call_of event (reply_of result)) }
+        ensures current { is_current self.new pass.new ≡ is_current self.old pass.old }
+        ensures passes { self.new.passes ≡ self.old.passes }
+    {
+        if !self.is_current(pass) {
+            return refuse(pass, event, Refusal::Stranger);
+        }
+        match copy(self.alloc, &event) {
+            Err(AllocError) => {
+                let cause = self.cause(&event);
+                refuse(pass, event, cause)
+            }
+            Ok(asked) => {
+                let reply = self.ask(pass.worker(), event);
+                pass.keep(Kept::Call {
+                    asked: Asked::Whole(asked),
+                    said: plain(&reply),
+                });
+                reply
+            }
+        }
+    }
+
+    /// Why an event that may want memory is refused, where none is to be had.
+    fn cause(&self, event: &PlainEvent) -> Refusal
+        requires asked { IsAsked event.now }
+        requires grows { grows self.now.state event.now ≡ true }
+        ensures { (caller : Caller) → Called self.now caller event.now (said.Refused result) self.now }
+    {
+        match decide(&self.state, event) {
+            Err(cause) => cause,
+            Ok(decided) if self.is_full(decided.entries()) => Refusal::TraceFull,
+            Ok(_) => Refusal::NoMemory,
+        }
+    }
+
+    /// The end of a read-in, asked with a pass.
+    fn end_in(&mut self, pass: &mut Pass, ticket: InTicket, end: End) -> Reply
+        requires { 0 < pass.old.room }
+        ensures called { CalledWith self.old pass.old (ended Direction.In end ticket) (reply_of result) self.new }
+        ensures replies { IsInReply result }
+        ensures keeps { HandsBack pass.old.caller.worker ticket result }
+        ensures kept { pass.new ≡ keeping pass.old (call_of (ended Direction.In end ticket) (reply_of result)) }
+        ensures current { is_current self.new pass.new ≡ is_current self.old pass.old }
+        ensures passes { self.new.passes ≡ self.old.passes }
+    {
+        let asked = in_asked(end, ticket.number());
+        let reply = self.take_in(pass, ticket, end);
+        pass.keep(Kept::Call {
+            asked,
+            said: plain(&reply),
+        });
+        reply
+    }
+
+    /// The same, the pass keeping nothing yet.
+    fn take_in(&mut self, pass: &Pass, ticket: InTicket, end: End) -> Reply
+        ensures called { CalledWith self.old pass.now (ended Direction.In end ticket) (reply_of result) self.new }
+        ensures replies { IsInReply result }
+        ensures keeps { HandsBack pass.now.caller.worker ticket result }
+        ensures passes { self.new.passes ≡ self.old.passes }
+    {
+        if !self.is_current(pass) {
+            return Reply::StrangeIn(back(pass.worker(), ticket));
+        }
+        self.settle_in(pass.worker(), ticket, end)
+    }
+
+    /// The end of a write-out, asked with a pass.
+    fn end_out(&mut self, pass: &mut Pass, ticket: OutTicket, end: End) -> Reply
+        requires { 0 < pass.old.room }
+        ensures called { CalledWith self.old pass.old (ended Direction.Out end ticket) (reply_of result) self.new }
+        ensures replies { IsOutReply result }
+        ensures keeps { HandsBack pass.old.caller.worker ticket result }
+        ensures kept { pass.new ≡ keeping pass.old (call_of (ended Direction.Out end ticket) (reply_of result)) }
+        ensures current { is_current self.new pass.new ≡ is_current self.old pass.old }
+        ensures passes { self.new.passes ≡ self.old.passes }
+    {
+        let asked = Asked::Whole(out_ended(end, ticket.number()));
+        let reply = self.take_out(pass, ticket, end);
+        pass.keep(Kept::Call {
+            asked,
+            said: plain(&reply),
+        });
+        reply
+    }
+
+    /// The same, the pass keeping nothing yet.
+    fn take_out(&mut self, pass: &Pass, ticket: OutTicket, end: End) -> Reply
+        ensures called { CalledWith self.old pass.now (ended Direction.Out end ticket) (reply_of result) self.new }
+        ensures replies { IsOutReply result }
+        ensures keeps { HandsBack pass.now.caller.worker ticket result }
+        ensures passes { self.new.passes ≡ self.old.passes }
+    {
+        if !self.is_current(pass) {
+            return Reply::StrangeOut(back(pass.worker(), ticket));
+        }
+        self.settle_out(pass.worker(), ticket, end)
     }
 
     /// An event without a ticket. It is refused for the first cause that stands; then for want of room in
@@ -178,14 +311,18 @@ impl Book {
         if self.is_full(decided.entries()) {
             return Reply::Refused(Refusal::TraceFull);
         }
+        match reserve_links(&mut self.trace, &decided) {
+            Err(AllocError) => return Reply::Refused(Refusal::NoMemory),
+            Ok(()) => {}
+        }
         self.state.is_joined();
-        let entry = self.entries.len() as u32 + 1;
+        let entry = self.trace.len() as u32 + 1;
         match apply(&mut self.state, self.alloc, decided) {
             Err(AllocError) => Reply::Refused(Refusal::NoMemory),
             Ok(reply) => {
                 self.state.is_joined();
                 let said = plain(&reply);
-                append(&mut self.entries, &mut self.counts, worker, event, said);
+                append(&mut self.trace, &mut self.counts, worker, event, said);
                 hand_out(&self.state, &mut self.takers, worker, entry, reply)
             }
         }
@@ -198,7 +335,7 @@ impl Book {
         ensures { result ≡ nat_lt self.now.state.opening.trace_limit (length self.now.history + in_transfer self.now.state.pages + entries) }
     {
         self.state.is_joined();
-        self.state.limit() < self.entries.len() + self.state.transfers() as usize + entries
+        self.state.limit() < self.trace.len() + self.state.transfers() as usize + entries
     }
 
     /// Whether the ticket is one of a page in transfer in that direction, and the worker took it.
@@ -231,7 +368,7 @@ impl Book {
         self.state.is_joined();
         let event = in_ended(end, number, bytes);
         append(
-            &mut self.entries,
+            &mut self.trace,
             &mut self.counts,
             worker,
             event,
@@ -256,7 +393,7 @@ impl Book {
         self.state.settle_out(ticket, end);
         self.state.is_joined();
         append(
-            &mut self.entries,
+            &mut self.trace,
             &mut self.counts,
             worker,
             out_ended(end, number),
@@ -265,13 +402,17 @@ impl Book {
         Reply::Ok
     }
 
-    /// The live group of a path. It is no event.
-    pub fn find(&self, pass: &mut Pass, path: &str) -> Option<GroupId>
-        ensures found { option_map (λ g. g.0) result ≡ find_group self.now.state.tree path.now }
-        ensures pass { pass.new.caller ≡ pass.old.caller }
+    /// The live group of a path. It is no event, but the pass keeps the path with what was found, and has to
+    /// have room.
+    pub fn find(&self, pass: &mut Pass, path: Text) -> Option<GroupId>
+        requires { 0 < pass.old.room }
+        ensures found { option_map (λ g. g.0) result ≡ find_group self.now.state.tree path }
+        ensures kept { pass.new ≡ keeping pass.old (find_of path (find_group self.now.state.tree path)) }
+        ensures current { is_current self.now pass.new ≡ is_current self.now pass.old }
     {
-        let _ = pass.worker();
-        self.state.tree().find(path)
+        let found = self.state.tree().find(path.as_str());
+        pass.keep(Kept::Find { path, found });
+        found
     }
 
     /// How many frames are free. It is no event.
@@ -288,13 +429,17 @@ impl Book {
         self.state.watermarks()
     }
 
-    /// Nothing is done: what holds of every book's history, and of the order in which its pages are taken:
+    /// Nothing is done: what holds of every book's history, and of the order in which its pages are taken. Where
+    /// each page that was read in brought what was last written, [`trace::audit`] finds nothing wrong in it. The
+    /// pages in transfer are as many as the transfers that began, less those that ended. As to the order,
     /// each held page is on the list of its group and type, once, and no other page is; and each group has
     /// its lists, two to four generations of a type, and a cursor.
     pub fn history_is_right(&self)
         ensures legal { Legal self.now.state.opening self.now.history self.now.state }
         ensures right { (files : ℕ → ℕ → ℕ → ℕ) → Honest (at_first files) self.now.history → Right (at_first files) self.now.history }
+        ensures passes { (files : ℕ → ℕ → ℕ → ℕ) → Honest (at_first files) self.now.history → Passes (first_of self.now.history) self.now.history }
         ensures numbered { Numbered self.now.history }
+        ensures transfers { in_transfer self.now.state.pages + transfers_ended self.now.history ≡ transfers_begun self.now.history }
         ensures listed { ListsHeld self.now.state.pages self.now.order.held }
         ensures generations { AreGenerations self.now.order.held }
         ensures lists { length self.now.order.held.groups ≡ length self.now.state.tree }
@@ -303,45 +448,67 @@ impl Book {
         self.state.is_joined();
     }
 
-    /// Spends the book, and hands out its entries. Whoever has a ticket ends its transfer before.
+    /// Spends the book, and hands out its trace, for [`trace::audit`]. Whoever has a ticket ends its transfer
+    /// before.
     pub fn close(self) -> Trace
-        ensures { reverse result.entries.items ≡ self.history }
+        ensures { reverse result.entries ≡ self.history }
     {
         let Book {
             alloc: _,
             state,
-            entries,
+            trace,
             counts: _,
             takers: _,
         } = self;
         state.close();
-        Trace { entries }
+        trace
     }
 }
 
 /// Adds the worker's next entry at the end, where there is room for it.
 fn append(
-    entries: &mut Vec<Entry>,
+    trace: &mut Trace,
     counts: &mut Vec<u64>,
     worker: WorkerId,
     event: PlainEvent,
     reply: PlainReply,
 )
-    requires room { vec_len entries.old < vec_capacity entries.old }
+    requires room { length trace.old.entries < trace.old.limit }
     requires known { worker.0 < length counts.old.items }
     requires few { slice_index counts.old.items worker.0 ≤ 1048576 }
-    ensures entries { entries.new.items ≡ entries.old.items ++ record { worker = worker; count = slice_index counts.old.items worker.0 + 1; event = event; reply = reply } ∷ [] }
-    ensures room { vec_capacity entries.new ≡ vec_capacity entries.old }
+    ensures entries { trace.new.entries ≡ trace.old.entries ++ record { worker = worker; count = slice_index counts.old.items worker.0 + 1; event = event; reply = reply } ∷ [] }
+    ensures limit { trace.new.limit ≡ trace.old.limit }
     ensures counts { counts.new.items ≡ slice_set counts.old.items worker.0 (slice_index counts.old.items worker.0 + 1) }
 {
     let count = counts[worker.0 as usize] + 1;
     counts[worker.0 as usize] = count;
-    entries.push_reserved(Entry {
+    trace.push(Entry {
         worker,
         count,
         event,
         reply,
     });
+}
+
+/// How many pages each file has.
+fn sizes_of(alloc: Global, files: &FileList) -> Result<Vec<u32>, AllocError> {
+    let mut sizes = Vec::new(alloc);
+    for file in files.as_slice() {
+        sizes.push(file.pages)?;
+    }
+    Ok(sizes)
+}
+
+/// Memory for the links of a task's pages, where a task begins.
+fn reserve_links(trace: &mut Trace, decided: &Decision<'_>) -> Result<(), AllocError>
+    ensures same { trace.new ≡ trace.old }
+    ensures makes { OnErr result (makes decided.now ≡ true) }
+{
+    match decided {
+        Decision::Spawn { task, group: _ } => trace.reserve(*task),
+        Decision::Fork { task: _, child } => trace.reserve(*child),
+        _ => Ok(()),
+    }
 }
 
 /// So many page numbers, and nobody has taken a ticket.
@@ -388,6 +555,78 @@ fn note_taker(state: &State, takers: &mut Vec<WorkerId>, ticket: TicketId, worke
     match state.pages().flight(ticket) {
         Some(flight) => takers[flight.page.0 as usize] = worker,
         None => {}
+    }
+}
+
+/// An event that is refused. The pass keeps it.
+fn refuse(pass: &mut Pass, event: PlainEvent, cause: Refusal) -> Reply
+    requires room { 0 < pass.old.room }
+    requires asked { IsAsked event }
+    ensures refused { result ≡ Reply.Refused cause }
+    ensures kept { pass.new ≡ keeping pass.old (call_of event (said.Refused cause)) }
+{
+    pass.keep(Kept::Call {
+        asked: Asked::Whole(event),
+        said: PlainReply::Refused(cause),
+    });
+    Reply::Refused(cause)
+}
+
+/// The same event again. It fails only where memory is wanted for it and refused: for a path.
+fn copy(alloc: Global, event: &PlainEvent) -> Result<PlainEvent, AllocError>
+    requires { IsAsked event.now }
+    ensures copied { IfOk result (λ copied. copied ≡ event.now) }
+    ensures err { OnErr result ((s : Tables) → grows s event.now ≡ true) }
+{
+    match event {
+        PlainEvent::Access { task, place, op } => Ok(PlainEvent::Access {
+            task: *task,
+            place: *place,
+            op: *op,
+        }),
+        PlainEvent::Relieve(cause) => Ok(PlainEvent::Relieve(*cause)),
+        PlainEvent::ReclaimOne(group) => Ok(PlainEvent::ReclaimOne(*group)),
+        PlainEvent::Spawn { task, group } => Ok(PlainEvent::Spawn {
+            task: *task,
+            group: *group,
+        }),
+        PlainEvent::Fork { task, child } => Ok(PlainEvent::Fork {
+            task: *task,
+            child: *child,
+        }),
+        PlainEvent::Exit(task) => Ok(PlainEvent::Exit(*task)),
+        PlainEvent::Free { task, page } => Ok(PlainEvent::Free {
+            task: *task,
+            page: *page,
+        }),
+        PlainEvent::Attach { task, group } => Ok(PlainEvent::Attach {
+            task: *task,
+            group: *group,
+        }),
+        PlainEvent::Mkdir(path) => Ok(PlainEvent::Mkdir(path.copy(alloc)?)),
+        PlainEvent::Rmdir(group) => Ok(PlainEvent::Rmdir(*group)),
+        PlainEvent::Set { group, setting } => Ok(PlainEvent::Set {
+            group: *group,
+            setting: *setting,
+        }),
+        PlainEvent::Show(query) => Ok(PlainEvent::Show(*query)),
+        PlainEvent::Arrived {
+            ticket: _,
+            bytes: _,
+        } => unreachable!(),
+        PlainEvent::FetchFailed(_) | PlainEvent::Left(_) | PlainEvent::LeaveFailed(_) => {
+            unreachable!()
+        }
+    }
+}
+
+/// The end of a read-in, as a pass keeps it.
+fn in_asked(end: End, ticket: TicketId) -> Asked
+    ensures { (bytes : List ℕ) → result ≡ asked_of (ended_with Direction.In end ticket.0 bytes) }
+{
+    match end {
+        End::InFrame => Asked::Arrival(ticket),
+        End::OnBlock => Asked::Whole(PlainEvent::FetchFailed(ticket)),
     }
 }
 

@@ -7,6 +7,7 @@
 
 pub use book::Book;
 pub use event::{Event, Reply};
+pub use kept::{Asked, Kept};
 pub use pages::{InTicket, OutTicket};
 pub use pass::Pass;
 
@@ -15,4 +16,5 @@ mod book;
 mod decide;
 mod decision;
 mod event;
+mod kept;
 mod pass;

@@ -1,12 +1,24 @@
-//! Passes: who asks a book.
+//! Passes: who asks a book, and what they asked.
 
+ghost use Rattle.std.specs.Prelude.{◌≡◌, ◌≤◌, ◌<◌, [], OnOk, OnErr, IfErr};
+ghost use Rattle.book.specs.Passes.{keeping, count_of};
+
+use crate::kept::Kept;
 use machine::id::WorkerId;
+use machine::refusal::Refusal;
+use std::alloc::Global;
 use std::marker::Model;
 
-/// A worker's leave to ask the book that gave it out. A contract sees whose it is.
+/// A worker's leave to ask the book that gave it out, and all that was asked with it: each event with its
+/// answer, refusals too, and each path that was looked for.
+///
+/// A contract sees whose it is, what it keeps, and for how much more it has memory.
 #[derive(Debug, Drop)]
 pub struct Pass {
     worker: WorkerId,
+    kept: Vec<Kept>,
+    /// How many of these stand in the trace.
+    count: usize,
 }
 
 impl Model for Pass {
@@ -14,16 +26,23 @@ impl Model for Pass {
 
     ghost Value = { PassOf };
 
-    ghost view = { λ p. record { caller = record { worker = p.worker.0 } } };
+    ghost use Rattle.book.specs.Keeping.{pass_of, IsPass};
+
+    ghost view = { pass_of };
+
+    ghost invariant = { IsPass };
 }
 
 impl Pass {
-    ghost use Rattle.std.specs.Prelude.{◌≡◌};
-
-    pub(crate) fn new(worker: WorkerId) -> Pass
-        ensures { result.caller.worker ≡ worker.0 }
+    pub(crate) fn new(alloc: Global, worker: WorkerId) -> Pass
+        ensures worker { result.caller.worker ≡ worker.0 }
+        ensures kept { result.kept ≡ [] }
     {
-        Pass { worker }
+        Pass {
+            worker,
+            kept: Vec::new(alloc),
+            count: 0,
+        }
     }
 
     /// The worker's number: passes are numbered from 0, in the order in which they were given out.
@@ -31,5 +50,46 @@ impl Pass {
         ensures { result.0 ≡ self.now.caller.worker }
     {
         self.worker
+    }
+
+    /// What was asked with it, the oldest first.
+    pub fn kept(&self) -> &[Kept]
+        ensures { result.now ≡ self.now.kept }
+    {
+        self.kept.as_slice()
+    }
+
+    /// How many of its answers stand in the trace: those to events that were not refused.
+    pub fn count(&self) -> usize
+        ensures { result ≡ count_of self.now.kept }
+    {
+        self.count
+    }
+
+    /// Memory for so many events or paths more. Each call with the pass, and each path that is looked for,
+    /// takes one's. `NoMemory` where it is refused; nothing changes then.
+    pub fn reserve(&mut self, more: usize) -> Result<(), Refusal>
+        ensures room { OnOk result (more ≤ self.new.room) }
+        ensures more { self.old.room ≤ self.new.room }
+        ensures kept { self.new.kept ≡ self.old.kept }
+        ensures caller { self.new.caller ≡ self.old.caller }
+        ensures err { IfErr result (λ cause. (cause ≡ Refusal.NoMemory)) }
+        ensures unchanged { OnErr result (self.new ≡ self.old) }
+    {
+        match self.kept.reserve(more) {
+            Ok(()) => Ok(()),
+            Err(_) => Err(Refusal::NoMemory),
+        }
+    }
+
+    /// One thing more that was asked with it.
+    pub(crate) fn keep(&mut self, kept: Kept)
+        requires { 0 < self.old.room }
+        ensures { self.new ≡ keeping self.old kept }
+    {
+        if kept.is_entry() {
+            self.count += 1;
+        }
+        self.kept.push_reserved(kept);
     }
 }

@@ -5,6 +5,8 @@
 #[cfg(test)]
 mod amounts;
 #[cfg(test)]
+mod audited;
+#[cfg(test)]
 mod cached;
 #[cfg(test)]
 mod charges;

@@ -5,6 +5,8 @@ pub mod Tickets
 pub mod Faithful
 pub mod TicketLemmas
 pub mod SeatLists
+pub mod FindLemmas
+pub mod TracedLemmas
 pub mod Runs
 pub mod SinkLemmas
 pub mod TurnExamples

@@ -16,7 +16,7 @@ use Rattle.machine.specs.declared.config.Config.{Config}
 use Rattle.machine.specs.State.{blocks_of, is_config}
 use Rattle.machine.specs.Call.{Caller}
 use Rattle.machine.proofs.Values.{some_inj}
-use Rattle.book.specs.Passes.{PassOf}
+use Rattle.book.specs.Passes.{PassOf, is_current}
 use Rattle.driver.specs.declared.desk.Desk.{Desk}
 use Rattle.driver.specs.Tickets.{blocks_in, OwnSeats}
 use Rattle.driver.specs.Desks.{world, blocks_of_desk, worker_of_desk, IsOn, IsSame}
@@ -79,22 +79,22 @@ same-more old mid new h k = record { blocks = k.blocks ∙ h.blocks; limit = k.l
 -- ---- the opening
 
 -- a desk at which nobody has a command can go on with a device that has the blocks
-pub opened_on : (desk : Desk) (config : Config) (disk : Disk) → world desk disk ≡ first_world config disk → blocks_of config ≤ length disk.contents → IsOn desk disk
-opened_on desk config disk opens enough =
+pub opened_on : (desk : Desk) (config : Config) (disk : Disk) → world desk disk ≡ first_world config disk → is_current desk.book desk.pass ≡ true → blocks_of config ≤ length disk.contents → IsOn desk disk
+opened_on desk config disk opens current enough =
     let blocks : blocks_of_desk desk ≡ blocks_of config = ap (λ (w : World). blocks_in w.past.state.opening) opens in
-    let first : worker_of_desk desk ≡ 0 = ap (λ (w : World). w.caller.worker) opens in
-    let given : desk.book.passes ≡ 1 = ap (λ (w : World). w.past.passes) opens in
     let seats : desk.seats ≡ [] = ap (λ (w : World). w.seats) opens in
+    let none : length desk.seats ≡ 0 = ap (λ (ss : List Seat). length ss) seats in
     let Own : List Seat → Type 0 = λ ss. OwnSeats (worker_of_desk desk) (blocks_of_desk desk) ss in
     let own : OwnSeats (worker_of_desk desk) (blocks_of_desk desk) desk.seats = subst Own (sym seats) tt in
-    record { known = omega (arith, first, given); own = own; blocks = omega (arith, blocks, enough) }
+    record { current = current; room = omega (arith, none); own = own; blocks = omega (arith, blocks, enough) }
 
--- so can one that goes on, with a pass of the same worker and with other seats
-pub on_with : (desk : Desk) (pass : PassOf) (seats : List Seat) (disk : Disk) → pass.caller ≡ desk.pass.caller → IsOn desk disk → OwnSeats (worker_of_desk desk) (blocks_of_desk desk) seats
-    → IsOn (record desk { pass = pass; seats = seats }) disk
-on_with desk pass seats disk same on own =
+-- so can one that goes on, with a pass of the same worker that is current and has room, and with other seats
+pub on_with : (desk : Desk) (pass : PassOf) (seats : List Seat) (disk : Disk) → pass.caller ≡ desk.pass.caller → is_current desk.book pass ≡ true → length seats ≤ pass.room → IsOn desk disk
+    → OwnSeats (worker_of_desk desk) (blocks_of_desk desk) seats → IsOn (record desk { pass = pass; seats = seats }) disk
+on_with desk pass seats disk same current room on own =
     record {
-      known = subst (λ (k : Caller). k.worker < desk.book.passes) (sym same) on.known;
+      current = current;
+      room = room;
       own = subst (λ (k : Caller). OwnSeats k.worker (blocks_of_desk desk) seats) (sym same) own;
       blocks = on.blocks;
     }

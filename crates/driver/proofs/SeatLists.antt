@@ -82,6 +82,10 @@ numbers-with_activity actor what (seat ∷ seats) h = at (is_of actor seat) h (n
     at true h ih = refl
     at false h ih = ap (λ (ns : List ℕ). number_of seat.actor ∷ ns) (ih (omega arith))
 
+-- and there are as many
+pub with_activity-length : (actor : Actor) (what : Activity) (seats : List Seat) → place_of actor seats < length seats → length (with_activity actor what seats) ≡ length seats
+with_activity-length actor what seats h = sym (length-numbers (with_activity actor what seats)) ∙ ap length (numbers-with_activity actor what seats h) ∙ length-numbers seats
+
 pub numbers-push : (seats : List Seat) (seat : Seat) → numbers_of (seats ++ seat ∷ []) ≡ numbers_of seats ++ number_of seat.actor ∷ []
 numbers-push [] seat = refl
 numbers-push (first ∷ seats) seat = ap (λ (ns : List ℕ). number_of first.actor ∷ ns) (numbers-push seats seat)

@@ -1,5 +1,5 @@
 -- What a sink has of a run that is cut short.
-use Rattle.std.proofs.Common.{◌≡◌, ℕ, suc, ◌+◌, ◌<◌, ◌≤◌, true, List, [], ◌∷◌, ◌++◌, length, take, drop, get_or, inl, inr, append-nil, length-append, refl, sym, ap, ◌∙◌, subst, arith, append_assoc}
+use Rattle.std.proofs.Common.{◌≡◌, ℕ, suc, ◌+◌, ◌<◌, ◌≤◌, true, List, [], ◌∷◌, ◌++◌, length, take, drop, get_or, inl, inr, append-nil, length-append, refl, sym, ap, ◌∙◌, subst, arith, append_assoc, false}
 use Rattle.std.specs.Prelude.{Result, Ok, Err, OnErr}
 use Rattle.std.specs.List.{AllByRecursion}
 use Rattle.std.proofs.lemmas.List.{take-append-drop}
@@ -19,7 +19,7 @@ use Rattle.machine.specs.History.{at_first, Honest}
 use Rattle.block_store.specs.Device.{Disk}
 use Rattle.driver.specs.declared.turn.Outcome.{Outcome}
 use Rattle.driver.specs.declared.turn.Outcome.TheVariants.{Goes, Kills, Ends}
-use Rattle.driver.specs.Schedule.{World, first_world, Turn, Begins, Goings, answer_by, said_at, all_said, Stepped, Runs, files_on, fits, most_turns}
+use Rattle.driver.specs.Schedule.{World, first_world, Turn, Begins, begun, Goings, answer_by, said_at, all_said, Stepped, Runs, files_on, fits, most_turns}
 use Rattle.driver.specs.Sinks.{Heard, BeginsWith, Starts, IsRightOnce, StartsStep, StartsRun, CutsStep, CutsRun}
 use Rattle.driver.proofs.Faithful.{runs_are_honest}
 
@@ -190,6 +190,11 @@ opening_starts config before steps fit =
     run_starts config before steps [] before fit (record { done = []; left = steps; cut = refl; part = []; begins = begins_none steps; end = first_world config before; runs = (refl, refl); device = refl; right = right })
 
 -- a command that is begun over another is not
+pub begins_fresh : (old new : World) (who : Actor) (what : Command) (activity : Activity) → is_under_way activity ≡ false → new ≡ begun old who what → Begins old who what activity [] new
+begins_fresh old new who what Rests rests is = (refl, is)
+begins_fresh old new who what (Begun command) rests is = cc
+begins_fresh old new who what (Does stage) rests is = cc
+
 pub begins_over : (old : World) (who : Actor) (what : Command) (activity : Activity) → is_under_way activity ≡ true → Begins old who what activity (answer_by who (Word Underway)) old
 begins_over old who what Rests under_way = absurd cc
 begins_over old who what (Begun command) under_way = (refl, refl)

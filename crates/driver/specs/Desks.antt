@@ -1,6 +1,7 @@
 -- A desk, with a device, as a world of a schedule.
-use Rattle.std.specs.Prelude.{◌≡◌, ℕ, ◌<◌, ◌≤◌, length}
+use Rattle.std.specs.Prelude.{◌≡◌, ℕ, ◌≤◌, true, length}
 use Rattle.block_store.specs.Device.{Disk}
+use Rattle.book.specs.Passes.{is_current}
 use Rattle.driver.specs.Schedule.{World}
 use Rattle.driver.specs.Tickets.{blocks_in, OwnSeats}
 use Rattle.driver.specs.declared.desk.Desk.{Desk}
@@ -16,9 +17,11 @@ blocks_of_desk desk = blocks_in desk.book.state.opening
 abbrev pub worker_of_desk : Desk → ℕ
 worker_of_desk desk = desk.pass.caller.worker
 
--- the desk can go on with this device: its book gave out its pass, the tickets in hand are that worker's, of blocks of the machine, and the device has these
+-- the desk can go on with this device: its pass is current, and has room for the end of each transfer whose ticket is in hand, of which a seat has one at most;
+-- these tickets are its worker's, of blocks of the machine, and the device has these
 pub record IsOn (desk : Desk) (disk : Disk) : Type 0 where
-  pub known : worker_of_desk desk < desk.book.passes
+  pub current : is_current desk.book desk.pass ≡ true
+  pub room : length desk.seats ≤ desk.pass.room
   pub own : OwnSeats (worker_of_desk desk) (blocks_of_desk desk) desk.seats
   pub blocks : blocks_of_desk desk ≤ length disk.contents
 

@@ -5,3 +5,4 @@ pub mod Tickets
 pub mod Seats
 pub mod Desks
 pub mod Sinks
+pub mod Traced

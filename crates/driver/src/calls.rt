@@ -1,22 +1,25 @@
 //! Calls of the book and of the device, with the ticket in hand.
 
-ghost use Rattle.std.specs.Prelude.{◌≡◌, ℕ, ◌<◌, length};
+ghost use Rattle.std.specs.Prelude.{◌≡◌, ℕ, ◌+◌, ◌<◌, ◌≤◌, true, length};
 ghost use Rattle.machine.specs.Call.{Called};
+ghost use Rattle.book.specs.Passes.{is_current};
 ghost use Rattle.book.specs.Events.{event_of, reply_of};
 ghost use Rattle.book.specs.Replies.{Replies, KeepsTicket, HandsOut};
 ghost use Rattle.driver.specs.Turns.{ReadsIn, WritesOut};
 ghost use Rattle.driver.specs.Tickets.{blocks_in, IsOwn, OwnEvent, OwnReply, OwnTransition, OwnActivity, IsHanded};
 ghost use Rattle.driver.specs.Desks.{IsSame};
+ghost use Rattle.driver.specs.Traced.{GivesUp};
 
 use crate::automaton::spend;
 use crate::turn::{Access, Activity, Resume, Stage, Transition};
 use block_store::BlockDevice;
 use book::{Book, Event, InTicket, OutTicket, Pass, Reply};
 
-/// One event of the book, which gave out the pass. A ticket that is given out names a block of swap or of a
+/// One event of the book, by a pass that is current. A ticket that is given out names a block of swap or of a
 /// file, and one that comes back was handed back.
 pub fn call(book: &mut Book, pass: &mut Pass, event: Event) -> Reply
-    requires known { pass.old.caller.worker < book.old.passes }
+    requires current { is_current book.old pass.old ≡ true }
+    requires room { 0 < pass.old.room }
     requires own { OwnEvent pass.old.caller.worker (blocks_in book.old.state.opening) event }
     ensures called { Called book.old pass.old.caller (event_of event) (reply_of result) book.new }
     ensures gives { HandsOut book.new pass.old.caller.worker result }
@@ -25,7 +28,8 @@ pub fn call(book: &mut Book, pass: &mut Pass, event: Event) -> Reply
     ensures own { OwnReply pass.old.caller.worker (blocks_in book.old.state.opening) result }
     ensures handed { IsHanded result }
     ensures pass { pass.new.caller ≡ pass.old.caller }
-    ensures passes { book.new.passes ≡ book.old.passes }
+    ensures current { is_current book.new pass.new ≡ true }
+    ensures room { pass.old.room ≤ pass.new.room + 1 }
     ensures opening { book.new.state.opening ≡ book.old.state.opening }
 {
     let reply = book.call(pass, event);
@@ -62,10 +66,13 @@ pub fn write_out<D: BlockDevice>(device: &mut D, resume: Resume, ticket: OutTick
 
 /// Ends what an actor is at. The transfer of a ticket in hand ends as failed.
 pub fn give_up(book: &mut Book, pass: &mut Pass, activity: Activity)
-    requires known { pass.old.caller.worker < book.old.passes }
+    requires current { is_current book.old pass.old ≡ true }
+    requires room { 0 < pass.old.room }
     requires own { OwnActivity pass.old.caller.worker (blocks_in book.old.state.opening) activity }
     ensures pass { pass.new.caller ≡ pass.old.caller }
-    ensures passes { book.new.passes ≡ book.old.passes }
+    ensures current { is_current book.new pass.new ≡ true }
+    ensures given_up { GivesUp book.old.history book.new.history }
+    ensures room { pass.old.room ≤ pass.new.room + 1 }
     ensures opening { book.new.state.opening ≡ book.old.state.opening }
 {
     match activity {
@@ -75,10 +82,13 @@ pub fn give_up(book: &mut Book, pass: &mut Pass, activity: Activity)
 }
 
 fn give_up_stage(book: &mut Book, pass: &mut Pass, stage: Stage)
-    requires known { pass.old.caller.worker < book.old.passes }
+    requires current { is_current book.old pass.old ≡ true }
+    requires room { 0 < pass.old.room }
     requires own { OwnActivity pass.old.caller.worker (blocks_in book.old.state.opening) (Activity.Does stage) }
     ensures pass { pass.new.caller ≡ pass.old.caller }
-    ensures passes { book.new.passes ≡ book.old.passes }
+    ensures current { is_current book.new pass.new ≡ true }
+    ensures given_up { GivesUp book.old.history book.new.history }
+    ensures room { pass.old.room ≤ pass.new.room + 1 }
     ensures opening { book.new.state.opening ≡ book.old.state.opening }
 {
     match stage {
@@ -99,10 +109,13 @@ fn give_up_stage(book: &mut Book, pass: &mut Pass, stage: Stage)
 }
 
 fn give_in(book: &mut Book, pass: &mut Pass, ticket: InTicket)
-    requires known { pass.old.caller.worker < book.old.passes }
+    requires current { is_current book.old pass.old ≡ true }
+    requires room { 0 < pass.old.room }
     requires own { IsOwn pass.old.caller.worker (blocks_in book.old.state.opening) ticket }
     ensures pass { pass.new.caller ≡ pass.old.caller }
-    ensures passes { book.new.passes ≡ book.old.passes }
+    ensures current { is_current book.new pass.new ≡ true }
+    ensures given_up { GivesUp book.old.history book.new.history }
+    ensures room { pass.old.room ≤ pass.new.room + 1 }
     ensures opening { book.new.state.opening ≡ book.old.state.opening }
 {
     match call(book, pass, Event::FetchFailed(ticket)) {
@@ -112,10 +125,13 @@ fn give_in(book: &mut Book, pass: &mut Pass, ticket: InTicket)
 }
 
 fn give_out(book: &mut Book, pass: &mut Pass, ticket: OutTicket)
-    requires known { pass.old.caller.worker < book.old.passes }
+    requires current { is_current book.old pass.old ≡ true }
+    requires room { 0 < pass.old.room }
     requires own { IsOwn pass.old.caller.worker (blocks_in book.old.state.opening) ticket }
     ensures pass { pass.new.caller ≡ pass.old.caller }
-    ensures passes { book.new.passes ≡ book.old.passes }
+    ensures current { is_current book.new pass.new ≡ true }
+    ensures given_up { GivesUp book.old.history book.new.history }
+    ensures room { pass.old.room ≤ pass.new.room + 1 }
     ensures opening { book.new.state.opening ≡ book.old.state.opening }
 {
     match call(book, pass, Event::LeaveFailed(ticket)) {

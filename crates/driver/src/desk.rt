@@ -1,14 +1,19 @@
 //! A book, and the seats of those who work on it.
 
-ghost use Rattle.std.specs.Prelude.{◌≡◌, ◌⊎◌, ◌<◌, [], true, false, List, length, OnOk, OnErr, IfOk, IfErr};
+ghost use Rattle.std.specs.Prelude.{reverse, ◌≡◌, ◌⊎◌, ℕ, ◌+◌, ◌<◌, ◌≤◌, [], true, false, List, length, OnOk, OnErr, IfOk, IfErr};
 ghost use Rattle.machine.specs.declared.command.Reply.{Reply as Told_by};
 ghost use Rattle.machine.specs.State.{is_config};
+ghost use Rattle.machine.specs.FirstBytes.{first_of};
+ghost use Rattle.machine.specs.Audit.{Passes};
+ghost use Rattle.machine.specs.History.{at_first, Honest};
 ghost use Rattle.block_store.specs.Device.{Disk};
+ghost use Rattle.book.specs.Passes.{is_current};
 ghost use Rattle.driver.specs.Turns.{AwaitsAll};
 ghost use Rattle.driver.specs.Schedule.{Asks, WantTurn, StageTurn, wants_at, Turn, Advances, Finishes, Begins, Stepped, Runs, activity_of, first_world};
 ghost use Rattle.driver.specs.Tickets.{OwnEvent, OwnStage, OwnTransition, OwnSeats};
 ghost use Rattle.driver.specs.Seats.{place_of, is_under_way};
 ghost use Rattle.driver.specs.Desks.{world, blocks_of_desk, worker_of_desk, IsOn, IsSame};
+ghost use Rattle.driver.specs.Traced.{GivesUp};
 ghost use Rattle.driver.specs.Sinks.{CutsStep, CutsRun};
 
 use crate::automaton::{ask, told};
@@ -24,6 +29,7 @@ use machine::config::Config;
 use machine::limit::MOST_TURNS;
 use machine::refusal::Refusal;
 use std::alloc::{AllocError, Global};
+use trace::Trace;
 
 /// It must be closed.
 #[must_use]
@@ -38,13 +44,14 @@ impl Desk {
     /// A desk at which nobody has a command, over a new book. It fails as [`Book::open`] does.
     pub fn open(alloc: Global, config: Config) -> Result<Desk, Refusal>
         ensures opens { IfOk result (λ desk. (disk : Disk) → world desk disk ≡ first_world config disk) }
+        ensures current { IfOk result (λ desk. is_current desk.book desk.pass ≡ true) }
         ensures sized { IfOk result (λ desk. is_config config ≡ true) }
         ensures err { IfErr result (λ cause. (cause ≡ Refusal.Invalid) × (is_config config ≡ false) ⊎ (cause ≡ Refusal.NoMemory) × (is_config config ≡ true)) }
     {
         let mut book = Book::open(alloc, config)?;
         match book.pass() {
             Err(_) => {
-                book.close();
+                let _ = book.close();
                 Err(Refusal::NoMemory)
             }
             Ok(pass) => Ok(Desk {
@@ -58,13 +65,15 @@ impl Desk {
 
     /// One event of the book, and what the command makes of its reply.
     fn ask_book(&mut self, pending: Pending, event: Event) -> Result<Transition, AllocError>
-        requires known { worker_of_desk self.old < self.old.book.passes }
+        requires current { is_current self.old.book self.old.pass ≡ true }
+        requires room { 0 < self.old.pass.room }
         requires awaits { AwaitsAll (Want.Call pending event) }
         requires own { OwnEvent (worker_of_desk self.old) (blocks_of_desk self.old) event }
         ensures asks { IfOk result (λ transition. Asks self.old.pass.caller self.old.book pending event transition self.new.book) }
         ensures own { IfOk result (λ transition. OwnTransition (worker_of_desk self.old) (blocks_of_desk self.old) transition) }
         ensures pass { self.new.pass.caller ≡ self.old.pass.caller }
-        ensures passes { self.new.book.passes ≡ self.old.book.passes }
+        ensures current { is_current self.new.book self.new.pass ≡ true }
+        ensures room { self.old.pass.room ≤ self.new.pass.room + 1 }
         ensures opening { self.new.book.state.opening ≡ self.old.book.state.opening }
         ensures seats { self.new.seats ≡ self.old.seats }
     {
@@ -88,11 +97,13 @@ impl Desk {
         stage: Stage,
     ) -> Result<Transition, AllocError>
         requires on { IsOn self.old (D.disk device.old) }
+        requires room { length self.old.seats < self.old.pass.room }
         requires own { OwnStage (worker_of_desk self.old) (blocks_of_desk self.old) stage }
         ensures turns { IfOk result (λ transition. WantTurn self.old.pass.caller self.old.book (D.disk device.old) (wants_at self.old.book stage) transition self.new.book (D.disk device.new)) }
         ensures own { IfOk result (λ transition. OwnTransition (worker_of_desk self.old) (blocks_of_desk self.old) transition) }
         ensures pass { self.new.pass.caller ≡ self.old.pass.caller }
-        ensures passes { self.new.book.passes ≡ self.old.book.passes }
+        ensures current { is_current self.new.book self.new.pass ≡ true }
+        ensures room { self.old.pass.room ≤ self.new.pass.room + 1 }
         ensures opening { self.new.book.state.opening ≡ self.old.book.state.opening }
         ensures seats { self.new.seats ≡ self.old.seats }
         ensures same { IsSame (D.disk device.old) (D.disk device.new) }
@@ -114,6 +125,7 @@ impl Desk {
         stage: Stage,
     ) -> Result<Outcome, AllocError>
         requires on { IsOn self.old (D.disk device.old) }
+        requires room { length self.old.seats < self.old.pass.room }
         requires own { OwnStage (worker_of_desk self.old) (blocks_of_desk self.old) stage }
         requires seated { place_of actor self.old.seats < length self.old.seats }
         requires free { is_under_way (activity_of actor self.old.seats) ≡ false }
@@ -128,6 +140,20 @@ impl Desk {
         Ok(outcome)
     }
 
+    /// Room in the pass for all that one turn asks, a path or two and an event, beside the end of each transfer
+    /// whose ticket is in hand, of which a seat has one at most.
+    fn make_room(&mut self) -> Result<(), AllocError>
+        ensures room { OnOk result (length self.new.seats + 3 ≤ self.new.pass.room) }
+        ensures same { (disk : Disk) → world self.new disk ≡ world self.old disk }
+        ensures seats { self.new.seats ≡ self.old.seats }
+        ensures on { (disk : Disk) → IsOn self.old disk → IsOn self.new disk }
+    {
+        match self.pass.reserve(self.seats.len() + 3) {
+            Ok(()) => Ok(()),
+            Err(_) => Err(AllocError),
+        }
+    }
+
     /// One turn of the actor.
     pub fn turn<D: BlockDevice>(
         &mut self,
@@ -140,10 +166,28 @@ impl Desk {
         ensures same { IsSame (D.disk device.old) (D.disk device.new) }
         ensures unmoved { OnErr result (D.disk device.new ≡ D.disk device.old) }
     {
+        self.make_room()?;
+        let outcome = self.take_turn(device, actor)?;
+        Ok(outcome)
+    }
+
+    /// One turn of the actor, where the pass has room for it.
+    fn take_turn<D: BlockDevice>(
+        &mut self,
+        device: &mut D,
+        actor: Actor,
+    ) -> Result<Outcome, AllocError>
+        requires on { IsOn self.old (D.disk device.old) }
+        requires room { length self.old.seats + 3 ≤ self.old.pass.room }
+        ensures turn { IfOk result (λ outcome. Turn (world self.old (D.disk device.old)) actor outcome (world self.new (D.disk device.new))) }
+        ensures on { IsOn self.new (D.disk device.new) }
+        ensures same { IsSame (D.disk device.old) (D.disk device.new) }
+        ensures unmoved { OnErr result (D.disk device.new ≡ D.disk device.old) }
+    {
         match self.seats.take(actor) {
             Activity::Rests => Ok(seats::word(Word::Idle)),
             Activity::Begun(command) => {
-                match judge(&self.book, &mut self.pass, actor, command) {
+                match judge(self.alloc, &self.book, &mut self.pass, actor, command) {
                     Err(cause) => Ok(seats::word(Word::Refused(cause))),
                     Ok(stage) => Ok(self.turn_stage(device, actor, stage)?),
                 }
@@ -170,6 +214,7 @@ impl Desk {
             return Ok(());
         }
         let command = command.copy(self.alloc)?;
+        self.make_room()?;
         self.seats.seat(actor, command)?;
         Ok(())
     }
@@ -264,10 +309,14 @@ impl Desk {
         Ok(())
     }
 
-    /// Spends what is left. Transfers whose tickets are in hand end as failed, with no answer.
-    pub fn close(self)
-        requires known { worker_of_desk self < self.book.passes }
+    /// Spends what is left, and hands out the trace. Transfers whose tickets are in hand end as failed, with no
+    /// answer.
+    pub fn close(self) -> Trace
+        requires current { is_current self.book self.pass ≡ true }
+        requires room { length self.seats ≤ self.pass.room }
         requires own { OwnSeats (worker_of_desk self) (blocks_of_desk self) self.seats }
+        ensures traced { GivesUp self.book.history (reverse result.entries) }
+        ensures passes { (files : ℕ → ℕ → ℕ → ℕ) → Honest (at_first files) (reverse result.entries) → Passes (first_of (reverse result.entries)) (reverse result.entries) }
     {
         let Desk {
             alloc: _,
@@ -281,6 +330,7 @@ impl Desk {
             calls::give_up(&mut book, &mut pass, activity);
         }
         seats.destroy_empty();
-        book.close();
+        book.history_is_right();
+        book.close()
     }
 }

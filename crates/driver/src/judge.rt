@@ -1,9 +1,9 @@
 //! The first turn of a command: its paths are found, all of them; then a control file's name, mode and
 //! amount are judged.
 
-ghost use Rattle.std.specs.Prelude.{◌≡◌, ℕ, map, option_map};
+ghost use Rattle.std.specs.Prelude.{◌≡◌, ℕ, ◌≤◌, List, Option, map, option_map};
 ghost use Rattle.driver.specs.Turns.{shell_paths, paths_of, judged_with, judged, task_judged, shell_judged, daemon_judged, with_group, with_file, reads_file, reclaims, writes_file};
-ghost use Rattle.driver.specs.Finds.{answers_of};
+ghost use Rattle.driver.specs.Finds.{answers_of, looking};
 ghost use Rattle.machine.specs.Slots.{at};
 ghost use Rattle.machine.specs.Tree.{find_group};
 ghost use Rattle.machine.specs.Control.{file_named};
@@ -17,6 +17,9 @@ use machine::control::ControlFile;
 use machine::event::Query;
 use machine::id::{GroupId, TaskId};
 use machine::refusal::Refusal;
+use machine::text::Text;
+use std::alloc::Global;
+use std::mem;
 
 /// What was found for the paths of a command, in their order.
 #[derive(Clone, Copy, Debug)]
@@ -50,43 +53,69 @@ impl Found {
 }
 
 /// What becomes of a command in its first turn. All its paths are looked up, in order, before anything
-/// of it is judged.
-pub fn judge(book: &Book, pass: &mut Pass, actor: Actor, command: Command) -> Result<Stage, Refusal>
+/// of it is judged, and the pass keeps them.
+pub fn judge(
+    alloc: Global,
+    book: &Book,
+    pass: &mut Pass,
+    actor: Actor,
+    command: Command,
+) -> Result<Stage, Refusal>
+    requires { 2 ≤ pass.old.room }
     ensures judged { result ≡ judged book.now.state.tree actor command }
-    ensures pass { pass.new.caller ≡ pass.old.caller }
+    ensures looked { pass.new ≡ looking book.now.state.tree (paths_of actor command) pass.old }
 {
-    let found = look_up(book, pass, actor, &command);
+    let mut command = command;
+    let found = look_up(alloc, book, pass, actor, &mut command);
     judge_with(actor, command, found)
 }
 
-/// The groups of the paths of a command of this actor, each looked up once, in their order.
-fn look_up(book: &Book, pass: &mut Pass, actor: Actor, command: &Command) -> Found
-    ensures found { answers_of result ≡ map (find_group book.now.state.tree) (paths_of actor command.now) }
-    ensures pass { pass.new.caller ≡ pass.old.caller }
+/// The groups of the paths of a command of this actor, each looked up once, in their order. The paths are
+/// handed over, and what is left of the command is judged as the whole would be.
+fn look_up(
+    alloc: Global,
+    book: &Book,
+    pass: &mut Pass,
+    actor: Actor,
+    command: &mut Command,
+) -> Found
+    requires { 2 ≤ pass.old.room }
+    ensures found { answers_of result ≡ map (find_group book.now.state.tree) (paths_of actor command.old) }
+    ensures looked { pass.new ≡ looking book.now.state.tree (paths_of actor command.old) pass.old }
+    ensures rest { (found : List (Option ℕ)) → judged_with actor command.new found ≡ judged_with actor command.old found }
 {
     match actor {
         Actor::Task(_) | Actor::Daemon => Found::Nothing,
-        Actor::Shell | Actor::Control => look_up_shell(book, pass, command),
+        Actor::Shell | Actor::Control => look_up_shell(alloc, book, pass, command),
     }
 }
 
-fn look_up_shell(book: &Book, pass: &mut Pass, command: &Command) -> Found
-    ensures found { answers_of result ≡ map (find_group book.now.state.tree) (shell_paths command.now) }
-    ensures pass { pass.new.caller ≡ pass.old.caller }
+fn look_up_shell(alloc: Global, book: &Book, pass: &mut Pass, command: &mut Command) -> Found
+    requires { 2 ≤ pass.old.room }
+    ensures found { answers_of result ≡ map (find_group book.now.state.tree) (shell_paths command.old) }
+    ensures looked { pass.new ≡ looking book.now.state.tree (shell_paths command.old) pass.old }
+    ensures rest { (found : List (Option ℕ)) → shell_judged command.new found ≡ shell_judged command.old found }
 {
     match command {
         Command::Access { .. } | Command::Fork { .. } | Command::Free { .. } => Found::Nothing,
         Command::Exit | Command::Daemon | Command::Group(_) => Found::Nothing,
-        Command::Rmdir(path) => Found::One(book.find(pass, path.as_str())),
-        Command::Task { path, .. } => Found::One(book.find(pass, path.as_str())),
-        Command::Attach { path, .. } => Found::One(book.find(pass, path.as_str())),
-        Command::Set { path, .. } => Found::One(book.find(pass, path.as_str())),
-        Command::Cat { path, .. } => Found::One(book.find(pass, path.as_str())),
-        Command::Protection { target, path } => Found::Two(
-            book.find(pass, target.as_str()),
-            book.find(pass, path.as_str()),
-        ),
+        Command::Rmdir(path) => Found::One(book.find(pass, take(alloc, path))),
+        Command::Task { path, .. } => Found::One(book.find(pass, take(alloc, path))),
+        Command::Attach { path, .. } => Found::One(book.find(pass, take(alloc, path))),
+        Command::Set { path, .. } => Found::One(book.find(pass, take(alloc, path))),
+        Command::Cat { path, .. } => Found::One(book.find(pass, take(alloc, path))),
+        Command::Protection { target, path } => {
+            let above = book.find(pass, take(alloc, target));
+            Found::Two(above, book.find(pass, take(alloc, path)))
+        }
     }
+}
+
+/// The path, which leaves an empty one behind.
+fn take(alloc: Global, path: &mut Text) -> Text
+    ensures { result ≡ path.old }
+{
+    mem::replace(path, Text::new(String::new(alloc)))
 }
 
 /// What becomes of a command for whose paths this was found.

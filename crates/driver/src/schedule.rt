@@ -2,7 +2,8 @@
 
 ghost use Rattle.std.specs.Prelude.{◌≡◌, ◌⊎◌, ◌+◌, ◌≤◌, true, false, length, IfOk, IfErr, OnOk, OnErr};
 ghost use Rattle.driver.specs.Schedule.{Schedules, fits, errors};
-ghost use Rattle.driver.specs.Sinks.{Gives, GivesStart, IsCut};
+ghost use Rattle.driver.specs.Sinks.{GivesStart, IsCut};
+ghost use Rattle.driver.specs.Traced.{GivesTrace};
 
 use crate::desk::Desk;
 use crate::sink::{Cut, Sink, Stop};
@@ -12,6 +13,7 @@ use machine::command::{Reply, Step};
 use machine::config::Config;
 use machine::refusal::Refusal;
 use std::alloc::Global;
+use trace::Trace;
 
 /// The answers to a list of steps, in order: those of the plain machine over this device. Its first
 /// blocks are swap: what they held is lost. The blocks behind them are the homes of the files' pages:
@@ -35,14 +37,15 @@ pub fn run<D: BlockDevice>(
 {
     let mut answers = Vec::new(alloc);
     match run_into(alloc, config, device, steps, &mut answers) {
-        Ok(()) => Ok(answers),
+        Ok(_) => Ok(answers),
         Err(Stop::Refused(cause)) => Err(cause),
         Err(Stop::Closed) => Err(Refusal::NoMemory),
     }
 }
 
 /// The same, but each answer goes to the sink as it comes, so that what was answered is known while the
-/// run goes on, and also where it does not go through.
+/// run goes on, and also where it does not go through. The trace of a run that goes through is handed out: what
+/// the run did, and behind that the ends of the transfers that it left open, which fail.
 ///
 /// `Closed` where the sink takes no more answers; the run ends then.
 pub fn run_into<D: BlockDevice, S: Sink>(
@@ -51,8 +54,8 @@ pub fn run_into<D: BlockDevice, S: Sink>(
     device: &mut D,
     steps: &[Step],
     sink: &mut S,
-) -> Result<(), Stop>
-    ensures gives { OnOk result (Gives S.took config (D.disk device.old) steps.now sink.old sink.new (D.disk device.new)) }
+) -> Result<Trace, Stop>
+    ensures gives { IfOk result (λ trace. GivesTrace S.took config (D.disk device.old) steps.now sink.old sink.new (D.disk device.new) trace.entries) }
     ensures starts { OnErr result (fits config (D.disk device.old) ≡ true → GivesStart S.took S.failed config (D.disk device.old) steps.now sink.old sink.new (D.disk device.new)) }
     ensures sized { OnOk result (fits config (D.disk device.old) ≡ true) }
     ensures err { IfErr result (λ stop. (stop ≡ Stop.Refused Refusal.Invalid) × (fits config (D.disk device.old) ≡ false) ⊎ IsCut stop × (fits config (D.disk device.old) ≡ true)) }
@@ -73,9 +76,9 @@ pub fn run_into<D: BlockDevice, S: Sink>(
     };
     let ran = desk.run_all(device, steps, sink);
     desk.book.history_is_right();
-    desk.close();
+    let trace = desk.close();
     match ran {
-        Ok(()) => Ok(()),
+        Ok(()) => Ok(trace),
         Err(cut) => Err(stop_of(cut)),
     }
 }

@@ -1,6 +1,6 @@
 //! The seats: what each actor is at, by first appearance.
 
-ghost use Rattle.std.specs.Prelude.{◌≡◌, ℕ, ◌<◌, ◌++◌, ◌∷◌, [], length, IfSome, IfNone, OnOk, OnErr, true, false};
+ghost use Rattle.std.specs.Prelude.{◌≡◌, ℕ, ◌+◌, ◌<◌, ◌≤◌, ◌++◌, ◌∷◌, [], length, IfSome, IfNone, OnOk, OnErr, true, false};
 ghost use Rattle.driver.specs.Schedule.{number_of, with_activity, activity_of, said_at, answer_by, outcome_of, left_of, is_end};
 ghost use Rattle.driver.specs.Tickets.{OwnTransition, OwnActivity, OwnSeats, IsSpendableStage};
 ghost use Rattle.driver.specs.Seats.{place_of, is_under_way, IsTaken};
@@ -59,6 +59,14 @@ impl Seats {
         }
     }
 
+    /// How many there are.
+    pub fn len(&self) -> usize
+        ensures len { result ≡ length self.now }
+        ensures few { result + 3 ≤ usize.MAX }
+    {
+        self.list.len()
+    }
+
     /// The list of seats, to be spent one by one.
     pub fn into_list(self) -> Vec<Seat>
         ensures { result.items ≡ self }
@@ -81,6 +89,7 @@ impl Seats {
         requires within { place < length self.old }
         ensures was { result ≡ activity_of actor self.old }
         ensures now { self.new ≡ with_activity actor activity self.old }
+        ensures len { length self.new ≡ length self.old }
     {
         mem::replace(&mut self.list[place].activity, activity)
     }
@@ -100,6 +109,7 @@ impl Seats {
         ensures was { result ≡ activity_of actor self.old }
         ensures rested { result ≡ Activity.Rests → self.new ≡ self.old }
         ensures taken { IsTaken actor self.old self.new }
+        ensures len { length self.new ≡ length self.old }
         ensures held { (worker blocks : ℕ) → OwnSeats worker blocks self.old → OwnActivity worker blocks result }
         ensures own { (worker blocks : ℕ) → OwnSeats worker blocks self.old → OwnSeats worker blocks self.new }
     {
@@ -114,6 +124,7 @@ impl Seats {
         requires seated { place_of actor self.old < length self.old }
         requires free { is_under_way (activity_of actor self.old) ≡ false }
         ensures put { self.new ≡ with_activity actor activity self.old }
+        ensures len { length self.new ≡ length self.old }
         ensures own { (worker blocks : ℕ) → OwnSeats worker blocks self.old → OwnActivity worker blocks activity → OwnSeats worker blocks self.new }
     {
         let place = self.find(actor).unwrap();
@@ -125,6 +136,7 @@ impl Seats {
     pub fn seat(&mut self, actor: Actor, command: Command) -> Result<(), AllocError>
         requires { is_under_way (activity_of actor self.old) ≡ false }
         ensures seated { OnOk result (self.new ≡ with_activity actor (Activity.Begun command) self.old) }
+        ensures len { length self.new ≤ length self.old + 1 }
         ensures own { (worker blocks : ℕ) → OwnSeats worker blocks self.old → OwnSeats worker blocks self.new }
         ensures err { OnErr result (self.new ≡ self.old) }
     {
@@ -141,6 +153,7 @@ impl Seats {
     fn add(&mut self, actor: Actor, command: Command) -> Result<(), AllocError>
         requires { place_of actor self.old ≡ length self.old }
         ensures seated { OnOk result (self.new ≡ with_activity actor (Activity.Begun command) self.old) }
+        ensures len { length self.new ≤ length self.old + 1 }
         ensures own { (worker blocks : ℕ) → OwnSeats worker blocks self.old → OwnSeats worker blocks self.new }
         ensures err { OnErr result (self.new ≡ self.old) }
     {

@@ -4,5 +4,4 @@ pub mod ReclaimLemmas
 pub mod RiseLemmas
 pub mod CallLemmas
 pub mod OrderLemmas
-pub mod FlightLemmas
 pub mod ShareLemmas

@@ -37,6 +37,9 @@ use Rattle.machine.specs.Victim.{is_candidate}
 use Rattle.machine.specs.Step.{Step}
 use Rattle.machine.specs.Call.{Past, Caller, Called, AreAlike}
 use Rattle.machine.specs.Legal.{Legal}
+use Rattle.machine.specs.FirstBytes.{first_of}
+use Rattle.machine.specs.Audit.{Passes}
+use Rattle.machine.specs.Transfers.{transfers_begun, transfers_ended}
 use Rattle.machine.specs.Events.{AreCounted}
 use Rattle.machine.specs.History.{Spot, InTask, at_first, last, Right, IsRight, Honest}
 use Rattle.machine.specs.declared.command.Answer.TheVariants as answer
@@ -254,6 +257,18 @@ MarkedPagesStay =
 abbrev pub ReadsGiveLastWrites : Type 0
 ReadsGiveLastWrites = (first : Spot → ℕ) (later earlier : List Entry) (entry : Entry) → Right first (later ++ entry ∷ earlier) → IsRight first earlier entry.event entry.reply
 
+-- an audit finds nothing wrong in the trace of a run that gave each read the last write, as every run does, over a device that has the blocks and that keeps its promise. An audit
+-- takes for what a file had at first what its pages' first arrivals brought. (Excludes one that blames an honest device for what was written to a file before that.)
+abbrev pub HonestDevicesPassTheAudit : Type 0
+HonestDevicesPassTheAudit =
+    (config : Config) (before : Disk) (steps : List Line) (answers : List Told_by) (end : World) → fits config before ≡ true → Runs (first_world config before) steps answers end
+    → Right (at_first (files_on config before)) end.past.history → Passes (first_of end.past.history) end.past.history
+
+-- where an audit finds nothing wrong, each read gave the last write before it, or what its file's page had as it first arrived, or zero; whatever the device did
+abbrev pub AuditedReadsGaveLastWrites : Type 0
+AuditedReadsGaveLastWrites =
+    (later earlier : List Entry) (entry : Entry) → Passes (first_of (later ++ entry ∷ earlier)) (later ++ entry ∷ earlier) → IsRight (first_of (later ++ entry ∷ earlier)) earlier entry.event entry.reply
+
 -- in whatever state a legal history ends, no two pages have one frame
 abbrev pub PagesShareNoFrame : Type 0
 PagesShareNoFrame =
@@ -353,27 +368,6 @@ RemovalsKeepAncestorsCounts =
 -- the entries, and those kept for the ends of the transfers in flight, are within the trace's limit. (Excludes an end of a transfer that finds no room.)
 abbrev pub TraceHasRoom : Type 0
 TraceHasRoom = (opening : Opening) (history : List Entry) (s : State) → Legal opening history s → length history + in_transfer s.pages ≤ s.opening.trace_limit
-
--- a transfer begins with such a reply
-abbrev pub begins_transfer : Reply → Bool
-begins_transfer (reply.Fetch ticket) = true
-begins_transfer (reply.Out ticket) = true
-begins_transfer answer = false
-
--- and ends with such an event
-abbrev pub ends_transfer : Event → Bool
-ends_transfer (event.Arrived ticket bytes) = true
-ends_transfer (event.FetchFailed ticket) = true
-ends_transfer (event.Left ticket) = true
-ends_transfer (event.LeaveFailed ticket) = true
-ends_transfer what = false
-
--- how many transfers were begun, and how many ended
-abbrev pub transfers_begun : List Entry → ℕ
-transfers_begun history = count_by (λ (entry : Entry). begins_transfer entry.reply) history
-
-abbrev pub transfers_ended : List Entry → ℕ
-transfers_ended history = count_by (λ (entry : Entry). ends_transfer entry.event) history
 
 -- as many transfers are in flight as were begun and have not ended. (Excludes a transfer that ends twice, and one that is lost.)
 abbrev pub TransfersAreBegunLessEnded : Type 0

@@ -13,3 +13,5 @@ pub mod RemovedCounts
 pub mod StepLemmas
 pub mod CountedLemmas
 pub mod NamedLemmas
+pub mod TransferLemmas
+pub mod FirstBytesLemmas

@@ -15,6 +15,9 @@ pub mod Access
 pub mod Refusals
 pub mod Step
 pub mod History
+pub mod FirstBytes
+pub mod Audit
+pub mod Transfers
 pub mod Generations
 pub mod Aging
 pub mod Eviction

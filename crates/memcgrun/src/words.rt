@@ -51,6 +51,8 @@ impl From<AllocError> for Refused {
     }
 }
 
+const AUDIT: &str = "audit";
+
 const EXPLAIN: &str = "explain";
 
 const LINES: &str = "lines";
@@ -74,6 +76,11 @@ fn command<'a>(alloc: Global) -> Result<Command<'a>, AllocError> {
         .required(true)
         .action(ArgAction::Set)
         .help("The script");
+    let audit = flag(
+        alloc,
+        AUDIT,
+        "Say behind the last answer what an audit of the run finds",
+    );
     let explain = flag(
         alloc,
         EXPLAIN,
@@ -102,6 +109,7 @@ fn command<'a>(alloc: Global) -> Result<Command<'a>, AllocError> {
     let schedule = Command::new(alloc, "schedule")
         .about("Runs a script, one turn after another")
         .arg(file)?
+        .arg(audit)?
         .arg(explain)?
         .arg(lines)?
         .arg(progress)?
@@ -123,6 +131,7 @@ pub fn read_words<'a>(alloc: Global, words: &'a [String]) -> Result<Request<'a>,
         Some((_, schedule)) => (
             schedule.get_str("FILE").unwrap_or(""),
             Options {
+                audit: schedule.get_flag(AUDIT),
                 explain: schedule.get_flag(EXPLAIN),
                 lines: schedule.get_flag(LINES),
                 progress: schedule.get_flag(PROGRESS),
@@ -156,45 +165,50 @@ mod tests {
     #[test]
     fn a_script_is_asked_for(rt: HostRuntime) -> Result<(), Fail> {
         let rows = [
-            ("memcgrun schedule a", [false; 5]),
-            ("memcgrun schedule -- a", [false; 5]),
+            ("memcgrun schedule a", [false; 6]),
+            ("memcgrun schedule -- a", [false; 6]),
+            (
+                "memcgrun schedule --audit a",
+                [true, false, false, false, false, false],
+            ),
             (
                 "memcgrun schedule --explain a",
-                [true, false, false, false, false],
+                [false, true, false, false, false, false],
             ),
             (
                 "memcgrun schedule a --explain",
-                [true, false, false, false, false],
+                [false, true, false, false, false, false],
             ),
             (
                 "memcgrun schedule --explain -- a",
-                [true, false, false, false, false],
+                [false, true, false, false, false, false],
             ),
             (
                 "memcgrun schedule --lines a",
-                [false, true, false, false, false],
+                [false, false, true, false, false, false],
             ),
             (
                 "memcgrun schedule --progress a",
-                [false, false, true, false, false],
+                [false, false, false, true, false, false],
             ),
             (
                 "memcgrun schedule a --summary",
-                [false, false, false, true, false],
+                [false, false, false, false, true, false],
             ),
             (
                 "memcgrun schedule --summary --lines a",
-                [false, true, false, true, false],
+                [false, false, true, false, true, false],
             ),
             (
                 "memcgrun schedule --unbuffered a",
-                [false, false, false, false, true],
+                [false, false, false, false, false, true],
             ),
         ];
-        for (line, [explain, lines, progress, summary, unbuffered]) in rows {
+        for (line, [audit, explain, lines, progress, summary, unbuffered]) in rows {
             let words = words_of(rt.alloc(), line)?;
             let request = read_words(rt.alloc(), &words).ok().ok_or("refused")?;
             let options = Options {
+                audit,
                 explain,
                 lines,
                 progress,

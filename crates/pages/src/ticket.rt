@@ -194,6 +194,13 @@ impl Ticket<Box<[u8; FRAME_BYTES]>> {
         device.read(self.block, &mut self.carried)
     }
 
+    /// Keeps these bytes as those of the block, for whoever reads it by other means than [`Ticket::read_from`].
+    pub fn fill(&mut self, bytes: &[u8; FRAME_BYTES])
+        ensures { self.new ≡ record self.old { bytes = bytes.now } }
+    {
+        *self.carried = *bytes;
+    }
+
     /// What was read.
     pub(crate) fn read(&self) -> &[u8; FRAME_BYTES]
         ensures { result.now ≡ self.now.bytes }

@@ -117,6 +117,27 @@ fn each_line_of_a_text_stands_behind_its_line(rt: HostRuntime) {
     writes(&rt, options, script, out, "");
 }
 
+// What an audit finds stands behind all answers, whatever else is asked for.
+#[test]
+fn an_audit_has_the_last_line(rt: HostRuntime) {
+    let options = Options {
+        audit: true,
+        ..Options::default()
+    };
+    writes(&rt, options, "", "audit ok\n", "");
+    let script = "group /a\ntask 1 /a\n1 write 0 0 5\n1 read 0 0\ncat /a memory.current\n";
+    writes(&rt, options, script, "1 5\n4096\naudit ok\n", "");
+    let options = Options {
+        audit: true,
+        lines: true,
+        summary: true,
+        ..Options::default()
+    };
+    let out = "4: 1 5\n5: 4096\naudit ok\n";
+    let err = "lines 5, kills 0, refused 0, unfinished 0\n";
+    writes(&rt, options, script, out, err);
+}
+
 #[test]
 fn a_summary_counts_what_was_done(rt: HostRuntime) {
     let options = Options {

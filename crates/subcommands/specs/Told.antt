@@ -105,7 +105,7 @@ StartsReport why old new = AllTold (AppendsStart old new) why
 
 -- nothing is asked for beside the answers
 abbrev pub plain : Options
-plain = record { explain = false; lines = false; progress = false; summary = false }
+plain = record { audit = false; explain = false; lines = false; progress = false; summary = false }
 
 -- a writer got the beginning of what is told of a fault that is why the script was not run to its end
 pub record TellsWhy (script : List ℕ) (old new : Option (List ℕ)) : Type 0 where

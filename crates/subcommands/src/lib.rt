@@ -6,14 +6,14 @@ mod options;
 mod output;
 mod printer;
 
-ghost use Rattle.std.specs.Prelude.{◌≡◌, ◌⊎◌, ℕ, ◌≤◌, true, false, IsErr, IfSome, IfOk, IfErr, OnOk, OnErr};
+ghost use Rattle.std.specs.Prelude.{◌≡◌, ◌⊎◌, ℕ, ◌≤◌, [], true, false, IsErr, IfSome, IfOk, IfErr, OnOk, OnErr};
 ghost use Rattle.std.specs.Io.KnownBytes.{Keeps};
 ghost use Rattle.std.specs.Str.Lines.{lines};
 ghost use Rattle.machine.specs.State.{blocks_of, is_config};
 ghost use Rattle.block_store.specs.Device.{new_disk};
 ghost use Rattle.scripts.specs.declared.fault.Cause.{Cause};
 ghost use Rattle.scripts.specs.Script.{IsFirstFault, NamesFirstFault};
-ghost use Rattle.subcommands.specs.Prints.{PrintsRun, PrintsStart, PrintsScript, PrintsPart};
+ghost use Rattle.subcommands.specs.Prints.{behind_answers, PrintsRun, PrintsStart, PrintsScript, PrintsPart};
 ghost use Rattle.subcommands.specs.Told.{IsUnread, Explains, IsOfScript, StartsReport, TellsWhy, IsRunFault};
 
 use block_store::MemDevice;
@@ -72,8 +72,8 @@ fn run<O: Write, E: Write>(
     err: &mut E,
 ) -> Result<(), Fault>
     requires limits { is_config script.config ≡ true }
-    ensures whole { OnOk result (options.lines ≡ false → PrintsRun script.config (new_disk (blocks_of script.config) script.read_faults.items script.write_faults.items) script.steps.items (O.contents out.old) (O.contents out.new)) }
-    ensures start { OnErr result (options.lines ≡ false → PrintsStart script.config (new_disk (blocks_of script.config) script.read_faults.items script.write_faults.items) script.steps.items (O.contents out.old) (O.contents out.new)) }
+    ensures whole { OnOk result (options.lines ≡ false → PrintsRun script.config (new_disk (blocks_of script.config) script.read_faults.items script.write_faults.items) script.steps.items (behind_answers options) (O.contents out.old) (O.contents out.new)) }
+    ensures start { OnErr result (options.lines ≡ false → PrintsStart script.config (new_disk (blocks_of script.config) script.read_faults.items script.write_faults.items) script.steps.items (behind_answers options) (O.contents out.old) (O.contents out.new)) }
     ensures why { IfErr result IsRunFault }
     ensures quiet { options.progress ≡ false → options.summary ≡ false → E.contents err.new ≡ E.contents err.old }
 {
@@ -103,7 +103,7 @@ fn run<O: Write, E: Write>(
         err,
     );
     match ran {
-        Ok(()) => match written {
+        Ok(_) => match written {
             Ok(()) => Ok(()),
             Err(error) => Err(unwritten(wanted, error)),
         },
@@ -144,8 +144,8 @@ pub fn run_script<O: Write, E: Write>(
     out: &mut O,
     err: &mut E,
 ) -> Result<(), Fault>
-    ensures whole { OnOk result (options.lines ≡ false → PrintsScript script.now (O.contents out.old) (O.contents out.new)) }
-    ensures start { OnErr result (options.lines ≡ false → PrintsPart script.now (O.contents out.old) (O.contents out.new)) }
+    ensures whole { OnOk result (options.lines ≡ false → PrintsScript script.now (behind_answers options) (O.contents out.old) (O.contents out.new)) }
+    ensures start { OnErr result (options.lines ≡ false → PrintsPart script.now (behind_answers options) (O.contents out.old) (O.contents out.new)) }
     ensures faulty { (n : ℕ) (cause : Cause) → IsFirstFault (lines script.now) n cause → IsErr result × (O.contents out.new ≡ O.contents out.old) }
     ensures why { IfErr result (Explains options script.now) }
     // It is the script's only where nothing was run.
@@ -179,8 +179,8 @@ fn read_and_run<R: Read, O: Write, E: Write>(
     out: &mut O,
     err: &mut E,
 ) -> Result<(), Fault>
-    ensures whole { OnOk result (options.lines ≡ false → IfSome (R.remaining script.old) (λ all. PrintsScript all (O.contents out.old) (O.contents out.new))) }
-    ensures start { OnErr result (options.lines ≡ false → IfSome (R.remaining script.old) (λ all. PrintsPart all (O.contents out.old) (O.contents out.new))) }
+    ensures whole { OnOk result (options.lines ≡ false → IfSome (R.remaining script.old) (λ all. PrintsScript all (behind_answers options) (O.contents out.old) (O.contents out.new))) }
+    ensures start { OnErr result (options.lines ≡ false → IfSome (R.remaining script.old) (λ all. PrintsPart all (behind_answers options) (O.contents out.old) (O.contents out.new))) }
     ensures faulty { IfSome (R.remaining script.old) (λ all. (n : ℕ) (cause : Cause) → IsFirstFault (lines all) n cause → IsErr result × Keeps (O.contents out.old) (O.contents out.new)) }
     ensures why { IfErr result (λ why. IfSome (R.remaining script.old) (λ all. IsUnread all why ⊎ Explains options all why)) }
     ensures quiet { options.progress ≡ false → options.summary ≡ false → E.contents err.new ≡ E.contents err.old }
@@ -206,12 +206,12 @@ pub fn schedule<R: Read, O: Write, E: Write>(
 ) -> u8
     ensures success_or_failure { result ≤ 1 }
     // Where it is 0, `out` got what all of the script prints, and `err` nothing.
-    ensures sound { result ≡ 0 → IfSome (R.remaining script.old) (λ all. PrintsScript all (O.contents out.old) (O.contents out.new)) }
+    ensures sound { result ≡ 0 → IfSome (R.remaining script.old) (λ all. PrintsScript all [] (O.contents out.old) (O.contents out.new)) }
     ensures silent { result ≡ 0 → Keeps (E.contents err.old) (E.contents err.new) }
     // Of a script with a faulty line it is 1, and `out` got nothing.
     ensures faulty { IfSome (R.remaining script.old) (λ all. (n : ℕ) (cause : Cause) → IsFirstFault (lines all) n cause → (result ≡ 1) × Keeps (O.contents out.old) (O.contents out.new)) }
     // Where it is 1, `out` got the beginning of what the script prints, or nothing, and `err` the line that says why, or its beginning.
-    ensures failed { result ≡ 1 → IfSome (R.remaining script.old) (λ all. PrintsPart all (O.contents out.old) (O.contents out.new)) }
+    ensures failed { result ≡ 1 → IfSome (R.remaining script.old) (λ all. PrintsPart all [] (O.contents out.old) (O.contents out.new)) }
     ensures told { result ≡ 1 → IfSome (R.remaining script.old) (λ all. TellsWhy all (E.contents err.old) (E.contents err.new)) }
 {
     let ran = read_and_run(alloc, Options::default(), script, out, err);

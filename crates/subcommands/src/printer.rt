@@ -1,10 +1,12 @@
 //! Prints the answers of a run as they come.
 
-ghost use Rattle.std.specs.Prelude.{◌≡◌, OnOk, OnErr, true, false, None};
-ghost use Rattle.std.specs.Io.KnownBytes.{Keeps};
+ghost use Rattle.std.specs.Prelude.{◌≡◌, IfOk, OnOk, OnErr, true, false, None, reverse};
+ghost use Rattle.std.specs.Io.KnownBytes.{Appends, Keeps};
+ghost use Rattle.machine.specs.FirstBytes.{first_of};
+ghost use Rattle.machine.specs.Audit.{Passes};
 ghost use Rattle.driver.specs.Schedule.{fits};
 ghost use Rattle.machine.specs.Printed.{printed};
-ghost use Rattle.subcommands.specs.Prints.{texts, PrintsRun, PrintsStart};
+ghost use Rattle.subcommands.specs.Prints.{texts, behind_answers, AppendsStart, PrintsRun, PrintsStart};
 ghost use Rattle.subcommands.specs.Sinks.{OutTakes, OutBegins, IsQuiet};
 
 use crate::options::Options;
@@ -14,6 +16,7 @@ use driver::{Answer, Closed, Config, Reply, Sink, Step, Stop, Word, run_into};
 use std::alloc::Global;
 use std::io;
 use std::io::Write;
+use trace::{Trace, audit};
 
 /// How a terminal takes back what stands in its line.
 const ERASE: &[u8] = b"\r\x1b[K";
@@ -179,6 +182,49 @@ impl<'o, 'e, 's, 'l, 't, 'f, O: Write, E: Write> Printer<'o, 'e, 's, 'l, 't, 'f,
         written
     }
 
+    /// Writes what an audit of the run says, where it is asked for.
+    fn tell_audit(&mut self, trace: &Trace) -> io::Result<()>
+        requires { Passes (first_of (reverse trace.now.entries)) (reverse trace.now.entries) }
+        ensures out { self.new.out.ghost_name ≡ self.old.out.ghost_name }
+        ensures err { self.new.err.ghost_name ≡ self.old.err.ghost_name }
+        ensures options { self.new.options ≡ self.old.options }
+        ensures whole { OnOk result (Appends (O.contents self.old.out.now) (O.contents self.new.out.now) (behind_answers self.old.options)) }
+        ensures start { AppendsStart (O.contents self.old.out.now) (O.contents self.new.out.now) (behind_answers self.old.options) }
+        ensures quiet { IsQuiet self.old.options self.old.shown self.new.shown (E.contents self.old.err.now) (E.contents self.new.err.now) }
+    {
+        if !self.options.audit {
+            return Ok(());
+        }
+        self.hide();
+        match audit(trace) {
+            Ok(()) => write_bytes(self.out, b"audit ok\n"),
+            // It finds nothing wrong where the device keeps its promise.
+            Err(_) => unreachable!(),
+        }
+    }
+
+    /// The run has come to its end, or was cut short: what an audit of it says, and what is left to say. The error
+    /// is why an answer, or that, could not be written.
+    fn conclude(&mut self, ran: &Result<Trace, Stop>) -> io::Result<()>
+        requires { IfOk ran.now (λ trace. Passes (first_of (reverse trace.entries)) (reverse trace.entries)) }
+        ensures out { self.new.out.ghost_name ≡ self.old.out.ghost_name }
+        ensures err { self.new.err.ghost_name ≡ self.old.err.ghost_name }
+        ensures whole { OnOk ran.now (OnOk result (Appends (O.contents self.old.out.now) (O.contents self.new.out.now) (behind_answers self.old.options))) }
+        ensures short { OnOk ran.now (AppendsStart (O.contents self.old.out.now) (O.contents self.new.out.now) (behind_answers self.old.options)) }
+        ensures kept { OnErr ran.now (Keeps (O.contents self.old.out.now) (O.contents self.new.out.now)) }
+        ensures quiet { self.old.options.summary ≡ false → IsQuiet self.old.options self.old.shown self.new.shown (E.contents self.old.err.now) (E.contents self.new.err.now) }
+    {
+        let told = match ran {
+            Ok(trace) => self.tell_audit(trace),
+            Err(_) => return self.end(false),
+        };
+        let ended = self.end(true);
+        match told {
+            Ok(()) => ended,
+            Err(error) => Err(error),
+        }
+    }
+
     /// Says how much was done.
     fn sum_up(&mut self, is_whole: bool)
         ensures out { self.new.out ≡ self.old.out }
@@ -202,10 +248,10 @@ impl<'o, 'e, 's, 'l, 't, 'f, O: Write, E: Write> Printer<'o, 'e, 's, 'l, 't, 'f,
     }
 }
 
-/// How a run went, and whether all that it answered was written.
+/// How a run went, with its trace where it went through, and whether all that it answered was written.
 #[derive(Drop)]
 pub struct Ended {
-    pub ran: Result<(), Stop>,
+    pub ran: Result<Trace, Stop>,
     pub written: io::Result<()>,
 }
 
@@ -222,8 +268,9 @@ pub fn print_run<D: BlockDevice, O: Write, E: Write>(
     err: &mut E,
 ) -> Ended
     requires { fits config (D.disk device.old) ≡ true }
-    ensures whole { OnOk result.ran (options.lines ≡ false → PrintsRun config (D.disk device.old) steps.now (O.contents out.old) (O.contents out.new)) }
-    ensures start { OnErr result.ran (options.lines ≡ false → PrintsStart config (D.disk device.old) steps.now (O.contents out.old) (O.contents out.new)) }
+    ensures whole { OnOk result.ran (OnOk result.written (options.lines ≡ false → PrintsRun config (D.disk device.old) steps.now (behind_answers options) (O.contents out.old) (O.contents out.new))) }
+    ensures short { OnOk result.ran (options.lines ≡ false → PrintsStart config (D.disk device.old) steps.now (behind_answers options) (O.contents out.old) (O.contents out.new)) }
+    ensures start { OnErr result.ran (options.lines ≡ false → PrintsStart config (D.disk device.old) steps.now (behind_answers options) (O.contents out.old) (O.contents out.new)) }
     ensures quiet { options.progress ≡ false → options.summary ≡ false → E.contents err.new ≡ E.contents err.old }
 {
     let mut text = String::new(alloc);
@@ -241,7 +288,7 @@ pub fn print_run<D: BlockDevice, O: Write, E: Write>(
         fault: &mut fault,
     };
     let ran = run_into(alloc, config, device, steps, &mut printer);
-    let written = printer.end(ran.is_ok());
+    let written = printer.conclude(&ran);
     Ended { ran, written }
 }
 

@@ -1,5 +1,5 @@
-use Rattle.laws.proofs.FlightLemmas.{transfers_are_begun_less_ended}
+use Rattle.legal.proofs.TransferLemmas.{legal-transfers}
 use Rattle.laws.proofs.transfers_are_begun_less_ended.Goals as goal
 
 pub returns : goal.returns
-returns c = transfers_are_begun_less_ended
+returns c = legal-transfers

@@ -3,6 +3,7 @@ use Rattle.machine.specs.State.{Opening}
 use Rattle.book.specs.Events.{event_of, reply_of}
 use Rattle.driver.specs.Tickets.{blocks_in, OwnReply}
 use Rattle.legal.proofs.OpeningLemmas.{called_opening}
+use Rattle.driver.proofs.FindLemmas.{called-by}
 use Rattle.driver.proofs.TicketLemmas.{gives_own}
 use Rattle.driver.proofs.calls.call.Goals as goal
 
@@ -10,9 +11,12 @@ pub returns-clause-own : goal.returns-clause-own
 returns-clause-own c =
     let past = c.call-reply.new.self in
     let said = c.call-reply.result in
-    let kept : past.state.opening ≡ c.args.book.now.state.opening = called_opening c.args.book.now past c.args.pass.now.caller (event_of c.args.event) (reply_of said) c.call-reply.ensures.called in
+    let kept : past.state.opening ≡ c.args.book.now.state.opening = called_opening c.args.book.now past c.args.pass.now.caller (event_of c.args.event) (reply_of said) (called-by c.args.book.now c.args.pass.now (event_of c.args.event) (reply_of c.call-reply.result) c.call-reply.new.self c.requires.current c.call-reply.ensures.called) in
     let Own : Opening → Type 0 = λ o. OwnReply c.args.pass.now.caller.worker (blocks_in o) said in
     subst Own kept (gives_own past c.args.pass.now.caller.worker c.history_is_right.ensures.legal said c.call-reply.ensures.gives)
 
 pub returns-clause-opening : goal.returns-clause-opening
-returns-clause-opening c = called_opening c.args.book.now c.call-reply.new.self c.args.pass.now.caller (event_of c.args.event) (reply_of c.call-reply.result) c.call-reply.ensures.called
+returns-clause-opening c = called_opening c.args.book.now c.call-reply.new.self c.args.pass.now.caller (event_of c.args.event) (reply_of c.call-reply.result) (called-by c.args.book.now c.args.pass.now (event_of c.args.event) (reply_of c.call-reply.result) c.call-reply.new.self c.requires.current c.call-reply.ensures.called)
+
+pub returns-clause-called : goal.returns-clause-called
+returns-clause-called c = called-by c.args.book.now c.args.pass.now (event_of c.args.event) (reply_of c.call-reply.result) c.call-reply.new.self c.requires.current c.call-reply.ensures.called

@@ -2,11 +2,13 @@ use Rattle.std.proofs.Common.{◌≡◌, ◌++◌, inr, [], true, refl, subst, a
 use Rattle.machine.specs.History.{at_first, Honest}
 use Rattle.block_store.specs.Device.{Disk}
 use Rattle.driver.specs.Schedule.{World, first_world, Runs, files_on, fits}
-use Rattle.driver.specs.Sinks.{StartsRun}
+use Rattle.std.specs.Prelude.{reverse}
+use Rattle.driver.specs.Sinks.{Gives, StartsRun}
 use Rattle.driver.specs.Desks.{world}
 use Rattle.driver.proofs.ErrorLemmas.{errors_are_failures}
 use Rattle.driver.proofs.Faithful.{runs_are_honest}
 use Rattle.driver.proofs.Runs.{opened_on, blocks_known, fitting}
+use Rattle.driver.proofs.TracedLemmas.{honest-given_up}
 use Rattle.driver.proofs.SinkLemmas.{run_starts, opening_starts}
 use Rattle.driver.proofs.schedule.run_into.Goals as goal
 
@@ -23,7 +25,7 @@ returns-in-Err-clause-starts g c =
 pub run_all-ran-requires : goal.run_all-ran-requires
 run_all-ran-requires g c =
     let disk : Disk = g.D.BlockDevice.disk c.args.device.now in
-    opened_on c.in-Ok.desk c.args.config disk (c.in-Ok.ensures.opens disk) (omega (arith, c.if-blocks.false, c.blocks-2.ensures, blocks_known c.args.config c.in-Some.blocks c.in-Some.ensures))
+    opened_on c.in-Ok.desk c.args.config disk (c.in-Ok.ensures.opens disk) c.in-Ok.ensures.current (omega (arith, c.if-blocks.false, c.blocks-2.ensures, blocks_known c.args.config c.in-Some.blocks c.in-Some.ensures))
 
 pub returns-in-Ok-ran-clause-gives : goal.returns-in-Ok-ran-clause-gives
 returns-in-Ok-ran-clause-gives g c =
@@ -34,11 +36,17 @@ returns-in-Ok-ran-clause-gives g c =
     let ran : Runs (first_world c.args.config before) c.args.steps.now told.0 end = subst From (c.in-Ok.ensures.opens before) told.2 in
     let fit : fits c.args.config before ≡ true = fitting c.args.config before c.in-Ok.ensures.sized (omega (arith, c.if-blocks.false, c.blocks-2.ensures, blocks_known c.args.config c.in-Some.blocks c.in-Some.ensures)) in
     let honest : Honest (at_first (files_on c.args.config before)) end.past.history = runs_are_honest c.args.config before c.args.steps.now told.0 end fit ran in
+    let gives : Gives g.S.Sink.took c.args.config before c.args.steps.now c.args.sink.now c.run_all-ran.new.sink (g.D.BlockDevice.disk c.run_all-ran.new.device) =
     record {
       answers = told.0;
       takes = told.1;
       schedules = record { end = end; runs = ran; device = refl; honest = honest; right = c.history_is_right.ensures.right (files_on c.args.config before) honest };
       failures = errors_are_failures c.args.config before c.args.steps.now told.0 end ran;
+    } in
+    record {
+      gives = gives;
+      traced = c.close-trace.ensures.traced;
+      passes = c.close-trace.ensures.passes (files_on c.args.config before) (honest-given_up (at_first (files_on c.args.config before)) end.past.history (reverse c.close-trace.result.entries) c.close-trace.ensures.traced honest);
     }
 
 pub returns-in-Ok-ran-clause-sized : goal.returns-in-Ok-ran-clause-sized

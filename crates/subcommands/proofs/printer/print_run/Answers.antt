@@ -1,16 +1,46 @@
-use Rattle.std.proofs.Common.{rules, ◌++◌, ◌∙◌}
-use Rattle.subcommands.specs.Prints.{texts}
-use Rattle.subcommands.specs.SinkLaws.{starts-kept, out_begins-behind}
-use Rattle.subcommands.proofs.ResultLemmas.{on_err}
+use Rattle.std.proofs.Common.{rules, ◌++◌, ◌∙◌, subst}
+use Rattle.std.specs.Io.KnownBytes.{Appends}
+use Rattle.std.proofs.KnownBytes.{Appends-trans}
+use Rattle.subcommands.specs.declared.options.Options.{Options}
+use Rattle.subcommands.specs.Prints.{texts, behind_answers, AppendsStart, Cut, Short}
+use Rattle.subcommands.specs.SinkLaws.{starts-kept, starts-behind, out_begins-behind}
+use Rattle.subcommands.proofs.ResultLemmas.{on_ok, ok_both, err_both}
 use Rattle.subcommands.proofs.printer.print_run.Goals as goal
+
+pub returns-clause-whole : goal.returns-clause-whole
+returns-clause-whole g c =
+    ok_both c.run_into-ran.result c.run_into-ran.ensures.gives c.conclude-written.ensures.whole
+    (λ trace traced told. on_ok c.conclude-written.result told
+    (λ more plain.
+    let gives = traced.gives in
+    let took = gives.takes in
+    let mid = c.run_into-ran.new.sink.out.now in
+    let end = c.conclude-written.new.self.out.now in
+    let behind : Appends (g.O.Write.contents mid) (g.O.Write.contents end) (behind_answers c.args.options) = subst (λ (o : Options). Appends (g.O.Write.contents mid) (g.O.Write.contents end) (behind_answers o)) took.2 more in
+    let printed : Appends (g.O.Write.contents c.args.out.now) (g.O.Write.contents end) (texts gives.answers ++ behind_answers c.args.options) = Appends-trans _ _ _ (texts gives.answers) (behind_answers c.args.options) (took.3 plain) behind in
+    let same = c.conclude-written.ensures.out ∙ took.0 in
+    record { answers = gives.answers; after = _; schedules = gives.schedules; prints = search (rules, printed, same) }))
+
+pub returns-clause-short : goal.returns-clause-short
+returns-clause-short g c =
+    ok_both c.run_into-ran.result c.run_into-ran.ensures.gives c.conclude-written.ensures.short
+    (λ trace traced more plain.
+    let gives = traced.gives in
+    let took = gives.takes in
+    let mid = c.run_into-ran.new.sink.out.now in
+    let end = c.conclude-written.new.self.out.now in
+    let behind : AppendsStart (g.O.Write.contents mid) (g.O.Write.contents end) (behind_answers c.args.options) = subst (λ (o : Options). AppendsStart (g.O.Write.contents mid) (g.O.Write.contents end) (behind_answers o)) took.2 more in
+    let printed : AppendsStart (g.O.Write.contents c.args.out.now) (g.O.Write.contents end) (texts gives.answers ++ behind_answers c.args.options) = starts-behind _ _ _ (texts gives.answers) (behind_answers c.args.options) (took.3 plain) behind in
+    let same = c.conclude-written.ensures.out ∙ took.0 in
+    Short gives.answers _ gives.schedules (search (rules, printed, same)))
 
 pub returns-clause-start : goal.returns-clause-start
 returns-clause-start g c =
-    on_err c.run_into-ran.result c.run_into-ran.ensures.starts
-    (λ starts plain.
+    err_both c.run_into-ran.result c.run_into-ran.ensures.starts c.conclude-written.ensures.kept
+    (λ starts still plain.
     let cut = starts c.requires in
     let heard = cut.heard in
     let printed = out_begins-behind c.args.options heard.mid.options heard.takes.2 _ _ _ cut.answers cut.begun heard.takes.3 heard.fails.3 plain in
-    let kept = starts-kept _ _ _ (texts (cut.answers ++ cut.begun)) printed c.end-written.ensures.kept in
-    let same = c.end-written.ensures.out ∙ heard.fails.0 ∙ heard.takes.0 in
-    record { answers = cut.answers ++ cut.begun; after = _; starts = cut.starts; prints = search (rules, kept, same) })
+    let kept = starts-kept _ _ _ (texts (cut.answers ++ cut.begun)) printed still in
+    let same = c.conclude-written.ensures.out ∙ heard.fails.0 ∙ heard.takes.0 in
+    Cut (cut.answers ++ cut.begun) _ cut.starts (search (rules, kept, same)))

@@ -32,7 +32,7 @@ append-requires-clause-room c =
     let room = sym (full-decided b c.args.self.now c.self.view_is c.args.event c.in-Ok.decided is c.entries.result c.entries.ensures c.is_full.result c.is_full.ensures) ∙ c.if-is_full.false in
     let answers : AnswersTo b.state c.args.event c.in-Ok-apply.reply c.apply.new.state = c.in-Ok-apply.ensures.carries c.args.event is in
     let extending = asks b c.args.self.now c.self.invariant c.self.view_is c.apply.new.state c.is_joined-in-Ok-apply.ensures.flights c.args.worker.0 c.requires.known c.args.event (reply_of c.in-Ok-apply.reply) c.requires.asked is.none room answers.makes_step in
-    has_room b c.apply.new.state c.args.worker.0 c.args.event (reply_of c.in-Ok-apply.reply) extending c.self.invariant
+    rw c.reserve_links.ensures.same (has_room b c.apply.new.state c.args.worker.0 c.args.event (reply_of c.in-Ok-apply.reply) extending c.self.invariant)
 
 pub append-requires-clause-few : goal.append-requires-clause-few
 append-requires-clause-few c = few_of c.self.inside c.self.invariant c.is_joined.ensures.limit c.args.worker.0
@@ -44,8 +44,8 @@ invariant_of-self-in-Ok-apply c =
     let room = sym (full-decided b c.args.self.now c.self.view_is c.args.event c.in-Ok.decided is c.entries.result c.entries.ensures c.is_full.result c.is_full.ensures) ∙ c.if-is_full.false in
     let answers : AnswersTo b.state c.args.event c.in-Ok-apply.reply c.apply.new.state = c.in-Ok-apply.ensures.carries c.args.event is in
     let extending = asks b c.args.self.now c.self.invariant c.self.view_is c.apply.new.state c.is_joined-in-Ok-apply.ensures.flights c.args.worker.0 c.requires.known c.args.event (reply_of c.in-Ok-apply.reply) c.requires.asked is.none room answers.makes_step in
-    let after : Inside = record { alloc = b.alloc; state = c.apply.new.state; entries = c.append.new.entries; counts = c.append.new.counts; takers = c.hand_out.new.takers } in
-    let appends = subst (λ (answer : Reply). Appends b after c.args.worker c.args.event answer) c.plain-said.ensures (record { entries = c.append.ensures.entries; room = c.append.ensures.room; counts = c.append.ensures.counts; takers = c.hand_out.ensures.noted ∙ ap (λ (a : Reply). noted c.apply.new.state.flights b.takers.items c.args.worker.0 (ticket_given a)) (sym c.plain-said.ensures) }) in
+    let after : Inside = record { alloc = b.alloc; state = c.apply.new.state; trace = c.append.new.trace; counts = c.append.new.counts; takers = c.hand_out.new.takers } in
+    let appends = subst (λ (answer : Reply). Appends b after c.args.worker c.args.event answer) c.plain-said.ensures (record { entries = rw c.reserve_links.ensures.same at c.append.ensures.entries; room = rw c.reserve_links.ensures.same at c.append.ensures.limit; counts = c.append.ensures.counts; takers = c.hand_out.ensures.noted ∙ ap (λ (a : Reply). noted c.apply.new.state.flights b.takers.items c.args.worker.0 (ticket_given a)) (sym c.plain-said.ensures) }) in
     book_more b after c.args.worker c.args.event (reply_of c.in-Ok-apply.reply) c.self.invariant extending appends
 
 pub returns-in-Ok-apply-clause-called : goal.returns-in-Ok-apply-clause-called
@@ -55,8 +55,8 @@ returns-in-Ok-apply-clause-called c =
     let room = sym (full-decided b c.args.self.now c.self.view_is c.args.event c.in-Ok.decided is c.entries.result c.entries.ensures c.is_full.result c.is_full.ensures) ∙ c.if-is_full.false in
     let answers : AnswersTo b.state c.args.event c.in-Ok-apply.reply c.apply.new.state = c.in-Ok-apply.ensures.carries c.args.event is in
     let extending = asks b c.args.self.now c.self.invariant c.self.view_is c.apply.new.state c.is_joined-in-Ok-apply.ensures.flights c.args.worker.0 c.requires.known c.args.event (reply_of c.in-Ok-apply.reply) c.requires.asked is.none room answers.makes_step in
-    let after : Inside = record { alloc = b.alloc; state = c.apply.new.state; entries = c.append.new.entries; counts = c.append.new.counts; takers = c.hand_out.new.takers } in
-    let appends = subst (λ (answer : Reply). Appends b after c.args.worker c.args.event answer) c.plain-said.ensures (record { entries = c.append.ensures.entries; room = c.append.ensures.room; counts = c.append.ensures.counts; takers = c.hand_out.ensures.noted ∙ ap (λ (a : Reply). noted c.apply.new.state.flights b.takers.items c.args.worker.0 (ticket_given a)) (sym c.plain-said.ensures) }) in
+    let after : Inside = record { alloc = b.alloc; state = c.apply.new.state; trace = c.append.new.trace; counts = c.append.new.counts; takers = c.hand_out.new.takers } in
+    let appends = subst (λ (answer : Reply). Appends b after c.args.worker c.args.event answer) c.plain-said.ensures (record { entries = rw c.reserve_links.ensures.same at c.append.ensures.entries; room = rw c.reserve_links.ensures.same at c.append.ensures.limit; counts = c.append.ensures.counts; takers = c.hand_out.ensures.noted ∙ ap (λ (a : Reply). noted c.apply.new.state.flights b.takers.items c.args.worker.0 (ticket_given a)) (sym c.plain-said.ensures) }) in
     let said : reply_of c.hand_out.result ≡ reply_of c.in-Ok-apply.reply = ap reply_of c.hand_out.ensures.stamped ∙ reply_of-stamped c.args.worker.0 (c.len.result + 1) c.in-Ok-apply.reply in
     rw (← c.self.view_is)
     (subst (λ (answer : Reply). Called (past_of b) (record { worker = c.args.worker.0 }) c.args.event answer (past_of after)) (sym said)
@@ -97,12 +97,11 @@ returns-in-Ok-apply-clause-gives c =
     let room = sym (full-decided b c.args.self.now c.self.view_is c.args.event c.in-Ok.decided is c.entries.result c.entries.ensures c.is_full.result c.is_full.ensures) ∙ c.if-is_full.false in
     let answers : AnswersTo b.state c.args.event c.in-Ok-apply.reply c.apply.new.state = c.in-Ok-apply.ensures.carries c.args.event is in
     let extending = asks b c.args.self.now c.self.invariant c.self.view_is c.apply.new.state c.is_joined-in-Ok-apply.ensures.flights c.args.worker.0 c.requires.known c.args.event (reply_of c.in-Ok-apply.reply) c.requires.asked is.none room answers.makes_step in
-    let after : Inside = record { alloc = b.alloc; state = c.apply.new.state; entries = c.append.new.entries; counts = c.append.new.counts; takers = c.hand_out.new.takers } in
-    let appends = subst (λ (answer : Reply). Appends b after c.args.worker c.args.event answer) c.plain-said.ensures (record { entries = c.append.ensures.entries; room = c.append.ensures.room; counts = c.append.ensures.counts; takers = c.hand_out.ensures.noted ∙ ap (λ (a : Reply). noted c.apply.new.state.flights b.takers.items c.args.worker.0 (ticket_given a)) (sym c.plain-said.ensures) }) in
+    let after : Inside = record { alloc = b.alloc; state = c.apply.new.state; trace = c.append.new.trace; counts = c.append.new.counts; takers = c.hand_out.new.takers } in
+    let appends = subst (λ (answer : Reply). Appends b after c.args.worker c.args.event answer) c.plain-said.ensures (record { entries = rw c.reserve_links.ensures.same at c.append.ensures.entries; room = rw c.reserve_links.ensures.same at c.append.ensures.limit; counts = c.append.ensures.counts; takers = c.hand_out.ensures.noted ∙ ap (λ (a : Reply). noted c.apply.new.state.flights b.takers.items c.args.worker.0 (ticket_given a)) (sym c.plain-said.ensures) }) in
     let told = told_more b after c.args.worker c.args.event (reply_of c.in-Ok-apply.reply) c.self.invariant extending appends in
     let more = longer b after c.args.worker c.args.event (reply_of c.in-Ok-apply.reply) c.self.invariant extending appends in
-    let len = c.len.ensures in
-    let ok = b.entries.ok.0 in
+    let len = rw c.reserve_links.ensures.same at c.len.ensures in
     subst (λ (reply : Given). HandsOut (past_of after) c.args.worker.0 reply) (sym c.hand_out.ensures.stamped)
-    (gives_more c.apply.new.state (reverse c.append.new.entries.items) c.append.new.counts.items c.hand_out.new.takers.items (length c.append.new.counts.items) c.args.worker.0 (c.len.result + 1) c.in-Ok-apply.reply told
-    (omega (arith, more, len, ok)) answers.gives)
+    (gives_more c.apply.new.state (reverse c.append.new.trace.entries) c.append.new.counts.items c.hand_out.new.takers.items (length c.append.new.counts.items) c.args.worker.0 (c.len.result + 1) c.in-Ok-apply.reply told
+    (omega (arith, more, len)) answers.gives)

@@ -6,5 +6,5 @@ use Rattle.book.proofs.book.Book.is_full.Goals as goal
 pub returns : goal.returns
 returns c =
     let b = c.self.inside in
-    let count : c.len.result ≡ length (history_of b) = (let len = c.len.ensures in let same = length-reverse b.entries.items in let ok = b.entries.ok.0 in omega (arith, len, same, ok)) in
+    let count : c.len.result ≡ length (history_of b) = (let len = c.len.ensures in let same = length-reverse b.trace.entries in omega (arith, len, same)) in
     rw (← c.self.view_is) (rw (c.limit.ensures, count, c.transfers.ensures) refl)

@@ -37,10 +37,10 @@ invariant_of-self c =
     let single = filed-single (record { first = b.state.tables.opening.swap; sizes = b.state.tables.opening.files }) b.state.tables.pages c.is_joined.ensures.filed in
     let makes_step = makes_step-settled_out b.state c.settle_out.new.self stood.0 stood.2 stood.3 stood.1 c.args.ticket c.args.end single stood.4 (c.settle_out.ensures.ends stood.0 stood.1 stood.2 stood.3 stood.4) (c.settle_out.ensures.stays stood.0 stood.1 stood.2 stood.3 stood.4) in
     let extending = ends b c.args.self.now c.self.invariant c.self.view_is c.settle_out.new.self c.is_joined-2.ensures.flights c.args.worker.0 c.requires (ended Out c.args.end c.args.ticket) known (ended-none b.state.tables Out c.args.end c.args.ticket) (ended-free b.state.tables Out c.args.end c.args.ticket) makes_step in
-    let after : Inside = record { alloc = b.alloc; state = c.settle_out.new.self; entries = c.append.new.entries; counts = c.append.new.counts; takers = b.takers } in
+    let after : Inside = record { alloc = b.alloc; state = c.settle_out.new.self; trace = c.append.new.trace; counts = c.append.new.counts; takers = b.takers } in
     let appends = subst (λ (what : Event). Appends b after c.args.worker what reply.Ok)
     (c.out_ended.ensures c.args.ticket.bytes ∙ ap (λ (n : ℕ). ended_with Out c.args.end n c.args.ticket.bytes) c.number-number.ensures)
-    (record { entries = c.append.ensures.entries; room = c.append.ensures.room; counts = c.append.ensures.counts; takers = refl }) in
+    (record { entries = c.append.ensures.entries; room = c.append.ensures.limit; counts = c.append.ensures.counts; takers = refl }) in
     book_more b after c.args.worker (ended Out c.args.end c.args.ticket) reply.Ok c.self.invariant extending appends
 
 pub returns-clause-called : goal.returns-clause-called
@@ -51,8 +51,8 @@ returns-clause-called c =
     let single = filed-single (record { first = b.state.tables.opening.swap; sizes = b.state.tables.opening.files }) b.state.tables.pages c.is_joined.ensures.filed in
     let makes_step = makes_step-settled_out b.state c.settle_out.new.self stood.0 stood.2 stood.3 stood.1 c.args.ticket c.args.end single stood.4 (c.settle_out.ensures.ends stood.0 stood.1 stood.2 stood.3 stood.4) (c.settle_out.ensures.stays stood.0 stood.1 stood.2 stood.3 stood.4) in
     let extending = ends b c.args.self.now c.self.invariant c.self.view_is c.settle_out.new.self c.is_joined-2.ensures.flights c.args.worker.0 c.requires (ended Out c.args.end c.args.ticket) known (ended-none b.state.tables Out c.args.end c.args.ticket) (ended-free b.state.tables Out c.args.end c.args.ticket) makes_step in
-    let after : Inside = record { alloc = b.alloc; state = c.settle_out.new.self; entries = c.append.new.entries; counts = c.append.new.counts; takers = b.takers } in
+    let after : Inside = record { alloc = b.alloc; state = c.settle_out.new.self; trace = c.append.new.trace; counts = c.append.new.counts; takers = b.takers } in
     let appends = subst (λ (what : Event). Appends b after c.args.worker what reply.Ok)
     (c.out_ended.ensures c.args.ticket.bytes ∙ ap (λ (n : ℕ). ended_with Out c.args.end n c.args.ticket.bytes) c.number-number.ensures)
-    (record { entries = c.append.ensures.entries; room = c.append.ensures.room; counts = c.append.ensures.counts; takers = refl }) in
+    (record { entries = c.append.ensures.entries; room = c.append.ensures.limit; counts = c.append.ensures.counts; takers = refl }) in
     rw (← c.self.view_is) (called_more b after c.args.worker (ended Out c.args.end c.args.ticket) reply.Ok c.self.invariant extending appends)

@@ -1,10 +1,14 @@
-use Rattle.std.proofs.Common.{◌<◌, vec_len}
+use Rattle.std.proofs.Common.{◌≡◌, ◌≤◌, true, length, vec_len}
+use Rattle.book.specs.Passes.{is_current}
+use Rattle.driver.specs.Traced.{GivesUp}
 use Rattle.driver.specs.Tickets.{blocks_in, OwnSeats}
 use Rattle.driver.proofs.desk.Desk.close.Given as goal
 
 abbrev pub invariant-loop-seat : goal.invariant-loop-seat
 invariant-loop-seat l = record {
-  known : l.pass.caller.worker < l.book.passes;
+  current : is_current l.book l.pass ≡ true;
+  room : length l.seats.items ≤ l.pass.room;
+  given_up : GivesUp l.fn.self.book.history l.book.history;
   own : OwnSeats l.pass.caller.worker (blocks_in l.book.state.opening) l.seats.items;
 }
 

@@ -1,5 +1,6 @@
-use Rattle.std.proofs.Common.{◌≡◌, ℕ, ap, arith}
+use Rattle.std.proofs.Common.{◌≡◌, ℕ, List, length, ap, arith}
 use Rattle.machine.specs.State.{Opening}
+use Rattle.driver.specs.declared.turn.Seat.{Seat}
 use Rattle.driver.specs.Tickets.{blocks_in, OwnSeats}
 use Rattle.driver.specs.Desks.{blocks_of_desk, worker_of_desk}
 use Rattle.driver.proofs.desk.Desk.turn_stage.Goals as goal
@@ -13,7 +14,8 @@ returns-clause-on g c =
     let sat : OwnSeats worker blocks c.serve.new.self.seats = rw served.seats c.requires.on.own in
     let own : OwnSeats worker blocks c.put.new.self = c.put.ensures.own worker blocks sat (c.settle-outcome.ensures.own worker blocks served.own) in
     record {
-      known = rw (served.pass, served.passes) c.requires.on.known;
+      current = served.current;
+      room = (let seats = ap (λ (ss : List Seat). length ss) served.seats in omega (arith, seats, c.put.ensures.len, served.room, c.requires.room));
       own = rw (served.pass, kept) own;
       blocks = omega (arith, kept, served.same.blocks, c.requires.on.blocks);
     }

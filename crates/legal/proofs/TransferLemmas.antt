@@ -1,5 +1,5 @@
--- How many transfers are in flight after a step, and that the trace has room for their ends.
-use Rattle.std.proofs.Common.{◌≡◌, inl, inr, ℕ, ◌+◌, ◌≤◌, ◌==◌, ◌&&◌, not, Bool, true, false, cond, [], ◌∷◌, length, Option, Some, None, refl, sym, ap, ◌∙◌, subst, arith}
+-- How many transfers are in flight after a step and after a history, and that the trace has room for their ends.
+use Rattle.std.proofs.Common.{◌≡◌, inl, inr, ℕ, ◌+◌, ◌≤◌, ◌==◌, ◌&&◌, not, Bool, true, false, cond, List, [], ◌∷◌, length, Option, Some, None, refl, sym, ap, ◌∙◌, subst, arith}
 use Rattle.std.specs.Prelude.{MatchBool, if◌then◌else◌, is_none, nat_lt}
 use Rattle.std.proofs.lemmas.Bool.Decides.{nat_tests}
 use Rattle.std.proofs.lemmas.List.Sums.{sum_by-cons}
@@ -31,8 +31,12 @@ use Rattle.legal.proofs.SoundLemmas.{still_passes}
 use Rattle.legal.proofs.MoveLemmas.{MetFile, met_file, Settled, hits_held, swaps_away, in_frame-cases, on_block-cases}
 use Rattle.legal.proofs.OpeningLemmas.{step_opening}
 use Rattle.legal.proofs.RemovedCounts.{in_transfer-removed}
-use Rattle.laws.specs.Laws.{begins_transfer, ends_transfer, transfers_begun, transfers_ended, TraceHasRoom, TransfersAreBegunLessEnded}
-use Rattle.laws.proofs.LawLemmas.{by_test}
+use Rattle.machine.specs.Legal.{Legal}
+use Rattle.machine.specs.Transfers.{begins_transfer, ends_transfer, transfers_begun, transfers_ended}
+
+by_test : {P Q R : Type 0} (b : Bool) → (P → R) → (Q → R) → MatchBool b P Q → R
+by_test true f g h = f h
+by_test false f g h = g h
 
 -- ---- one step
 
@@ -313,9 +317,10 @@ step_flies old new what answer h = absurd h
 
 -- ---- legal histories
 
-pub trace_has_room : TraceHasRoom
-trace_has_room opening [] s legal = subst (λ (s : State). 0 + in_transfer s.pages ≤ s.opening.trace_limit) (sym legal) (omega arith)
-trace_has_room opening (entry ∷ earlier) s legal =
+-- the entries, and those kept for the ends of the transfers in flight, are within the trace's limit
+pub legal-room : (opening : Opening) (history : List Entry) (s : State) → Legal opening history s → length history + in_transfer s.pages ≤ s.opening.trace_limit
+legal-room opening [] s legal = subst (λ (s : State). 0 + in_transfer s.pages ≤ s.opening.trace_limit) (sym legal) (omega arith)
+legal-room opening (entry ∷ earlier) s legal =
     let before : State = legal.0 in
     let flies = step_flies before s entry.event entry.reply legal.2.steps in
     let limit : s.opening.trace_limit ≡ before.opening.trace_limit = ap (λ (o : Opening). o.trace_limit) (step_opening before entry.event entry.reply s legal.2.steps) in
@@ -325,11 +330,12 @@ trace_has_room opening (entry ∷ earlier) s legal =
     within : (n most : ℕ) → nat_lt most n ≡ false → n ≤ most
     within n most e = grind (arith, nat_tests, e)
 
-pub transfers_are_begun_less_ended : TransfersAreBegunLessEnded
-transfers_are_begun_less_ended opening [] s legal = subst (λ (s : State). in_transfer s.pages + transfers_ended [] ≡ transfers_begun []) (sym legal) refl
-transfers_are_begun_less_ended opening (entry ∷ earlier) s legal =
+-- as many transfers are in flight as were begun and have not ended
+pub legal-transfers : (opening : Opening) (history : List Entry) (s : State) → Legal opening history s → in_transfer s.pages + transfers_ended history ≡ transfers_begun history
+legal-transfers opening [] s legal = subst (λ (s : State). in_transfer s.pages + transfers_ended [] ≡ transfers_begun []) (sym legal) refl
+legal-transfers opening (entry ∷ earlier) s legal =
     let flies = step_flies legal.0 s entry.event entry.reply legal.2.steps in
-    let rest = transfers_are_begun_less_ended opening earlier legal.0 legal.1 in
+    let rest = legal-transfers opening earlier legal.0 legal.1 in
     let more = sum_by-cons (λ (e : Entry). one_if (begins_transfer e.reply)) entry earlier in
     let more' = sum_by-cons (λ (e : Entry). one_if (ends_transfer e.event)) entry earlier in
     omega (arith, flies.counts, rest, more, more')

@@ -1,0 +1,35 @@
+-- The trace of a run, with the ends of the transfers that the run left open.
+use Rattle.std.specs.Prelude.{◌≡◌, Bool, true, false, List, [], ◌∷◌, ◌++◌, reverse}
+use Rattle.machine.specs.declared.config.Config.{Config}
+use Rattle.machine.specs.declared.entry.Entry.{Entry}
+use Rattle.machine.specs.declared.event.Event.{Event}
+use Rattle.machine.specs.declared.event.Event.TheVariants as event
+use Rattle.machine.specs.declared.command.Step.{Step}
+use Rattle.machine.specs.declared.command.Reply.{Reply as Told_by}
+use Rattle.machine.specs.FirstBytes.{first_of}
+use Rattle.machine.specs.Audit.{Passes}
+use Rattle.block_store.specs.Device.{Disk}
+use Rattle.driver.specs.Sinks.{Gives}
+
+-- a transfer ends without a call of the device
+abbrev pub is_given_up : Event → Bool
+is_given_up (event.FetchFailed ticket) = true
+is_given_up (event.LeaveFailed ticket) = true
+is_given_up what = false
+
+abbrev pub AreGivenUp : List Entry → Type 0
+AreGivenUp [] = Unit {0}
+AreGivenUp (entry ∷ earlier) = (is_given_up entry.event ≡ true) × AreGivenUp earlier
+
+-- a history went on by such ends alone
+pub record GivesUp (old new : List Entry) : Type 0 where
+  pub ends : List Entry
+  pub given_up : AreGivenUp ends
+  pub is : new ≡ ends ++ old
+
+-- a run that went through, and its entries, the oldest first: what it did, and behind that the ends of the transfers that it left open. An audit finds nothing wrong in them.
+-- (Excludes the trace of another run, and one that is cut off.)
+pub record GivesTrace {S : Type 0} (took : S → S → List Told_by → Type 0) (config : Config) (before : Disk) (steps : List Step) (old new : S) (after : Disk) (entries : List Entry) : Type 0 where
+  pub gives : Gives took config before steps old new after
+  pub traced : GivesUp gives.schedules.end.past.history (reverse entries)
+  pub passes : Passes (first_of (reverse entries)) (reverse entries)

@@ -1,0 +1,7 @@
+pub mod Walks
+pub mod Links
+pub mod Heads
+pub mod Arrivals
+pub mod Traces
+pub mod Kept
+pub mod Settled

@@ -1,0 +1,95 @@
+//! Whether a run's arrivals brought, and its reads gave, what was last written.
+
+ghost use Rattle.std.specs.Prelude.{◌≡◌, ◌↔◌, ◌<◌, MatchBool, IfErr, IfNone, IfSome, is_ok, true, length, reverse, slice_index_or};
+ghost use Rattle.machine.specs.History.{IsRight, IsHonest};
+ghost use Rattle.machine.specs.FirstBytes.{first_of};
+ghost use Rattle.machine.specs.Audit.{before, Passes, IsGood, IsFirstWrong};
+
+use crate::arrival::is_brought;
+use crate::entries::Trace;
+use crate::last_written::linked_last;
+use crate::page::{offset_of, page_of};
+use crate::step::Stand;
+use machine::entry::Entry;
+use machine::event::{Event, Op};
+use machine::reply::Reply;
+
+/// The first entry of a trace that is wrong: an arrival that brought other bytes than were last written, or a read
+/// that gave another byte.
+#[derive(Clone, Copy, Debug, PartialEq, Eq)]
+pub struct First {
+    /// Its place in the trace, counted from 1.
+    pub entry: usize,
+}
+
+/// Whether an entry at this place that is a read gave the byte last written.
+fn is_right(trace: &Trace, at: usize, entry: &Entry) -> bool
+    requires within { at < length trace.now.entries }
+    requires own { entry.now ≡ slice_index_or trace.now.entries at entry.now }
+    ensures { let right = IsRight (first_of (reverse trace.now.entries)) (before trace.now.entries at) entry.now.event entry.now.reply in MatchBool result right (right → ⊥) }
+{
+    match &entry.event {
+        Event::Access {
+            task,
+            place,
+            op: Op::Read,
+        } => match &entry.reply {
+            Reply::Done { byte, hit: _ } => {
+                let stand = Stand {
+                    at,
+                    page: page_of(*task, *place),
+                    link: trace.link(at),
+                };
+                *byte == linked_last(trace, stand, offset_of(*place))
+            }
+            _ => true,
+        },
+        _ => true,
+    }
+}
+
+/// Whether an entry at this place that is an arrival brought what was last written.
+fn is_honest(trace: &Trace, at: usize, entry: &Entry) -> bool
+    requires { at < length trace.now.entries }
+    ensures { let honest = IsHonest (first_of (reverse trace.now.entries)) (before trace.now.entries at) entry.now.event in MatchBool result honest (honest → ⊥) }
+{
+    match &entry.event {
+        Event::Arrived { ticket, bytes } => is_brought(trace, at, *ticket, bytes),
+        _ => true,
+    }
+}
+
+/// Whether the entry at this place is neither a wrong arrival nor a wrong read.
+fn is_good(trace: &Trace, at: usize, entry: &Entry) -> bool
+    requires within { at < length trace.now.entries }
+    requires own { entry.now ≡ slice_index_or trace.now.entries at entry.now }
+    ensures { let good = IsGood (first_of (reverse trace.now.entries)) (before trace.now.entries at) entry.now in MatchBool result good (good → ⊥) }
+{
+    is_honest(trace, at, entry) && is_right(trace, at, entry)
+}
+
+/// The first entry that is wrong, where one is.
+fn first_wrong(trace: &Trace) -> Option<First>
+    ensures none { IfNone result (Passes (first_of (reverse trace.now.entries)) (reverse trace.now.entries)) }
+    ensures some { IfSome result (λ first. IsFirstWrong trace.now.entries first.entry) }
+{
+    for at in 0..trace.len() {
+        if !is_good(trace, at, trace.entry(at)) {
+            return Some(First { entry: at + 1 });
+        }
+    }
+    None
+}
+
+/// Whether each page that arrived brought the bytes last written to it when its read-in began, and each read gave
+/// the byte last written before it. Memory begins as zeros, and a page of a file as its first arrival in the trace
+/// brought it. The error is the first entry of which that is not so. It takes no memory.
+pub fn audit(trace: &Trace) -> Result<(), First>
+    ensures exactly { let history = reverse trace.now.entries in is_ok result ≡ true ↔ Passes (first_of history) history }
+    ensures first { IfErr result (λ first. IsFirstWrong trace.now.entries first.entry) }
+{
+    match first_wrong(trace) {
+        Some(first) => Err(first),
+        None => Ok(()),
+    }
+}
