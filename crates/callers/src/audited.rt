@@ -119,11 +119,14 @@ fn touch(book: &mut Book, pass: &mut Pass, disk: &mut Disk, place: Place, op: Op
     if pass.reserve(2).is_err() {
         return;
     }
-    match book.call(pass, Event::Access {
-        task: TaskId(1),
-        place,
-        op,
-    }) {
+    match book.call(
+        pass,
+        Event::Access {
+            task: TaskId(1),
+            place,
+            op,
+        },
+    ) {
         Reply::Fetch(ticket) => fetch(book, pass, disk, ticket),
         other => spend(other),
     }
@@ -146,10 +149,13 @@ fn begin(book: &mut Book, pass: &mut Pass, path: Text) {
         return;
     }
     spend(book.call(pass, Event::Mkdir(path)));
-    spend(book.call(pass, Event::Spawn {
-        task: TaskId(1),
-        group: GroupId(1),
-    }));
+    spend(book.call(
+        pass,
+        Event::Spawn {
+            task: TaskId(1),
+            group: GroupId(1),
+        },
+    ));
 }
 
 /// What an audit finds after a page was written, taken, read in and read, and how many entries there were.
