@@ -11,7 +11,7 @@ use Rattle.machine.specs.Audit.{Passes}
 use Rattle.block_store.specs.Device.{Disk}
 use Rattle.driver.specs.Sinks.{Gives}
 
--- a transfer ends without a call of the device
+-- a transfer ends, and the call of the device failed, or was not made
 abbrev pub is_given_up : Event → Bool
 is_given_up (event.FetchFailed ticket) = true
 is_given_up (event.LeaveFailed ticket) = true
@@ -27,7 +27,7 @@ pub record GivesUp (old new : List Entry) : Type 0 where
   pub given_up : AreGivenUp ends
   pub is : new ≡ ends ++ old
 
--- a run that went through, and its entries, the oldest first: what it did, and behind that the ends of the transfers that it left open. An audit finds nothing wrong in them.
+-- a run that went through, and its entries, the oldest first: what it did, and behind that nothing but ends of transfers that failed. An audit finds nothing wrong in them.
 -- (Excludes the trace of another run, and one that is cut off.)
 pub record GivesTrace {S : Type 0} (took : S → S → List Told_by → Type 0) (config : Config) (before : Disk) (steps : List Step) (old new : S) (after : Disk) (entries : List Entry) : Type 0 where
   pub gives : Gives took config before steps old new after
