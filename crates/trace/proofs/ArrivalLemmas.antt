@@ -8,6 +8,7 @@ use Rattle.trace.specs.declared.link.Link.{Link}
 use Rattle.trace.specs.declared.link.Link.TheVariants as link
 use Rattle.machine.specs.History.{fetch_of}
 use Rattle.machine.specs.FirstBytes.{or_else, is_read_of, brought_by, first_arrival}
+use Rattle.trace.specs.Rows.{RowOf}
 use Rattle.trace.specs.Heads.{MayBe, link_in}
 use Rattle.trace.specs.Arrivals.{arrived_bytes, IsFirstOf, IsArrival, AreArrivals, arrival_after}
 use Rattle.trace.proofs.HeadLemmas.{length-more, entry-kept, entry-new, and-left, and-right}
@@ -56,14 +57,14 @@ may-arrival entries f q link.First other may h = subst (λ (x : Link). IsArrival
 may-arrival entries f q (link.After j) other may h = subst (λ (x : Link). IsArrival entries f q x) (sym may) h
 
 -- the table, with an entry more
-pub arrivals-more : (xs : List Entry) (e : Entry) (old new : List (List Link)) → AreArrivals xs old
+pub arrivals-more : (xs : List Entry) (e : Entry) (old new : List RowOf) → AreArrivals xs old
     → ((f q : ℕ) → MayBe (link_in new f q) (arrival_after (brought_by f q e.event (reverse xs)) (length xs) (link_in old f q))) → AreArrivals (xs ++ e ∷ []) new
 arrivals-more xs e old new h may = λ f q.
     may-arrival (xs ++ e ∷ []) f q (link_in new f q) (arrival_after (brought_by f q e.event (reverse xs)) (length xs) (link_in old f q)) (may f q)
     (arrival-more f q xs e (link_in old f q) (brought_by f q e.event (reverse xs)) refl (h f q))
 
 -- a trace without entries
-pub arrivals-none : (rows : List (List Link)) → ((r c : ℕ) → MayBe (link_in rows r c) link.First) → AreArrivals [] rows
+pub arrivals-none : (rows : List RowOf) → ((r c : ℕ) → MayBe (link_in rows r c) link.First) → AreArrivals [] rows
 arrivals-none rows h = λ f q. may-arrival [] f q (link_in rows f q) link.First (h f q) refl
 
 -- ---- a page noted
@@ -79,19 +80,19 @@ kept true bytes at link.First other = absurd (other refl refl)
 kept true bytes at (link.After j) other = refl
 kept false bytes at old other = may-same old
 
-same_place : (rows : List (List Link)) (file page f q : ℕ) → ((file == f) && (page == q)) ≡ true → link_in rows f q ≡ link_in rows file page
+same_place : (rows : List RowOf) (file page f q : ℕ) → ((file == f) && (page == q)) ≡ true → link_in rows f q ≡ link_in rows file page
 same_place rows file page f q hit =
     let files : file ≡ f = eqb-true file f (and-left (file == f) (page == q) hit) in
     let pages : page ≡ q = eqb-true page q (and-right (file == f) (page == q) hit) in
     sym (ap (λ n. link_in rows n page) files ∙ ap (λ n. link_in rows f n) pages)
 
-pub first-noted : (rows new : List (List Link)) (file page at : ℕ) → link_in rows file page ≡ link.First
+pub first-noted : (rows new : List RowOf) (file page at : ℕ) → link_in rows file page ≡ link.First
     → ((r c : ℕ) → MayBe (link_in new r c) (cond ((file == r) && (page == c)) (link.After at) (link_in rows r c)))
     → (f q : ℕ) (bytes : List ℕ) → MayBe (link_in new f q) (arrival_after (cond ((file == f) && (page == q)) (Some bytes) None) at (link_in rows f q))
 first-noted rows new file page at first h f q bytes =
     noted ((file == f) && (page == q)) bytes at (link_in new f q) (link_in rows f q) (λ hit. same_place rows file page f q hit ∙ first) (h f q)
 
-pub first-kept : (rows : List (List Link)) (file page at : ℕ) → (link_in rows file page ≡ link.First → ⊥)
+pub first-kept : (rows : List RowOf) (file page at : ℕ) → (link_in rows file page ≡ link.First → ⊥)
     → (f q : ℕ) (bytes : List ℕ) → MayBe (link_in rows f q) (arrival_after (cond ((file == f) && (page == q)) (Some bytes) None) at (link_in rows f q))
 first-kept rows file page at other f q bytes =
     kept ((file == f) && (page == q)) bytes at (link_in rows f q) (λ hit first. other (sym (same_place rows file page f q hit) ∙ first))

@@ -6,6 +6,7 @@ use Rattle.machine.specs.declared.entry.Entry.{Entry}
 use Rattle.trace.specs.declared.link.Link.{Link}
 use Rattle.trace.specs.declared.link.Link.TheVariants as link
 use Rattle.machine.specs.FirstBytes.{first_arrival}
+use Rattle.trace.specs.Rows.{RowOf}
 use Rattle.trace.specs.Heads.{link_in}
 
 -- what an event brings, if it is an arrival
@@ -24,7 +25,7 @@ IsArrival entries f q link.Unknown = Unit {0}
 IsArrival entries f q link.First = first_arrival f q (reverse entries) ≡ None
 IsArrival entries f q (link.After j) = (j < length entries) × ((e : Entry) → e ≡ slice_index_or entries j e → IsFirstOf entries f q (arrived_bytes e.event))
 
-abbrev pub AreArrivals : List Entry → List (List Link) → Type 0
+abbrev pub AreArrivals : List Entry → List RowOf → Type 0
 AreArrivals entries rows = (f q : ℕ) → IsArrival entries f q (link_in rows f q)
 
 -- what is known of a page after an event that stands at this place, where it brought this to the page

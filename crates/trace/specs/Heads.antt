@@ -1,5 +1,5 @@
 -- What is known of the bytes of each page at the end of a trace. No public clause cites these.
-use Rattle.std.specs.Prelude.{◌≡◌, ℕ, ◌==◌, ◌&&◌, Bool, false, if◌then◌else◌, List, [], length, slice_index_or, Option, Some, None}
+use Rattle.std.specs.Prelude.{◌≡◌, ℕ, ◌==◌, ◌&&◌, Bool, false, if◌then◌else◌, List, length, slice_index_or, Option, Some, None}
 use Rattle.machine.specs.declared.event.Op.TheVariants.{Write}
 use Rattle.machine.specs.declared.event.Event.{Event}
 use Rattle.machine.specs.declared.event.Event.TheVariants as event
@@ -13,6 +13,7 @@ use Rattle.trace.specs.declared.link.Link.TheVariants as link
 use Rattle.trace.specs.declared.heads.Heads.{Heads}
 use Rattle.trace.specs.Walks.{is_place_of, is_memory_of, is_page_of_task, page_in}
 use Rattle.trace.specs.Links.{IsLink}
+use Rattle.trace.specs.Rows.{RowOf, at_row, empty_row}
 
 -- what is known of a page after an event, from what was known of each before it; the entry stands at this place
 abbrev pub link_after : Event → Reply → ℕ → (Page → Link) → Page → Link
@@ -34,8 +35,8 @@ AreKnown entries known = (page : Page) → IsLink entries (length entries) page 
 
 -- ---- tables
 
-abbrev pub link_in : List (List Link) → ℕ → ℕ → Link
-link_in rows r c = slice_index_or (slice_index_or rows r []) c link.Unknown
+abbrev pub link_in : List RowOf → ℕ → ℕ → Link
+link_in rows r c = at_row (slice_index_or rows r empty_row) c
 
 abbrev pub known_in : Heads → Page → Link
 known_in heads (Memory task v) = link_in heads.tasks.items task.0 v

@@ -1,5 +1,6 @@
 pub mod Walks
 pub mod Links
+pub mod Rows
 pub mod Heads
 pub mod Arrivals
 pub mod Traces

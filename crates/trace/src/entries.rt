@@ -81,7 +81,7 @@ impl Trace {
 
     /// Asks for the memory for a task's links, 8 KiB, before the entry comes that makes the task. The trace
     /// stays the same, also where the error says that there is no memory. It only saves time: without it an audit
-    /// walks back through all entries for each read of the task's memory. What was known of an earlier task
+    /// may walk back through all entries for each read of the task's memory. What was known of an earlier task
     /// of this number is forgotten.
     pub fn reserve(&mut self, task: TaskId) -> Result<(), AllocError>
         ensures { self.new ≡ self.old }

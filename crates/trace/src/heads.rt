@@ -1,8 +1,9 @@
 //! What is known of the bytes of each page at the end of the trace.
 
-ghost use Rattle.std.specs.Prelude.{◌≡◌, ℕ, ◌==◌, ◌&&◌, ◌<◌, if◌then◌else◌, slice_index_or, IfOk};
+ghost use Rattle.std.specs.Prelude.{◌≡◌, ℕ, ◌==◌, ◌&&◌, ◌<◌, if◌then◌else◌, IfOk};
 ghost use Rattle.machine.specs.declared.event.Op.{Op};
 ghost use Rattle.trace.specs.declared.page.Page.{Page as PageOf};
+ghost use Rattle.trace.specs.Rows.{at_row};
 ghost use Rattle.trace.specs.Heads.{MayBe, link_in, known_in, link_after, is_page};
 
 use crate::effect::{is_done, is_ok};
@@ -21,7 +22,7 @@ use std::mem;
 #[derive(Drop)]
 pub struct Heads {
     pub alloc: Global,
-    /// By task's number its virtual pages. A number for which there is no memory has none.
+    /// By task's number its virtual pages. A number for which there is no memory has a row without room.
     pub tasks: Vec<Row>,
     /// By file's number its pages.
     pub files: Vec<Row>,
@@ -60,7 +61,7 @@ fn fill_row(rows: &mut [Row], row: u32, link: Link)
 
 /// A row by one of a table. Where the table has it not, nothing is known.
 fn row_by(rows: &[Row], from: usize, row: Row) -> Row
-    ensures { (c : ℕ) → MayBe (slice_index_or result c Link.Unknown) (link_in rows.now from c) }
+    ensures { (c : ℕ) → MayBe (at_row result c) (link_in rows.now from c) }
 {
     let mut row = row;
     if from < rows.len() {
@@ -84,20 +85,20 @@ fn copy_row(alloc: Global, rows: &mut [Row], from: u32, to: u32)
     rows[to] = copied;
 }
 
-/// A row for each file, with as many places.
+/// A row for each file, with room for its pages.
 pub fn rows_of(alloc: Global, files: &[u32]) -> Result<Vec<Row>, AllocError>
     ensures { IfOk result (λ rows. (r c : ℕ) → MayBe (link_in rows.items r c) Link.First) }
 {
     let mut rows = Vec::new(alloc);
     for pages in files {
-        rows.push(Row::with_places(alloc, *pages as usize, Link::First)?)?;
+        rows.push(Row::with_room(alloc, *pages as usize, Link::First)?)?;
     }
     Ok(rows)
 }
 
 /// A row in the place of another, which knows nothing more.
 fn put_row(rows: &mut [Row], row: u32, now: Row)
-    requires { (c : ℕ) → MayBe (slice_index_or now c Link.Unknown) Link.Unknown }
+    requires { (c : ℕ) → MayBe (at_row now c) Link.Unknown }
     ensures { (r c : ℕ) → MayBe (link_in rows.new r c) (link_in rows.old r c) }
 {
     let row = row as usize;
@@ -106,7 +107,7 @@ fn put_row(rows: &mut [Row], row: u32, now: Row)
     }
 }
 
-/// Rows up to this number, those that are new without places.
+/// Rows up to this number, those that are new without room.
 fn extend(rows: &mut Vec<Row>, alloc: Global, count: usize) -> Result<(), AllocError>
     ensures { (r c : ℕ) → MayBe (link_in rows.new.items r c) (link_in rows.old.items r c) }
 {
@@ -132,7 +133,7 @@ impl Heads {
     pub fn reserve(&mut self, task: TaskId) -> Result<(), AllocError>
         ensures { (p : PageOf) → MayBe (known_in self.new p) (known_in self.old p) }
     {
-        let row = Row::with_places(self.alloc, TASK_PAGES as usize, Link::Unknown)?;
+        let row = Row::with_room(self.alloc, TASK_PAGES as usize, Link::Unknown)?;
         extend(&mut self.tasks, self.alloc, task.0 as usize + 1)?;
         put_row(&mut self.tasks, task.0, row);
         Ok(())

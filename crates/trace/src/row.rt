@@ -1,96 +1,97 @@
 //! What is known of the pages of one task, or of one file.
 
-ghost use Rattle.std.specs.Prelude.{◌≡◌, ℕ, ◌<◌, [], length, slice_index_or, slice_set, IfOk};
+ghost use Rattle.std.specs.Prelude.{◌≡◌, ℕ, ◌==◌, if◌then◌else◌, IfOk};
 ghost use Rattle.trace.specs.Heads.{MayBe};
+ghost use Rattle.trace.specs.Rows.{at_row, empty_row};
 
 use crate::link::Link;
 use std::alloc::{AllocError, Global};
 use std::marker::Model;
 
-/// By page what is known. A row without places takes no memory.
+/// By page what is known. The first pages have links of their own, up to the furthest that was set; of all pages
+/// behind them the same is known. So no link is written when a row is made or filled, and a copy is of the written
+/// links alone. A row without room takes no memory.
 #[derive(Drop)]
 pub struct Row {
+    /// By page, up to the furthest that was set.
     links: Vec<Link>,
+    /// What is known of each page behind these.
+    rest: Link,
 }
 
 impl Model for Row {
-    ghost use Rattle.std.specs.Prelude.{List};
-    ghost use Rattle.trace.specs.declared.link.Link.{Link};
+    ghost use Rattle.trace.specs.Rows.{RowOf};
 
-    ghost Value = { List Link };
+    ghost Value = { RowOf };
 
-    ghost view = { λ r. r.links.items };
+    ghost view = { λ r. record { links = r.links.items; rest = r.rest } };
 }
 
 impl Row {
-    /// A row without places.
+    /// A row without room. Nothing is known of any page.
     pub fn empty(alloc: Global) -> Row
-        ensures { result ≡ [] }
+        ensures { result ≡ empty_row }
     {
         Row {
             links: Vec::new(alloc),
+            rest: Link::Unknown,
         }
     }
 
-    /// So many places of which the same is known.
-    pub fn with_places(alloc: Global, pages: usize, link: Link) -> Result<Row, AllocError>
-        ensures { IfOk result (λ r. (c : ℕ) → MayBe (slice_index_or r c Link.Unknown) link) }
+    /// Room for the links of so many pages. The same is known of all.
+    pub fn with_room(alloc: Global, pages: usize, link: Link) -> Result<Row, AllocError>
+        ensures { IfOk result (λ r. (c : ℕ) → at_row r c ≡ link) }
     {
         Ok(Row {
-            links: vec![in alloc; link; pages]?,
+            links: Vec::with_capacity(alloc, pages)?,
+            rest: link,
         })
-    }
-
-    pub fn len(&self) -> usize
-        ensures { result ≡ length self.now }
-    {
-        self.links.len()
     }
 
     /// What is known of a page.
     pub fn get(&self, page: usize) -> Link
-        ensures { result ≡ slice_index_or self.now page Link.Unknown }
+        ensures { result ≡ at_row self.now page }
     {
         if page < self.links.len() {
             return self.links[page];
         }
-        Link::Unknown
+        self.rest
     }
 
-    /// A page's, where the row has a place for it.
+    /// This is known of a page from now on. Where there is no room for its link, nothing is known any more of the
+    /// pages that have none. It takes no memory.
     pub fn set(&mut self, page: usize, link: Link)
-        ensures { self.new ≡ slice_set self.old page link }
+        ensures { (c : ℕ) → MayBe (at_row self.new c) (if page == c then link else at_row self.old c) }
     {
         if page < self.links.len() {
             self.links[page] = link;
+        } else if page < self.links.capacity() && self.links.resize(page, self.rest).is_ok() {
+            self.links.push_reserved(link);
+        } else {
+            self.rest = Link::Unknown;
         }
     }
 
-    /// All places.
+    /// This is known of all pages from now on.
     pub fn fill(&mut self, link: Link)
-        ensures { (c : ℕ) → MayBe (slice_index_or self.new c Link.Unknown) link }
+        ensures { (c : ℕ) → at_row self.new c ≡ link }
     {
-        fill(self.links.as_mut_slice(), link);
+        self.links.clear();
+        self.rest = link;
     }
 
-    /// All places, by another row. Where that has not as many, nothing is known of any.
+    /// Of each page is known from now on what another row knows of it. Where there is no room for that row's links,
+    /// nothing is known of any. It takes no memory.
     pub fn copy(&mut self, other: &Row)
-        ensures { (c : ℕ) → MayBe (slice_index_or self.new c Link.Unknown) (slice_index_or other.now c Link.Unknown) }
+        ensures { (c : ℕ) → MayBe (at_row self.new c) (at_row other.now c) }
     {
-        if self.links.len() == other.links.len() {
-            self.links
-                .as_mut_slice()
-                .copy_from_slice(other.links.as_slice());
+        self.links.clear();
+        if other.links.len() <= self.links.capacity()
+            && self.links.extend_from_slice(other.links.as_slice()).is_ok()
+        {
+            self.rest = other.rest;
         } else {
             self.fill(Link::Unknown);
         }
-    }
-}
-
-fn fill(links: &mut [Link], link: Link)
-    ensures { (c : ℕ) → MayBe (slice_index_or links.new c Link.Unknown) link }
-{
-    for place in links.iter_mut() {
-        *place = link;
     }
 }

@@ -22,6 +22,11 @@ const OF_A_FILE: Place = Place::File {
     offset: 0,
 };
 
+/// The first byte of a page of the task's memory.
+fn page_of_a_task(page: u32) -> Place {
+    Place::Virtual { page, offset: 0 }
+}
+
 /// A trace for so many entries, of a machine with one file of eight pages and memory for tasks 1 and 2.
 fn opened(alloc: Global, limit: usize) -> Result<Trace, AllocError> {
     if limit > 1_048_576 {
@@ -386,10 +391,28 @@ fn links_lead_to_the_last_write_of_a_file(rt: HostRuntime) -> Result<(), Fail> {
     Ok(())
 }
 
-// A task of the number of one that ended or was killed has no memory until it is asked for.
+// What is known of pages that were not written comes to a child too, of those before the one that was and behind it.
+#[test]
+fn a_child_knows_the_pages_that_were_not_written(rt: HostRuntime) -> Result<(), Fail> {
+    let mut trace = opened(rt.alloc(), 8)?;
+    add(&mut trace, spawned(1));
+    add(&mut trace, written(1, page_of_a_task(5), 9));
+    add(&mut trace, forked(1, 2));
+    add(&mut trace, read(2, page_of_a_task(2), 0));
+    add(&mut trace, read(2, page_of_a_task(5), 9));
+    add(&mut trace, read(2, page_of_a_task(7), 0));
+    assert!(rt; matches!(link_at(&trace, 3), Link::First));
+    assert!(rt; matches!(link_at(&trace, 4), Link::After(1)));
+    assert!(rt; matches!(link_at(&trace, 5), Link::First));
+    assert_eq!(rt; audit(&trace), Ok(()));
+    Ok(())
+}
+
+// A task of the number of one that ended or was killed has no memory until it is asked for: it is known that it
+// begins with zeros, and no write of it is.
 #[test]
 fn the_memory_of_links_goes_with_its_task(rt: HostRuntime) -> Result<(), Fail> {
-    let mut trace = opened(rt.alloc(), 8)?;
+    let mut trace = opened(rt.alloc(), 10)?;
     add(&mut trace, spawned(1));
     add(&mut trace, spawned(2));
     add(&mut trace, entry(Event::Exit(TaskId(1)), Reply::Ok));
@@ -397,10 +420,14 @@ fn the_memory_of_links_goes_with_its_task(rt: HostRuntime) -> Result<(), Fail> {
     add(&mut trace, entry(Event::Relieve(Cause::Frame), killed));
     add(&mut trace, spawned(1));
     add(&mut trace, spawned(2));
-    add(&mut trace, read(1, FIRST, 0));
-    add(&mut trace, read(2, FIRST, 0));
-    assert!(rt; matches!(link_at(&trace, 6), Link::Unknown));
-    assert!(rt; matches!(link_at(&trace, 7), Link::Unknown));
+    add(&mut trace, written(1, FIRST, 5));
+    add(&mut trace, written(2, FIRST, 6));
+    add(&mut trace, read(1, FIRST, 5));
+    add(&mut trace, read(2, FIRST, 6));
+    assert!(rt; matches!(link_at(&trace, 6), Link::First));
+    assert!(rt; matches!(link_at(&trace, 7), Link::First));
+    assert!(rt; matches!(link_at(&trace, 8), Link::Unknown));
+    assert!(rt; matches!(link_at(&trace, 9), Link::Unknown));
     assert_eq!(rt; audit(&trace), Ok(()));
     Ok(())
 }
@@ -441,5 +468,5 @@ fn entries_come_back(rt: HostRuntime) -> Result<(), Fail> {
 #[test]
 fn links_are_small(rt: HostRuntime) {
     assert_eq!(rt; size_of::<Link>(), 8);
-    assert_eq!(rt; size_of::<Row>(), 24);
+    assert_eq!(rt; size_of::<Row>(), 32);
 }
