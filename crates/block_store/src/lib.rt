@@ -7,10 +7,12 @@
 
 pub use device::{BLOCK_BYTES, BlockDevice, Fault};
 pub use memory::MemDevice;
+pub use shared::{Locked, SharedDevice};
 pub use slots::{Slot, Slots};
 
 mod device;
 mod memory;
+mod shared;
 mod slots;
 #[cfg(test)]
 mod tests;

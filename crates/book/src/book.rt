@@ -1,6 +1,6 @@
 //! The book: one event a call, and the history of what was answered.
 
-ghost use Rattle.std.specs.Prelude.{◌≡◌, ◌⊎◌, ℕ, ◌+◌, ◌<◌, ◌≤◌, ◌++◌, ◌∷◌, List, [], None, true, false, length, reverse, nat_lt, slice_index, slice_set, option_map, IfSome, IfOk, IfErr, OnErr};
+ghost use Rattle.std.specs.Prelude.{◌≡◌, ◌⊎◌, ℕ, ◌+◌, ◌<◌, ◌≤◌, ◌++◌, ◌∷◌, List, [], None, true, false, length, reverse, nat_lt, slice_index, slice_set, option_map, IfSome, IfOk, IfErr, OnOk, OnErr};
 ghost use Rattle.machine.specs.Tree.{find_group};
 ghost use Rattle.machine.specs.Pages.{used_frames, in_transfer};
 ghost use Rattle.machine.specs.State.{State as Tables, opening_of, is_config};
@@ -117,6 +117,7 @@ impl Book {
         ensures kept { IfOk result (λ pass. pass.kept ≡ []) }
         ensures current { IfOk result (λ pass. is_current self.new pass ≡ true) }
         ensures ok { IfOk result (λ pass. self.new ≡ record self.old { passes = self.old.passes + 1 }) }
+        ensures few { OnOk result (self.new.passes ≤ 131072) }
         ensures err { IfErr result (λ cause. (cause ≡ Refusal.NoSpace) × (131072 ≤ self.old.passes) ⊎ (cause ≡ Refusal.NoMemory) × (self.old.passes < 131072)) }
         ensures unchanged { OnErr result (self.new ≡ self.old) }
     {
@@ -427,6 +428,20 @@ impl Book {
         ensures { result ≡ self.now.state.opening.watermarks }
     {
         self.state.watermarks()
+    }
+
+    /// How many passes were given out.
+    pub fn passes(&self) -> u32
+        ensures { result ≡ self.now.passes }
+    {
+        self.counts.len() as u32
+    }
+
+    /// What was asked and answered so far.
+    pub fn trace(&self) -> &Trace
+        ensures { reverse result.now.entries ≡ self.now.history }
+    {
+        &self.trace
     }
 
     /// Nothing is done: what holds of every book's history, and of the order in which its pages are taken. Where

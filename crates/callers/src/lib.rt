@@ -21,10 +21,14 @@ mod killed;
 #[cfg(test)]
 mod memory;
 #[cfg(test)]
+mod on_threads;
+#[cfg(test)]
 mod printed;
 #[cfg(test)]
 mod shared;
 #[cfg(test)]
 mod tasks;
+#[cfg(test)]
+mod threads;
 #[cfg(test)]
 mod words;

@@ -3,7 +3,8 @@
 //! A file of cases has, for each, a line `== ` with its name, the script's lines, and a line `-- prints`
 //! with the lines that it prints behind it, or a line `-- faults ` with the line of standard error that
 //! it is refused with. Behind these, blank lines and lines that begin with `#` belong to no case; nor do
-//! lines before the first.
+//! lines before the first. A line `-- on threads` among the script's says that a run on threads prints the same, and
+//! behind it the line of an audit that finds nothing wrong.
 
 ghost use Rattle.std.specs.Prelude.{◌≡◌, ◌==◌, ◌&&◌, length, if◌then◌else◌};
 ghost use Rattle.std.specs.Str.{bytes_eq};
@@ -11,7 +12,12 @@ ghost use Rattle.std.specs.Str.{bytes_eq};
 use std::alloc::{AllocError, Global};
 use std::io;
 use std::io::Write;
-use subcommands::{Options, run_script, status_of};
+use std::sync::Wait;
+use std::thread::Threads;
+use subcommands::{Options, run_script, run_script_on_threads, status_of, status_of_run};
+
+/// What stands behind the answers of a run with an audit, and of one on threads.
+const VERDICT: &[u8] = b"audit ok\n";
 
 /// The part of a case that a line belongs to.
 #[derive(Clone, Copy)]
@@ -30,6 +36,8 @@ pub struct Case {
     out: String,
     err: String,
     options: Options,
+    /// It is run on threads too.
+    on_threads: bool,
     /// Where the next line of the file belongs.
     next: Part,
 }
@@ -42,6 +50,7 @@ impl Case {
             out: String::new(alloc),
             err: String::new(alloc),
             options: Options::default(),
+            on_threads: false,
             next: Part::Script,
         })
     }
@@ -50,6 +59,10 @@ impl Case {
     fn add(&mut self, line: &str) -> Result<(), AllocError> {
         if line == "-- prints" {
             self.next = Part::Printed;
+            return Ok(());
+        }
+        if line == "-- on threads" {
+            self.on_threads = true;
             return Ok(());
         }
         if let Some(fault) = line.strip_prefix("-- faults ") {
@@ -78,16 +91,81 @@ impl Case {
     }
 
     /// Runs the script, and says what came of it where that is not what must come.
-    pub fn run<W: Write>(&self, alloc: Global, file: &str, to: &mut W) -> io::Result<()> {
+    pub fn run<R: Threads + Wait + Sync, W: Write>(
+        &self,
+        rt: &R,
+        alloc: Global,
+        file: &str,
+        to: &mut W,
+    ) -> io::Result<()> {
+        if self.run_in_turns(alloc, file, to)? && self.err.is_empty() {
+            self.run_audited(alloc, file, to)?;
+        }
+        if self.on_threads {
+            self.run_on_threads(rt, alloc, file, to)?;
+        }
+        Ok(())
+    }
+
+    /// Whether it came out as the file says.
+    fn run_in_turns<W: Write>(
+        &self,
+        alloc: Global,
+        file: &str,
+        to: &mut W,
+    ) -> io::Result<bool> {
         let mut out = Vec::new(alloc);
         let mut err = Vec::new(alloc);
         let script = self.script.as_bytes();
         let ran = run_script(alloc, self.options, script, &mut out, &mut err);
         let status = status_of(ran, &mut err);
         if self.is_met(status, &out, &err) {
-            return Ok(());
+            return Ok(true);
         }
         writeln!(to, "{file}: {}: status {status}", self.name)?;
+        to.write_all(&out)?;
+        to.write_all(&err)?;
+        Ok(false)
+    }
+
+    /// The same with an audit, which finds nothing wrong.
+    fn run_audited<W: Write>(&self, alloc: Global, file: &str, to: &mut W) -> io::Result<()> {
+        let mut options = self.options;
+        options.audit = true;
+        let mut out = Vec::new(alloc);
+        let mut err = Vec::new(alloc);
+        let script = self.script.as_bytes();
+        let ran = run_script(alloc, options, script, &mut out, &mut err);
+        let status = status_of(ran, &mut err);
+        if self.is_audited(status, &out) {
+            return Ok(());
+        }
+        writeln!(to, "{file}: {}: with an audit: status {status}", self.name)?;
+        to.write_all(&out)
+    }
+
+    /// Whether it went through, and the verdict stands behind what the file says.
+    fn is_audited(&self, status: u8, out: &[u8]) -> bool {
+        status == 0 && out.strip_suffix(VERDICT) == Some(self.out.as_bytes())
+    }
+
+    /// The same on threads.
+    fn run_on_threads<R: Threads + Wait + Sync, W: Write>(
+        &self,
+        rt: &R,
+        alloc: Global,
+        file: &str,
+        to: &mut W,
+    ) -> io::Result<()> {
+        let mut out = Vec::new(alloc);
+        let mut err = Vec::new(alloc);
+        let script = self.script.as_bytes();
+        let ran = run_script_on_threads(rt, alloc, Options::default(), script, &mut out);
+        let status = status_of_run(ran, &mut err);
+        if self.is_audited(status, &out) {
+            return Ok(());
+        }
+        writeln!(to, "{file}: {}: on threads: status {status}", self.name)?;
         to.write_all(&out)?;
         to.write_all(&err)
     }

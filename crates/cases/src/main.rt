@@ -9,10 +9,12 @@ use std::fs::File;
 use std::io::{Read, Write};
 use std::process::ExitCode;
 use std::rt::{Env, Files};
+use std::sync::Wait;
+use std::thread::Threads;
 use std::{env, io};
 
 /// Runs the cases of a file. How many there are.
-fn run_file<R: Files + AllocGlobal, W: Write>(
+fn run_file<R: Files + Threads + Wait + Sync + AllocGlobal, W: Write>(
     rt: &R,
     name: &str,
     out: &mut W,
@@ -21,13 +23,16 @@ fn run_file<R: Files + AllocGlobal, W: Write>(
     File::open(rt, name)?.read_to_string(&mut text)?;
     let cases = read_cases(rt.alloc(), &text)?;
     for case in &cases {
-        case.run(rt.alloc(), name, out)?;
+        case.run(rt, rt.alloc(), name, out)?;
     }
     Ok(cases.len())
 }
 
 /// Runs the cases of all files, and prints how many there are of each.
-fn run_all<R: Env + Files + AllocGlobal, W: Write>(rt: &R, out: &mut W) -> io::Result<()> {
+fn run_all<R: Env + Files + Threads + Wait + Sync + AllocGlobal, W: Write>(
+    rt: &R,
+    out: &mut W,
+) -> io::Result<()> {
     let words: Vec<String> = env::args(rt)?.collect(rt.alloc())?;
     for name in words.iter().skip(1) {
         let cases = run_file(rt, name, out)?;

@@ -1,9 +1,10 @@
 -- What one call of the book leaves, and what a command makes of its reply.
-use Rattle.std.proofs.Common.{◌≡◌, ℕ, ◌==◌, ◌&&◌, ◌||◌, not, Bool, true, false, List, length, Option, Some, None, refl, sym, ap, ◌∙◌, subst}
+use Rattle.std.proofs.Common.{◌≡◌, ℕ, ◌-◌, ◌==◌, ◌&&◌, ◌||◌, not, Bool, true, false, List, length, Option, Some, None, refl, sym, ap, ◌∙◌, subst}
 use Rattle.std.specs.Prelude.{MatchBool, is_some, nat_le, nat_lt}
 use Rattle.machine.specs.declared.record.Life.{Life}
 use Rattle.machine.specs.declared.record.Life.TheVariants.{Live, Exited, Killed}
 use Rattle.machine.specs.declared.record.Task.{Task}
+use Rattle.machine.specs.declared.event.Cause.{Cause}
 use Rattle.machine.specs.declared.event.Op.{Op}
 use Rattle.machine.specs.declared.event.Op.TheVariants.{Read, Write}
 use Rattle.machine.specs.declared.event.Query.{Query}
@@ -172,6 +173,7 @@ fine_byte (Write b) byte = λ e. cc
 
 resumes_at_handless : (on : Resume) → number_at (left_of (Goes (resumes_at on))) ≡ None
 resumes_at_handless (resume.Try access) = refl
+resumes_at_handless (resume.MakeRoom access why) = refl
 resumes_at_handless (resume.Lower g) = refl
 resumes_at_handless (resume.Reclaim g left) = pages_none g.0 left
 resumes_at_handless resume.Balance = refl
@@ -184,20 +186,20 @@ tried_next access (said.Done byte hit) transition h known = handless _ transitio
 tried_next access (said.Fetch ticket) transition h known = Reads access ticket refl h
 tried_next access (said.Over g) transition h known = handless _ transition _ h refl tt
 tried_next access said.NoFrame transition h known = handless _ transition _ h refl tt
-tried_next access said.Busy transition h known = says_word _ transition word.Busy h (λ e. cc)
+tried_next access said.Busy transition h known = handless _ transition _ h refl (λ e. cc)
 tried_next access said.Killed transition h known = says_word _ transition word.Killed h (λ e. cc)
 tried_next access (said.Refused why) transition h known = says_refused _ transition why refl known h
 tried_next access answered transition h known = absurd h
 
-room_next : (access : Access) (answered : Book_reply) (transition : Transition) → MadeRoom access answered transition → KnownReply answered → Next answered transition
-room_next access said.Room transition h known = handless _ transition _ h refl tt
-room_next access said.Dropped transition h known = handless _ transition _ h refl tt
-room_next access (said.Out ticket) transition h known = Writes (resume.Try access) ticket refl h
-room_next access said.Wait transition h known = says_word _ transition word.Busy h (λ e. cc)
-room_next access (said.KilledTask t) transition h known = handless _ transition _ h refl tt
-room_next access said.NoVictim transition h known = says_word _ transition word.OutOfMemory h (λ e. cc)
-room_next access (said.Refused why) transition h known = says_refused _ transition why refl known h
-room_next access answered transition h known = absurd h
+room_next : (access : Access) (why : Cause) (answered : Book_reply) (transition : Transition) → MadeRoom access why answered transition → KnownReply answered → Next answered transition
+room_next access why said.Room transition h known = handless _ transition _ h refl tt
+room_next access why said.Dropped transition h known = handless _ transition _ h refl tt
+room_next access why (said.Out ticket) transition h known = Writes (resume.Try access) ticket refl h
+room_next access why said.Wait transition h known = handless _ transition _ h refl (λ e. cc)
+room_next access why (said.KilledTask t) transition h known = handless _ transition _ h refl tt
+room_next access why said.NoVictim transition h known = says_word _ transition word.OutOfMemory h (λ e. cc)
+room_next access why (said.Refused refused) transition h known = says_refused _ transition refused refl known h
+room_next access why answered transition h known = absurd h
 
 set_next : (g : ℕ) (answered : Book_reply) (transition : Transition) → MaxSet g answered transition → KnownReply answered → Next answered transition
 set_next g said.Ok transition h known = handless _ transition _ h refl tt
@@ -208,16 +210,16 @@ lower_next : (g : ℕ) (answered : Book_reply) (transition : Transition) → Low
 lower_next g said.Room transition h known = handless _ transition _ h refl (λ e. cc)
 lower_next g said.Dropped transition h known = handless _ transition _ h refl tt
 lower_next g (said.Out ticket) transition h known = Writes _ ticket refl h
-lower_next g said.Wait transition h known = says_word _ transition word.Busy h (λ e. cc)
+lower_next g said.Wait transition h known = handless _ transition _ h refl (λ e. cc)
 lower_next g (said.KilledTask t) transition h known = handless _ transition _ h refl tt
 lower_next g said.NoVictim transition h known = handless _ transition _ h refl (λ e. cc)
 lower_next g (said.Refused why) transition h known = says_refused _ transition why refl known h
 lower_next g answered transition h known = absurd h
 
 reclaimed_next : (g left : ℕ) (answered : Book_reply) (transition : Transition) → Reclaimed g left answered transition → KnownReply answered → Next answered transition
-reclaimed_next g left said.Dropped transition h known = handless _ transition _ h (pages_none g left) tt
+reclaimed_next g left said.Dropped transition h known = handless _ transition _ h (pages_none g (left - 1)) tt
 reclaimed_next g left (said.Out ticket) transition h known = Writes _ ticket refl h
-reclaimed_next g left said.Wait transition h known = says_word _ transition word.Busy h (λ e. cc)
+reclaimed_next g left said.Wait transition h known = handless _ transition _ h refl (λ e. cc)
 reclaimed_next g left said.Nothing transition h known = says_word _ transition word.Again h (λ e. cc)
 reclaimed_next g left (said.Refused why) transition h known = says_refused _ transition why refl known h
 reclaimed_next g left answered transition h known = absurd h
@@ -225,7 +227,7 @@ reclaimed_next g left answered transition h known = absurd h
 balanced_next : (answered : Book_reply) (transition : Transition) → Balanced answered transition → KnownReply answered → Next answered transition
 balanced_next said.Dropped transition h known = handless _ transition _ h refl tt
 balanced_next (said.Out ticket) transition h known = Writes _ ticket refl h
-balanced_next said.Wait transition h known = says_word _ transition word.Busy h (λ e. cc)
+balanced_next said.Wait transition h known = handless _ transition _ h refl (λ e. cc)
 balanced_next said.Nothing transition h known = handless _ transition _ h refl (λ e. cc)
 balanced_next (said.Refused why) transition h known = says_refused _ transition why refl known h
 balanced_next answered transition h known = absurd h
@@ -254,7 +256,7 @@ closed_next resumed answered transition none fine h known = absurd h
 
 pub told_next : (remembers : Pending) (answered : Book_reply) (transition : Transition) → Told remembers answered transition → (reply_of answered ≡ reply.Refused Stranger → ⊥) → Next answered transition
 told_next (pending.Try access) answered transition h known = tried_next access answered transition h known
-told_next (pending.MakeRoom access) answered transition h known = room_next access answered transition h known
+told_next (pending.MakeRoom access why) answered transition h known = room_next access why answered transition h known
 told_next (pending.SetMax g) answered transition h known = set_next g.0 answered transition h known
 told_next (pending.Lower g) answered transition h known = lower_next g.0 answered transition h known
 told_next (pending.Reclaim g left) answered transition h known = reclaimed_next g.0 left answered transition h known

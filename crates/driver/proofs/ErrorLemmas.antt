@@ -6,6 +6,7 @@ use Rattle.machine.specs.declared.amount.Amount.{Amount}
 use Rattle.machine.specs.declared.amount.Amount.TheVariants as amount
 use Rattle.machine.specs.declared.config.Config.{Config}
 use Rattle.machine.specs.declared.config.Watermarks.{Watermarks}
+use Rattle.machine.specs.declared.event.Cause.{Cause}
 use Rattle.machine.specs.declared.event.Op.{Op}
 use Rattle.machine.specs.declared.event.Op.TheVariants.{Read, Write}
 use Rattle.machine.specs.declared.command.Actor.{Actor}
@@ -41,7 +42,7 @@ use Rattle.driver.specs.declared.turn.Pending.TheVariants as pending
 use Rattle.driver.specs.declared.turn.Want.{Want}
 use Rattle.driver.specs.declared.turn.Want.TheVariants as want
 use Rattle.driver.specs.declared.turn.Transition.{Transition}
-use Rattle.driver.specs.declared.turn.Transition.TheVariants.{Goes, Kills, Ends}
+use Rattle.driver.specs.declared.turn.Transition.TheVariants.{Goes, Kills, Waits, Ends}
 use Rattle.driver.specs.declared.turn.Outcome.{Outcome}
 use Rattle.driver.specs.declared.turn.Activity.{Activity}
 use Rattle.driver.specs.declared.turn.Activity.TheVariants.{Rests, Begun, Does}
@@ -70,7 +71,8 @@ all_owed (seat ∷ seats) = owed seat.activity + all_owed seats
 -- what a turn leaves owed, or answers
 abbrev cost : Transition → ℕ
 cost (Goes stage) = owed_at stage
-cost (Kills t stage) = owed_at stage
+cost (Kills t on) = owed_at (resumes_at on)
+cost (Waits on) = 0
 cost (Ends said) = one_if (is_error said)
 
 abbrev owed_pending : Pending → ℕ
@@ -86,6 +88,7 @@ byte-cost (Write b) byte = refl
 
 on-cost : (on : Resume) → cost (Goes (resumes_at on)) ≡ 0
 on-cost (resume.Try access) = refl
+on-cost (resume.MakeRoom access why) = refl
 on-cost (resume.Lower g) = refl
 on-cost (resume.Reclaim g left) = refl
 on-cost resume.Balance = refl
@@ -100,15 +103,15 @@ tried-cost access reply.Killed transition h = rw h refl
 tried-cost access (reply.Refused why) transition h = rw h refl
 tried-cost access said transition h = absurd h
 
-room-cost : (access : Access) (said : Reply) (transition : Transition) → MadeRoom access said transition → cost transition ≡ 0
-room-cost access reply.Room transition h = rw h refl
-room-cost access reply.Dropped transition h = rw h refl
-room-cost access (reply.Out ticket) transition h = rw h refl
-room-cost access reply.Wait transition h = rw h refl
-room-cost access (reply.KilledTask t) transition h = rw h refl
-room-cost access reply.NoVictim transition h = rw h refl
-room-cost access (reply.Refused why) transition h = rw h refl
-room-cost access said transition h = absurd h
+room-cost : (access : Access) (why : Cause) (said : Reply) (transition : Transition) → MadeRoom access why said transition → cost transition ≡ 0
+room-cost access why reply.Room transition h = rw h refl
+room-cost access why reply.Dropped transition h = rw h refl
+room-cost access why (reply.Out ticket) transition h = rw h refl
+room-cost access why reply.Wait transition h = rw h refl
+room-cost access why (reply.KilledTask t) transition h = rw h refl
+room-cost access why reply.NoVictim transition h = rw h refl
+room-cost access why (reply.Refused refused) transition h = rw h refl
+room-cost access why said transition h = absurd h
 
 max-cost : (g : ℕ) (said : Reply) (transition : Transition) → MaxSet g said transition → cost transition ≡ 0
 max-cost g reply.Ok transition h = rw h refl
@@ -168,7 +171,7 @@ none-cost transition e = omega (arith, e)
 
 told-cost : (remembers : Pending) (said : Reply) (transition : Transition) → Told remembers said transition → cost transition ≤ owed_pending remembers
 told-cost (pending.Try access) said transition h = none-cost transition (tried-cost access said transition h)
-told-cost (pending.MakeRoom access) said transition h = none-cost transition (room-cost access said transition h)
+told-cost (pending.MakeRoom access why) said transition h = none-cost transition (room-cost access why said transition h)
 told-cost (pending.SetMax g) said transition h = none-cost transition (max-cost g.0 said transition h)
 told-cost (pending.Lower g) said transition h = none-cost transition (lowered-cost g.0 said transition h)
 told-cost (pending.Reclaim g left) said transition h = none-cost transition (reclaimed-cost g.0 left said transition h)
@@ -355,7 +358,8 @@ bound-then old mid new xs ys a b = let sum = errors-append xs ys in record { wit
 
 said-cost : (who : Actor) (transition : Transition) → errors (said_at who (outcome_of transition)) + owed (left_of transition) ≡ cost transition
 said-cost who (Goes now) = omega arith
-said-cost who (Kills t now) = omega arith
+said-cost who (Kills t on) = omega arith
+said-cost who (Waits on) = refl
 said-cost who (Ends said) = alone (one_if (is_error said))
   where
     alone : (n : ℕ) → 0 + n + 0 ≡ n

@@ -1,4 +1,4 @@
--- Examples of pages of files: a read of one that is not in memory, turn by turn; and what a command makes of a page that is dropped.
+-- Examples of pages of files: a read of one that is not in memory, turn by turn; and what a command makes of a page that is dropped, or in transfer.
 use Rattle.std.proofs.Common.{◌≡◌, ◌≢◌, ℕ, zero, suc, ◌&&◌, true, false, List, [], ◌∷◌, ◌++◌, Some, None, refl, ne_eqb, arith}
 use Rattle.std.specs.Prelude.{Ok, Err, codes}
 use Rattle.machine.specs.declared.amount.Amount.TheVariants as amount
@@ -7,6 +7,7 @@ use Rattle.machine.specs.declared.config.Watermarks.{Watermarks}
 use Rattle.machine.specs.declared.command.Actor.TheVariants as actor
 use Rattle.machine.specs.declared.command.Answer.TheVariants as answer
 use Rattle.machine.specs.declared.command.Command.TheVariants as command
+use Rattle.machine.specs.declared.command.Word.TheVariants as word
 use Rattle.machine.specs.declared.event.Event.TheVariants as event
 use Rattle.machine.specs.declared.event.Op.TheVariants.{Read}
 use Rattle.machine.specs.declared.event.Place.TheVariants.{File}
@@ -35,11 +36,12 @@ use Rattle.driver.specs.declared.turn.Activity.{Activity}
 use Rattle.driver.specs.declared.turn.Activity.TheVariants.{Rests, Begun, Does}
 use Rattle.driver.specs.declared.turn.Outcome.TheVariants.{Goes, Ends}
 use Rattle.driver.specs.declared.turn.Pending.TheVariants as pending
+use Rattle.driver.specs.declared.turn.Resume.TheVariants as resume
 use Rattle.driver.specs.declared.turn.Stage.TheVariants as stage
 use Rattle.driver.specs.declared.turn.Transition.TheVariants as transition
 use Rattle.driver.specs.declared.turn.Want.TheVariants as want
-use Rattle.driver.specs.Turns.{wants, Told, judged}
-use Rattle.driver.specs.Schedule.{World, Turn}
+use Rattle.driver.specs.Turns.{wants, Told, resumes_at, judged}
+use Rattle.driver.specs.Schedule.{World, Turn, outcome_of, left_of}
 use Rattle.driver.proofs.TurnExamples.{lists, order, caller, disk as no_disk, after}
 use Rattle.driver.proofs.TaskExamples.{r, tree}
 
@@ -245,7 +247,7 @@ module _ (bytes : List ℕ) where
 -- ---- a page that is dropped
 
 -- nothing has to be written, and the access is tried again
-drops-for_access : Told (pending.MakeRoom access) says.Dropped (transition.Goes (stage.Try access))
+drops-for_access : Told (pending.MakeRoom access (cause.Charge r)) says.Dropped (transition.Goes (stage.Try access))
 drops-for_access = refl
 
 -- a max that is lowered goes on
@@ -369,22 +371,46 @@ makes_room = record {
 }
 
 -- a reclaim of two pages takes one, and has one less to take when that was dropped
-reclaims-two : (marks : Watermarks) → wants marks 0 (stage.Reclaim r 2) ≡ want.Call (pending.Reclaim r 1) (asks.ReclaimOne r)
+reclaims-two : (marks : Watermarks) → wants marks 0 (stage.Reclaim r 2) ≡ want.Call (pending.Reclaim r 2) (asks.ReclaimOne r)
 reclaims-two marks = refl
 
-drops-for_reclaim : Told (pending.Reclaim r 1) says.Dropped (transition.Goes (stage.Reclaim r 1))
+drops-for_reclaim : Told (pending.Reclaim r 2) says.Dropped (transition.Goes (stage.Reclaim r 1))
 drops-for_reclaim = refl
 
 -- with the second the reclaim is done
-drops-last : Told (pending.Reclaim r 0) says.Dropped (transition.Goes (stage.Reclaim r 0))
+drops-last : Told (pending.Reclaim r 1) says.Dropped (transition.Goes (stage.Reclaim r 0))
 drops-last = refl
 
 ends-well : (marks : Watermarks) → wants marks 0 (stage.Reclaim r 0) ≡ want.End answer.Done
 ends-well marks = refl
 
 -- and no third page is taken
-drops-not_more : Told (pending.Reclaim r 1) says.Dropped (transition.Goes (stage.Reclaim r 2)) → ⊥
+drops-not_more : Told (pending.Reclaim r 2) says.Dropped (transition.Goes (stage.Reclaim r 2)) → ⊥
 drops-not_more e = cc
+
+-- ---- a page that is in transfer
+
+-- the access that met it is tried again once a transfer has ended
+waits-for_page : Told (pending.Try access) says.Busy (transition.Waits (resume.Try access))
+waits-for_page = refl
+
+-- one that wants room wants it again, and for the same cause
+waits-for_room : Told (pending.MakeRoom access (cause.Charge r)) says.Wait (transition.Waits (resume.MakeRoom access (cause.Charge r)))
+waits-for_room = refl
+
+wants_room-again : resumes_at (resume.MakeRoom access (cause.Charge r)) ≡ stage.MakeRoom access (cause.Charge r)
+wants_room-again = refl
+
+-- a reclaim of two pages wants two again
+waits-for_reclaim : Told (pending.Reclaim r 2) says.Wait (transition.Waits (resume.Reclaim r 2))
+waits-for_reclaim = refl
+
+-- in a schedule each of them is answered busy, and has ended
+busy-in_schedule : outcome_of (transition.Waits (resume.Try access)) ≡ Ends (answer.Word word.Busy)
+busy-in_schedule = refl
+
+ended-in_schedule : left_of (transition.Waits (resume.Try access)) ≡ Rests
+ended-in_schedule = refl
 
 -- ---- memory.stat
 

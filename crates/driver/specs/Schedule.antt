@@ -30,7 +30,7 @@ use Rattle.machine.specs.Pages.{home_block}
 use Rattle.machine.specs.State.{sizes_of, opening_of, blocks_of, is_config, free_frames}
 use Rattle.machine.specs.History.{at_first, Honest, Right}
 use Rattle.machine.specs.Call.{Past, first_past, Caller, Called}
-use Rattle.driver.specs.Turns.{wants, Told, ReadsIn, WritesOut, Judged, judged, ends_refused}
+use Rattle.driver.specs.Turns.{wants, Told, resumes_at, ReadsIn, WritesOut, Judged, judged, ends_refused}
 
 -- ---- what the actors are at
 
@@ -72,14 +72,17 @@ first_world config disk = record { past = record (first_past (opening_of config)
 
 -- ---- one turn
 
+-- nobody waits in a schedule: a command that would has ended, and is answered busy
 abbrev pub outcome_of : Transition → Outcome
 outcome_of (transition.Goes stage) = Goes
-outcome_of (transition.Kills t stage) = Kills t
+outcome_of (transition.Kills t on) = Kills t
+outcome_of (transition.Waits on) = Ends (answer.Word word.Busy)
 outcome_of (transition.Ends said) = Ends said
 
 abbrev pub left_of : Transition → Activity
 left_of (transition.Goes stage) = Does stage
-left_of (transition.Kills t stage) = Does stage
+left_of (transition.Kills t on) = Does (resumes_at on)
+left_of (transition.Waits on) = Rests
 left_of (transition.Ends said) = Rests
 
 -- the caller asks the book one event; and what the command makes of the reply

@@ -1,5 +1,5 @@
 -- Tickets in hand, and tickets that were handed back.
-use Rattle.std.specs.Prelude.{◌≡◌, ℕ, ◌+◌, ◌<◌, true, List, [], ◌∷◌, sum}
+use Rattle.std.specs.Prelude.{◌≡◌, ℕ, ◌+◌, ◌<◌, Bool, true, false, List, [], ◌∷◌, sum}
 use Rattle.machine.specs.State.{Opening}
 use Rattle.pages.specs.Tickets.{TicketOf}
 use Rattle.book.specs.declared.event.Event.{Event}
@@ -8,13 +8,53 @@ use Rattle.book.specs.declared.event.Reply.{Reply}
 use Rattle.book.specs.declared.event.Reply.TheVariants as reply
 use Rattle.driver.specs.declared.turn.Stage.{Stage}
 use Rattle.driver.specs.declared.turn.Stage.TheVariants as stage
+use Rattle.driver.specs.declared.turn.Want.{Want}
+use Rattle.driver.specs.declared.turn.Want.TheVariants as want
 use Rattle.driver.specs.declared.turn.Transition.{Transition}
-use Rattle.driver.specs.declared.turn.Transition.TheVariants.{Goes, Kills, Ends}
+use Rattle.driver.specs.declared.turn.Transition.TheVariants.{Goes, Kills, Waits, Ends}
 use Rattle.driver.specs.declared.turn.Activity.{Activity}
 use Rattle.driver.specs.declared.turn.Activity.TheVariants.{Rests, Begun, Does}
 use Rattle.driver.specs.declared.turn.Seat.{Seat}
 
--- ---- tickets in hand
+-- ---- whether a ticket is in hand
+
+abbrev pub holds : Stage → Bool
+holds (stage.Read access ticket) = true
+holds (stage.Arrive access ticket) = true
+holds (stage.FetchFail ticket) = true
+holds (stage.Write on ticket) = true
+holds (stage.Leave on ticket) = true
+holds (stage.LeaveFail ticket) = true
+holds other = false
+
+-- the event ends a transfer, and its ticket goes with it
+abbrev pub is_ending : Event → Bool
+is_ending (event.Arrived ticket) = true
+is_ending (event.FetchFailed ticket) = true
+is_ending (event.Left ticket) = true
+is_ending (event.LeaveFailed ticket) = true
+is_ending what = false
+
+abbrev pub holds_want : Want → Bool
+holds_want (want.Call remembers what) = is_ending what
+holds_want (want.Read access ticket) = true
+holds_want (want.Write on ticket) = true
+holds_want (want.End said) = false
+
+-- a reply gives one out. (That of an ending which is refused comes back, to be discarded at once.)
+abbrev pub gives_ticket : Reply → Bool
+gives_ticket (reply.Fetch ticket) = true
+gives_ticket (reply.Out ticket) = true
+gives_ticket said = false
+
+-- behind a turn
+abbrev pub holds_after : Transition → Bool
+holds_after (Goes next) = holds next
+holds_after (Kills t on) = false
+holds_after (Waits on) = false
+holds_after (Ends said) = false
+
+-- ---- whose it is
 
 -- how many blocks there are: those of swap, and the homes of files' pages
 abbrev pub blocks_in : Opening → ℕ
@@ -48,9 +88,16 @@ OwnStage worker blocks (stage.Leave on ticket) = IsOwn worker blocks ticket
 OwnStage worker blocks (stage.LeaveFail ticket) = IsOwn worker blocks ticket
 OwnStage worker blocks other = Unit {0}
 
+abbrev pub OwnWant : ℕ → ℕ → Want → Type 0
+OwnWant worker blocks (want.Call remembers what) = OwnEvent worker blocks what
+OwnWant worker blocks (want.Read access ticket) = IsOwn worker blocks ticket
+OwnWant worker blocks (want.Write on ticket) = IsOwn worker blocks ticket
+OwnWant worker blocks (want.End said) = Unit {0}
+
 abbrev pub OwnTransition : ℕ → ℕ → Transition → Type 0
 OwnTransition worker blocks (Goes next) = OwnStage worker blocks next
-OwnTransition worker blocks (Kills t next) = OwnStage worker blocks next
+OwnTransition worker blocks (Kills t on) = Unit {0}
+OwnTransition worker blocks (Waits on) = Unit {0}
 OwnTransition worker blocks (Ends said) = Unit {0}
 
 abbrev pub OwnActivity : ℕ → ℕ → Activity → Type 0
@@ -77,13 +124,3 @@ IsSpendableReply (reply.Out ticket) = ticket.handed ≡ true
 IsSpendableReply (reply.StrangeIn ticket) = ticket.handed ≡ true
 IsSpendableReply (reply.StrangeOut ticket) = ticket.handed ≡ true
 IsSpendableReply said = Unit {0}
-
--- whatever ticket the command holds can be discarded
-abbrev pub IsSpendableStage : Stage → Type 0
-IsSpendableStage (stage.Read access ticket) = ticket.handed ≡ true
-IsSpendableStage (stage.Arrive access ticket) = ticket.handed ≡ true
-IsSpendableStage (stage.FetchFail ticket) = ticket.handed ≡ true
-IsSpendableStage (stage.Write on ticket) = ticket.handed ≡ true
-IsSpendableStage (stage.Leave on ticket) = ticket.handed ≡ true
-IsSpendableStage (stage.LeaveFail ticket) = ticket.handed ≡ true
-IsSpendableStage other = Unit {0}

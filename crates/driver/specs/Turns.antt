@@ -1,10 +1,11 @@
 -- The table of turns: what a command in a state asks of the book or of the device, and what it makes of the answer.
-use Rattle.std.specs.Prelude.{◌≡◌, ℕ, zero, suc, nat_le, if◌then◌else◌, List, [], ◌∷◌, map, Result, Ok, Err, Option, Some, None}
+use Rattle.std.specs.Prelude.{◌≡◌, ℕ, zero, suc, ◌-◌, nat_le, if◌then◌else◌, List, [], ◌∷◌, map, Result, Ok, Err, Option, Some, None}
 use Rattle.machine.specs.declared.amount.Amount.{Amount}
 use Rattle.machine.specs.declared.amount.Amount.TheVariants as amount
 use Rattle.machine.specs.declared.config.Watermarks.{Watermarks}
 use Rattle.machine.specs.declared.event.Op.{Op}
 use Rattle.machine.specs.declared.event.Op.TheVariants.{Read, Write}
+use Rattle.machine.specs.declared.event.Cause.{Cause}
 use Rattle.machine.specs.declared.event.Cause.TheVariants as cause
 use Rattle.machine.specs.declared.event.Setting.TheVariants as setting
 use Rattle.machine.specs.declared.event.Query.TheVariants as query
@@ -41,7 +42,7 @@ use Rattle.driver.specs.declared.turn.Pending.TheVariants as pending
 use Rattle.driver.specs.declared.turn.Want.{Want}
 use Rattle.driver.specs.declared.turn.Want.TheVariants as want
 use Rattle.driver.specs.declared.turn.Transition.{Transition}
-use Rattle.driver.specs.declared.turn.Transition.TheVariants.{Goes, Kills, Ends}
+use Rattle.driver.specs.declared.turn.Transition.TheVariants.{Goes, Kills, Waits, Ends}
 
 -- ---- what a turn asks
 
@@ -54,7 +55,7 @@ done = want.End answer.Done
 -- one page of so many is taken; with none left the command is done, and asks nothing
 abbrev pub wants_pages : ℕ → ℕ → Want
 wants_pages g zero = done
-wants_pages g (suc left) = want.Call (pending.Reclaim (record { 0 = g }) left) (event.ReclaimOne (record { 0 = g }))
+wants_pages g (suc left) = want.Call (pending.Reclaim (record { 0 = g }) (suc left)) (event.ReclaimOne (record { 0 = g }))
 
 -- the daemon takes pages of all groups until so many frames are free as its high mark says
 abbrev pub wants_balance : Watermarks → ℕ → Want
@@ -67,7 +68,7 @@ wants_watch marks free = if nat_le marks.low free then done else wants_balance m
 -- what a command that stands there wants, and what it remembers meanwhile, where so many frames are free
 abbrev pub wants : Watermarks → ℕ → Stage → Want
 wants marks free (stage.Try access) = want.Call (pending.Try access) (access_event access)
-wants marks free (stage.MakeRoom access why) = want.Call (pending.MakeRoom access) (event.Relieve why)
+wants marks free (stage.MakeRoom access why) = want.Call (pending.MakeRoom access why) (event.Relieve why)
 wants marks free (stage.SetMax g max) = want.Call (pending.SetMax g) (event.Set g (setting.Max max))
 wants marks free (stage.Lower g) = want.Call (pending.Lower g) (event.Relieve (cause.Lower g))
 wants marks free (stage.SetMin g min) = want.Call pending.Make (event.Set g (setting.Min min))
@@ -91,6 +92,8 @@ wants marks free (stage.LeaveFail ticket) = want.Call pending.LeaveFail (event.L
 
 -- ---- what it makes of the reply
 
+-- Where a page in transfer is in the way a command waits, and goes on in the state that met it. (Excludes a cause that is lost over the wait, and a page that counts as taken when none was.)
+
 abbrev pub ends_with : Word → Transition
 ends_with what = Ends (answer.Word what)
 
@@ -102,28 +105,28 @@ abbrev pub byte_answer : Op → ℕ → Answer
 byte_answer Read byte = answer.Byte byte
 byte_answer (Write b) byte = answer.Done
 
--- an access is done, or has its page read in, or wants room, or met a page in transfer, or was of a killed task
+-- an access is done, or has its page read in, or wants room, or waits, or was of a killed task
 abbrev pub Tried : Access → Reply → Transition → Type 0
 Tried access (reply.Done byte hit) transition = transition ≡ Ends (byte_answer access.op byte)
 Tried access (reply.Fetch ticket) transition = transition ≡ Goes (stage.Read access ticket)
 Tried access (reply.Over g) transition = transition ≡ Goes (stage.MakeRoom access (cause.Charge g))
 Tried access reply.NoFrame transition = transition ≡ Goes (stage.MakeRoom access cause.Frame)
-Tried access reply.Busy transition = transition ≡ ends_with word.Busy
+Tried access reply.Busy transition = transition ≡ Waits (resume.Try access)
 Tried access reply.Killed transition = transition ≡ ends_with word.Killed
 Tried access (reply.Refused why) transition = transition ≡ ends_refused why
 Tried access said transition = ⊥
 
--- with room, or after a page is dropped or a task killed, the access is tried again; a page that has to be written out is written first; where one is in transfer the access is told so;
--- with nobody to kill it wants memory
-abbrev pub MadeRoom : Access → Reply → Transition → Type 0
-MadeRoom access reply.Room transition = transition ≡ Goes (stage.Try access)
-MadeRoom access reply.Dropped transition = transition ≡ Goes (stage.Try access)
-MadeRoom access (reply.Out ticket) transition = transition ≡ Goes (stage.Write (resume.Try access) ticket)
-MadeRoom access reply.Wait transition = transition ≡ ends_with word.Busy
-MadeRoom access (reply.KilledTask t) transition = transition ≡ Kills t (stage.Try access)
-MadeRoom access reply.NoVictim transition = transition ≡ ends_with word.OutOfMemory
-MadeRoom access (reply.Refused why) transition = transition ≡ ends_refused why
-MadeRoom access said transition = ⊥
+-- with room, or after a page is dropped or a task killed, the access is tried again; a page that has to be written out is written first; where one is in transfer it waits; with nobody
+-- to kill it wants memory
+abbrev pub MadeRoom : Access → Cause → Reply → Transition → Type 0
+MadeRoom access why reply.Room transition = transition ≡ Goes (stage.Try access)
+MadeRoom access why reply.Dropped transition = transition ≡ Goes (stage.Try access)
+MadeRoom access why (reply.Out ticket) transition = transition ≡ Goes (stage.Write (resume.Try access) ticket)
+MadeRoom access why reply.Wait transition = transition ≡ Waits (resume.MakeRoom access why)
+MadeRoom access why (reply.KilledTask t) transition = transition ≡ Kills t (resume.Try access)
+MadeRoom access why reply.NoVictim transition = transition ≡ ends_with word.OutOfMemory
+MadeRoom access why (reply.Refused refused) transition = transition ≡ ends_refused refused
+MadeRoom access why said transition = ⊥
 
 -- a max that was set is set for good; then room is made
 abbrev pub MaxSet : ℕ → Reply → Transition → Type 0
@@ -135,17 +138,17 @@ abbrev pub Lowered : ℕ → Reply → Transition → Type 0
 Lowered g reply.Room transition = transition ≡ Ends answer.Done
 Lowered g reply.Dropped transition = transition ≡ Goes (stage.Lower (record { 0 = g }))
 Lowered g (reply.Out ticket) transition = transition ≡ Goes (stage.Write (resume.Lower (record { 0 = g })) ticket)
-Lowered g reply.Wait transition = transition ≡ ends_with word.Busy
-Lowered g (reply.KilledTask t) transition = transition ≡ Kills t (stage.Lower (record { 0 = g }))
+Lowered g reply.Wait transition = transition ≡ Waits (resume.Lower (record { 0 = g }))
+Lowered g (reply.KilledTask t) transition = transition ≡ Kills t (resume.Lower (record { 0 = g }))
 Lowered g reply.NoVictim transition = transition ≡ Ends answer.Done
 Lowered g (reply.Refused why) transition = transition ≡ ends_refused why
 Lowered g said transition = ⊥
 
--- one page less is wanted once one was dropped, or written out; where one is in transfer the writer is told so; where there is nothing it may ask again
+-- one page less is wanted once one was dropped, or written out; where one is in transfer it waits; where there is nothing the writer may ask again
 abbrev pub Reclaimed : ℕ → ℕ → Reply → Transition → Type 0
-Reclaimed g left reply.Dropped transition = transition ≡ Goes (stage.Reclaim (record { 0 = g }) left)
-Reclaimed g left (reply.Out ticket) transition = transition ≡ Goes (stage.Write (resume.Reclaim (record { 0 = g }) left) ticket)
-Reclaimed g left reply.Wait transition = transition ≡ ends_with word.Busy
+Reclaimed g left reply.Dropped transition = transition ≡ Goes (stage.Reclaim (record { 0 = g }) (left - 1))
+Reclaimed g left (reply.Out ticket) transition = transition ≡ Goes (stage.Write (resume.Reclaim (record { 0 = g }) (left - 1)) ticket)
+Reclaimed g left reply.Wait transition = transition ≡ Waits (resume.Reclaim (record { 0 = g }) left)
 Reclaimed g left reply.Nothing transition = transition ≡ ends_with word.Again
 Reclaimed g left (reply.Refused why) transition = transition ≡ ends_refused why
 Reclaimed g left said transition = ⊥
@@ -154,7 +157,7 @@ Reclaimed g left said transition = ⊥
 abbrev pub Balanced : Reply → Transition → Type 0
 Balanced reply.Dropped transition = transition ≡ Goes stage.Balance
 Balanced (reply.Out ticket) transition = transition ≡ Goes (stage.Write resume.Balance ticket)
-Balanced reply.Wait transition = transition ≡ ends_with word.Busy
+Balanced reply.Wait transition = transition ≡ Waits resume.Balance
 Balanced reply.Nothing transition = transition ≡ Ends answer.Done
 Balanced (reply.Refused why) transition = transition ≡ ends_refused why
 Balanced said transition = ⊥
@@ -177,9 +180,10 @@ WasShown (reply.Shown numbers) transition = transition ≡ Ends (answer.Text (te
 WasShown (reply.Refused why) transition = transition ≡ ends_refused why
 WasShown said transition = ⊥
 
--- where a command goes on once a page has left
+-- where a command goes on once a transfer has ended, its own or another's
 abbrev pub resumes_at : Resume → Stage
 resumes_at (resume.Try access) = stage.Try access
+resumes_at (resume.MakeRoom access why) = stage.MakeRoom access why
 resumes_at (resume.Lower g) = stage.Lower g
 resumes_at (resume.Reclaim g left) = stage.Reclaim g left
 resumes_at resume.Balance = stage.Balance
@@ -193,7 +197,7 @@ Closed resumed said transition = ⊥
 
 abbrev pub Told : Pending → Reply → Transition → Type 0
 Told (pending.Try access) said transition = Tried access said transition
-Told (pending.MakeRoom access) said transition = MadeRoom access said transition
+Told (pending.MakeRoom access why) said transition = MadeRoom access why said transition
 Told (pending.SetMax g) said transition = MaxSet g.0 said transition
 Told (pending.Lower g) said transition = Lowered g.0 said transition
 Told (pending.Reclaim g left) said transition = Reclaimed g.0 left said transition
@@ -206,10 +210,15 @@ Told pending.FetchFail said transition = Closed (ends_with word.Io) said transit
 Told (pending.Leave on) said transition = Closed (Goes (resumes_at on)) said transition
 Told pending.LeaveFail said transition = Closed (ends_with word.Io) said transition
 
+-- memory for a control file's text was refused, and everything else was there
+pub record WantsText (remembers : Pending) (said : Reply) : Type 0 where
+  pub text : List ℕ
+  pub told : Told remembers said (Ends (answer.Text text))
+
 -- the replies that can come
 abbrev pub Awaits : Pending → Reply → Type 0
 Awaits (pending.Try access) said = IsAccessReply said
-Awaits (pending.MakeRoom access) said = IsReliefReply said
+Awaits (pending.MakeRoom access why) said = IsReliefReply said
 Awaits (pending.SetMax g) said = IsOkReply said
 Awaits (pending.Lower g) said = IsReliefReply said
 Awaits (pending.Reclaim g left) said = IsReclaimReply said

@@ -2,10 +2,10 @@
 //! makes of the book's reply. It knows no book, no device and no loop, so whoever runs commands runs
 //! this one.
 
-ghost use Rattle.std.specs.Prelude.{◌≡◌, true, IfOk, IfErr};
+ghost use Rattle.std.specs.Prelude.{◌≡◌, ℕ, true, false, IfOk, OnErr};
 ghost use Rattle.book.specs.Replies.{IsAccessReply, IsReliefReply, IsReclaimReply, IsOkReply, IsTaskReply, IsShownReply, IsInReply, IsOutReply};
-ghost use Rattle.driver.specs.Turns.{access_event, wants_pages, wants_balance, wants_watch, wants, ends_with, ends_refused, byte_answer, resumes_at, Tried, MadeRoom, MaxSet, Lowered, Reclaimed, Balanced, Made, TaskDid, WasShown, Closed, Told, Awaits, AwaitsAll};
-ghost use Rattle.driver.specs.Tickets.{IsHanded, IsSpendableReply};
+ghost use Rattle.driver.specs.Turns.{access_event, wants_pages, wants_balance, wants_watch, wants, ends_with, ends_refused, byte_answer, resumes_at, Tried, MadeRoom, MaxSet, Lowered, Reclaimed, Balanced, Made, TaskDid, WasShown, Closed, Told, WantsText, Awaits, AwaitsAll};
+ghost use Rattle.driver.specs.Tickets.{holds, holds_want, holds_after, gives_ticket, OwnReply, OwnStage, OwnWant, OwnTransition, IsHanded, IsSpendableReply};
 
 use crate::turn::{Access, Pending, Resume, Stage, Transition, Want};
 use book::{Event, InTicket, OutTicket, Reply};
@@ -23,11 +23,13 @@ use std::alloc::{AllocError, Global};
 pub fn ask(stage: Stage, marks: Watermarks, free: u32) -> Want
     ensures wants { result ≡ wants marks free stage }
     ensures awaits { AwaitsAll result }
+    ensures holds { holds_want result ≡ holds stage }
+    ensures own { (worker blocks : ℕ) → OwnStage worker blocks stage → OwnWant worker blocks result }
 {
     match stage {
         Stage::Try(access) => Want::Call(Pending::Try(access), access_event(access)),
         Stage::MakeRoom(access, cause) => {
-            Want::Call(Pending::MakeRoom(access), Event::Relieve(cause))
+            Want::Call(Pending::MakeRoom(access, cause), Event::Relieve(cause))
         }
         Stage::SetMax { group, max } => Want::Call(
             Pending::SetMax(group),
@@ -84,11 +86,12 @@ fn access_event(access: Access) -> Event
 fn ask_page(group: GroupId, left: u64) -> Want
     ensures wants { result ≡ wants_pages group.0 left }
     ensures awaits { AwaitsAll result }
+    ensures holds { holds_want result ≡ false }
+    ensures own { (worker blocks : ℕ) → OwnWant worker blocks result }
 {
     if left == 0 {
         return Want::End(Answer::Done);
     }
-    let left = left - 1;
     Want::Call(Pending::Reclaim { group, left }, Event::ReclaimOne(group))
 }
 
@@ -96,6 +99,8 @@ fn ask_page(group: GroupId, left: u64) -> Want
 fn watch(marks: Watermarks, free: u32) -> Want
     ensures wants { result ≡ wants_watch marks free }
     ensures awaits { AwaitsAll result }
+    ensures holds { holds_want result ≡ false }
+    ensures own { (worker blocks : ℕ) → OwnWant worker blocks result }
 {
     if free >= marks.low {
         return Want::End(Answer::Done);
@@ -107,6 +112,8 @@ fn watch(marks: Watermarks, free: u32) -> Want
 fn balance(marks: Watermarks, free: u32) -> Want
     ensures wants { result ≡ wants_balance marks free }
     ensures awaits { AwaitsAll result }
+    ensures holds { holds_want result ≡ false }
+    ensures own { (worker blocks : ℕ) → OwnWant worker blocks result }
 {
     if free >= marks.high {
         return Want::End(Answer::Done);
@@ -114,17 +121,21 @@ fn balance(marks: Watermarks, free: u32) -> Want
     Want::Call(Pending::Balance, Event::ReclaimOne(GroupId(0)))
 }
 
-/// What a command makes of the book's reply, a ticket in which goes on with the command or is spent.
-/// It fails only where memory is wanted for a control file's text and refused.
+/// What a command makes of the book's reply. A ticket that the reply gives out goes on with the
+/// command, and one that was handed back is spent. It fails only where memory is wanted for a control
+/// file's text and refused.
 pub fn told(alloc: Global, pending: Pending, reply: Reply) -> Result<Transition, AllocError>
     requires awaits { Awaits pending reply }
     requires handed { IsHanded reply }
     ensures told { IfOk result (λ transition. Told pending reply transition) }
-    ensures err { IfErr result (λ e. pending ≡ Pending.Show) }
+    ensures holds { IfOk result (λ transition. holds_after transition ≡ gives_ticket reply) }
+    ensures own { (worker blocks : ℕ) → OwnReply worker blocks reply → IfOk result (λ transition. OwnTransition worker blocks transition) }
+    ensures err { OnErr result (WantsText pending reply) }
+    ensures quiet { OnErr result (gives_ticket reply ≡ false) }
 {
     match pending {
         Pending::Try(access) => Ok(tried(access, reply)),
-        Pending::MakeRoom(access) => Ok(made_room(access, reply)),
+        Pending::MakeRoom(access, cause) => Ok(made_room(access, cause, reply)),
         Pending::SetMax(group) => Ok(max_set(group, reply)),
         Pending::Lower(group) => Ok(lowered(group, reply)),
         Pending::Reclaim { group, left } => Ok(reclaimed(group, left, reply)),
@@ -177,6 +188,38 @@ pub(crate) fn spend(reply: Reply)
     }
 }
 
+/// Whether a command that stands there has a ticket in hand.
+pub fn holds(stage: &Stage) -> bool
+    ensures { result ≡ holds stage.now }
+{
+    match stage {
+        Stage::Read(_, _) | Stage::Arrive(_, _) | Stage::FetchFail(_) => true,
+        Stage::Write(_, _) | Stage::Leave(_, _) | Stage::LeaveFail(_) => true,
+        _ => false,
+    }
+}
+
+/// Lets go of a command that has no ticket in hand.
+pub fn let_go(stage: Stage)
+    requires { holds stage ≡ false }
+{
+    match stage {
+        Stage::Read(_, ticket) | Stage::Arrive(_, ticket) | Stage::FetchFail(ticket) => {
+            ticket.discard();
+        }
+        Stage::Write(_, ticket) | Stage::Leave(_, ticket) | Stage::LeaveFail(ticket) => {
+            ticket.discard();
+        }
+        Stage::Try(_) | Stage::MakeRoom(_, _) | Stage::SetMax { group: _, max: _ } => {}
+        Stage::Lower(_) | Stage::SetMin { group: _, min: _ } => {}
+        Stage::Reclaim { group: _, left: _ } | Stage::Watch | Stage::Balance => {}
+        Stage::Spawn { task: _, group: _ } | Stage::Fork { task: _, child: _ } => {}
+        Stage::Exit(_) | Stage::Free { task: _, page: _ } => {}
+        Stage::Attach { task: _, group: _ } => {}
+        Stage::Mkdir(_) | Stage::Rmdir(_) | Stage::Show(_) => {}
+    }
+}
+
 fn byte_answer(op: Op, byte: u8) -> Answer
     ensures { result ≡ byte_answer op byte }
 {
@@ -188,29 +231,33 @@ fn byte_answer(op: Op, byte: u8) -> Answer
 
 fn tried(access: Access, reply: Reply) -> Transition
     requires { IsAccessReply reply }
-    ensures { Tried access reply result }
+    ensures told { Tried access reply result }
+    ensures holds { holds_after result ≡ gives_ticket reply }
+    ensures own { (worker blocks : ℕ) → OwnReply worker blocks reply → OwnTransition worker blocks result }
 {
     match reply {
         Reply::Done { byte, hit: _ } => Transition::Ends(byte_answer(access.op, byte)),
         Reply::Fetch(ticket) => Transition::Goes(Stage::Read(access, ticket)),
         Reply::Over(group) => Transition::Goes(Stage::MakeRoom(access, Cause::Charge(group))),
         Reply::NoFrame => Transition::Goes(Stage::MakeRoom(access, Cause::Frame)),
-        Reply::Busy => word(Word::Busy),
+        Reply::Busy => Transition::Waits(Resume::Try(access)),
         Reply::Killed => word(Word::Killed),
         Reply::Refused(cause) => refused(cause),
         other => never(other),
     }
 }
 
-fn made_room(access: Access, reply: Reply) -> Transition
+fn made_room(access: Access, cause: Cause, reply: Reply) -> Transition
     requires { IsReliefReply reply }
-    ensures { MadeRoom access reply result }
+    ensures told { MadeRoom access cause reply result }
+    ensures holds { holds_after result ≡ gives_ticket reply }
+    ensures own { (worker blocks : ℕ) → OwnReply worker blocks reply → OwnTransition worker blocks result }
 {
     match reply {
         Reply::Room | Reply::Dropped => Transition::Goes(Stage::Try(access)),
         Reply::Out(ticket) => Transition::Goes(Stage::Write(Resume::Try(access), ticket)),
-        Reply::Wait => word(Word::Busy),
-        Reply::KilledTask(task) => Transition::Kills(task, Stage::Try(access)),
+        Reply::Wait => Transition::Waits(Resume::MakeRoom(access, cause)),
+        Reply::KilledTask(task) => Transition::Kills(task, Resume::Try(access)),
         Reply::NoVictim => word(Word::OutOfMemory),
         Reply::Refused(cause) => refused(cause),
         other => never(other),
@@ -219,7 +266,9 @@ fn made_room(access: Access, reply: Reply) -> Transition
 
 fn max_set(group: GroupId, reply: Reply) -> Transition
     requires { IsOkReply reply }
-    ensures { MaxSet group.0 reply result }
+    ensures told { MaxSet group.0 reply result }
+    ensures holds { holds_after result ≡ gives_ticket reply }
+    ensures own { (worker blocks : ℕ) → OwnTransition worker blocks result }
 {
     match reply {
         Reply::Ok => Transition::Goes(Stage::Lower(group)),
@@ -230,14 +279,16 @@ fn max_set(group: GroupId, reply: Reply) -> Transition
 
 fn lowered(group: GroupId, reply: Reply) -> Transition
     requires { IsReliefReply reply }
-    ensures { Lowered group.0 reply result }
+    ensures told { Lowered group.0 reply result }
+    ensures holds { holds_after result ≡ gives_ticket reply }
+    ensures own { (worker blocks : ℕ) → OwnReply worker blocks reply → OwnTransition worker blocks result }
 {
     match reply {
         Reply::Room | Reply::NoVictim => Transition::Ends(Answer::Done),
         Reply::Dropped => Transition::Goes(Stage::Lower(group)),
         Reply::Out(ticket) => Transition::Goes(Stage::Write(Resume::Lower(group), ticket)),
-        Reply::Wait => word(Word::Busy),
-        Reply::KilledTask(task) => Transition::Kills(task, Stage::Lower(group)),
+        Reply::Wait => Transition::Waits(Resume::Lower(group)),
+        Reply::KilledTask(task) => Transition::Kills(task, Resume::Lower(group)),
         Reply::Refused(cause) => refused(cause),
         other => never(other),
     }
@@ -245,15 +296,18 @@ fn lowered(group: GroupId, reply: Reply) -> Transition
 
 fn reclaimed(group: GroupId, left: u64, reply: Reply) -> Transition
     requires { IsReclaimReply reply }
-    ensures { Reclaimed group.0 left reply result }
+    ensures told { Reclaimed group.0 left reply result }
+    ensures holds { holds_after result ≡ gives_ticket reply }
+    ensures own { (worker blocks : ℕ) → OwnReply worker blocks reply → OwnTransition worker blocks result }
 {
+    let less = left.saturating_sub(1);
     match reply {
-        Reply::Dropped => Transition::Goes(Stage::Reclaim { group, left }),
+        Reply::Dropped => Transition::Goes(Stage::Reclaim { group, left: less }),
         Reply::Out(ticket) => Transition::Goes(Stage::Write(
-            Resume::Reclaim { group, left },
+            Resume::Reclaim { group, left: less },
             ticket,
         )),
-        Reply::Wait => word(Word::Busy),
+        Reply::Wait => Transition::Waits(Resume::Reclaim { group, left }),
         Reply::Nothing => word(Word::Again),
         Reply::Refused(cause) => refused(cause),
         other => never(other),
@@ -262,12 +316,14 @@ fn reclaimed(group: GroupId, left: u64, reply: Reply) -> Transition
 
 fn balanced(reply: Reply) -> Transition
     requires { IsReclaimReply reply }
-    ensures { Balanced reply result }
+    ensures told { Balanced reply result }
+    ensures holds { holds_after result ≡ gives_ticket reply }
+    ensures own { (worker blocks : ℕ) → OwnReply worker blocks reply → OwnTransition worker blocks result }
 {
     match reply {
         Reply::Dropped => Transition::Goes(Stage::Balance),
         Reply::Out(ticket) => Transition::Goes(Stage::Write(Resume::Balance, ticket)),
-        Reply::Wait => word(Word::Busy),
+        Reply::Wait => Transition::Waits(Resume::Balance),
         Reply::Nothing => Transition::Ends(Answer::Done),
         Reply::Refused(cause) => refused(cause),
         other => never(other),
@@ -276,7 +332,9 @@ fn balanced(reply: Reply) -> Transition
 
 fn made(reply: Reply) -> Transition
     requires { IsOkReply reply }
-    ensures { Made reply result }
+    ensures told { Made reply result }
+    ensures holds { holds_after result ≡ gives_ticket reply }
+    ensures own { (worker blocks : ℕ) → OwnTransition worker blocks result }
 {
     match reply {
         Reply::Ok => Transition::Ends(Answer::Done),
@@ -287,7 +345,9 @@ fn made(reply: Reply) -> Transition
 
 fn task_did(reply: Reply) -> Transition
     requires { IsTaskReply reply }
-    ensures { TaskDid reply result }
+    ensures told { TaskDid reply result }
+    ensures holds { holds_after result ≡ gives_ticket reply }
+    ensures own { (worker blocks : ℕ) → OwnTransition worker blocks result }
 {
     match reply {
         Reply::Ok => Transition::Ends(Answer::Done),
@@ -299,7 +359,11 @@ fn task_did(reply: Reply) -> Transition
 
 fn shown(alloc: Global, reply: Reply) -> Result<Transition, AllocError>
     requires { IsShownReply reply }
-    ensures { IfOk result (λ transition. WasShown reply transition) }
+    ensures told { IfOk result (λ transition. WasShown reply transition) }
+    ensures holds { IfOk result (λ transition. holds_after transition ≡ gives_ticket reply) }
+    ensures own { (worker blocks : ℕ) → IfOk result (λ transition. OwnTransition worker blocks transition) }
+    ensures err { OnErr result (WantsText Pending.Show reply) }
+    ensures quiet { OnErr result (gives_ticket reply ≡ false) }
 {
     match reply {
         Reply::Shown(numbers) => match show_text(alloc, numbers) {
@@ -332,7 +396,9 @@ fn strange_out(ticket: OutTicket) -> Transition
 fn arrived(access: Access, reply: Reply) -> Transition
     requires comes { IsInReply reply }
     requires handed { IsHanded reply }
-    ensures { Closed (Transition.Goes (Stage.Try access)) reply result }
+    ensures told { Closed (Transition.Goes (Stage.Try access)) reply result }
+    ensures holds { holds_after result ≡ gives_ticket reply }
+    ensures own { (worker blocks : ℕ) → OwnTransition worker blocks result }
 {
     match reply {
         Reply::Ok => Transition::Goes(Stage::Try(access)),
@@ -344,7 +410,9 @@ fn arrived(access: Access, reply: Reply) -> Transition
 fn fetch_failed(reply: Reply) -> Transition
     requires comes { IsInReply reply }
     requires handed { IsHanded reply }
-    ensures { Closed (ends_with Word.Io) reply result }
+    ensures told { Closed (ends_with Word.Io) reply result }
+    ensures holds { holds_after result ≡ gives_ticket reply }
+    ensures own { (worker blocks : ℕ) → OwnTransition worker blocks result }
 {
     match reply {
         Reply::Ok => word(Word::Io),
@@ -353,12 +421,15 @@ fn fetch_failed(reply: Reply) -> Transition
     }
 }
 
-/// Where a command goes on once a page has left.
-fn resumes_at(resume: Resume) -> Stage
-    ensures { result ≡ resumes_at resume }
+/// Where a command goes on once a transfer has ended, its own or another's.
+pub fn resumes_at(resume: Resume) -> Stage
+    ensures at { result ≡ resumes_at resume }
+    ensures holds { holds result ≡ false }
+    ensures own { (worker blocks : ℕ) → OwnStage worker blocks result }
 {
     match resume {
         Resume::Try(access) => Stage::Try(access),
+        Resume::MakeRoom(access, cause) => Stage::MakeRoom(access, cause),
         Resume::Lower(group) => Stage::Lower(group),
         Resume::Reclaim { group, left } => Stage::Reclaim { group, left },
         Resume::Balance => Stage::Balance,
@@ -368,7 +439,9 @@ fn resumes_at(resume: Resume) -> Stage
 fn left(resume: Resume, reply: Reply) -> Transition
     requires comes { IsOutReply reply }
     requires handed { IsHanded reply }
-    ensures { Closed (Transition.Goes (resumes_at resume)) reply result }
+    ensures told { Closed (Transition.Goes (resumes_at resume)) reply result }
+    ensures holds { holds_after result ≡ gives_ticket reply }
+    ensures own { (worker blocks : ℕ) → OwnTransition worker blocks result }
 {
     match reply {
         Reply::Ok => Transition::Goes(resumes_at(resume)),
@@ -380,7 +453,9 @@ fn left(resume: Resume, reply: Reply) -> Transition
 fn leave_failed(reply: Reply) -> Transition
     requires comes { IsOutReply reply }
     requires handed { IsHanded reply }
-    ensures { Closed (ends_with Word.Io) reply result }
+    ensures told { Closed (ends_with Word.Io) reply result }
+    ensures holds { holds_after result ≡ gives_ticket reply }
+    ensures own { (worker blocks : ℕ) → OwnTransition worker blocks result }
 {
     match reply {
         Reply::Ok => word(Word::Io),

@@ -10,7 +10,7 @@ ghost use Rattle.block_store.specs.Device.{Disk};
 ghost use Rattle.book.specs.Passes.{is_current};
 ghost use Rattle.driver.specs.Turns.{AwaitsAll};
 ghost use Rattle.driver.specs.Schedule.{Asks, WantTurn, StageTurn, wants_at, Turn, Advances, Finishes, Begins, Stepped, Runs, activity_of, first_world};
-ghost use Rattle.driver.specs.Tickets.{OwnEvent, OwnStage, OwnTransition, OwnSeats};
+ghost use Rattle.driver.specs.Tickets.{OwnEvent, OwnStage, OwnWant, OwnTransition, OwnSeats};
 ghost use Rattle.driver.specs.Seats.{place_of, is_under_way};
 ghost use Rattle.driver.specs.Desks.{world, blocks_of_desk, worker_of_desk, IsOn, IsSame};
 ghost use Rattle.driver.specs.Traced.{GivesUp};
@@ -85,6 +85,7 @@ impl Desk {
     fn want(&self, stage: Stage) -> Want
         ensures wants { result ≡ wants_at self.now.book stage }
         ensures awaits { AwaitsAll result }
+        ensures own { (worker blocks : ℕ) → OwnStage worker blocks stage → OwnWant worker blocks result }
     {
         ask(stage, self.book.watermarks(), self.book.free_frames())
     }

@@ -1,9 +1,10 @@
 //! The first turn of a command: its paths are found, all of them; then a control file's name, mode and
 //! amount are judged.
 
-ghost use Rattle.std.specs.Prelude.{◌≡◌, ℕ, ◌≤◌, List, Option, map, option_map};
+ghost use Rattle.std.specs.Prelude.{◌≡◌, ℕ, ◌≤◌, false, List, Option, IfOk, map, option_map};
 ghost use Rattle.driver.specs.Turns.{shell_paths, paths_of, judged_with, judged, task_judged, shell_judged, daemon_judged, with_group, with_file, reads_file, reclaims, writes_file};
 ghost use Rattle.driver.specs.Finds.{answers_of, looking};
+ghost use Rattle.driver.specs.Tickets.{holds, OwnStage};
 ghost use Rattle.machine.specs.Slots.{at};
 ghost use Rattle.machine.specs.Tree.{find_group};
 ghost use Rattle.machine.specs.Control.{file_named};
@@ -53,7 +54,7 @@ impl Found {
 }
 
 /// What becomes of a command in its first turn. All its paths are looked up, in order, before anything
-/// of it is judged, and the pass keeps them.
+/// of it is judged, and the pass keeps them. A command that goes on has no ticket in hand yet.
 pub fn judge(
     alloc: Global,
     book: &Book,
@@ -64,6 +65,8 @@ pub fn judge(
     requires { 2 ≤ pass.old.room }
     ensures judged { result ≡ judged book.now.state.tree actor command }
     ensures looked { pass.new ≡ looking book.now.state.tree (paths_of actor command) pass.old }
+    ensures holds { IfOk result (λ stage. holds stage ≡ false) }
+    ensures own { IfOk result (λ stage. (worker blocks : ℕ) → OwnStage worker blocks stage) }
 {
     let mut command = command;
     let found = look_up(alloc, book, pass, actor, &mut command);
@@ -120,7 +123,8 @@ fn take(alloc: Global, path: &mut Text) -> Text
 
 /// What becomes of a command for whose paths this was found.
 fn judge_with(actor: Actor, command: Command, found: Found) -> Result<Stage, Refusal>
-    ensures { result ≡ judged_with actor command (answers_of found) }
+    ensures judged { result ≡ judged_with actor command (answers_of found) }
+    ensures holds { IfOk result (λ stage. holds stage ≡ false) }
 {
     match actor {
         Actor::Task(task) => judge_task(task, command),
@@ -130,7 +134,8 @@ fn judge_with(actor: Actor, command: Command, found: Found) -> Result<Stage, Ref
 }
 
 fn judge_task(task: u32, command: Command) -> Result<Stage, Refusal>
-    ensures { result ≡ task_judged task command }
+    ensures judged { result ≡ task_judged task command }
+    ensures holds { IfOk result (λ stage. holds stage ≡ false) }
 {
     match command {
         Command::Access { place, op } => Ok(Stage::Try(Access {
@@ -152,7 +157,8 @@ fn judge_task(task: u32, command: Command) -> Result<Stage, Refusal>
 }
 
 fn judge_daemon(command: Command) -> Result<Stage, Refusal>
-    ensures { result ≡ daemon_judged command }
+    ensures judged { result ≡ daemon_judged command }
+    ensures holds { IfOk result (λ stage. holds stage ≡ false) }
 {
     match command {
         Command::Daemon => Ok(Stage::Watch),
@@ -161,7 +167,8 @@ fn judge_daemon(command: Command) -> Result<Stage, Refusal>
 }
 
 fn judge_shell(command: Command, found: Found) -> Result<Stage, Refusal>
-    ensures { result ≡ shell_judged command (answers_of found) }
+    ensures judged { result ≡ shell_judged command (answers_of found) }
+    ensures holds { IfOk result (λ stage. holds stage ≡ false) }
 {
     match command {
         Command::Access { .. } | Command::Fork { .. } | Command::Free { .. } => {
@@ -185,7 +192,8 @@ fn judge_shell(command: Command, found: Found) -> Result<Stage, Refusal>
 }
 
 fn judge_spawn(group: Option<GroupId>, task: u32) -> Result<Stage, Refusal>
-    ensures { result ≡ with_group (option_map (λ g. g.0) group) (λ g. Ok (Stage.Spawn (record { 0 = task }) (record { 0 = g }))) }
+    ensures judged { result ≡ with_group (option_map (λ g. g.0) group) (λ g. Ok (Stage.Spawn (record { 0 = task }) (record { 0 = g }))) }
+    ensures holds { IfOk result (λ stage. holds stage ≡ false) }
 {
     match group {
         None => Err(Refusal::NoEntry),
@@ -197,7 +205,8 @@ fn judge_spawn(group: Option<GroupId>, task: u32) -> Result<Stage, Refusal>
 }
 
 fn judge_attach(group: Option<GroupId>, task: u32) -> Result<Stage, Refusal>
-    ensures { result ≡ with_group (option_map (λ g. g.0) group) (λ g. Ok (Stage.Attach (record { 0 = task }) (record { 0 = g }))) }
+    ensures judged { result ≡ with_group (option_map (λ g. g.0) group) (λ g. Ok (Stage.Attach (record { 0 = task }) (record { 0 = g }))) }
+    ensures holds { IfOk result (λ stage. holds stage ≡ false) }
 {
     match group {
         None => Err(Refusal::NoEntry),
@@ -209,7 +218,8 @@ fn judge_attach(group: Option<GroupId>, task: u32) -> Result<Stage, Refusal>
 }
 
 fn judge_rmdir(group: Option<GroupId>) -> Result<Stage, Refusal>
-    ensures { result ≡ with_group (option_map (λ g. g.0) group) (λ g. Ok (Stage.Rmdir (record { 0 = g }))) }
+    ensures judged { result ≡ with_group (option_map (λ g. g.0) group) (λ g. Ok (Stage.Rmdir (record { 0 = g }))) }
+    ensures holds { IfOk result (λ stage. holds stage ≡ false) }
 {
     match group {
         None => Err(Refusal::NoEntry),
@@ -218,7 +228,8 @@ fn judge_rmdir(group: Option<GroupId>) -> Result<Stage, Refusal>
 }
 
 fn judge_protection(target: Option<GroupId>, group: Option<GroupId>) -> Result<Stage, Refusal>
-    ensures { result ≡ with_group (option_map (λ g. g.0) target) (λ t. with_group (option_map (λ g. g.0) group) (λ g. Ok (Stage.Show (Query.Protection (record { 0 = t }) (record { 0 = g }))))) }
+    ensures judged { result ≡ with_group (option_map (λ g. g.0) target) (λ t. with_group (option_map (λ g. g.0) group) (λ g. Ok (Stage.Show (Query.Protection (record { 0 = t }) (record { 0 = g }))))) }
+    ensures holds { IfOk result (λ stage. holds stage ≡ false) }
 {
     let Some(target) = target else {
         return Err(Refusal::NoEntry);
@@ -230,7 +241,8 @@ fn judge_protection(target: Option<GroupId>, group: Option<GroupId>) -> Result<S
 }
 
 fn judge_set(group: Option<GroupId>, name: &str, text: &str) -> Result<Stage, Refusal>
-    ensures { result ≡ with_group (option_map (λ g. g.0) group) (λ g. with_file g (file_named name.now) (writes_file g text.now)) }
+    ensures judged { result ≡ with_group (option_map (λ g. g.0) group) (λ g. with_file g (file_named name.now) (writes_file g text.now)) }
+    ensures holds { IfOk result (λ stage. holds stage ≡ false) }
 {
     match group {
         None => Err(Refusal::NoEntry),
@@ -239,7 +251,8 @@ fn judge_set(group: Option<GroupId>, name: &str, text: &str) -> Result<Stage, Re
 }
 
 fn write_file(group: GroupId, file: Option<ControlFile>, text: &str) -> Result<Stage, Refusal>
-    ensures { result ≡ with_file group.0 file (writes_file group.0 text.now) }
+    ensures judged { result ≡ with_file group.0 file (writes_file group.0 text.now) }
+    ensures holds { IfOk result (λ stage. holds stage ≡ false) }
 {
     match file {
         None => Err(Refusal::NoEntry),
@@ -254,7 +267,8 @@ fn write_file(group: GroupId, file: Option<ControlFile>, text: &str) -> Result<S
 }
 
 fn write_named(group: GroupId, file: ControlFile, text: &str) -> Result<Stage, Refusal>
-    ensures { result ≡ writes_file group.0 text.now file }
+    ensures judged { result ≡ writes_file group.0 text.now file }
+    ensures holds { IfOk result (λ stage. holds stage ≡ false) }
 {
     match file {
         ControlFile::Current | ControlFile::Events | ControlFile::EventsLocal | ControlFile::Stat =>
@@ -276,7 +290,8 @@ fn write_named(group: GroupId, file: ControlFile, text: &str) -> Result<Stage, R
 }
 
 fn judge_cat(group: Option<GroupId>, name: &str) -> Result<Stage, Refusal>
-    ensures { result ≡ with_group (option_map (λ g. g.0) group) (λ g. with_file g (file_named name.now) (reads_file g)) }
+    ensures judged { result ≡ with_group (option_map (λ g. g.0) group) (λ g. with_file g (file_named name.now) (reads_file g)) }
+    ensures holds { IfOk result (λ stage. holds stage ≡ false) }
 {
     match group {
         None => Err(Refusal::NoEntry),
@@ -285,7 +300,8 @@ fn judge_cat(group: Option<GroupId>, name: &str) -> Result<Stage, Refusal>
 }
 
 fn read_file(group: GroupId, file: Option<ControlFile>) -> Result<Stage, Refusal>
-    ensures { result ≡ with_file group.0 file (reads_file group.0) }
+    ensures judged { result ≡ with_file group.0 file (reads_file group.0) }
+    ensures holds { IfOk result (λ stage. holds stage ≡ false) }
 {
     match file {
         None => Err(Refusal::NoEntry),
@@ -300,7 +316,8 @@ fn read_file(group: GroupId, file: Option<ControlFile>) -> Result<Stage, Refusal
 }
 
 fn read_named(group: GroupId, file: ControlFile) -> Result<Stage, Refusal>
-    ensures { result ≡ reads_file group.0 file }
+    ensures judged { result ≡ reads_file group.0 file }
+    ensures holds { IfOk result (λ stage. holds stage ≡ false) }
 {
     match file {
         ControlFile::Current => Ok(Stage::Show(Query::Current(group))),

@@ -2,11 +2,12 @@
 
 ghost use Rattle.std.specs.Prelude.{◌≡◌, ℕ, ◌+◌, ◌<◌, ◌≤◌, ◌++◌, ◌∷◌, [], length, IfSome, IfNone, OnOk, OnErr, true, false};
 ghost use Rattle.driver.specs.Schedule.{number_of, with_activity, activity_of, said_at, answer_by, outcome_of, left_of, is_end};
-ghost use Rattle.driver.specs.Tickets.{OwnTransition, OwnActivity, OwnSeats, IsSpendableStage};
+ghost use Rattle.driver.specs.Tickets.{OwnTransition, OwnActivity, OwnSeats};
 ghost use Rattle.driver.specs.Seats.{place_of, is_under_way, IsTaken};
 
+use crate::automaton;
 use crate::sink::{Closed, Sink};
-use crate::turn::{Activity, Outcome, Seat, Stage, Transition};
+use crate::turn::{Activity, Outcome, Seat, Transition};
 use indexmap::IndexSet;
 use machine::command::{Actor, Answer, Command, Reply, Word};
 use std::alloc::{AllocError, Global};
@@ -182,32 +183,12 @@ fn let_go(activity: Activity)
 {
     match activity {
         Activity::Rests | Activity::Begun(_) => {}
-        Activity::Does(stage) => never(stage),
+        Activity::Does(stage) => automaton::let_go(stage),
     }
 }
 
-/// Spends a command that can't be there.
-fn never(stage: Stage)
-    requires { IsSpendableStage stage }
-{
-    match stage {
-        Stage::Read(_, ticket) | Stage::Arrive(_, ticket) | Stage::FetchFail(ticket) => {
-            ticket.discard();
-        }
-        Stage::Write(_, ticket) | Stage::Leave(_, ticket) | Stage::LeaveFail(ticket) => {
-            ticket.discard();
-        }
-        Stage::Try(_) | Stage::MakeRoom(_, _) | Stage::SetMax { group: _, max: _ } => {}
-        Stage::Lower(_) | Stage::SetMin { group: _, min: _ } => {}
-        Stage::Reclaim { group: _, left: _ } | Stage::Watch | Stage::Balance => {}
-        Stage::Spawn { task: _, group: _ } | Stage::Fork { task: _, child: _ } => {}
-        Stage::Exit(_) | Stage::Free { task: _, page: _ } => {}
-        Stage::Attach { task: _, group: _ } => {}
-        Stage::Mkdir(_) | Stage::Rmdir(_) | Stage::Show(_) => {}
-    }
-}
-
-/// What a turn shows, and what the actor is at after it.
+/// What a turn shows, and what the actor is at after it. A schedule does not wait: a command that would
+/// ends here, and is answered `busy`.
 pub fn settle(transition: Transition) -> (Outcome, Activity)
     ensures shows { result.0 ≡ outcome_of transition }
     ensures leaves { result.1 ≡ left_of transition }
@@ -215,7 +196,13 @@ pub fn settle(transition: Transition) -> (Outcome, Activity)
 {
     match transition {
         Transition::Goes(stage) => (Outcome::Goes, Activity::Does(stage)),
-        Transition::Kills(task, stage) => (Outcome::Kills(task), Activity::Does(stage)),
+        Transition::Kills(task, resume) => {
+            (
+                Outcome::Kills(task),
+                Activity::Does(automaton::resumes_at(resume)),
+            )
+        }
+        Transition::Waits(_) => (Outcome::Ends(Answer::Word(Word::Busy)), Activity::Rests),
         Transition::Ends(answer) => (Outcome::Ends(answer), Activity::Rests),
     }
 }

@@ -15,11 +15,14 @@ pub struct Access {
     pub op: Op,
 }
 
-/// What a command goes on with once a page has left.
+/// A state that holds no ticket: what a command goes on with once a transfer has ended, its own or
+/// another's.
 #[derive(Clone, Copy, Debug, PartialEq, Eq)]
 pub enum Resume {
     /// The access is tried again.
     Try(Access),
+    /// Room is made for the access.
+    MakeRoom(Access, Cause),
     /// Room is made under the group, whose max was set.
     Lower(GroupId),
     /// So many pages more are taken from the group or from below it.
@@ -74,10 +77,10 @@ pub enum Stage {
 #[derive(Clone, Copy, Debug, PartialEq, Eq)]
 pub enum Pending {
     Try(Access),
-    MakeRoom(Access),
+    MakeRoom(Access, Cause),
     SetMax(GroupId),
     Lower(GroupId),
-    /// A page is taken, and so many more will be.
+    /// So many pages are wanted, the one that was asked for among them.
     Reclaim { group: GroupId, left: u64 },
     /// A page is taken for the daemon.
     Balance,
@@ -111,7 +114,10 @@ pub enum Want {
 pub enum Transition {
     Goes(Stage),
     /// A task was killed, and the command goes on.
-    Kills(TaskId, Stage),
+    Kills(TaskId, Resume),
+    /// A page in transfer is in the way. A schedule answers `busy`; a worker waits until a transfer has
+    /// ended, and goes on here.
+    Waits(Resume),
     Ends(Answer),
 }
 

@@ -335,6 +335,16 @@ fn header_twice<'w>(
     Ok(earlier_line(alloc, text, line, Earlier::With(word))?.map(|line| Why::Twice { line, name }))
 }
 
+/// A line is for a schedule alone by its first word: no task says such a word, and behind `begin` it is
+/// `begin` itself.
+fn only_in_schedule<'w>(words: &'w [Token<'_>]) -> Option<Why<'w>> {
+    let first = words.first()?;
+    Some(Why::OnlyInSchedule(Placed {
+        number: 1,
+        text: first.text(),
+    }))
+}
+
 fn line_at(text: &[u8], line: usize) -> &[u8] {
     let mut rest = text;
     for _ in 1..line {
@@ -369,6 +379,7 @@ fn why<'w>(
         Cause::HeaderTwice => header_twice(alloc, text, line, &parts),
         Cause::TooManyFiles => Ok(Some(Why::FilesFull(MOST_FILES))),
         Cause::TooManyBlocks => Ok(Some(Why::BlocksFull(MOST_BLOCKS))),
+        Cause::OnlyInSchedule => Ok(only_in_schedule(words)),
     }
 }
 

@@ -150,6 +150,8 @@ pub enum Why<'a> {
     FilesFull(usize),
     /// So many blocks are as many as there can be.
     BlocksFull(u32),
+    /// A line with this first word is none of a run on threads.
+    OnlyInSchedule(Placed<'a>),
 }
 
 const TASK_WORDS: &str = "write, read, fwrite, fread, fork, free or exit";
@@ -227,6 +229,10 @@ impl fmt::Display for Why<'_> {
             Why::BlocksFull(most) => write!(
                 f,
                 "swap and the files up to this line have more than {most} blocks together"
+            ),
+            Why::OnlyInSchedule(word) => write!(
+                f,
+                "{word} is for schedule alone: a run on threads has no turns to count"
             ),
         }
     }

@@ -1,4 +1,4 @@
-//! `memcgrun schedule FILE` runs a script of memory control groups and prints its answers.
+//! `memcgrun schedule FILE` runs a script of memory control groups and prints its answers; `memcgrun run FILE` runs one on threads.
 #![tactic(auto)]
 
 mod told;
@@ -6,13 +6,14 @@ mod words;
 
 ghost use Rattle.std.specs.Prelude.{◌≡◌, ◌≤◌};
 
-use std::alloc::Global;
 use std::fs::{File, OpenFile};
 use std::io::{BufWriter, ErrorKind, IsTerminal, Read, Write};
 use std::process::ExitCode;
 use std::rt::{Env, Files};
+use std::sync::Wait;
+use std::thread::Threads;
 use std::{env, io};
-use subcommands::{read_script, run_script, status_of};
+use subcommands::{read_script, run_script, run_script_on_threads, status_of, status_of_run};
 use told::{tell_no_script, tell_no_text};
 use words::{Refused, Request, Subcommand};
 
@@ -45,27 +46,35 @@ struct Terminals {
 }
 
 /// Runs the script. Where it is not run to its end, a line says why.
-fn run<R: Read, O: Write, E: Write>(
-    alloc: Global,
+fn run<R: Threads + Wait + Sync + AllocGlobal, I: Read, O: Write, E: Write>(
+    rt: &R,
     request: Request<'_>,
-    script: &mut R,
+    script: &mut I,
     out: &mut O,
     err: &mut E,
 ) -> u8
     ensures success_or_failure { result ≤ 1 }
 {
-    let ran = match read_script(alloc, script) {
-        Ok(bytes) => match request.subcommand {
-            Subcommand::Schedule => run_script(alloc, request.options, &bytes, out, err),
-        },
-        Err(fault) => Err(fault),
+    let alloc = rt.alloc();
+    let bytes = match read_script(alloc, script) {
+        Ok(bytes) => bytes,
+        Err(fault) => return status_of(Err(fault), err),
     };
-    status_of(ran, err)
+    match request.subcommand {
+        Subcommand::Schedule => {
+            let ran = run_script(alloc, request.options, &bytes, out, err);
+            status_of(ran, err)
+        }
+        Subcommand::Run => {
+            let ran = run_script_on_threads(rt, alloc, request.options, &bytes, out);
+            status_of_run(ran, err)
+        }
+    }
 }
 
 /// What is shown of how far a run has come is shown on a terminal alone. Answers go out in blocks, all of them
 /// before anything is told; but as they come to a terminal, and where somebody watches the run.
-fn serve<R: Files + AllocGlobal, O: Write, E: Write>(
+fn serve<R: Files + AllocGlobal + Threads + Wait + Sync, O: Write, E: Write>(
     rt: &R,
     mut request: Request<'_>,
     terminals: Terminals,
@@ -82,10 +91,10 @@ fn serve<R: Files + AllocGlobal, O: Write, E: Write>(
     if !as_they_come {
         // With no memory for a block they go out as they come, too.
         if let Ok(mut blocks) = BufWriter::new(rt.alloc(), &mut *out) {
-            return run(rt.alloc(), request, &mut script, &mut blocks, err);
+            return run(rt, request, &mut script, &mut blocks, err);
         }
     }
-    run(rt.alloc(), request, &mut script, out, err)
+    run(rt, request, &mut script, out, err)
 }
 
 fn given_words<R: Env + AllocGlobal>(rt: &R) -> io::Result<Vec<String>> {
@@ -107,7 +116,7 @@ fn show<O: Write, E: Write>(out: &mut O, err: &mut E, text: &clap::Error) -> u8
 
 /// The status: 0 for a script that was run and for help and the version, 1 for a script that wasn't
 /// run, 2 for words that ask for nothing.
-fn start<R: Env + Files + AllocGlobal, O: Write, E: Write>(
+fn start<R: Env + Files + AllocGlobal + Threads + Wait + Sync, O: Write, E: Write>(
     rt: &R,
     terminals: Terminals,
     out: &mut O,

@@ -14,6 +14,8 @@ const VERSION: &str = "0.1.0 (logic dac8208d650f15bf)";
 pub enum Subcommand {
     /// Runs a script, one turn after another.
     Schedule,
+    /// Runs a script on threads.
+    Run,
 }
 
 /// A subcommand and the path of its script.
@@ -71,20 +73,26 @@ fn flag<'a>(alloc: Global, name: &'a str, help: &'a str) -> Arg<'a> {
         .help(help)
 }
 
-fn command<'a>(alloc: Global) -> Result<Command<'a>, AllocError> {
-    let file = Arg::new(alloc, "FILE")
+fn script<'a>(alloc: Global) -> Arg<'a> {
+    Arg::new(alloc, "FILE")
         .required(true)
         .action(ArgAction::Set)
-        .help("The script");
+        .help("The script")
+}
+
+fn explain<'a>(alloc: Global) -> Arg<'a> {
+    flag(
+        alloc,
+        EXPLAIN,
+        "Say more of a faulty line, in a second line",
+    )
+}
+
+fn schedule<'a>(alloc: Global) -> Result<Command<'a>, AllocError> {
     let audit = flag(
         alloc,
         AUDIT,
         "Say behind the last answer what an audit of the run finds",
-    );
-    let explain = flag(
-        alloc,
-        EXPLAIN,
-        "Say more of a faulty line, in a second line",
     );
     let lines = flag(
         alloc,
@@ -106,20 +114,31 @@ fn command<'a>(alloc: Global) -> Result<Command<'a>, AllocError> {
         UNBUFFERED,
         "Write each answer as it comes, to a file or a pipe too",
     );
-    let schedule = Command::new(alloc, "schedule")
+    Command::new(alloc, "schedule")
         .about("Runs a script, one turn after another")
-        .arg(file)?
+        .arg(script(alloc))?
         .arg(audit)?
-        .arg(explain)?
+        .arg(explain(alloc))?
         .arg(lines)?
         .arg(progress)?
         .arg(summary)?
-        .arg(unbuffered)?;
+        .arg(unbuffered)
+}
+
+fn run<'a>(alloc: Global) -> Result<Command<'a>, AllocError> {
+    Command::new(alloc, "run")
+        .about("Runs a script on threads, one for each actor")
+        .arg(script(alloc))?
+        .arg(explain(alloc))
+}
+
+fn command<'a>(alloc: Global) -> Result<Command<'a>, AllocError> {
     Command::new(alloc, "memcgrun")
         .about("Runs scripts of memory control groups")
         .version(VERSION)
         .subcommand_required(true)
-        .subcommand(schedule)
+        .subcommand(schedule(alloc)?)?
+        .subcommand(run(alloc)?)
 }
 
 /// Reads the words, the program's own name first. Words that ask for help or for the version are
@@ -127,26 +146,35 @@ fn command<'a>(alloc: Global) -> Result<Command<'a>, AllocError> {
 pub fn read_words<'a>(alloc: Global, words: &'a [String]) -> Result<Request<'a>, Refused> {
     let matches = command(alloc)?.try_get_matches_from(words)?;
     // The subcommand and its FILE are required, so clap has found both.
-    let (file, options, is_unbuffered) = match matches.subcommand() {
-        Some((_, schedule)) => (
-            schedule.get_str("FILE").unwrap_or(""),
-            Options {
+    match matches.subcommand() {
+        Some(("run", run)) => Ok(Request {
+            subcommand: Subcommand::Run,
+            file: run.get_str("FILE").unwrap_or(""),
+            options: Options {
+                explain: run.get_flag(EXPLAIN),
+                ..Options::default()
+            },
+            is_unbuffered: false,
+        }),
+        Some((_, schedule)) => Ok(Request {
+            subcommand: Subcommand::Schedule,
+            file: schedule.get_str("FILE").unwrap_or(""),
+            options: Options {
                 audit: schedule.get_flag(AUDIT),
                 explain: schedule.get_flag(EXPLAIN),
                 lines: schedule.get_flag(LINES),
                 progress: schedule.get_flag(PROGRESS),
                 summary: schedule.get_flag(SUMMARY),
             },
-            schedule.get_flag(UNBUFFERED),
-        ),
-        None => ("", Options::default(), false),
-    };
-    Ok(Request {
-        subcommand: Subcommand::Schedule,
-        file,
-        options,
-        is_unbuffered,
-    })
+            is_unbuffered: schedule.get_flag(UNBUFFERED),
+        }),
+        None => Ok(Request {
+            subcommand: Subcommand::Schedule,
+            file: "",
+            options: Options::default(),
+            is_unbuffered: false,
+        }),
+    }
 }
 
 #[cfg(test)]
@@ -222,6 +250,29 @@ mod tests {
         Ok(())
     }
 
+    #[test]
+    fn a_run_is_asked_for(rt: HostRuntime) -> Result<(), Fail> {
+        let rows = [
+            ("memcgrun run a", false),
+            ("memcgrun run -- a", false),
+            ("memcgrun run --explain a", true),
+            ("memcgrun run a --explain", true),
+        ];
+        for (line, explain) in rows {
+            let words = words_of(rt.alloc(), line)?;
+            let request = read_words(rt.alloc(), &words).ok().ok_or("refused")?;
+            let options = Options {
+                explain,
+                ..Options::default()
+            };
+            assert_eq!(rt; request.subcommand, Subcommand::Run, "{line}");
+            assert_eq!(rt; request.file, "a", "{line}");
+            assert_eq!(rt; request.options, options, "{line}");
+            assert!(rt; !request.is_unbuffered, "{line}");
+        }
+        Ok(())
+    }
+
     // The text, and whether it was asked for.
     fn text_of(alloc: Global, line: &str) -> Result<(String, bool), Fail> {
         let words = words_of(alloc, line)?;
@@ -243,7 +294,14 @@ mod tests {
             ("memcgrun schedule --lines --lines a", false),
             ("memcgrun --summary schedule a", false),
             ("memcgrun --explain schedule a", false),
-            ("memcgrun run a", false),
+            ("memcgrun run", false),
+            ("memcgrun run a b", false),
+            ("memcgrun run --audit a", false),
+            ("memcgrun run --explain", false),
+            ("memcgrun --explain run a", false),
+            ("memcgrun walk a", false),
+            ("memcgrun run --help", true),
+            ("memcgrun help run", true),
             ("memcgrun schedule --help", true),
             ("memcgrun help", true),
             ("memcgrun help schedule", true),

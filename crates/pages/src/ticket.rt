@@ -4,10 +4,11 @@ ghost use Rattle.std.specs.Prelude.{◌≡◌, ℕ, List, ◌<◌, true, length}
 ghost use Rattle.block_store.specs.Device.{ReadsBlock, WritesBlock};
 ghost use Rattle.pages.specs.Tickets.{new_ticket, stamped, handed_back};
 
-use block_store::{BlockDevice, Fault};
+use block_store::{BlockDevice, Fault, SharedDevice};
 use frames::{FRAME_BYTES, Spare};
 use machine::id::{TicketId, WorkerId};
 use std::marker::Model;
+use std::sync::Wait;
 
 /// What a ticket carries: the bytes of a page. Each kind of it is given up in its own way.
 pub trait Carries {
@@ -194,6 +195,14 @@ impl Ticket<Box<[u8; FRAME_BYTES]>> {
         device.read(self.block, &mut self.carried)
     }
 
+    /// The same from a device that others use meanwhile. It may wait.
+    pub fn read_shared<D: SharedDevice, R: Wait>(&mut self, rt: &R, device: &D) -> Result<(), Fault>
+        requires { self.old.block < D.extent device.now }
+        ensures same { self.new ≡ record self.old { bytes = self.new.bytes } }
+    {
+        device.read(rt, self.block, &mut self.carried)
+    }
+
     /// Keeps these bytes as those of the block, for whoever reads it by other means than [`Ticket::read_from`].
     pub fn fill(&mut self, bytes: &[u8; FRAME_BYTES])
         ensures { self.new ≡ record self.old { bytes = bytes.now } }
@@ -218,6 +227,13 @@ impl Ticket<Spare> {
         ensures limit { (D.disk device.new).fault_limit ≡ (D.disk device.old).fault_limit }
     {
         device.write(self.block, self.bytes())
+    }
+
+    /// The same to a device that others use meanwhile. It may wait.
+    pub fn write_shared<D: SharedDevice, R: Wait>(&self, rt: &R, device: &D) -> Result<(), Fault>
+        requires { self.now.block < D.extent device.now }
+    {
+        device.write(rt, self.block, self.bytes())
     }
 
     /// What the page held when it was taken.

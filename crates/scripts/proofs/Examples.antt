@@ -13,24 +13,32 @@ use Rattle.machine.specs.declared.event.Op.TheVariants as op
 use Rattle.machine.specs.declared.event.Place.TheVariants.{Virtual, File as InFile}
 use Rattle.machine.specs.declared.config.File.{File}
 use Rattle.scripts.specs.declared.fault.Cause.{Cause}
-use Rattle.scripts.specs.declared.fault.Cause.TheVariants.{UnknownWord, MissingArgument, ExtraArgument, BadNumber, BadName, HeaderAfterCommands, HeaderTwice, TooManyFiles, TooManyBlocks}
+use Rattle.scripts.specs.declared.fault.Cause.TheVariants.{UnknownWord, MissingArgument, ExtraArgument, BadNumber, BadName, HeaderAfterCommands, HeaderTwice, TooManyFiles, TooManyBlocks, OnlyInSchedule}
+use Rattle.scripts.specs.declared.mode.Mode.{Mode}
+use Rattle.scripts.specs.declared.mode.Mode.TheVariants as mode
 use Rattle.scripts.specs.declared.forms.Word.{Word}
 use Rattle.scripts.specs.declared.forms.Word.TheVariants as word
 use Rattle.scripts.specs.Words.{words_of}
 use Rattle.scripts.specs.Faults.{first_of, line_faults}
-use Rattle.scripts.specs.Script.{steps_of_item}
+use Rattle.scripts.specs.declared.meaning.Item.{Item}
+use Rattle.scripts.specs.Script.{items_of, steps_of_item, is_command}
+use Rattle.scripts.specs.Work.{setup_of, worked, work_of}
 use Rattle.scripts.specs.Meaning.{meaning}
 use Rattle.scripts.specs.Header.{default_config, is_header_line, frames_asked, header_frames}
 use Rattle.scripts.proofs.HeaderLemmas.{frames_line-other, frames_line-frames, frames_line-behind}
 
 -- ---- faults of a line of text
 
--- with 64 frames asked for, behind commands or not, and behind these words of the header
-abbrev behind : Bool → List Word → List ℕ → Option Cause
-behind commands given line = first_of (line_faults (record { frames = 64; commands = commands; given = given; config = default_config }) (words_of line))
+-- with 64 frames asked for, behind commands or not, and behind these words of the header, whatever the script is read for
+abbrev behind : Mode → Bool → List Word → List ℕ → Option Cause
+behind mode commands given line = first_of (line_faults mode (record { frames = 64; commands = commands; given = given; config = default_config }) (words_of line))
 
 abbrev cause : List ℕ → Option Cause
-cause line = behind false [] line
+cause line = behind mode.Schedule false [] line
+
+-- of a script that is read to be run on threads
+abbrev cause_in_run : List ℕ → Option Cause
+cause_in_run line = behind mode.Run false [] line
 
 -- an empty line is faultless
 empty : cause (codes "") ≡ None
@@ -225,7 +233,7 @@ rmdir_by_task = refl
 
 -- behind these files of the header
 abbrev among : List File → List ℕ → Option Cause
-among files line = first_of (line_faults (record { frames = 64; commands = false; given = []; config = record default_config { files = files } }) (words_of line))
+among files line = first_of (line_faults mode.Schedule (record { frames = 64; commands = false; given = []; config = record default_config { files = files } }) (words_of line))
 
 -- behind `file` stand a name, and how many pages the file has
 file : cause (codes "file a 1") ≡ None
@@ -337,26 +345,91 @@ begin_rmdir = refl
 step_daemon : cause (codes "step daemon") ≡ None
 step_daemon = refl
 
+-- ---- lines that are for a schedule alone, and the one that a run is parted by
+
+-- a schedule may have them all
+go_in_schedule : cause (codes "go") ≡ None
+go_in_schedule = refl
+
+-- a run has no lines that take others apart
+begin_in_run : cause_in_run (codes "begin 1 exit") ≡ Some OnlyInSchedule
+begin_in_run = refl
+
+step_in_run : cause_in_run (codes "step 1") ≡ Some OnlyInSchedule
+step_in_run = refl
+
+finish_in_run : cause_in_run (codes "finish shell") ≡ Some OnlyInSchedule
+finish_in_run = refl
+
+-- nor the daemon's
+daemon_in_run : cause_in_run (codes "daemon") ≡ Some OnlyInSchedule
+daemon_in_run = refl
+
+begin_daemon_in_run : cause_in_run (codes "begin daemon") ≡ Some OnlyInSchedule
+begin_daemon_in_run = refl
+
+-- what a task or the shell does whole it may have
+exit_in_run : cause_in_run (codes "1 exit") ≡ None
+exit_in_run = refl
+
+group_in_run : cause_in_run (codes "group /a") ≡ None
+group_in_run = refl
+
+go_in_run : cause_in_run (codes "go") ≡ None
+go_in_run = refl
+
+-- every other cause comes first
+begin_go_in_run : cause_in_run (codes "begin go") ≡ Some UnknownWord
+begin_go_in_run = refl
+
+step_missing_in_run : cause_in_run (codes "step") ≡ Some MissingArgument
+step_missing_in_run = refl
+
+daemon_extra_in_run : cause_in_run (codes "daemon 1") ≡ Some ExtraArgument
+daemon_extra_in_run = refl
+
+step_too_large_in_run : cause_in_run (codes "step 70000000000") ≡ Some BadNumber
+step_too_large_in_run = refl
+
+begin_relative_in_run : cause_in_run (codes "begin group a") ≡ Some BadName
+begin_relative_in_run = refl
+
+-- it is not begun
+begin_go : cause (codes "begin go") ≡ Some UnknownWord
+begin_go = refl
+
+-- and no task's
+go_by_task : cause (codes "1 go") ≡ Some UnknownWord
+go_by_task = refl
+
+-- nothing follows it
+go_extra : cause (codes "go 1") ≡ Some ExtraArgument
+go_extra = refl
+
+-- the header ends before it
+is_header_line-go : is_header_line (words_of (codes "go")) ≡ false
+is_header_line-go = refl
+
 -- ---- the header
 
 -- the header comes before all commands
-late : behind true [] (codes "frames 4") ≡ Some HeaderAfterCommands
+late : behind mode.Schedule true [] (codes "frames 4") ≡ Some HeaderAfterCommands
 late = refl
 
 -- and each of its lines once
-twice : behind false (word.Swap ∷ word.Frames ∷ []) (codes "frames 4") ≡ Some HeaderTwice
+twice : behind mode.Schedule false (word.Swap ∷ word.Frames ∷ []) (codes "frames 4") ≡ Some HeaderTwice
 twice = refl
 
 -- the place comes before the number of times
-late_and_twice : behind true (word.Frames ∷ []) (codes "frames 4") ≡ Some HeaderAfterCommands
+late_and_twice : behind mode.Schedule true (word.Frames ∷ []) (codes "frames 4") ≡ Some HeaderAfterCommands
 late_and_twice = refl
 
 -- but for `fault`, of which there may be many
-fault_twice : behind false (word.Fault ∷ []) (codes "fault read 1") ≡ None
+fault_twice : behind mode.Schedule false (word.Fault ∷ []) (codes "fault read 1") ≡ None
 fault_twice = refl
 
 -- a wrong number comes before either
-number_before_late : behind true (word.Frames ∷ []) (codes "frames 0") ≡ Some BadNumber
+number_before_late : behind mode.Schedule true (word.Frames ∷ []) (codes "frames 0") ≡ Some BadNumber
 number_before_late = refl
 
 -- a comment does not end the header
@@ -430,6 +503,42 @@ says_rmdir = refl
 
 says_begin_rmdir : steps_of_item (meaning [] (words_of (codes "begin rmdir /a"))) ≡ step.Begin actor.Control (command.Rmdir (codes "/a")) ∷ []
 says_begin_rmdir = refl
+
+-- nothing is done at a `go`
+says_go : steps_of_item (meaning [] (words_of (codes "go"))) ≡ []
+says_go = refl
+
+-- but the header is over
+ends_header : is_command (meaning [] (words_of (codes "go"))) ≡ true
+ends_header = refl
+
+-- ---- what a run on threads is asked for
+
+-- one line before the first `go`, and of four behind it two of one task
+parted : List Item
+parted = items_of (codes "group /a" ∷ codes "go" ∷ codes "2 free 0" ∷ codes "cat /a memory.max" ∷ codes "go" ∷ codes "1 exit" ∷ codes "2 exit" ∷ [])
+
+setup-parted : setup_of parted ≡ (actor.Shell, command.Group (codes "/a")) ∷ []
+unfolding parted
+setup-parted = refl
+
+-- the shell's row is the first, and each task has all that it is asked for
+work-parted : work_of (worked parted)
+    ≡ (actor.Shell, command.Cat (codes "/a") (codes "memory.max") ∷ []) ∷ (actor.Task 1, command.Exit ∷ []) ∷ (actor.Task 2, command.Free 0 ∷ command.Exit ∷ []) ∷ []
+unfolding parted
+work-parted = refl
+
+-- without a `go` all is setup
+whole : List Item
+whole = items_of (codes "group /a" ∷ codes "1 exit" ∷ [])
+
+setup-whole : setup_of whole ≡ (actor.Shell, command.Group (codes "/a")) ∷ (actor.Task 1, command.Exit) ∷ []
+unfolding whole
+setup-whole = refl
+
+work-whole : work_of (worked whole) ≡ []
+unfolding whole
+work-whole = refl
 
 -- ---- lines
 

@@ -2,6 +2,8 @@ pub mod WordLemmas
 pub mod NumeralLemmas
 pub mod Splits
 pub mod LineCuts
+pub mod WorkLemmas
+pub mod RowLemmas
 pub mod Loop
 pub mod HeaderLemmas
 pub mod FileLemmas

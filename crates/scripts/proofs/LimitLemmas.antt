@@ -12,11 +12,12 @@ use Rattle.scripts.specs.declared.meaning.Item.{Item}
 use Rattle.scripts.specs.declared.meaning.Item.TheVariants as item
 use Rattle.scripts.specs.declared.forms.Word.{Word}
 use Rattle.scripts.specs.declared.forms.Word.TheVariants as word
+use Rattle.scripts.specs.declared.mode.Mode.{Mode}
 use Rattle.scripts.specs.Words.{words_of}
 use Rattle.scripts.specs.Forms.{same_word}
 use Rattle.scripts.specs.Meaning.{meaning}
 use Rattle.scripts.specs.Faults.{fault, is_within}
-use Rattle.scripts.specs.Header.{word_of, is_header_line, is_frames, at_frames, default_config, frames_line, frames_asked, header_frames}
+use Rattle.scripts.specs.Header.{word_of, is_header_line, is_frames, own_fault, default_config, frames_line, frames_asked, header_frames}
 use Rattle.scripts.specs.Reading.{Known, at_start, after}
 use Rattle.scripts.proofs.HeaderLemmas.{frames_line-other, frames_line-frames, frames_line-behind}
 use Rattle.scripts.proofs.TellLemmas.{Tells, tells}
@@ -65,7 +66,7 @@ first ls left more m n b c given l e f g h (inr (inr p)) =
 -- ---- one line more
 
 abbrev Line : Known → List ℕ → Item → Type 0
-Line k l i = (is_utf8 l ≡ true) × Tells k.around (is_header_line (words_of l)) (is_frames (word_of (words_of l))) (fault at_frames l) (meaning [] (words_of l)) i
+Line k l i = (is_utf8 l ≡ true) × Tells k.around (is_header_line (words_of l)) (is_frames (word_of (words_of l))) (own_fault l) (meaning [] (words_of l)) i
 
 step : (ls left more : List (List ℕ)) (k : Known) (n : ℕ) (l : List ℕ) (i : Item) → left ≡ l ∷ more → Line k l i → Fits ls left k → Fits ls more (after k n i)
 step ls left more k at l (item.Frames n) e (u, t) f =
@@ -161,11 +162,11 @@ step ls left more k at l _ e (u, t) f =
 any : (n : ℕ) → nat_le 0 n ≡ true
 any n = grind (arith, nat_tests)
 
-pub fits_start : (ls : List (List ℕ)) → Fits ls ls (at_start (header_frames ls))
-fits_start ls = record { around = refl; frames = refl; swap = refl; marks = any (header_frames ls); trace = refl; files = refl; blocks = refl; asked = inr (inr (refl, refl)) }
+pub fits_start : (mode : Mode) (ls : List (List ℕ)) → Fits ls ls (at_start mode (header_frames ls))
+fits_start mode ls = record { around = refl; frames = refl; swap = refl; marks = any (header_frames ls); trace = refl; files = refl; blocks = refl; asked = inr (inr (refl, refl)) }
 
-pub fits_after : (ls left more : List (List ℕ)) (k : Known) (n : ℕ) (l : List ℕ) → left ≡ l ∷ more → fault k.around l ≡ None → Fits ls left k → Fits ls more (after k n (meaning k.around.config.files (words_of l)))
-fits_after ls left more k n l e fine f = step ls left more k n l (meaning k.around.config.files (words_of l)) e (tells k.around l fine) f
+pub fits_after : (ls left more : List (List ℕ)) (k : Known) (n : ℕ) (l : List ℕ) → left ≡ l ∷ more → fault k.mode k.around l ≡ None → Fits ls left k → Fits ls more (after k n (meaning k.around.config.files (words_of l)))
+fits_after ls left more k n l e fine f = step ls left more k n l (meaning k.around.config.files (words_of l)) e (tells k.mode k.around l fine) f
 
 -- where nothing is left the frames are the header's
 at_end : (ls : List (List ℕ)) (n : ℕ) (b : Bool) (given : List Word) → Asked ls [] n b given → n ≡ header_frames ls

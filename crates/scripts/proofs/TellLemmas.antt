@@ -24,12 +24,14 @@ use Rattle.scripts.specs.declared.forms.Speaker.{Speaker}
 use Rattle.scripts.specs.declared.forms.Speaker.TheVariants as speaker
 use Rattle.scripts.specs.declared.forms.Manner.{Manner}
 use Rattle.scripts.specs.declared.forms.Manner.TheVariants as manner
+use Rattle.scripts.specs.declared.mode.Mode.{Mode}
+use Rattle.scripts.specs.declared.mode.Mode.TheVariants as mode
 use Rattle.scripts.specs.Words.{words_of, is_comment}
 use Rattle.scripts.specs.Forms.{form_of, words, word_named, is_named, same_speaker, same_word, takes_line}
 use Rattle.scripts.specs.Context.{Around}
 use Rattle.scripts.specs.Meaning.{meaning, word_means, named_means, task_means, bare_means, only_begun, number_value, marks_of, at, has_name, file_of}
 use Rattle.scripts.specs.Faults.{first_of, word_faults, named_faults, task_faults, bare_faults, line_faults, task_fits, all_fit, number_fits, name_fits, marks_fit, names_again, files_full, blocks_with, is_within, fault}
-use Rattle.scripts.specs.Header.{word_of, is_of_header, is_frames, is_header_line, at_frames}
+use Rattle.scripts.specs.Header.{word_of, is_of_header, is_frames, is_header_line, at_frames, own_fault}
 use Rattle.scripts.specs.Script.{is_command}
 
 -- ---- the words' names
@@ -93,9 +95,9 @@ record IsFine (a : Around) (how : Manner) (task : Option (List ℕ)) (w : Word) 
   full : files_full a.config w ≡ false
   blocks : nat_lt MOST_BLOCKS (blocks_with a.config w ws) ≡ false
 
-fine : (a : Around) (how : Manner) (task : Option (List ℕ)) (w : Word) (ws : List (List ℕ)) → first_of (word_faults a how task w ws) ≡ None → IsFine a how task w ws
-fine a how task w ws h =
-    let t : AllFail (word_faults a how task w ws) = all_fail (word_faults a how task w ws) h in
+fine : (m : Mode) (a : Around) (how : Manner) (task : Option (List ℕ)) (w : Word) (ws : List (List ℕ)) → first_of (word_faults m a how task w ws) ≡ None → IsFine a how task w ws
+fine m a how task w ws h =
+    let t : AllFail (word_faults m a how task w ws) = all_fail (word_faults m a how task w ws) h in
     record { short = t.1.0; numbers = t.1.1.1.0; marks = t.1.1.1.1.0; names = t.1.1.1.1.1.0; late = t.1.1.1.1.1.1.0; again = t.1.1.1.1.1.1.1.0; full = t.1.1.1.1.1.1.1.1.0; blocks = t.1.1.1.1.1.1.1.1.1.0 }
 
 not_false : (b : Bool) → not b ≡ false → b ≡ true
@@ -152,12 +154,14 @@ Tells a goes frames own says (item.Does who what) = goes ≡ false
 Tells a goes frames own says (item.Begins who what) = goes ≡ false
 Tells a goes frames own says (item.Advances who) = goes ≡ false
 Tells a goes frames own says (item.Finishes who) = goes ≡ false
+Tells a goes frames own says item.EndsSetup = goes ≡ false
 
 of_command : (a : Around) (goes frames : Bool) (own : Option Cause) (says i : Item) → is_command i ≡ true → goes ≡ false → Tells a goes frames own says i
 of_command a goes frames own says (item.Does who what) h e = e
 of_command a goes frames own says (item.Begins who what) h e = e
 of_command a goes frames own says (item.Advances who) h e = e
 of_command a goes frames own says (item.Finishes who) h e = e
+of_command a goes frames own says item.EndsSetup h e = e
 of_command a goes frames own says _ h e = absurd cc
 
 -- a task's line is a command
@@ -171,35 +175,35 @@ task_word files task text word.Fault ws h = absurd cc
 task_word files task text word.Begin ws h = absurd cc
 task_word files task text _ ws h = refl
 
-task_named : (files : List File) (a : Around) (how : Manner) (task text : List ℕ) (o : Option Word) (ws : List (List ℕ)) → ((w : Word) → o ≡ Some w → is_named speaker.Task text (form_of w) ≡ true)
-    → first_of (named_faults a how (Some task) o ws) ≡ None → is_command (named_means files (Some task) o ws) ≡ true
-task_named files a how task text None ws f h = absurd cc
-task_named files a how task text (Some w) ws f h = task_word files task text w ws (f w refl)
+task_named : (files : List File) (m : Mode) (a : Around) (how : Manner) (task text : List ℕ) (o : Option Word) (ws : List (List ℕ)) → ((w : Word) → o ≡ Some w → is_named speaker.Task text (form_of w) ≡ true)
+    → first_of (named_faults m a how (Some task) o ws) ≡ None → is_command (named_means files (Some task) o ws) ≡ true
+task_named files m a how task text None ws f h = absurd cc
+task_named files m a how task text (Some w) ws f h = task_word files task text w ws (f w refl)
 
-task_command : (files : List File) (a : Around) (how : Manner) (task : List ℕ) (ws : List (List ℕ)) → first_of (task_faults a how task ws) ≡ None → is_command (task_means files task ws) ≡ true
-task_command files a how task [] h = absurd cc
-task_command files a how task (text ∷ ws) h = task_named files a how task text (word_named speaker.Task text) ws (λ w e. named speaker.Task text w e) h
+task_command : (files : List File) (m : Mode) (a : Around) (how : Manner) (task : List ℕ) (ws : List (List ℕ)) → first_of (task_faults m a how task ws) ≡ None → is_command (task_means files task ws) ≡ true
+task_command files m a how task [] h = absurd cc
+task_command files m a how task (text ∷ ws) h = task_named files m a how task text (word_named speaker.Task text) ws (λ w e. named speaker.Task text w e) h
 
 -- what may be begun is a command
-begun_word : (files : List File) (a : Around) (w : Word) (ws : List (List ℕ)) → first_of (word_faults a manner.Begun None w ws) ≡ None → is_command (word_means files None w ws) ≡ true
-begun_word files a word.Frames ws h = absurd cc
-begun_word files a word.File ws h = absurd cc
-begun_word files a word.Swap ws h = absurd cc
-begun_word files a word.Watermarks ws h = absurd cc
-begun_word files a word.Trace ws h = absurd cc
-begun_word files a word.Fault ws h = absurd cc
-begun_word files a word.Begin ws h = absurd cc
-begun_word files a _ ws h = refl
+begun_word : (files : List File) (m : Mode) (a : Around) (w : Word) (ws : List (List ℕ)) → first_of (word_faults m a manner.Begun None w ws) ≡ None → is_command (word_means files None w ws) ≡ true
+begun_word files m a word.Frames ws h = absurd cc
+begun_word files m a word.File ws h = absurd cc
+begun_word files m a word.Swap ws h = absurd cc
+begun_word files m a word.Watermarks ws h = absurd cc
+begun_word files m a word.Trace ws h = absurd cc
+begun_word files m a word.Fault ws h = absurd cc
+begun_word files m a word.Begin ws h = absurd cc
+begun_word files m a _ ws h = refl
 
-begun_named : (files : List File) (a : Around) (first : List ℕ) (ws : List (List ℕ)) (number : Bool) (o : Option Word)
-    → first_of (if number then task_faults a manner.Begun first ws else named_faults a manner.Begun None o ws) ≡ None → is_command (if number then task_means files first ws else named_means files None o ws) ≡ true
-begun_named files a first ws true o h = task_command files a manner.Begun first ws h
-begun_named files a first ws false None h = absurd cc
-begun_named files a first ws false (Some w) h = begun_word files a w ws h
+begun_named : (files : List File) (m : Mode) (a : Around) (first : List ℕ) (ws : List (List ℕ)) (number : Bool) (o : Option Word)
+    → first_of (if number then task_faults m a manner.Begun first ws else named_faults m a manner.Begun None o ws) ≡ None → is_command (if number then task_means files first ws else named_means files None o ws) ≡ true
+begun_named files m a first ws true o h = task_command files m a manner.Begun first ws h
+begun_named files m a first ws false None h = absurd cc
+begun_named files m a first ws false (Some w) h = begun_word files m a w ws h
 
-begun_command : (files : List File) (a : Around) (ws : List (List ℕ)) → first_of (bare_faults a manner.Begun ws) ≡ None → is_command (bare_means files ws) ≡ true
-begun_command files a [] h = absurd cc
-begun_command files a (first ∷ ws) h = begun_named files a first ws (is_numeral first) (word_named speaker.Shell first) h
+begun_command : (files : List File) (m : Mode) (a : Around) (ws : List (List ℕ)) → first_of (bare_faults m a manner.Begun ws) ≡ None → is_command (bare_means files ws) ≡ true
+begun_command files m a [] h = absurd cc
+begun_command files m a (first ∷ ws) h = begun_named files m a first ws (is_numeral first) (word_named speaker.Shell first) h
 
 stays_command : (i : Item) → is_command i ≡ true → is_command (only_begun i) ≡ true
 stays_command (item.Does actor.Shell what) h = refl
@@ -207,29 +211,29 @@ stays_command (item.Does who what) h = refl
 stays_command _ h = h
 
 -- a line that is no task's and not begun
-by_word : (a : Around) (w : Word) (ws : List (List ℕ)) → takes_line (Some w) ≡ false → first_of (word_faults a manner.Whole None w ws) ≡ None
-    → Tells a (is_of_header (Some w)) (is_frames (Some w)) (first_of (word_faults at_frames manner.Whole None w ws)) (word_means [] None w ws) (word_means a.config.files None w ws)
-by_word a word.Frames ws t h =
-    let f = fine a manner.Whole None word.Frames ws h in
+by_word : (m : Mode) (a : Around) (w : Word) (ws : List (List ℕ)) → takes_line (Some w) ≡ false → first_of (word_faults m a manner.Whole None w ws) ≡ None
+    → Tells a (is_of_header (Some w)) (is_frames (Some w)) (first_of (word_faults mode.Schedule at_frames manner.Whole None w ws)) (word_means [] None w ws) (word_means a.config.files None w ws)
+by_word m a word.Frames ws t h =
+    let f = fine m a manner.Whole None word.Frames ws h in
     let late : a.commands ≡ false = f.late in
     let again : list_any (same_word word.Frames) a.given ≡ false = (or_parts (list_any (same_word word.Frames) a.given) false f.again).0 in
     (refl, refl, rw (late, again) at h, size 1 65536 ws f.short f.numbers, late, again, refl)
-by_word a word.Swap ws t h = let f = fine a manner.Whole None word.Swap ws h in (refl, refl, size 0 65536 ws f.short f.numbers, f.blocks)
-by_word a word.File ws t h = let f = fine a manner.Whole None word.File ws h in (refl, refl, file_fits ws f.short f.numbers f.names, f.again, f.full, f.blocks)
-by_word a word.Watermarks ws t h = let f = fine a manner.Whole None word.Watermarks ws h in (refl, refl, not_false (are_watermarks (marks_of (at ws 0) (at ws 1)) a.frames) f.marks)
-by_word a word.Trace ws t h = let f = fine a manner.Whole None word.Trace ws h in (refl, refl, size 1 1048576 ws f.short f.numbers)
-by_word a word.Fault ws t h = (refl, refl)
-by_word a word.Begin ws t h = absurd cc
-by_word a _ ws t h = refl
+by_word m a word.Swap ws t h = let f = fine m a manner.Whole None word.Swap ws h in (refl, refl, size 0 65536 ws f.short f.numbers, f.blocks)
+by_word m a word.File ws t h = let f = fine m a manner.Whole None word.File ws h in (refl, refl, file_fits ws f.short f.numbers f.names, f.again, f.full, f.blocks)
+by_word m a word.Watermarks ws t h = let f = fine m a manner.Whole None word.Watermarks ws h in (refl, refl, not_false (are_watermarks (marks_of (at ws 0) (at ws 1)) a.frames) f.marks)
+by_word m a word.Trace ws t h = let f = fine m a manner.Whole None word.Trace ws h in (refl, refl, size 1 1048576 ws f.short f.numbers)
+by_word m a word.Fault ws t h = (refl, refl)
+by_word m a word.Begin ws t h = absurd cc
+by_word m a _ ws t h = refl
 
 -- ---- a line by its first word: whether it begins with '#', which word it is, and whether it is a number
 
-abbrev pub faults_by : Around → List ℕ → List (List ℕ) → Bool → Option Word → Bool → List (Bool × Cause)
-faults_by a first ws comment o number =
+abbrev pub faults_by : Mode → Around → List ℕ → List (List ℕ) → Bool → Option Word → Bool → List (Bool × Cause)
+faults_by m a first ws comment o number =
     if comment then []
-    else if takes_line o then bare_faults a manner.Begun ws
-    else if number then task_faults a manner.Whole first ws
-    else named_faults a manner.Whole None o ws
+    else if takes_line o then bare_faults m a manner.Begun ws
+    else if number then task_faults m a manner.Whole first ws
+    else named_faults m a manner.Whole None o ws
 
 abbrev pub meaning_by : List File → List ℕ → List (List ℕ) → Bool → Option Word → Bool → Item
 meaning_by files first ws comment o number =
@@ -243,28 +247,28 @@ no_frames None f = refl
 no_frames (Some word.Frames) f = absurd (f refl)
 no_frames (Some _) f = refl
 
-by_first : (a : Around) (first : List ℕ) (ws : List (List ℕ)) (comment : Bool) (o : Option Word) (number : Bool)
-    → (o ≡ Some word.Frames → comment ≡ false) → (number ≡ true → is_of_header o ≡ false) → first_of (faults_by a first ws comment o number) ≡ None
-    → Tells a (comment || is_of_header o) (is_frames o) (first_of (faults_by at_frames first ws comment o number)) (meaning_by [] first ws comment o number) (meaning_by a.config.files first ws comment o number)
-by_first a first ws true o number f g h = (refl, no_frames o (λ e. let no : true ≡ false = f e in absurd cc))
-by_first a first ws false (Some word.Begin) number f g h =
-    of_command a false false (first_of (bare_faults at_frames manner.Begun ws)) (only_begun (bare_means [] ws)) (only_begun (bare_means a.config.files ws)) (stays_command (bare_means a.config.files ws) (begun_command a.config.files a ws h)) refl
-by_first a first ws false None true f g h = of_command a false false (first_of (task_faults at_frames manner.Whole first ws)) (task_means [] first ws) (task_means a.config.files first ws) (task_command a.config.files a manner.Whole first ws h) refl
-by_first a first ws false None false f g h = absurd cc
-by_first a first ws false (Some w) true f g h =
-    of_command a (is_of_header (Some w)) (is_frames (Some w)) (first_of (task_faults at_frames manner.Whole first ws)) (task_means [] first ws) (task_means a.config.files first ws) (task_command a.config.files a manner.Whole first ws h) (g refl)
-by_first a first ws false (Some w) false f g h = by_word a w ws refl h
+by_first : (m : Mode) (a : Around) (first : List ℕ) (ws : List (List ℕ)) (comment : Bool) (o : Option Word) (number : Bool)
+    → (o ≡ Some word.Frames → comment ≡ false) → (number ≡ true → is_of_header o ≡ false) → first_of (faults_by m a first ws comment o number) ≡ None
+    → Tells a (comment || is_of_header o) (is_frames o) (first_of (faults_by mode.Schedule at_frames first ws comment o number)) (meaning_by [] first ws comment o number) (meaning_by a.config.files first ws comment o number)
+by_first m a first ws true o number f g h = (refl, no_frames o (λ e. let no : true ≡ false = f e in absurd cc))
+by_first m a first ws false (Some word.Begin) number f g h =
+    of_command a false false (first_of (bare_faults mode.Schedule at_frames manner.Begun ws)) (only_begun (bare_means [] ws)) (only_begun (bare_means a.config.files ws)) (stays_command (bare_means a.config.files ws) (begun_command a.config.files m a ws h)) refl
+by_first m a first ws false None true f g h = of_command a false false (first_of (task_faults mode.Schedule at_frames manner.Whole first ws)) (task_means [] first ws) (task_means a.config.files first ws) (task_command a.config.files m a manner.Whole first ws h) refl
+by_first m a first ws false None false f g h = absurd cc
+by_first m a first ws false (Some w) true f g h =
+    of_command a (is_of_header (Some w)) (is_frames (Some w)) (first_of (task_faults mode.Schedule at_frames manner.Whole first ws)) (task_means [] first ws) (task_means a.config.files first ws) (task_command a.config.files m a manner.Whole first ws h) (g refl)
+by_first m a first ws false (Some w) false f g h = by_word m a w ws refl h
 
 -- what the words of a faultless line tell
-by_words : (a : Around) (ws : List (List ℕ)) → first_of (line_faults a ws) ≡ None → Tells a (is_header_line ws) (is_frames (word_of ws)) (first_of (line_faults at_frames ws)) (meaning [] ws) (meaning a.config.files ws)
-by_words a [] h = (refl, refl)
-by_words a (first ∷ ws) h =
-    by_first a first ws (is_comment first) (word_named speaker.Shell first) (is_numeral first) (not_skipped first) (no_number first) h
+by_words : (m : Mode) (a : Around) (ws : List (List ℕ)) → first_of (line_faults m a ws) ≡ None → Tells a (is_header_line ws) (is_frames (word_of ws)) (first_of (line_faults mode.Schedule at_frames ws)) (meaning [] ws) (meaning a.config.files ws)
+by_words m a [] h = (refl, refl)
+by_words m a (first ∷ ws) h =
+    by_first m a first ws (is_comment first) (word_named speaker.Shell first) (is_numeral first) (not_skipped first) (no_number first) h
 
 -- what a faultless line tells
-pub tells : (a : Around) (l : List ℕ) → fault a l ≡ None
-    → (is_utf8 l ≡ true) × Tells a (is_header_line (words_of l)) (is_frames (word_of (words_of l))) (fault at_frames l) (meaning [] (words_of l)) (meaning a.config.files (words_of l))
-tells a l h =
-    let p = fails (not (is_utf8 l)) NotText (line_faults a (words_of l)) h in
+pub tells : (m : Mode) (a : Around) (l : List ℕ) → fault m a l ≡ None
+    → (is_utf8 l ≡ true) × Tells a (is_header_line (words_of l)) (is_frames (word_of (words_of l))) (own_fault l) (meaning [] (words_of l)) (meaning a.config.files (words_of l))
+tells m a l h =
+    let p = fails (not (is_utf8 l)) NotText (line_faults m a (words_of l)) h in
     let u : is_utf8 l ≡ true = not_false (is_utf8 l) p.0 in
-    (u, rw u (by_words a (words_of l) p.1))
+    (u, rw u (by_words m a (words_of l) p.1))

@@ -1,7 +1,7 @@
 -- The line that says of a script why it could not be read.
 use Rattle.std.specs.Prelude.{ℕ, List, ◌++◌, codes, decimal}
 use Rattle.scripts.specs.declared.fault.Cause.{Cause}
-use Rattle.scripts.specs.declared.fault.Cause.TheVariants.{NotText, UnknownWord, MissingArgument, ExtraArgument, BadNumber, BadName, HeaderAfterCommands, HeaderTwice, TooManyFiles, TooManyBlocks}
+use Rattle.scripts.specs.declared.fault.Cause.TheVariants.{NotText, UnknownWord, MissingArgument, ExtraArgument, BadNumber, BadName, HeaderAfterCommands, HeaderTwice, TooManyFiles, TooManyBlocks, OnlyInSchedule}
 use Rattle.scripts.specs.declared.fault.ScriptFault.{ScriptFault}
 use Rattle.scripts.specs.declared.fault.ScriptFault.TheVariants.{At, Memory}
 
@@ -16,6 +16,7 @@ cause_text HeaderAfterCommands = codes "header after commands"
 cause_text HeaderTwice = codes "header twice"
 cause_text TooManyFiles = codes "too many files"
 cause_text TooManyBlocks = codes "too many blocks"
+cause_text OnlyInSchedule = codes "only in schedule"
 
 abbrev pub fault_text : ScriptFault → List ℕ
 fault_text (At line cause) = codes "line " ++ (decimal line ++ (codes ": " ++ cause_text cause))

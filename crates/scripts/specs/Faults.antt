@@ -9,7 +9,7 @@ use Rattle.machine.specs.Names.{is_name, is_path}
 use Rattle.machine.specs.Numbers.{is_numeral, number_below}
 use Rattle.machine.specs.State.{are_watermarks, blocks_of}
 use Rattle.scripts.specs.declared.fault.Cause.{Cause}
-use Rattle.scripts.specs.declared.fault.Cause.TheVariants.{NotText, UnknownWord, MissingArgument, ExtraArgument, BadNumber, BadName, HeaderAfterCommands, HeaderTwice, TooManyFiles, TooManyBlocks}
+use Rattle.scripts.specs.declared.fault.Cause.TheVariants.{NotText, UnknownWord, MissingArgument, ExtraArgument, BadNumber, BadName, HeaderAfterCommands, HeaderTwice, TooManyFiles, TooManyBlocks, OnlyInSchedule}
 use Rattle.scripts.specs.declared.forms.Word.{Word}
 use Rattle.scripts.specs.declared.forms.Word.TheVariants as word
 use Rattle.scripts.specs.declared.forms.Speaker.TheVariants as speaker
@@ -17,7 +17,8 @@ use Rattle.scripts.specs.declared.forms.Kind.{Kind}
 use Rattle.scripts.specs.declared.forms.Kind.TheVariants.{Number, Path, Name, Actor, Call, Any, Line}
 use Rattle.scripts.specs.declared.forms.Manner.{Manner}
 use Rattle.scripts.specs.declared.forms.Manner.TheVariants as manner
-use Rattle.scripts.specs.Forms.{form_of, word_named, same_word, takes_line, may_stand, actor_named, call_named}
+use Rattle.scripts.specs.declared.mode.Mode.{Mode}
+use Rattle.scripts.specs.Forms.{form_of, word_named, same_word, takes_line, may_stand, is_scheduled, is_run, actor_named, call_named}
 use Rattle.scripts.specs.Context.{Around}
 use Rattle.scripts.specs.Words.{words_of, is_comment}
 use Rattle.scripts.specs.Meaning.{at, number_value, marks_of, has_name}
@@ -90,9 +91,9 @@ abbrev pub first_of : List (Bool × Cause) → Option Cause
 first_of [] = None
 first_of (c ∷ cs) = if c.0 then Some c.1 else first_of cs
 
--- of a line with a known word, behind a task's number where there is one
-abbrev pub word_faults : Around → Manner → Option (List ℕ) → Word → List (List ℕ) → List (Bool × Cause)
-word_faults around how task word arguments =
+-- of a line with a known word, behind a task's number where there is one, in a script that is read for this
+abbrev pub word_faults : Mode → Around → Manner → Option (List ℕ) → Word → List (List ℕ) → List (Bool × Cause)
+word_faults mode around how task word arguments =
     let form = form_of word in
     (not (may_stand how word) || not (all_fit word_fits form.arguments arguments), UnknownWord)
     ∷ (nat_lt (length arguments) (length form.arguments), MissingArgument)
@@ -104,31 +105,32 @@ word_faults around how task word arguments =
     ∷ ((form.once && list_any (same_word word) around.given) || names_again around.config word arguments, HeaderTwice)
     ∷ (files_full around.config word, TooManyFiles)
     ∷ (nat_lt MOST_BLOCKS (blocks_with around.config word arguments), TooManyBlocks)
+    ∷ (is_scheduled how word && is_run mode, OnlyInSchedule)
     ∷ []
 
-abbrev pub named_faults : Around → Manner → Option (List ℕ) → Option Word → List (List ℕ) → List (Bool × Cause)
-named_faults around how task None arguments = (true, UnknownWord) ∷ []
-named_faults around how task (Some word) arguments = word_faults around how task word arguments
+abbrev pub named_faults : Mode → Around → Manner → Option (List ℕ) → Option Word → List (List ℕ) → List (Bool × Cause)
+named_faults mode around how task None arguments = (true, UnknownWord) ∷ []
+named_faults mode around how task (Some word) arguments = word_faults mode around how task word arguments
 
 -- of a line that begins with a task's number
-abbrev pub task_faults : Around → Manner → List ℕ → List (List ℕ) → List (Bool × Cause)
-task_faults around how task [] = (true, MissingArgument) ∷ []
-task_faults around how task (word ∷ arguments) = named_faults around how (Some task) (word_named speaker.Task word) arguments
+abbrev pub task_faults : Mode → Around → Manner → List ℕ → List (List ℕ) → List (Bool × Cause)
+task_faults mode around how task [] = (true, MissingArgument) ∷ []
+task_faults mode around how task (word ∷ arguments) = named_faults mode around how (Some task) (word_named speaker.Task word) arguments
 
 -- of a line without its `begin`
-abbrev pub bare_faults : Around → Manner → List (List ℕ) → List (Bool × Cause)
-bare_faults around how [] = (true, MissingArgument) ∷ []
-bare_faults around how (first ∷ more) =
-    if is_numeral first then task_faults around how first more
-    else named_faults around how None (word_named speaker.Shell first) more
+abbrev pub bare_faults : Mode → Around → Manner → List (List ℕ) → List (Bool × Cause)
+bare_faults mode around how [] = (true, MissingArgument) ∷ []
+bare_faults mode around how (first ∷ more) =
+    if is_numeral first then task_faults mode around how first more
+    else named_faults mode around how None (word_named speaker.Shell first) more
 
-abbrev pub line_faults : Around → List (List ℕ) → List (Bool × Cause)
-line_faults around [] = []
-line_faults around (first ∷ more) =
+abbrev pub line_faults : Mode → Around → List (List ℕ) → List (Bool × Cause)
+line_faults mode around [] = []
+line_faults mode around (first ∷ more) =
     if is_comment first then []
-    else if takes_line (word_named speaker.Shell first) then bare_faults around manner.Begun more
-    else bare_faults around manner.Whole (first ∷ more)
+    else if takes_line (word_named speaker.Shell first) then bare_faults mode around manner.Begun more
+    else bare_faults mode around manner.Whole (first ∷ more)
 
--- why a line is faulty, if it is
-abbrev pub fault : Around → List ℕ → Option Cause
-fault around line = first_of ((not (is_utf8 line), NotText) ∷ line_faults around (words_of line))
+-- why a line of a script that is read for this is faulty, if it is
+abbrev pub fault : Mode → Around → List ℕ → Option Cause
+fault mode around line = first_of ((not (is_utf8 line), NotText) ∷ line_faults mode around (words_of line))

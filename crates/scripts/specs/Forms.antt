@@ -14,8 +14,10 @@ use Rattle.scripts.specs.declared.forms.DeviceCall.{DeviceCall}
 use Rattle.scripts.specs.declared.forms.DeviceCall.TheVariants as call
 use Rattle.scripts.specs.declared.forms.Manner.{Manner}
 use Rattle.scripts.specs.declared.forms.Manner.TheVariants as manner
+use Rattle.scripts.specs.declared.mode.Mode.{Mode}
+use Rattle.scripts.specs.declared.mode.Mode.TheVariants as mode
 
--- a row of the table of words: who says the word, what follows it, whether it is of the header, comes at most once, and may be begun
+-- a row of the table of words: who says the word, what follows it, whether it is of the header, comes at most once, may be begun, and is for a schedule alone
 pub record Row : Type 0 where
   pub name : List ℕ
   pub speaker : Speaker
@@ -23,27 +25,36 @@ pub record Row : Type 0 where
   pub header : Bool
   pub once : Bool
   pub begun : Bool
+  pub scheduled : Bool
 
 -- the row that a form of the code is
 abbrev pub row : Form → Row
-row f = record { name = f.name.now; speaker = f.speaker; arguments = f.arguments.now; header = f.header; once = f.once; begun = f.begun }
+row f = record { name = f.name.now; speaker = f.speaker; arguments = f.arguments.now; header = f.header; once = f.once; begun = f.begun; scheduled = f.scheduled }
 
 abbrev pub header : List ℕ → List Kind → Row
-header name arguments = record { name = name; speaker = speaker.Shell; arguments = arguments; header = true; once = true; begun = false }
+header name arguments = record { name = name; speaker = speaker.Shell; arguments = arguments; header = true; once = true; begun = false; scheduled = false }
 
 -- of the header, any number of times
 abbrev pub header_many : List ℕ → List Kind → Row
-header_many name arguments = record { name = name; speaker = speaker.Shell; arguments = arguments; header = true; once = false; begun = false }
+header_many name arguments = record { name = name; speaker = speaker.Shell; arguments = arguments; header = true; once = false; begun = false; scheduled = false }
 
 abbrev pub shell : List ℕ → List Kind → Row
-shell name arguments = record { name = name; speaker = speaker.Shell; arguments = arguments; header = false; once = false; begun = true }
+shell name arguments = record { name = name; speaker = speaker.Shell; arguments = arguments; header = false; once = false; begun = true; scheduled = false }
 
 abbrev pub task : List ℕ → List Kind → Row
-task name arguments = record { name = name; speaker = speaker.Task; arguments = arguments; header = false; once = false; begun = true }
+task name arguments = record { name = name; speaker = speaker.Task; arguments = arguments; header = false; once = false; begun = true; scheduled = false }
+
+-- of the daemon's line
+abbrev pub daemon : List ℕ → List Kind → Row
+daemon name arguments = record { name = name; speaker = speaker.Shell; arguments = arguments; header = false; once = false; begun = true; scheduled = true }
 
 -- of a line that does a part of what others do whole
 abbrev pub part : List ℕ → List Kind → Row
-part name arguments = record { name = name; speaker = speaker.Shell; arguments = arguments; header = false; once = false; begun = false }
+part name arguments = record { name = name; speaker = speaker.Shell; arguments = arguments; header = false; once = false; begun = false; scheduled = true }
+
+-- of a line that parts those before it from those behind
+abbrev pub border : List ℕ → List Kind → Row
+border name arguments = record { name = name; speaker = speaker.Shell; arguments = arguments; header = false; once = false; begun = false; scheduled = false }
 
 abbrev pub number : Kind
 number = kind.Number 0 4294967295
@@ -73,15 +84,16 @@ form_of word.FileRead = task (codes "fread") (kind.Name ∷ number ∷ number �
 form_of word.Fork = task (codes "fork") (number ∷ [])
 form_of word.Free = task (codes "free") (number ∷ [])
 form_of word.Exit = task (codes "exit") []
-form_of word.Daemon = shell (codes "daemon") []
+form_of word.Daemon = daemon (codes "daemon") []
 form_of word.Begin = part (codes "begin") (kind.Line ∷ [])
 form_of word.Step = part (codes "step") (kind.Actor ∷ [])
 form_of word.Finish = part (codes "finish") (kind.Actor ∷ [])
+form_of word.Go = border (codes "go") []
 
 abbrev pub words : List Word
 words =
     word.Frames ∷ word.Swap ∷ word.File ∷ word.Watermarks ∷ word.Trace ∷ word.Fault ∷ word.Group ∷ word.Rmdir ∷ word.Task ∷ word.Attach ∷ word.Set ∷ word.Cat ∷ word.Protection ∷ word.Write
-    ∷ word.Read ∷ word.FileWrite ∷ word.FileRead ∷ word.Fork ∷ word.Free ∷ word.Exit ∷ word.Daemon ∷ word.Begin ∷ word.Step ∷ word.Finish ∷ []
+    ∷ word.Read ∷ word.FileWrite ∷ word.FileRead ∷ word.Fork ∷ word.Free ∷ word.Exit ∷ word.Daemon ∷ word.Begin ∷ word.Step ∷ word.Finish ∷ word.Go ∷ []
 
 abbrev pub same_speaker : Speaker → Speaker → Bool
 same_speaker speaker.Shell speaker.Shell = true
@@ -108,6 +120,16 @@ takes_line (Some w) = is_line (form_of w).arguments
 abbrev pub may_stand : Manner → Word → Bool
 may_stand manner.Whole w = true
 may_stand manner.Begun w = (form_of w).begun
+
+-- whether a line with the word is for a schedule alone, where it stands so: all that is begun is
+abbrev pub is_scheduled : Manner → Word → Bool
+is_scheduled manner.Whole w = (form_of w).scheduled
+is_scheduled manner.Begun w = true
+
+-- the script is read to be run on threads
+abbrev pub is_run : Mode → Bool
+is_run mode.Schedule = false
+is_run mode.Run = true
 
 -- the actor of this name: a task has a number in its place
 abbrev pub actor_named : List ℕ → Option Actor
@@ -150,6 +172,7 @@ place word.Daemon = 20
 place word.Begin = 21
 place word.Step = 22
 place word.Finish = 23
+place word.Go = 24
 
 abbrev pub same_word : Word → Word → Bool
 same_word v w = place v == place w

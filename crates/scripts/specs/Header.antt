@@ -3,11 +3,13 @@ use Rattle.std.specs.Prelude.{ℕ, Bool, true, false, ◌&&◌, ◌||◌, List, 
 use Rattle.std.specs.List.{take_while}
 use Rattle.std.specs.Str.{is_utf8}
 use Rattle.machine.specs.declared.config.Config.{Config}
+use Rattle.scripts.specs.declared.fault.Cause.{Cause}
 use Rattle.scripts.specs.declared.meaning.Item.{Item}
 use Rattle.scripts.specs.declared.meaning.Item.TheVariants as item
 use Rattle.scripts.specs.declared.forms.Word.{Word}
 use Rattle.scripts.specs.declared.forms.Word.TheVariants as word
 use Rattle.scripts.specs.declared.forms.Speaker.TheVariants as speaker
+use Rattle.scripts.specs.declared.mode.Mode.TheVariants as mode
 use Rattle.scripts.specs.Forms.{form_of, word_named, same_word}
 use Rattle.scripts.specs.Context.{Around}
 use Rattle.scripts.specs.Words.{words_of, is_comment}
@@ -32,6 +34,7 @@ config_after c (item.Does actor what) = c
 config_after c (item.Begins actor what) = c
 config_after c (item.Advances actor) = c
 config_after c (item.Finishes actor) = c
+config_after c item.EndsSetup = c
 
 abbrev pub config_of : List Item → Config
 config_of is = fold config_after default_config is
@@ -75,10 +78,14 @@ at_frames = record { frames = default_config.frames; commands = false; given = [
 abbrev pub frames_of : Item → ℕ
 frames_of i = (config_after default_config i).frames
 
+-- the fault that the line has there, which is one whatever the script is read for
+abbrev pub own_fault : List ℕ → Option Cause
+own_fault l = fault mode.Schedule at_frames l
+
 -- the frames that the line asks for; the default where there is none, or it has a fault
 abbrev pub frames_asked : Option (List ℕ) → ℕ
 frames_asked None = default_config.frames
-frames_asked (Some l) = if is_none (fault at_frames l) then frames_of (meaning default_config.files (words_of l)) else default_config.frames
+frames_asked (Some l) = if is_none (own_fault l) then frames_of (meaning default_config.files (words_of l)) else default_config.frames
 
 abbrev pub header_frames : List (List ℕ) → ℕ
 header_frames ls = frames_asked (frames_line ls)

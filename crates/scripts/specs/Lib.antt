@@ -6,5 +6,7 @@ pub mod Faults
 pub mod Header
 pub mod Lines
 pub mod Script
+pub mod Work
+pub mod Rows
 pub mod Reading
 pub mod FaultTexts

@@ -93,6 +93,7 @@ word_means files task word.Daemon a = item.Does actor.Daemon command.Daemon
 word_means files task word.Begin a = item.Nothing
 word_means files task word.Step a = item.Advances (actor_value (at a 0))
 word_means files task word.Finish a = item.Finishes (actor_value (at a 0))
+word_means files task word.Go a = item.EndsSetup
 
 abbrev pub named_means : List File → Option (List ℕ) → Option Word → List (List ℕ) → Item
 named_means files task None a = item.Nothing

@@ -12,6 +12,8 @@ use Rattle.scripts.specs.declared.forms.DeviceCall.TheVariants as call
 use Rattle.scripts.specs.declared.fault.Cause.{Cause}
 use Rattle.scripts.specs.declared.fault.ScriptFault.{ScriptFault}
 use Rattle.scripts.specs.declared.fault.ScriptFault.TheVariants as script_fault
+use Rattle.scripts.specs.declared.mode.Mode.{Mode}
+use Rattle.scripts.specs.declared.mode.Mode.TheVariants as mode
 use Rattle.scripts.specs.Words.{words_of}
 use Rattle.scripts.specs.Context.{Around}
 use Rattle.scripts.specs.Faults.{fault}
@@ -51,6 +53,7 @@ steps_of_item (item.File file) = []
 steps_of_item (item.Marks m) = []
 steps_of_item (item.Trace n) = []
 steps_of_item (item.Fails what n) = []
+steps_of_item item.EndsSetup = []
 
 abbrev pub steps_of : List Item → List Step
 steps_of is = flat_map steps_of_item is
@@ -63,6 +66,15 @@ lines_from n (i ∷ is) = replicate (length (steps_of_item i)) n ++ lines_from (
 abbrev pub lines_of : List Item → List ℕ
 lines_of is = lines_from 1 is
 
+-- by what the script is read for: a run on threads has no steps
+abbrev pub steps_in : Mode → List Item → List Step
+steps_in mode.Schedule is = steps_of is
+steps_in mode.Run is = []
+
+abbrev pub lines_in : Mode → List Item → List ℕ
+lines_in mode.Schedule is = lines_of is
+lines_in mode.Run is = []
+
 -- ---- the first faulty line
 
 abbrev pub is_command : Item → Bool
@@ -70,6 +82,7 @@ is_command (item.Does actor what) = true
 is_command (item.Begins actor what) = true
 is_command (item.Advances actor) = true
 is_command (item.Finishes actor) = true
+is_command item.EndsSetup = true
 is_command item.Nothing = false
 is_command (item.Frames n) = false
 is_command (item.Swap n) = false
@@ -90,24 +103,25 @@ header_word (item.Does actor what) = None
 header_word (item.Begins actor what) = None
 header_word (item.Advances actor) = None
 header_word (item.Finishes actor) = None
+header_word item.EndsSetup = None
 
 -- what a line has to know of the others, where the header asks for so many frames and the lines before say this
 abbrev pub around_of : ℕ → List Item → Around
 around_of frames is = record { frames = frames; commands = list_any is_command is; given = filter_map header_word is; config = config_of is }
 
--- why a line is faulty behind those before it, if it is; by its place, from 0
-abbrev pub fault_at : List (List ℕ) → ℕ → Option Cause
-fault_at ls k = fault (around_of (header_frames ls) (items_of (take k ls))) (slice_index_or ls k [])
+-- why a line is faulty behind those before it, in a script that is read for this, if it is; by its place, from 0
+abbrev pub fault_at : Mode → List (List ℕ) → ℕ → Option Cause
+fault_at mode ls k = fault mode (around_of (header_frames ls) (items_of (take k ls))) (slice_index_or ls k [])
 
-abbrev pub IsFaultless : List (List ℕ) → Type 0
-IsFaultless ls = (k : ℕ) → k < length ls → fault_at ls k ≡ None
+abbrev pub IsFaultless : Mode → List (List ℕ) → Type 0
+IsFaultless mode ls = (k : ℕ) → k < length ls → fault_at mode ls k ≡ None
 
 -- the line of this number, from 1 on, is the first faulty one, and this is why
-pub record IsFirstFault (ls : List (List ℕ)) (number : ℕ) (cause : Cause) : Type 0 where
+pub record IsFirstFault (mode : Mode) (ls : List (List ℕ)) (number : ℕ) (cause : Cause) : Type 0 where
   pub within : (0 < number) × (number ≤ length ls)
-  pub faulty : fault_at ls (number - 1) ≡ Some cause
-  pub first : (k : ℕ) → k + 1 < number → fault_at ls k ≡ None
+  pub faulty : fault_at mode ls (number - 1) ≡ Some cause
+  pub first : (k : ℕ) → k + 1 < number → fault_at mode ls k ≡ None
 
-abbrev pub NamesFirstFault : ScriptFault → List (List ℕ) → Type 0
-NamesFirstFault script_fault.Memory ls = Unit {0}
-NamesFirstFault (script_fault.At line cause) ls = IsFirstFault ls line cause
+abbrev pub NamesFirstFault : Mode → ScriptFault → List (List ℕ) → Type 0
+NamesFirstFault mode script_fault.Memory ls = Unit {0}
+NamesFirstFault mode (script_fault.At line cause) ls = IsFirstFault mode ls line cause

@@ -11,7 +11,7 @@ ghost use Rattle.scripts.specs.Meaning.{has_name};
 
 use crate::context::Context;
 use crate::fault::Cause;
-use crate::forms::{Kind, Manner, Word, actor_named, call_named, may_stand};
+use crate::forms::{Kind, Manner, Word, actor_named, call_named, is_scheduled, may_stand};
 use crate::meaning::{has_name, marks_of, number_value};
 use crate::words::Token;
 use files::blocks_behind;
@@ -157,7 +157,7 @@ pub fn fault_of_word(
     word: Word,
     arguments: &[Token<'_>],
 ) -> Option<Cause>
-    ensures fault { result ≡ first_of (word_faults (around context.now) manner (option_map now task.entry) word arguments.now) }
+    ensures fault { result ≡ first_of (word_faults context.now.mode (around context.now) manner (option_map now task.entry) word arguments.now) }
     ensures count { IfNone result (length arguments.now ≡ length (form_of word).arguments) }
 {
     let kinds = word.form().arguments;
@@ -190,6 +190,9 @@ pub fn fault_of_word(
     }
     if blocks_full(&context.config, word, arguments) {
         return Some(Cause::TooManyBlocks);
+    }
+    if is_scheduled(manner, word) && context.mode.is_run() {
+        return Some(Cause::OnlyInSchedule);
     }
     None
 }

@@ -6,11 +6,14 @@ ghost use Rattle.scripts.specs.Forms.{form_of, same_word};
 ghost use Rattle.scripts.specs.Context.{around};
 
 use crate::forms::Word;
+use crate::mode::Mode;
 use machine::config::Config;
 
 /// What a line has to know of the other lines.
 #[derive(Debug, Drop)]
 pub struct Context {
+    /// What the script is read for.
+    pub mode: Mode,
     /// How many frames the header asks for, also behind the line.
     pub frames: u32,
     /// A line that is not of the header stands before.

@@ -31,6 +31,8 @@ pub enum Cause {
     TooManyFiles,
     /// With this line swap and the files ask for more blocks than there can be.
     TooManyBlocks,
+    /// The script is read to be run on threads, and the line is for a schedule alone.
+    OnlyInSchedule,
 }
 
 /// The words that are printed.
@@ -52,6 +54,7 @@ impl fmt::Display for Cause {
             Cause::HeaderTwice => "header twice",
             Cause::TooManyFiles => "too many files",
             Cause::TooManyBlocks => "too many blocks",
+            Cause::OnlyInSchedule => "only in schedule",
         })
     }
 }

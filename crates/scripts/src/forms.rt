@@ -3,7 +3,7 @@
 ghost use Rattle.std.specs.Prelude.{◌≡◌};
 ghost use Rattle.std.specs.Option.{option_copied};
 ghost use Rattle.scripts.specs.declared.forms.Word.{Word};
-ghost use Rattle.scripts.specs.Forms.{row, header, header_many, shell, task, part, form_of, is_named, word_named, is_line, takes_line, may_stand, actor_named, call_named};
+ghost use Rattle.scripts.specs.Forms.{row, header, header_many, shell, task, daemon, part, border, form_of, is_named, word_named, is_line, takes_line, may_stand, is_scheduled, actor_named, call_named};
 
 use machine::command::Actor;
 use machine::limit::{LAST_NUMBER, MOST_ENTRIES, MOST_FRAMES, MOST_SWAP};
@@ -79,6 +79,7 @@ pub enum Word {
     Begin,
     Step,
     Finish,
+    Go,
 }
 
 /// How a line with a word is written: one row of the table of words.
@@ -95,6 +96,8 @@ pub struct Form {
     pub once: bool,
     /// The line may stand behind `begin`.
     pub begun: bool,
+    /// The line is for a schedule alone.
+    pub scheduled: bool,
 }
 
 const FRAMES: Kind = Kind::Number {
@@ -134,7 +137,7 @@ const BYTE: Kind = Kind::Number {
     most: 255,
 };
 
-const WORDS: [Word; 24] = [
+const WORDS: [Word; 25] = [
     Word::Frames,
     Word::Swap,
     Word::File,
@@ -159,6 +162,7 @@ const WORDS: [Word; 24] = [
     Word::Begin,
     Word::Step,
     Word::Finish,
+    Word::Go,
 ];
 
 fn header(name: &'static str, arguments: &'static [Kind]) -> Form
@@ -171,6 +175,7 @@ fn header(name: &'static str, arguments: &'static [Kind]) -> Form
         header: true,
         once: true,
         begun: false,
+        scheduled: false,
     }
 }
 
@@ -185,6 +190,7 @@ fn header_many(name: &'static str, arguments: &'static [Kind]) -> Form
         header: true,
         once: false,
         begun: false,
+        scheduled: false,
     }
 }
 
@@ -198,6 +204,7 @@ fn shell(name: &'static str, arguments: &'static [Kind]) -> Form
         header: false,
         once: false,
         begun: true,
+        scheduled: false,
     }
 }
 
@@ -211,6 +218,22 @@ fn task(name: &'static str, arguments: &'static [Kind]) -> Form
         header: false,
         once: false,
         begun: true,
+        scheduled: false,
+    }
+}
+
+/// Of the daemon's line.
+fn daemon(name: &'static str, arguments: &'static [Kind]) -> Form
+    ensures { row result ≡ daemon name.now arguments.now }
+{
+    Form {
+        name,
+        speaker: Speaker::Shell,
+        arguments,
+        header: false,
+        once: false,
+        begun: true,
+        scheduled: true,
     }
 }
 
@@ -225,6 +248,22 @@ fn part(name: &'static str, arguments: &'static [Kind]) -> Form
         header: false,
         once: false,
         begun: false,
+        scheduled: true,
+    }
+}
+
+/// Of a line that parts those before it from those behind.
+fn border(name: &'static str, arguments: &'static [Kind]) -> Form
+    ensures { row result ≡ border name.now arguments.now }
+{
+    Form {
+        name,
+        speaker: Speaker::Shell,
+        arguments,
+        header: false,
+        once: false,
+        begun: false,
+        scheduled: false,
     }
 }
 
@@ -262,10 +301,11 @@ impl Word {
             Word::Fork => task("fork", &[NUMBER]),
             Word::Free => task("free", &[NUMBER]),
             Word::Exit => task("exit", &[]),
-            Word::Daemon => shell("daemon", &[]),
+            Word::Daemon => daemon("daemon", &[]),
             Word::Begin => part("begin", &[Kind::Line]),
             Word::Step => part("step", &[Kind::Actor]),
             Word::Finish => part("finish", &[Kind::Actor]),
+            Word::Go => border("go", &[]),
         }
     }
 
@@ -305,6 +345,16 @@ pub fn may_stand(manner: Manner, word: Word) -> bool
     match manner {
         Manner::Whole => true,
         Manner::Begun => word.form().begun,
+    }
+}
+
+/// Whether a line with the word is for a schedule alone, where it stands so. All that is begun is.
+pub fn is_scheduled(manner: Manner, word: Word) -> bool
+    ensures { result ≡ is_scheduled manner word }
+{
+    match manner {
+        Manner::Whole => word.form().scheduled,
+        Manner::Begun => true,
     }
 }
 

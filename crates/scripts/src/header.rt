@@ -11,6 +11,7 @@ use crate::forms::{Speaker, Word, word_named};
 use crate::line::read_line;
 use crate::lines::{as_text, first_line};
 use crate::meaning::Item;
+use crate::mode::Mode;
 use crate::words::{Token, words_of};
 use machine::config::{Config, FileList, Watermarks};
 use std::alloc::{AllocError, Global};
@@ -107,6 +108,8 @@ fn frames_asked(alloc: Global, line: &[u8]) -> Result<u32, AllocError>
     ensures { IfOk result (λ frames. frames ≡ frames_asked (Some line.now)) }
 {
     let context = Context {
+        // The line has the same faults whatever the script is read for.
+        mode: Mode::Schedule,
         frames: DEFAULT_FRAMES,
         commands: false,
         given: Vec::new(alloc),

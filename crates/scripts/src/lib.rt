@@ -3,7 +3,7 @@
 //! A script is read whole before anything is run. Each line is judged by itself, but for three things
 //! that it needs to know of the others: how many frames the header asks for, whether a command stood
 //! before, and which words of the header did. What a line means takes no heed of faults, and is
-//! spoken of for faultless lines alone.
+//! spoken of for faultless lines alone. What of it is kept goes by what the script is read for.
 #![tactic(auto)]
 
 pub mod check;
@@ -14,9 +14,13 @@ pub mod header;
 mod line;
 pub mod lines;
 mod meaning;
+mod mode;
 mod script;
 pub mod words;
+mod work;
 
 pub use fault::{Cause, FaultText, ScriptFault};
 pub use forms::{DeviceCall, Form, Kind, Speaker, Word, each_word_is_found};
-pub use script::{Mode, Script, frames_line_has_its_own_fault, one_answer, read};
+pub use mode::Mode;
+pub use script::{Script, frames_line_has_its_own_fault, one_answer, read};
+pub use work::each_actor_has_its_row;

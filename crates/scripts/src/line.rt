@@ -27,7 +27,7 @@ fn read_named(
     arguments: &[Token<'_>],
 ) -> Result<Item, LineError>
     ensures { Reads result
-        (first_of (named_faults (around context.now) manner (option_map now task.entry) word arguments.now))
+        (first_of (named_faults context.now.mode (around context.now) manner (option_map now task.entry) word arguments.now))
         (named_means (around context.now).config.files (option_map now task.entry) word arguments.now) }
 {
     let Some(word) = word else {
@@ -54,7 +54,7 @@ fn read_task(
     words: &[Token<'_>],
 ) -> Result<Item, LineError>
     ensures { Reads result
-        (first_of (task_faults (around context.now) manner task.now words.now))
+        (first_of (task_faults context.now.mode (around context.now) manner task.now words.now))
         (task_means (around context.now).config.files task.now words.now) }
 {
     let Some((first, arguments)) = words.split_first() else {
@@ -67,7 +67,7 @@ fn read_task(
 /// Of what stands behind `begin`.
 fn read_begun(alloc: Global, context: &Context, words: &[Token<'_>]) -> Result<Item, LineError>
     ensures { Reads result
-        (first_of (bare_faults (around context.now) Begun words.now))
+        (first_of (bare_faults context.now.mode (around context.now) Begun words.now))
         (only_begun (bare_means (around context.now).config.files words.now)) }
 {
     let Some((first, more)) = words.split_first() else {
@@ -85,7 +85,7 @@ fn read_begun(alloc: Global, context: &Context, words: &[Token<'_>]) -> Result<I
 #[tactic(auto, using(crate::proofs::NumeralLemmas::no_line))]
 fn read_words(alloc: Global, context: &Context, words: &[Token<'_>]) -> Result<Item, LineError>
     ensures { Reads result
-        (first_of (line_faults (around context.now) words.now))
+        (first_of (line_faults context.now.mode (around context.now) words.now))
         (meaning (around context.now).config.files words.now) }
 {
     let Some((first, more)) = words.split_first() else {
@@ -107,7 +107,7 @@ fn read_words(alloc: Global, context: &Context, words: &[Token<'_>]) -> Result<I
 
 /// What a line says among those that the context is of.
 pub fn read_line(alloc: Global, context: &Context, line: &[u8]) -> Result<Item, LineError>
-    ensures { Reads result (fault (around context.now) line.now) (meaning (around context.now).config.files (words_of line.now)) }
+    ensures { Reads result (fault context.now.mode (around context.now) line.now) (meaning (around context.now).config.files (words_of line.now)) }
 {
     let Some(text) = as_text(line) else {
         return Err(LineError::Fault(Cause::NotText));

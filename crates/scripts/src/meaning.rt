@@ -41,6 +41,8 @@ pub enum Item {
     Advances(Actor),
     /// Turns of the actor's command until it is answered.
     Finishes(Actor),
+    /// The setup ends here, where the script is read to be run on threads.
+    EndsSetup,
 }
 
 pub fn number_value(word: &Token<'_>) -> u32
@@ -231,6 +233,7 @@ pub fn item_of_word(
         Word::Begin => return Ok(Item::Nothing),
         Word::Step => return Ok(Item::Advances(actor_value(&arguments[0]))),
         Word::Finish => return Ok(Item::Finishes(actor_value(&arguments[0]))),
+        Word::Go => return Ok(Item::EndsSetup),
     };
     Ok(Item::Does(actor_of(task), command))
 }

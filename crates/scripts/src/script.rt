@@ -5,13 +5,16 @@ ghost use Rattle.std.specs.Str.Lines.{lines};
 ghost use Rattle.machine.specs.State.{is_config};
 ghost use Rattle.scripts.specs.declared.fault.Cause.{Cause};
 ghost use Rattle.scripts.specs.declared.forms.DeviceCall.TheVariants.{Read, Write};
+ghost use Rattle.scripts.specs.declared.meaning.Item.TheVariants.{Does};
+ghost use Rattle.scripts.specs.declared.mode.Mode.{Mode};
 ghost use Rattle.scripts.specs.Words.{words_of};
 ghost use Rattle.scripts.specs.Faults.{fault};
 ghost use Rattle.scripts.specs.Meaning.{meaning};
 ghost use Rattle.scripts.specs.Lines.{Adds};
-ghost use Rattle.scripts.specs.Header.{config_of, at_frames, frames_line};
-ghost use Rattle.scripts.specs.Script.{items_of, faults_of, steps_of, lines_of, fault_at, IsFaultless, IsFirstFault, NamesFirstFault};
-ghost use Rattle.scripts.specs.Reading.{known_by, at_start, with_fault, with_step, after};
+ghost use Rattle.scripts.specs.Header.{config_of, frames_line, own_fault};
+ghost use Rattle.scripts.specs.Script.{items_of, faults_of, steps_in, lines_in, fault_at, IsFaultless, IsFirstFault, NamesFirstFault};
+ghost use Rattle.scripts.specs.Work.{setup_in, work_in, shown_rows};
+ghost use Rattle.scripts.specs.Reading.{known_by, at_start, with_fault, with_step, after, IsSaid};
 
 use crate::context::Context;
 use crate::fault::{LineError, ScriptFault};
@@ -20,16 +23,11 @@ use crate::header::{default_config, header_frames};
 use crate::line::read_line;
 use crate::lines::first_line;
 use crate::meaning::Item;
-use machine::command::Step;
+use crate::mode::Mode;
+use crate::work::Work;
+use machine::command::{Actor, Command, Step};
 use machine::config::Config;
 use std::alloc::{AllocError, Global};
-
-/// What a script is read for.
-#[derive(Clone, Copy, Debug, PartialEq, Eq)]
-pub enum Mode {
-    /// To be run one turn after the other, in the order of its lines.
-    Schedule,
-}
 
 /// What a script says.
 #[derive(Debug, Drop)]
@@ -40,37 +38,50 @@ pub struct Script {
     pub read_faults: Vec<u64>,
     /// Which writes, likewise.
     pub write_faults: Vec<u64>,
-    /// What the other lines ask for, in their order.
+    /// Of a schedule, what the other lines ask for, in their order.
     pub steps: Vec<Step>,
     /// For each of the steps the number of the line that it comes of, from 1.
     pub lines: Vec<usize>,
+    /// Of a run on threads, what the lines before the first `go` ask for, in their order.
+    pub setup: Vec<(Actor, Command)>,
+    /// What those behind it ask for, in their order: a row for each actor that is asked for something, by
+    /// rising number, the shell's before all tasks'.
+    pub work: Vec<(Actor, Vec<Command>)>,
 }
 
 /// What has been read of a script.
 #[derive(Debug, Drop)]
 struct Reading {
     context: Context,
+    /// A `go` came.
+    gone: bool,
     read_faults: Vec<u64>,
     write_faults: Vec<u64>,
     steps: Vec<Step>,
     lines: Vec<usize>,
+    setup: Vec<(Actor, Command)>,
+    work: Work,
 }
 
 impl Reading {
-    fn new(alloc: Global, frames: u32) -> Reading
-        ensures { known_by result ≡ at_start frames }
+    fn new(alloc: Global, mode: Mode, frames: u32) -> Reading
+        ensures { known_by result ≡ at_start mode frames }
     {
         Reading {
             context: Context {
+                mode,
                 frames,
                 commands: false,
                 given: Vec::new(alloc),
                 config: default_config(alloc),
             },
+            gone: false,
             read_faults: Vec::new(alloc),
             write_faults: Vec::new(alloc),
             steps: Vec::new(alloc),
             lines: Vec::new(alloc),
+            setup: Vec::new(alloc),
+            work: Work::new(alloc),
         }
     }
 
@@ -85,17 +96,45 @@ impl Reading {
         Ok(())
     }
 
+    /// In a run on threads there are no steps.
     fn add_step(&mut self, line: usize, step: Step) -> Result<(), AllocError>
         ensures { OnOk result (known_by self.new ≡ with_step (known_by self.old) line step) }
     {
         self.context.commands = true;
-        self.steps.push(step)?;
-        self.lines.push(line)?;
+        match self.context.mode {
+            Mode::Schedule => {
+                self.steps.push(step)?;
+                self.lines.push(line)?;
+            }
+            Mode::Run => {}
+        }
+        Ok(())
+    }
+
+    /// A command in the line of this number, which is done from its beginning to its end.
+    fn add_command(
+        &mut self,
+        alloc: Global,
+        line: usize,
+        actor: Actor,
+        command: Command,
+    ) -> Result<(), AllocError>
+        ensures { OnOk result (known_by self.new ≡ after (known_by self.old) line (Does actor command)) }
+    {
+        self.context.commands = true;
+        match self.context.mode {
+            Mode::Schedule => {
+                self.add_step(line, Step::Begin(actor, command))?;
+                self.add_step(line, Step::Finish(actor))?;
+            }
+            Mode::Run if self.gone => self.work.add(alloc, actor, command)?,
+            Mode::Run => self.setup.push((actor, command))?,
+        }
         Ok(())
     }
 
     /// What the line of this number says.
-    fn add(&mut self, line: usize, item: Item) -> Result<(), AllocError>
+    fn add(&mut self, alloc: Global, line: usize, item: Item) -> Result<(), AllocError>
         ensures { OnOk result (known_by self.new ≡ after (known_by self.old) line item) }
     {
         match item {
@@ -121,13 +160,14 @@ impl Reading {
                 self.context.config.trace = trace;
             }
             Item::Fails(call, number) => self.add_fault(call, number)?,
-            Item::Does(actor, command) => {
-                self.add_step(line, Step::Begin(actor, command))?;
-                self.add_step(line, Step::Finish(actor))?;
-            }
+            Item::Does(actor, command) => self.add_command(alloc, line, actor, command)?,
             Item::Begins(actor, command) => self.add_step(line, Step::Begin(actor, command))?,
             Item::Advances(actor) => self.add_step(line, Step::Advance(actor))?,
             Item::Finishes(actor) => self.add_step(line, Step::Finish(actor))?,
+            Item::EndsSetup => {
+                self.context.commands = true;
+                self.gone = true;
+            }
         }
         Ok(())
     }
@@ -135,29 +175,60 @@ impl Reading {
     /// The line of this number.
     fn add_line(&mut self, alloc: Global, number: usize, line: &[u8]) -> Result<(), LineError>
         ensures { Adds result
-            (fault (known_by self.old).around line.now)
+            (fault (known_by self.old).mode (known_by self.old).around line.now)
             (known_by self.new ≡ after (known_by self.old) number (meaning (known_by self.old).around.config.files (words_of line.now))) }
     {
         let item = read_line(alloc, &self.context, line)?;
-        self.add(number, item)?;
+        self.add(alloc, number, item)?;
         Ok(())
+    }
+
+    /// What all lines of a script said.
+    fn into_script(self, alloc: Global) -> Result<Script, AllocError>
+        ensures { IfOk result (λ s. IsSaid s (known_by self)) }
+    {
+        let Reading {
+            context,
+            gone: _,
+            read_faults,
+            write_faults,
+            steps,
+            lines,
+            setup,
+            work,
+        } = self;
+        let Context { config, .. } = context;
+        Ok(Script {
+            config,
+            read_faults,
+            write_faults,
+            steps,
+            lines,
+            setup,
+            work: work.into_rows(alloc)?,
+        })
     }
 }
 
-fn read_schedule(alloc: Global, text: &[u8]) -> Result<Script, ScriptFault>
-    ensures faultless { IfOk result (λ _. IsFaultless (lines text.now)) }
+/// What a script says, or its first faulty line and the first of that line's causes.
+///
+/// `Ok` comes exactly for a text without a faulty line, but that memory may run out.
+pub fn read(alloc: Global, text: &[u8], mode: Mode) -> Result<Script, ScriptFault>
+    ensures faultless { IfOk result (λ _. IsFaultless mode (lines text.now)) }
     ensures config { IfOk result (λ s. s.config ≡ config_of (items_of (lines text.now))) }
     ensures limits { IfOk result (λ s. is_config s.config ≡ true) }
     ensures read_faults { IfOk result (λ s. s.read_faults.items ≡ faults_of Read (items_of (lines text.now))) }
     ensures write_faults { IfOk result (λ s. s.write_faults.items ≡ faults_of Write (items_of (lines text.now))) }
-    ensures steps { IfOk result (λ s. s.steps.items ≡ steps_of (items_of (lines text.now))) }
-    ensures lines { IfOk result (λ s. s.lines.items ≡ lines_of (items_of (lines text.now))) }
-    ensures fault { IfErr result (λ e. NamesFirstFault e (lines text.now)) }
+    ensures steps { IfOk result (λ s. s.steps.items ≡ steps_in mode (items_of (lines text.now))) }
+    ensures lines { IfOk result (λ s. s.lines.items ≡ lines_in mode (items_of (lines text.now))) }
+    ensures setup { IfOk result (λ s. s.setup.items ≡ setup_in mode (items_of (lines text.now))) }
+    ensures work { IfOk result (λ s. shown_rows s.work.items ≡ work_in mode (items_of (lines text.now))) }
+    ensures fault { IfErr result (λ e. NamesFirstFault mode e (lines text.now)) }
 {
     let Ok(frames) = header_frames(alloc, text) else {
         return Err(ScriptFault::Memory);
     };
-    let mut reading = Reading::new(alloc, frames);
+    let mut reading = Reading::new(alloc, mode, frames);
     let mut rest = text;
     let mut number = 0;
     while !rest.is_empty() {
@@ -172,50 +243,22 @@ fn read_schedule(alloc: Global, text: &[u8]) -> Result<Script, ScriptFault>
             }),
         }
     }
-    let Reading {
-        context,
-        read_faults,
-        write_faults,
-        steps,
-        lines,
-    } = reading;
-    let Context { config, .. } = context;
-    Ok(Script {
-        config,
-        read_faults,
-        write_faults,
-        steps,
-        lines,
-    })
-}
-
-/// What a script says, or its first faulty line and the first of that line's causes.
-///
-/// `Ok` comes exactly for a text without a faulty line, but that memory may run out.
-pub fn read(alloc: Global, text: &[u8], mode: Mode) -> Result<Script, ScriptFault>
-    ensures faultless { IfOk result (λ _. IsFaultless (lines text.now)) }
-    ensures config { IfOk result (λ s. s.config ≡ config_of (items_of (lines text.now))) }
-    ensures limits { IfOk result (λ s. is_config s.config ≡ true) }
-    ensures read_faults { IfOk result (λ s. s.read_faults.items ≡ faults_of Read (items_of (lines text.now))) }
-    ensures write_faults { IfOk result (λ s. s.write_faults.items ≡ faults_of Write (items_of (lines text.now))) }
-    ensures steps { IfOk result (λ s. s.steps.items ≡ steps_of (items_of (lines text.now))) }
-    ensures lines { IfOk result (λ s. s.lines.items ≡ lines_of (items_of (lines text.now))) }
-    ensures fault { IfErr result (λ e. NamesFirstFault e (lines text.now)) }
-{
-    match mode {
-        Mode::Schedule => read_schedule(alloc, text),
+    match reading.into_script(alloc) {
+        Ok(script) => Ok(script),
+        Err(AllocError) => Err(ScriptFault::Memory),
     }
 }
 
-/// A law: a script is faultless or has a first fault, not both, and it has one first fault only.
+/// A law, whatever a script is read for: it is faultless or has a first fault, not both, and it has one first
+/// fault only.
 pub fn one_answer()
-    ensures some { (ls : List (List ℕ)) → IsFaultless ls ⊎ ((n : ℕ) × (c : Cause) × IsFirstFault ls n c) }
-    ensures not_both { (ls : List (List ℕ)) (n : ℕ) (c : Cause) → IsFirstFault ls n c → IsFaultless ls → ⊥ }
-    ensures one { (ls : List (List ℕ)) (m n : ℕ) (c d : Cause) → IsFirstFault ls m c → IsFirstFault ls n d → (m ≡ n) × (c ≡ d) }
+    ensures some { (mode : Mode) (ls : List (List ℕ)) → IsFaultless mode ls ⊎ ((n : ℕ) × (c : Cause) × IsFirstFault mode ls n c) }
+    ensures not_both { (mode : Mode) (ls : List (List ℕ)) (n : ℕ) (c : Cause) → IsFirstFault mode ls n c → IsFaultless mode ls → ⊥ }
+    ensures one { (mode : Mode) (ls : List (List ℕ)) (m n : ℕ) (c d : Cause) → IsFirstFault mode ls m c → IsFirstFault mode ls n d → (m ≡ n) × (c ≡ d) }
 {}
 
 /// A law: the `frames` line that the daemon's marks are compared with is one of the script's lines, and
-/// whether it has a fault, and which, is as for every line.
+/// whether it has a fault, and which, is as for every line, whatever the script is read for.
 pub fn frames_line_has_its_own_fault()
-    ensures { (ls : List (List ℕ)) (l : List ℕ) → frames_line ls ≡ Some l → (k : ℕ) × (k < length ls) × (slice_index_or ls k [] ≡ l) × (fault_at ls k ≡ fault at_frames l) }
+    ensures { (mode : Mode) (ls : List (List ℕ)) (l : List ℕ) → frames_line ls ≡ Some l → (k : ℕ) × (k < length ls) × (slice_index_or ls k [] ≡ l) × (fault_at mode ls k ≡ own_fault l) }
 {}

@@ -2,3 +2,8 @@ pub mod ByteLemmas
 pub mod ToldLemmas
 pub mod ResultLemmas
 pub mod StartLemmas
+pub mod Boards
+pub mod CrewLemmas
+pub mod RoundLemmas
+pub mod RisingLemmas
+pub mod EndLemmas

@@ -12,6 +12,7 @@ use Rattle.driver.specs.Schedule.{Schedules}
 use Rattle.driver.specs.Sinks.{Starts}
 use Rattle.scripts.specs.declared.meaning.Item.{Item}
 use Rattle.scripts.specs.declared.forms.DeviceCall.TheVariants.{Read, Write}
+use Rattle.scripts.specs.declared.mode.Mode.TheVariants.{Schedule}
 use Rattle.scripts.specs.Header.{config_of}
 use Rattle.scripts.specs.Script.{items_of, faults_of, steps_of, IsFaultless}
 use Rattle.std.specs.Str.Lines.{lines}
@@ -51,12 +52,12 @@ disk_of is = new_disk (blocks_of (config_of is)) (faults_of Read is) (faults_of 
 
 -- no line of the script is faulty, and a writer got what all of it prints, and these bytes behind
 pub record PrintsScript (script behind : List ℕ) (old new : Option (List ℕ)) : Type 0 where
-  pub faultless : IsFaultless (lines script)
+  pub faultless : IsFaultless Schedule (lines script)
   pub run : PrintsRun (config_of (items_of (lines script))) (disk_of (items_of (lines script))) (steps_of (items_of (lines script))) behind old new
 
 -- no line of the script is faulty, and a writer got the beginning of what it prints
 pub record BeginsScript (script behind : List ℕ) (old new : Option (List ℕ)) : Type 0 where
-  pub faultless : IsFaultless (lines script)
+  pub faultless : IsFaultless Schedule (lines script)
   pub run : PrintsStart (config_of (items_of (lines script))) (disk_of (items_of (lines script))) (steps_of (items_of (lines script))) behind old new
 
 -- a writer got nothing, or the beginning of what a script without a faulty line prints

@@ -5,6 +5,8 @@ use Rattle.std.specs.declared.io.ErrorKind.TheVariants.{BrokenPipe}
 use Rattle.std.specs.Io.KnownBytes.{Appends}
 use Rattle.std.specs.Str.Lines.{lines}
 use Rattle.machine.specs.Control.{line}
+use Rattle.scripts.specs.declared.mode.Mode.{Mode}
+use Rattle.scripts.specs.declared.mode.Mode.TheVariants.{Schedule}
 use Rattle.scripts.specs.FaultTexts.{fault_text}
 use Rattle.scripts.specs.Script.{IsFaultless, NamesFirstFault}
 use Rattle.machine.specs.declared.limit.TheConstants.{SCRIPT_BYTES}
@@ -26,13 +28,17 @@ IsUnread script (fault.Unwritable error) = ⊥
 
 -- it was read, and this is why it was not run to its end: its first faulty line with its first cause, or want of memory for what it says; or, of one
 -- that has no faulty line, want of memory for the run, or an answer that could not be written. More is said of a faulty line where that is asked for
+abbrev pub ExplainsIn : Mode → Options → List ℕ → Fault → Type 0
+ExplainsIn mode options script (fault.Unreadable error) = ⊥
+ExplainsIn mode options script fault.TooLong = ⊥
+ExplainsIn mode options script (fault.Script why) = NamesFirstFault mode why (lines script)
+ExplainsIn mode options script (fault.Explained why more) = (options.explain ≡ true) × NamesFirstFault mode why (lines script)
+ExplainsIn mode options script (fault.Memory wanted) = IsFaultless mode (lines script)
+ExplainsIn mode options script (fault.Unwritable error) = IsFaultless mode (lines script)
+
+-- the same of a schedule
 abbrev pub Explains : Options → List ℕ → Fault → Type 0
-Explains options script (fault.Unreadable error) = ⊥
-Explains options script fault.TooLong = ⊥
-Explains options script (fault.Script why) = NamesFirstFault why (lines script)
-Explains options script (fault.Explained why more) = (options.explain ≡ true) × NamesFirstFault why (lines script)
-Explains options script (fault.Memory wanted) = IsFaultless (lines script)
-Explains options script (fault.Unwritable error) = IsFaultless (lines script)
+Explains options script why = ExplainsIn Schedule options script why
 
 -- it is of the script itself, and not of its run
 abbrev pub IsOfScript : Fault → Type 0

@@ -1,10 +1,12 @@
 //! The program as a library, over any reader and any two writers.
 #![tactic(auto)]
 
+mod crew;
 mod fault;
 mod options;
 mod output;
 mod printer;
+mod threads;
 
 ghost use Rattle.std.specs.Prelude.{◌≡◌, ◌⊎◌, ℕ, ◌≤◌, [], true, false, IsErr, IfSome, IfOk, IfErr, OnOk, OnErr};
 ghost use Rattle.std.specs.Io.KnownBytes.{Keeps};
@@ -12,9 +14,10 @@ ghost use Rattle.std.specs.Str.Lines.{lines};
 ghost use Rattle.machine.specs.State.{blocks_of, is_config};
 ghost use Rattle.block_store.specs.Device.{new_disk};
 ghost use Rattle.scripts.specs.declared.fault.Cause.{Cause};
+ghost use Rattle.scripts.specs.declared.mode.Mode.TheVariants.{Schedule};
 ghost use Rattle.scripts.specs.Script.{IsFirstFault, NamesFirstFault};
 ghost use Rattle.subcommands.specs.Prints.{behind_answers, PrintsRun, PrintsStart, PrintsScript, PrintsPart};
-ghost use Rattle.subcommands.specs.Told.{IsUnread, Explains, IsOfScript, StartsReport, TellsWhy, IsRunFault};
+ghost use Rattle.subcommands.specs.Told.{IsUnread, Explains, ExplainsIn, IsOfScript, StartsReport, TellsWhy, IsRunFault};
 
 use block_store::MemDevice;
 use driver::Stop;
@@ -26,6 +29,7 @@ use scripts::{Mode, Script, ScriptFault, one_answer};
 use std::alloc::Global;
 use std::io;
 use std::io::{ErrorKind, Read, Write};
+pub use threads::{Verdict, run, run_over, run_script_on_threads, status_of_run};
 
 /// The most bytes that a script may have. A reader that never ends is refused by it, and takes no
 /// more memory than this.
@@ -53,7 +57,7 @@ pub fn read_script<R: Read>(alloc: Global, script: &mut R) -> Result<Vec<u8>, Fa
 }
 
 /// Why an answer could not be written: its bytes want memory too.
-fn unwritten(wanted: Wanted, error: io::Error) -> Fault
+pub(crate) fn unwritten(wanted: Wanted, error: io::Error) -> Fault
     ensures { IsRunFault result }
 {
     match error.kind() {
@@ -64,7 +68,7 @@ fn unwritten(wanted: Wanted, error: io::Error) -> Fault
 
 /// Runs a script over a new device, which has the blocks that the script asks for, and its faults. Each
 /// answer is written as it comes.
-fn run<O: Write, E: Write>(
+fn run_steps<O: Write, E: Write>(
     alloc: Global,
     options: Options,
     script: Script,
@@ -83,6 +87,7 @@ fn run<O: Write, E: Write>(
         write_faults,
         steps,
         lines,
+        ..
     } = script;
     let Some(blocks) = blocks_for(&config) else {
         unreachable!()
@@ -118,9 +123,15 @@ fn run<O: Write, E: Write>(
 }
 
 /// The fault of a script. Where there is no memory to say more of it, its line is said alone.
-fn faulty(alloc: Global, options: Options, bytes: &[u8], fault: ScriptFault) -> Fault
-    requires { NamesFirstFault fault (lines bytes.now) }
-    ensures { Explains options bytes.now result }
+pub(crate) fn faulty(
+    alloc: Global,
+    options: Options,
+    bytes: &[u8],
+    mode: Mode,
+    fault: ScriptFault,
+) -> Fault
+    requires { NamesFirstFault mode fault (lines bytes.now) }
+    ensures { ExplainsIn mode options bytes.now result }
 {
     if !options.explain {
         return Fault::Script(fault);
@@ -146,7 +157,7 @@ pub fn run_script<O: Write, E: Write>(
 ) -> Result<(), Fault>
     ensures whole { OnOk result (options.lines ≡ false → PrintsScript script.now (behind_answers options) (O.contents out.old) (O.contents out.new)) }
     ensures start { OnErr result (options.lines ≡ false → PrintsPart script.now (behind_answers options) (O.contents out.old) (O.contents out.new)) }
-    ensures faulty { (n : ℕ) (cause : Cause) → IsFirstFault (lines script.now) n cause → IsErr result × (O.contents out.new ≡ O.contents out.old) }
+    ensures faulty { (n : ℕ) (cause : Cause) → IsFirstFault Schedule (lines script.now) n cause → IsErr result × (O.contents out.new ≡ O.contents out.old) }
     ensures why { IfErr result (Explains options script.now) }
     // It is the script's only where nothing was run.
     ensures unrun { IfErr result (λ why. IsOfScript why → O.contents out.new ≡ O.contents out.old) }
@@ -154,8 +165,8 @@ pub fn run_script<O: Write, E: Write>(
 {
     one_answer();
     match scripts::read(alloc, script, Mode::Schedule) {
-        Ok(script) => run(alloc, options, script, out, err),
-        Err(fault) => Err(faulty(alloc, options, script, fault)),
+        Ok(script) => run_steps(alloc, options, script, out, err),
+        Err(fault) => Err(faulty(alloc, options, script, Mode::Schedule, fault)),
     }
 }
 
@@ -181,7 +192,7 @@ fn read_and_run<R: Read, O: Write, E: Write>(
 ) -> Result<(), Fault>
     ensures whole { OnOk result (options.lines ≡ false → IfSome (R.remaining script.old) (λ all. PrintsScript all (behind_answers options) (O.contents out.old) (O.contents out.new))) }
     ensures start { OnErr result (options.lines ≡ false → IfSome (R.remaining script.old) (λ all. PrintsPart all (behind_answers options) (O.contents out.old) (O.contents out.new))) }
-    ensures faulty { IfSome (R.remaining script.old) (λ all. (n : ℕ) (cause : Cause) → IsFirstFault (lines all) n cause → IsErr result × Keeps (O.contents out.old) (O.contents out.new)) }
+    ensures faulty { IfSome (R.remaining script.old) (λ all. (n : ℕ) (cause : Cause) → IsFirstFault Schedule (lines all) n cause → IsErr result × Keeps (O.contents out.old) (O.contents out.new)) }
     ensures why { IfErr result (λ why. IfSome (R.remaining script.old) (λ all. IsUnread all why ⊎ Explains options all why)) }
     ensures quiet { options.progress ≡ false → options.summary ≡ false → E.contents err.new ≡ E.contents err.old }
 {
@@ -209,7 +220,7 @@ pub fn schedule<R: Read, O: Write, E: Write>(
     ensures sound { result ≡ 0 → IfSome (R.remaining script.old) (λ all. PrintsScript all [] (O.contents out.old) (O.contents out.new)) }
     ensures silent { result ≡ 0 → Keeps (E.contents err.old) (E.contents err.new) }
     // Of a script with a faulty line it is 1, and `out` got nothing.
-    ensures faulty { IfSome (R.remaining script.old) (λ all. (n : ℕ) (cause : Cause) → IsFirstFault (lines all) n cause → (result ≡ 1) × Keeps (O.contents out.old) (O.contents out.new)) }
+    ensures faulty { IfSome (R.remaining script.old) (λ all. (n : ℕ) (cause : Cause) → IsFirstFault Schedule (lines all) n cause → (result ≡ 1) × Keeps (O.contents out.old) (O.contents out.new)) }
     // Where it is 1, `out` got the beginning of what the script prints, or nothing, and `err` the line that says why, or its beginning.
     ensures failed { result ≡ 1 → IfSome (R.remaining script.old) (λ all. PrintsPart all [] (O.contents out.old) (O.contents out.new)) }
     ensures told { result ≡ 1 → IfSome (R.remaining script.old) (λ all. TellsWhy all (E.contents err.old) (E.contents err.new)) }

@@ -6,7 +6,6 @@ use Rattle.driver.specs.Schedule.{World}
 use Rattle.driver.specs.Seats.{place_of}
 use Rattle.driver.specs.Desks.{world, blocks_of_desk, worker_of_desk}
 use Rattle.driver.proofs.SeatLists.{seated}
-use Rattle.driver.proofs.TicketLemmas.{first_own}
 use Rattle.driver.proofs.FindLemmas.{looked-up}
 use Rattle.driver.proofs.Runs.{on_with, turn_taken, turn_does, turn_begun, turn_refused}
 use Rattle.driver.proofs.desk.Desk.take_turn.Goals as goal
@@ -41,8 +40,7 @@ returns-in-Err-clause-on g c =
     (c.take.ensures.own (worker_of_desk c.args.self.now) (blocks_of_desk c.args.self.now) c.requires.on.own)
 
 pub turn_stage-requires-clause-own : goal.turn_stage-requires-clause-own
-turn_stage-requires-clause-own g c =
-    first_own c.judge.new.pass.caller.worker (blocks_of_desk c.args.self.now) c.args.self.now.book.state.tree c.args.actor c.in-Begun.command c.in-Ok.stage c.in-Ok.ensures.judged
+turn_stage-requires-clause-own g c = c.in-Ok.ensures.own c.judge.new.pass.caller.worker (blocks_of_desk c.args.self.now)
 
 pub turn_stage-requires-clause-seated : goal.turn_stage-requires-clause-seated
 turn_stage-requires-clause-seated g c =

@@ -1,0 +1,173 @@
+//! A caller of `scripts`, and of `explain`: what a script asks of threads.
+
+ghost use Rattle.std.specs.Prelude.{◌≡◌, [], IfSome};
+ghost use Rattle.std.specs.Str.Lines.{lines};
+ghost use Rattle.scripts.specs.Script.{items_of};
+ghost use Rattle.scripts.specs.Work.{setup_of, worked, work_of, shown_rows};
+
+use explain::explain;
+use machine::command::{Actor, Command};
+use scripts::{Cause, Mode, Script, ScriptFault, read};
+use std::alloc::{AllocError, Global};
+use std::test::Fail;
+
+/// What a script asks of threads, if it can be run on them.
+fn for_threads(alloc: Global, script: &[u8]) -> Option<Script>
+    ensures setup { IfSome result (λ s. s.setup.items ≡ setup_of (items_of (lines script.now))) }
+    ensures work { IfSome result (λ s. shown_rows s.work.items ≡ work_of (worked (items_of (lines script.now)))) }
+    ensures no_steps { IfSome result (λ s. s.steps.items ≡ []) }
+{
+    match read(alloc, script, Mode::Run) {
+        Ok(script) => Some(script),
+        Err(_) => None,
+    }
+}
+
+fn has_group_and_task(setup: &[(Actor, Command)]) -> bool {
+    match setup {
+        [
+            (Actor::Shell, Command::Group(path)),
+            (
+                Actor::Shell,
+                Command::Task {
+                    task: 2,
+                    path: home,
+                },
+            ),
+        ] => { path.as_str() == "/a" && home.as_str() == "/a" }
+        _ => false,
+    }
+}
+
+fn has_rows_by_number(work: &[(Actor, Vec<Command>)]) -> bool {
+    match work {
+        [
+            (Actor::Shell, shell),
+            (Actor::Task(1), one),
+            (Actor::Task(2), two),
+        ] => {
+            matches!(shell.as_slice(), [Command::Cat { .. }, Command::Rmdir(_)])
+                && matches!(one.as_slice(), [Command::Exit])
+                && matches!(
+                    two.as_slice(),
+                    [Command::Free { page: 1 }, Command::Free { page: 0 }]
+                )
+        }
+        _ => false,
+    }
+}
+
+#[test]
+fn each_actor_has_a_row_of_what_stands_behind_go(rt: HostRuntime) -> Result<(), Fail> {
+    let text =
+        b"swap 4\ngroup /a\ntask 2 /a\ngo\n2 free 1\ncat /a memory.max\n1 exit\ngo\n2 free 0\nrmdir /a\n";
+    let script = for_threads(rt.alloc(), text).ok_or("refused")?;
+    assert_eq!(rt; script.config.swap, 4);
+    assert!(rt; has_group_and_task(&script.setup));
+    assert!(rt; has_rows_by_number(&script.work));
+    assert!(rt; script.steps.is_empty() && script.lines.is_empty());
+    Ok(())
+}
+
+#[test]
+fn without_go_all_is_setup(rt: HostRuntime) -> Result<(), Fail> {
+    let script = for_threads(rt.alloc(), b"group /a\ntask 2 /a\n").ok_or("refused")?;
+    assert!(rt; has_group_and_task(&script.setup));
+    assert!(rt; script.work.is_empty());
+    let all = read(rt.alloc(), b"group /a\ngo\ntask 2 /a\n", Mode::Schedule)?;
+    assert!(rt; all.setup.is_empty() && all.work.is_empty());
+    assert_eq!(rt; all.steps.len(), 4);
+    Ok(())
+}
+
+/// A script in which each of so many tasks frees the same number of pages, one task after the other, the greatest number first.
+fn of_many_tasks(alloc: Global, tasks: u32, pages: u32) -> Result<String, AllocError> {
+    let mut text = String::from_str(alloc, "go\n")?;
+    for page in 0..pages {
+        for task in (0..tasks).rev() {
+            writeln!(text, "{task} free {page}")?;
+        }
+    }
+    Ok(text)
+}
+
+#[test]
+fn rows_rise_by_number(rt: HostRuntime) -> Result<(), Fail> {
+    let text = of_many_tasks(rt.alloc(), 1_000, 20)?;
+    let script = for_threads(rt.alloc(), text.as_bytes()).ok_or("refused")?;
+    assert_eq!(rt; script.work.len(), 1_000);
+    for (number, (actor, commands)) in script.work.iter().enumerate() {
+        assert!(rt; matches!(actor, Actor::Task(task) if *task as usize == number));
+        assert_eq!(rt; commands.len(), 20);
+        for (at, command) in commands.iter().enumerate() {
+            assert!(rt; matches!(command, Command::Free { page } if *page as usize == at));
+        }
+    }
+    Ok(())
+}
+
+fn cause_of(alloc: Global, line: &str, mode: Mode) -> Option<Cause> {
+    match read(alloc, line.as_bytes(), mode) {
+        Err(ScriptFault::At { cause, .. }) => Some(cause),
+        Err(ScriptFault::Memory) | Ok(_) => None,
+    }
+}
+
+#[test]
+fn what_a_schedule_alone_has_is_refused(rt: HostRuntime) {
+    for line in [
+        "begin 1 exit",
+        "begin group /a",
+        "begin daemon",
+        "step 1",
+        "finish shell",
+        "daemon",
+    ] {
+        assert_eq!(rt;
+            cause_of(rt.alloc(), line, Mode::Run),
+            Some(Cause::OnlyInSchedule),
+            "{line}"
+        );
+        assert_eq!(rt; cause_of(rt.alloc(), line, Mode::Schedule), None, "{line}");
+    }
+}
+
+#[test]
+fn every_other_cause_comes_first(rt: HostRuntime) {
+    for (line, cause) in [
+        ("begin go", Cause::UnknownWord),
+        ("1 go", Cause::UnknownWord),
+        ("step x", Cause::UnknownWord),
+        ("begin 7", Cause::MissingArgument),
+        ("daemon 1", Cause::ExtraArgument),
+        ("step 70000000000", Cause::BadNumber),
+        ("begin group a", Cause::BadName),
+    ] {
+        assert_eq!(rt;
+            cause_of(rt.alloc(), line, Mode::Run),
+            Some(cause),
+            "{line}"
+        );
+        assert_eq!(rt;
+            cause_of(rt.alloc(), line, Mode::Schedule),
+            Some(cause),
+            "{line}"
+        );
+    }
+}
+
+#[test]
+fn it_is_said_why_a_line_is_refused(rt: HostRuntime) -> Result<(), Fail> {
+    let text = b"group /a\n\tbegin 1 exit\ngo\n";
+    let fault = read(rt.alloc(), text, Mode::Run)
+        .err()
+        .ok_or("not refused")?;
+    let said = format!(in rt.alloc(); "{fault}")?;
+    assert_eq!(rt; said.as_str(), "line 2: only in schedule");
+    let more = explain(rt.alloc(), text, fault)?.ok_or("no more is said")?;
+    assert_eq!(rt;
+        more.as_str(),
+        "word 1, \"begin\", is for schedule alone: a run on threads has no turns to count"
+    );
+    Ok(())
+}

@@ -1,0 +1,159 @@
+-- Rows of turns grow by a turn.
+use Rattle.std.proofs.Common.{◌≡◌, ℕ, suc, List, [], ◌∷◌, ◌++◌, Ok, Err, refl, sym, ap, ◌∙◌, append_assoc, append-nil, subst, inl, inr, false, ◌+◌, ◌<◌, length, take, get_or, Option, map}
+use Rattle.std.proofs.lemmas.List.{take_more}
+use Rattle.machine.specs.declared.config.Watermarks.{Watermarks}
+use Rattle.machine.specs.declared.command.Actor.{Actor}
+use Rattle.machine.specs.declared.command.Command.{Command}
+use Rattle.machine.specs.declared.command.Reply.{Reply as Told_by}
+use Rattle.machine.specs.Tree.{Node, find_group}
+use Rattle.book.specs.declared.kept.Kept.{Kept}
+use Rattle.book.specs.Passes.{PassOf, find_of, keeping}
+use Rattle.driver.specs.declared.turn.Stage.{Stage}
+use Rattle.driver.specs.declared.turn.Transition.{Transition}
+use Rattle.driver.specs.Turns.{Judged, paths_of, judged_with, judged}
+use Rattle.driver.specs.Finds.{looking}
+use Rattle.driver.specs.Schedule.{answer_by}
+use Rattle.driver.specs.Tickets.{holds}
+use Rattle.live.specs.Works.{GoesOn, Link, Leads, Closes, Answered, JudgedRuns, Begins, Does, Works, Worked, Repeats, Repeated, no_memory, finds_of}
+use Rattle.live.specs.Runs.{Made, Linked, Closed, Under, Ran, Looked, Judging, Did, Done}
+
+-- what was added first and then
+joins : {A : Type 0} (a b c x y : List A) → b ≡ a ++ x → c ≡ b ++ y → c ≡ a ++ (x ++ y)
+joins a b c x y one two = two ∙ (ap (λ l. l ++ y) one ∙ append_assoc a x y)
+
+pub under_none : (marks : Watermarks) (who : Actor) (start : Stage) (kept : List Kept) (told : List Told_by) → Under marks who start kept kept told told start
+under_none marks who start kept told = record { row = []; added = []; said = []; keeps = sym (append-nil kept); tells = sym (append-nil told); leads = (refl, refl, refl) }
+
+pub under_more : (marks : Watermarks) (who : Actor) (start : Stage) (k0 k1 k2 : List Kept) (t0 t1 t2 : List Told_by) (mid next : Stage)
+    → Under marks who start k0 k1 t0 t1 mid → Linked marks who mid k1 k2 t1 t2 next → Under marks who start k0 k2 t0 t2 next
+under_more marks who start k0 k1 k2 t0 t1 t2 mid next u l = record {
+  row = mid ∷ u.row;
+  added = u.added ++ l.added;
+  said = u.said ++ l.said;
+  keeps = joins k0 k1 k2 u.added l.added u.keeps l.keeps;
+  tells = joins t0 t1 t2 u.said l.said u.tells l.tells;
+  leads = (u.added, l.added, u.said, l.said, u.leads, l.link, refl, refl);
+}
+
+pub under_closed : (marks : Watermarks) (who : Actor) (start : Stage) (k0 k1 k2 : List Kept) (t0 t1 t2 : List Told_by) (mid : Stage)
+    → Under marks who start k0 k1 t0 t1 mid → Closed marks who mid k1 k2 t1 t2 → Ran marks who start k0 k2 t0 t2
+under_closed marks who start k0 k1 k2 t0 t1 t2 mid u l = record {
+  added = u.added ++ l.added;
+  said = u.said ++ answer_by who l.what;
+  keeps = joins k0 k1 k2 u.added l.added u.keeps l.keeps;
+  tells = joins t0 t1 t2 u.said (answer_by who l.what) u.tells l.tells;
+  runs = record { row = u.row; last = mid; before = u.added; here = l.added; earlier = u.said; what = l.what; leads = u.leads; closes = l.closes; keeps = refl; tells = refl };
+}
+
+-- ---- paths
+
+finds-length : (tree : List Node) (paths : List (List ℕ)) → length (map (find_group tree) paths) ≡ length paths
+finds-length tree [] = refl
+finds-length tree (path ∷ paths) = ap suc (finds-length tree paths)
+
+looking-kept : (tree : List Node) (paths : List (List ℕ)) (pass : PassOf) → (looking tree paths pass).kept ≡ pass.kept ++ finds_of paths (map (find_group tree) paths)
+looking-kept tree [] pass = sym (append-nil pass.kept)
+looking-kept tree (path ∷ paths) pass =
+    let here = find_of path (find_group tree path) in
+    looking-kept tree paths (keeping pass here) ∙ append_assoc pass.kept (here ∷ []) (finds_of paths (map (find_group tree) paths))
+
+pub looking-caller : (tree : List Node) (paths : List (List ℕ)) (pass : PassOf) → (looking tree paths pass).caller ≡ pass.caller
+looking-caller tree [] pass = refl
+looking-caller tree (path ∷ paths) pass = looking-caller tree paths (keeping pass (find_of path (find_group tree path)))
+
+pub looked : (tree : List Node) (who : Actor) (what : Command) (old new : PassOf) (result : Judged) → new ≡ looking tree (paths_of who what) old → result ≡ judged tree who what → Looked who what old.kept new.kept result
+looked tree who what old new result goes is = record {
+  found = map (find_group tree) (paths_of who what);
+  each = finds-length tree (paths_of who what);
+  keeps = ap (λ (p : PassOf). p.kept) goes ∙ looking-kept tree (paths_of who what) old;
+  is = is;
+}
+
+-- ---- commands
+
+-- a command: refused when it was judged, or run, or memory was wanted at once
+pub did_none : (marks : Watermarks) (who : Actor) (what : Command) (k k' : List Kept) (t t' : List Told_by) → k' ≡ k → t' ≡ t ++ answer_by who no_memory → Did marks who what k k' t t'
+did_none marks who what k k' t t' keeps tells = record {
+  added = [];
+  said = answer_by who no_memory;
+  keeps = keeps ∙ sym (append-nil k);
+  tells = tells;
+  does = inr (refl, refl);
+}
+
+pub did_judged : (marks : Watermarks) (who : Actor) (what : Command) (k0 k1 k2 : List Kept) (t t' : List Told_by) (result : Judged)
+    → Looked who what k0 k1 result → Judging marks who result k1 k2 t t' → Did marks who what k0 k2 t t'
+did_judged marks who what k0 k1 k2 t t' result j r = record {
+  added = finds_of (paths_of who what) j.found ++ r.added;
+  said = r.said;
+  keeps = joins k0 k1 k2 (finds_of (paths_of who what) j.found) r.added j.keeps r.keeps;
+  tells = r.tells;
+  does = inl (record { found = j.found; later = r.added; each = j.each; runs = subst (λ (x : Judged). JudgedRuns marks who x r.added r.said) j.is r.runs; keeps = refl });
+}
+
+-- one command more
+works_more : (marks : Watermarks) (who : Actor) (cs : List Command) (what : Command) (added here : List Kept) (said now : List Told_by)
+    → Works marks who cs added said → Does marks who what here now → Works marks who (cs ++ what ∷ []) (added ++ here) (said ++ now)
+works_more marks who [] what added here said now h d =
+    (here, [], now, [], d, (refl, refl), ap (λ l. l ++ here) h.0 ∙ sym (append-nil here), ap (λ l. l ++ now) h.1 ∙ sym (append-nil now))
+works_more marks who (c ∷ cs) what added here said now h d = (
+  h.0,
+  h.1 ++ here,
+  h.2,
+  h.3 ++ now,
+  h.4,
+  works_more marks who cs what h.1 here h.3 now h.5 d,
+  ap (λ l. l ++ here) h.6 ∙ append_assoc h.0 h.1 here,
+  ap (λ l. l ++ now) h.7 ∙ append_assoc h.2 h.3 now,
+)
+
+pub worked_none : (marks : Watermarks) (who : Actor) (k : List Kept) → Worked marks who [] k k []
+worked_none marks who k = record { added = []; keeps = sym (append-nil k); works = (refl, refl) }
+
+pub worked_more : (marks : Watermarks) (who : Actor) (cs : List Command) (what : Command) (k0 k1 k2 : List Kept) (t1 t2 : List Told_by)
+    → Worked marks who cs k0 k1 t1 → Did marks who what k1 k2 t1 t2 → Worked marks who (cs ++ what ∷ []) k0 k2 t2
+worked_more marks who cs what k0 k1 k2 t1 t2 w d = record {
+  added = w.added ++ d.added;
+  keeps = joins k0 k1 k2 w.added d.added w.keeps d.keeps;
+  works = subst (λ (t : List Told_by). Works marks who (cs ++ what ∷ []) (w.added ++ d.added) t) (sym d.tells) (works_more marks who cs what w.added d.added t1 d.said w.works d.does);
+}
+
+-- a turn after which the command goes on
+pub linked : (marks : Watermarks) (who : Actor) (stage next : Stage) (transition : Transition) (k0 k1 k2 : List Kept) (t0 t1 said : List Told_by)
+    → k1 ≡ k0 → Made marks stage k1 k2 transition → GoesOn who transition said next → t1 ≡ t0 ++ said → Linked marks who stage k0 k2 t0 t1 next
+linked marks who stage next transition k0 k1 k2 t0 t1 said same m goes tells = record {
+  added = m.added;
+  said = said;
+  keeps = m.keeps ∙ ap (λ l. l ++ m.added) same;
+  tells = tells;
+  link = record { transition = transition; made = m.made; goes = goes };
+}
+
+-- memory is refused where no ticket is in hand
+pub closed_none : (marks : Watermarks) (who : Actor) (stage : Stage) (k0 k1 : List Kept) (t0 t1 t2 : List Told_by) → k1 ≡ k0 → t1 ≡ t0 → t2 ≡ t1 ++ answer_by who no_memory → holds stage ≡ false → Closed marks who stage k0 k1 t0 t2
+closed_none marks who stage k0 k1 t0 t1 t2 same told tells none = record {
+  added = [];
+  what = no_memory;
+  keeps = same ∙ sym (append-nil k0);
+  tells = tells ∙ ap (λ l. l ++ answer_by who no_memory) told;
+  closes = inr (inl (refl, none, refl));
+}
+
+-- the first so many and one more
+pub taken : {A : Type 0} (xs : List A) (i : ℕ) (x : A) → i < length xs → x ≡ get_or xs i x → take (i + 1) xs ≡ take i xs ++ x ∷ []
+taken xs i x lt is = take_more xs i x lt ∙ ap (λ y. take i xs ++ y ∷ []) (sym is)
+
+-- one run more
+pub repeated_none : (marks : Watermarks) (who : Actor) (what : Command) (k : List Kept) → Repeated marks who what k k
+repeated_none marks who what k = record { row = []; added = []; keeps = sym (append-nil k); repeats = refl }
+
+pub repeated_more : (marks : Watermarks) (who : Actor) (what : Command) (k0 k1 k2 : List Kept) → Repeated marks who what k0 k1 → Done marks who what k1 k2 → Repeated marks who what k0 k2
+repeated_more marks who what k0 k1 k2 r d = record {
+  row = d.added ∷ r.row;
+  added = r.added ++ d.added;
+  keeps = joins k0 k1 k2 r.added d.added r.keeps d.keeps;
+  repeats = (r.added, d.said, r.repeats, d.does, refl);
+}
+
+pub done_none : (marks : Watermarks) (who : Actor) (what : Command) (k k' : List Kept) → k' ≡ k → Done marks who what k k'
+done_none marks who what k k' same = record { added = []; said = answer_by who no_memory; keeps = same ∙ sym (append-nil k); does = inr (refl, refl) }

@@ -1,0 +1,18 @@
+use Rattle.std.proofs.Common.{rules, ◌≡◌, ◌∷◌, ◌++◌, [], List, refl, sym, ap, ◌∙◌, append-nil, false}
+use Rattle.machine.specs.declared.command.Reply.{Reply as Told_by}
+use Rattle.driver.specs.Tickets.{holds}
+use Rattle.live.proofs.RowLemmas.{linked, closed_none}
+use Rattle.live.proofs.live.Live.step.Goals as goal
+
+pub returns-then-is_err-clause-ends : goal.returns-then-is_err-clause-ends
+returns-then-is_err-clause-ends g c =
+    let none : holds c.args.stage ≡ false = search rules in
+    closed_none _ _ _ _ _ _ _ _ c.ready.ensures.kept.0 c.ready.ensures.answers.0 (c.push_reserved.ensures.items ∙ ap (λ (x : Told_by). c.ready.new.answers.items ++ x ∷ []) c.out_of_memory.ensures) none
+
+pub returns-in-Ok-Goes-clause-goes : goal.returns-in-Ok-Goes-clause-goes
+returns-in-Ok-Goes-clause-goes g c =
+    linked _ _ _ _ _ _ _ _ _ _ [] c.ready.ensures.kept.0 c.in-Ok-Goes.ensures.made (search rules) (c.ready.ensures.answers.0 ∙ sym (append-nil c.args.answers.now.items))
+
+pub returns-in-Ok-Waits-clause-goes : goal.returns-in-Ok-Waits-clause-goes
+returns-in-Ok-Waits-clause-goes g c =
+    linked _ _ _ _ _ _ _ _ _ _ [] c.ready.ensures.kept.0 c.in-Ok-Waits.ensures.made (search rules) (c.ready.ensures.answers.0 ∙ sym (append-nil c.args.answers.now.items))

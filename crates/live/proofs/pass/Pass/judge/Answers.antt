@@ -1,0 +1,28 @@
+use Rattle.std.proofs.Common.{rules, ◌≡◌, ◌∙◌, sym, ap}
+use Rattle.book.specs.Passes.{PassOf}
+use Rattle.driver.specs.Turns.{paths_of}
+use Rattle.driver.specs.Finds.{looking}
+use Rattle.live.specs.Runs.{Looked}
+use Rattle.live.proofs.RowLemmas.{looked, looking-caller}
+use Rattle.live.proofs.ShareLemmas.{looked-count}
+use Rattle.live.proofs.pass.Pass.judge.Goals as goal
+
+pub returns-clause-looked : goal.returns-clause-looked
+returns-clause-looked g c =
+    let tree = c.args.book.now.state.tree in
+    let paths = paths_of c.args.actor c.args.command in
+    let same : c.self.inside.pass ≡ c.args.self.now = search rules in
+    looked tree c.args.actor c.args.command c.args.self.now c.judge.new.pass c.judge.result (c.judge.ensures.looked ∙ ap (looking tree paths) same) c.judge.ensures.judged
+
+pub returns-clause-caller : goal.returns-clause-caller
+returns-clause-caller g c =
+    let tree = c.args.book.now.state.tree in
+    let paths = paths_of c.args.actor c.args.command in
+    let same : c.self.inside.pass ≡ c.args.self.now = search rules in
+    ap (λ (p : PassOf). p.caller) c.judge.ensures.looked ∙ (looking-caller tree paths c.self.inside.pass ∙ ap (λ (p : PassOf). p.caller) same)
+
+pub invariant_of-self : goal.invariant_of-self
+invariant_of-self g c =
+    let is : Looked c.args.actor c.args.command c.self.inside.pass.kept c.judge.new.pass.kept c.judge.result =
+    looked c.args.book.now.state.tree c.args.actor c.args.command c.self.inside.pass c.judge.new.pass c.judge.result c.judge.ensures.looked c.judge.ensures.judged in
+    (c.self.invariant.0 ∙ sym (looked-count c.args.actor c.args.command c.self.inside.pass.kept c.judge.new.pass.kept c.judge.result is), c.self.invariant.1)

@@ -1,0 +1,48 @@
+-- Workers that work at the same time.
+use Rattle.std.specs.Prelude.{◌≡◌, ◌<◌, ℕ, List, [], ◌∷◌, Vec, length, slice_index_or, Result, Ok, Err, IfOk, IfErr}
+use denote.Ref.{Bor}
+use Rattle.std.specs.declared.alloc.Global.{Global}
+use Rattle.machine.specs.declared.config.Watermarks.{Watermarks}
+use Rattle.machine.specs.declared.command.Actor.{Actor}
+use Rattle.machine.specs.declared.command.Command.{Command}
+use Rattle.machine.specs.declared.command.Reply.{Reply as Told_by}
+use Rattle.machine.specs.declared.refusal.Refusal.{Refusal}
+use Rattle.machine.specs.declared.refusal.Refusal.TheVariants.{NoMemory}
+use Rattle.book.specs.Passes.{PassOf}
+use Rattle.live.specs.Works.{Worked}
+
+pub record WorkerOf : Type 0 where
+  pub actor : Actor
+  pub pass : PassOf
+  -- what it is to do, in order
+  pub commands : List Command
+  -- what it answered; or that there was no memory for the answers
+  pub answers : Result (List Told_by) Refusal
+
+-- the worker did what it was to do, and answered so; or there was no memory for its answers, and nothing was done
+pub record HasWorked (marks : Watermarks) (old new : WorkerOf) : Type 0 where
+  pub actor : new.actor ≡ old.actor
+  pub commands : new.commands ≡ old.commands
+  pub caller : new.pass.caller ≡ old.pass.caller
+  pub answered : IfOk new.answers (λ answers. Worked marks old.actor old.commands old.pass.kept new.pass.kept answers)
+  pub short : IfErr new.answers (λ cause. (cause ≡ NoMemory) × (new.pass.kept ≡ old.pass.kept))
+
+-- the worker answered a command so, before what it is to do, and what it is to do stays
+pub record HasAnswered (marks : Watermarks) (command : Command) (old new : WorkerOf) (said : List Told_by) : Type 0 where
+  pub actor : new.actor ≡ old.actor
+  pub commands : new.commands ≡ old.commands
+  pub answers : new.answers ≡ old.answers
+  pub caller : new.pass.caller ≡ old.pass.caller
+  pub worked : Worked marks old.actor (command ∷ []) old.pass.kept new.pass.kept said
+
+-- each of them
+abbrev pub HaveWorked : Watermarks → List WorkerOf → List WorkerOf → Type 0
+HaveWorked marks old new = (k : ℕ) (other : WorkerOf) → k < length old → HasWorked marks (slice_index_or old k other) (slice_index_or new k other)
+
+abbrev pub answers_of : Result (Vec Told_by Global) Refusal → Result (List Told_by) Refusal
+answers_of (Ok answers) = Ok answers.items
+answers_of (Err cause) = Err cause
+
+abbrev pub answers_in : Result (Bor (List Told_by)) Refusal → Result (List Told_by) Refusal
+answers_in (Ok answers) = Ok answers.now
+answers_in (Err cause) = Err cause

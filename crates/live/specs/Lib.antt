@@ -1,0 +1,7 @@
+pub mod Works
+pub mod Shares
+pub mod Runs
+pub mod Reports
+pub mod Crews
+pub mod Matching
+pub mod Unread

@@ -1,0 +1,144 @@
+//! The workers' passes.
+
+ghost use Rattle.std.specs.Prelude.{◌≡◌, ◌<◌, ◌≤◌, [], length, OnOk, IfOk, false};
+ghost use Rattle.book.specs.Events.{event_of, reply_of};
+ghost use Rattle.book.specs.Passes.{count_of, call_of, keeping};
+ghost use Rattle.book.specs.Replies.{Replies, KeepsTicket, HandsOut};
+ghost use Rattle.driver.specs.Tickets.{holds};
+ghost use Rattle.live.specs.Runs.{Looked};
+
+use book::{Book, Event, Kept, Reply};
+use driver::judge::judge;
+use driver::turn::Stage;
+use machine::command::{Actor, Command};
+use machine::refusal::Refusal;
+use std::alloc::{AllocError, Global};
+use std::marker::Model;
+use std::sync::ledger;
+use std::sync::ledger::{Ledger, Share};
+
+/// A worker's leave to ask the book that workers share, with what it asked and what came back.
+///
+/// A contract sees it as it sees a [`book::Pass`].
+#[derive(Drop)]
+pub struct Pass<L: Ledger> {
+    pass: book::Pass,
+    /// As many entries as the pass has answers in the trace.
+    share: Share<L>,
+    /// How many transfers had ended when it last asked.
+    seen: u64,
+}
+
+impl<L: Ledger> Model for Pass<L> {
+    ghost use Rattle.std.specs.Prelude.{◌≡◌};
+    ghost use Rattle.book.specs.Passes.{PassOf, count_of};
+
+    ghost Value = { PassOf };
+
+    ghost view = { λ p. p.pass };
+
+    ghost invariant = { λ p. (p.share.amount ≡ count_of p.pass.kept) × (p.share.parts ≡ 1) };
+}
+
+impl<L: Ledger> Pass<L> {
+    pub(crate) fn new(pass: book::Pass, share: Share<L>) -> Pass<L>
+        requires fresh { pass.kept ≡ [] }
+        requires part { (share.parts ≡ 1) × (share.amount ≡ 0) }
+        ensures { result ≡ pass }
+    {
+        Pass {
+            pass,
+            share,
+            seen: 0,
+        }
+    }
+
+    /// What was asked with it, the oldest first.
+    pub fn kept(&self) -> &[Kept]
+        ensures { result.now ≡ self.now.kept }
+    {
+        self.pass.kept()
+    }
+
+    pub(crate) fn pass(&self) -> &book::Pass
+        ensures { result.now ≡ self.now }
+    {
+        &self.pass
+    }
+
+    pub(crate) fn seen(&self) -> u64 {
+        self.seen
+    }
+
+    pub(crate) fn see(&mut self, ended: u64)
+        ensures { self.new ≡ self.old }
+    {
+        self.seen = ended;
+    }
+
+    /// Memory for so many events or paths more.
+    pub(crate) fn reserve(&mut self, more: usize) -> Result<(), AllocError>
+        ensures room { OnOk result (more ≤ self.new.room) }
+        ensures kept { self.new.kept ≡ self.old.kept }
+        ensures caller { self.new.caller ≡ self.old.caller }
+    {
+        match self.pass.reserve(more) {
+            Ok(()) => Ok(()),
+            Err(_) => Err(AllocError),
+        }
+    }
+
+    /// One event of the book. The ledger counts each answer that stands in the trace.
+    pub(crate) fn ask(
+        &mut self,
+        book: &mut Book,
+        entries: &mut ledger::Book<L>,
+        event: Event,
+    ) -> Reply
+        requires room { 0 < self.old.room }
+        requires counted { entries.old.total ≡ length book.old.history }
+        ensures counted { entries.new.total ≡ length book.new.history }
+        ensures kept { self.new ≡ keeping self.old (call_of (event_of event) (reply_of result)) }
+        ensures replies { Replies event result }
+        ensures gives { HandsOut book.new self.old.caller.worker result }
+        ensures keeps { KeepsTicket self.old.caller.worker event result }
+        ensures opening { book.new.state.opening ≡ book.old.state.opening }
+        ensures passes { book.new.passes ≡ book.old.passes }
+    {
+        let count = self.pass.count();
+        let reply = book.call(&mut self.pass, event);
+        if self.pass.count() != count {
+            entries.add(&mut self.share, 1);
+        }
+        reply
+    }
+
+    /// What becomes of a command in its first turn.
+    pub(crate) fn judge(
+        &mut self,
+        alloc: Global,
+        book: &Book,
+        actor: Actor,
+        command: Command,
+    ) -> Result<Stage, Refusal>
+        requires { 2 ≤ self.old.room }
+        ensures looked { Looked actor command self.old.kept self.new.kept result }
+        ensures caller { self.new.caller ≡ self.old.caller }
+        ensures free { IfOk result (λ stage. holds stage ≡ false) }
+    {
+        judge(alloc, book, &mut self.pass, actor, command)
+    }
+
+    /// Its part of the ledger.
+    pub(crate) fn into_share(self) -> Share<L>
+        ensures amount { result.amount ≡ count_of self.kept }
+        ensures parts { result.parts ≡ 1 }
+    {
+        let Pass {
+            pass: _,
+            share,
+            seen: _,
+        } = self;
+        share
+    }
+}

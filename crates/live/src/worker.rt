@@ -1,0 +1,447 @@
+//! The loop of a worker: one command after another, one turn after another.
+
+ghost use Rattle.std.specs.Prelude.{◌≡◌, ℕ, ◌+◌, ◌<◌, ◌≤◌, ◌++◌, [], true, false, length, IfOk, IfErr, OnOk, OnErr, IfSome, IfNone, vec_len, vec_capacity};
+ghost use Rattle.book.specs.Events.{event_of, reply_of};
+ghost use Rattle.book.specs.Passes.{call_of, keeping};
+ghost use Rattle.book.specs.Replies.{Replies};
+ghost use Rattle.driver.specs.Turns.{AwaitsAll, resumes_at};
+ghost use Rattle.driver.specs.Schedule.{answer_by};
+ghost use Rattle.driver.specs.Tickets.{blocks_in, is_ending, holds, holds_after, IsOwn, OwnEvent, OwnReply, OwnStage, OwnTransition, IsHanded};
+ghost use Rattle.live.specs.Works.{Reads, Writes, Worked, Repeated, no_memory};
+ghost use Rattle.live.specs.Shares.{one_if, Carries, KeepsShare};
+ghost use Rattle.live.specs.Runs.{CallMade, CallWants, Made, Wants, Linked, Closed, Ran, Looked, Judging, Did, Done};
+
+use crate::live::Live;
+use crate::opened::Opened;
+use crate::pass::Pass;
+use block_store::SharedDevice;
+use book::{Event, InTicket, OutTicket, Reply};
+use driver::automaton::{ask, holds, let_go, resumes_at, told};
+use driver::turn::{Access, Pending, Resume, Stage, Transition, Want};
+use machine::command::{Actor, Answer, Command, Reply as Told, Word};
+use machine::refusal::Refusal;
+use std::alloc::AllocError;
+use std::sync::Wait;
+use std::sync::ledger::Ledger;
+
+/// So many kills are counted in the room for answers: a task's number is used once.
+const MOST_KILLS: usize = 65_535;
+
+fn out_of_memory(actor: Actor) -> Told
+    ensures { result ≡ record { actor = actor; answer = no_memory } }
+{
+    Told {
+        actor,
+        answer: Answer::Word(Word::Refused(Refusal::NoMemory)),
+    }
+}
+
+/// Whether it ends a transfer.
+fn is_end(event: &Event) -> bool
+    ensures { result ≡ is_ending event.now }
+{
+    matches!(
+        event,
+        Event::Arrived(_) | Event::FetchFailed(_) | Event::Left(_) | Event::LeaveFailed(_)
+    )
+}
+
+impl<L: Ledger + Opened, D: SharedDevice> Live<L, D> {
+    /// One event, under the lock.
+    fn call<R: Wait>(&self, rt: &R, pass: &mut Pass<L>, event: Event) -> Reply
+        requires room { 0 < pass.old.room }
+        requires own { OwnEvent pass.old.caller.worker (blocks_in L.opening) event }
+        ensures kept { pass.new ≡ keeping pass.old (call_of (event_of event) (reply_of result)) }
+        ensures replies { Replies event result }
+        ensures own { OwnReply pass.old.caller.worker (blocks_in L.opening) result }
+        ensures handed { IsHanded result }
+    {
+        let ends = is_end(&event);
+        let mut shared = self.shared.lock(rt);
+        let reply = shared.call(pass, event);
+        if ends || shared.wants_daemon() {
+            self.moved.notify_all();
+        }
+        reply
+    }
+
+    /// Sleeps until a transfer has ended since the pass last asked.
+    fn wait<R: Wait>(&self, rt: &R, pass: &Pass<L>) {
+        let seen = pass.seen();
+        let guard = self.shared.lock(rt);
+        let _guard = self
+            .moved
+            .wait_while(rt, guard, |shared| shared.ended() == seen);
+    }
+
+    /// How many frames are free, where the daemon asks. Nobody else wants to know.
+    fn free_for<R: Wait>(&self, rt: &R, stage: &Stage) -> u32 {
+        match stage {
+            Stage::Watch | Stage::Balance => self.shared.lock(rt).free_frames(),
+            _ => 0,
+        }
+    }
+
+    /// One event of the book, and what the command makes of the reply.
+    fn ask_book<R: Wait>(
+        &self,
+        rt: &R,
+        pass: &mut Pass<L>,
+        pending: Pending,
+        event: Event,
+    ) -> Result<Transition, AllocError>
+        requires room { 0 < pass.old.room }
+        requires own { OwnEvent pass.old.caller.worker (blocks_in L.opening) event }
+        requires awaits { AwaitsAll (Want.Call pending event) }
+        ensures made { IfOk result (λ t. CallMade pending event pass.old.kept pass.new.kept t) }
+        ensures wants { OnErr result (CallWants pending event pass.old.kept pass.new.kept) }
+        ensures own { IfOk result (λ t. OwnTransition pass.old.caller.worker (blocks_in L.opening) t) }
+        ensures caller { pass.new.caller ≡ pass.old.caller }
+        ensures room { pass.new.room + 1 ≡ pass.old.room }
+        ensures ends { IfOk result (λ t. is_ending event ≡ true → holds_after t ≡ false) }
+        ensures share { IfOk result (λ t. Carries pass.old.kept (one_if (is_ending event)) pass.new.kept (one_if (holds_after t))) }
+        ensures share_at_err { OnErr result (Carries pass.old.kept (one_if (is_ending event)) pass.new.kept 0) }
+    {
+        let reply = self.call(rt, pass, event);
+        told(self.alloc, pending, reply)
+    }
+
+    /// Reads the ticket's block, with no lock held.
+    fn read_in<R: Wait>(&self, rt: &R, access: Access, ticket: InTicket) -> Transition
+        requires { ticket.block < blocks_in L.opening }
+        ensures reads { Reads access ticket [] result }
+        ensures own { (worker blocks : ℕ) → IsOwn worker blocks ticket → OwnTransition worker blocks result }
+        ensures holds { holds_after result ≡ true }
+    {
+        let mut ticket = ticket;
+        match ticket.read_shared(rt, &self.device) {
+            Ok(()) => Transition::Goes(Stage::Arrive(access, ticket)),
+            Err(_) => Transition::Goes(Stage::FetchFail(ticket)),
+        }
+    }
+
+    /// Writes the ticket's block, with no lock held.
+    fn write_out<R: Wait>(&self, rt: &R, resume: Resume, ticket: OutTicket) -> Transition
+        requires { ticket.block < blocks_in L.opening }
+        ensures writes { Writes resume ticket [] result }
+        ensures own { (worker blocks : ℕ) → IsOwn worker blocks ticket → OwnTransition worker blocks result }
+        ensures holds { holds_after result ≡ true }
+    {
+        match ticket.write_shared(rt, &self.device) {
+            Ok(()) => Transition::Goes(Stage::Leave(resume, ticket)),
+            Err(_) => Transition::Goes(Stage::LeaveFail(ticket)),
+        }
+    }
+
+    /// One turn of a command that stands there. It fails where memory is refused for a text.
+    fn turn<R: Wait>(
+        &self,
+        rt: &R,
+        pass: &mut Pass<L>,
+        stage: Stage,
+    ) -> Result<Transition, AllocError>
+        requires room { 0 < pass.old.room }
+        requires own { OwnStage pass.old.caller.worker (blocks_in L.opening) stage }
+        ensures made { IfOk result (λ t. Made L.opening.watermarks stage pass.old.kept pass.new.kept t) }
+        ensures wants { OnErr result (Wants L.opening.watermarks stage pass.old.kept pass.new.kept) }
+        ensures own { IfOk result (λ t. OwnTransition pass.old.caller.worker (blocks_in L.opening) t) }
+        ensures caller { pass.new.caller ≡ pass.old.caller }
+        ensures room { pass.old.room ≤ pass.new.room + 1 }
+        ensures goes { IfOk result (λ t. holds stage ≡ true → holds_after t ≡ true → pass.new.room ≡ pass.old.room) }
+        ensures share { IfOk result (λ t. Carries pass.old.kept (one_if (holds stage)) pass.new.kept (one_if (holds_after t))) }
+        ensures share_at_err { OnErr result (Carries pass.old.kept (one_if (holds stage)) pass.new.kept 0) }
+    {
+        let free = self.free_for(rt, &stage);
+        match ask(stage, self.marks, free) {
+            Want::Call(pending, event) => self.ask_book(rt, pass, pending, event),
+            Want::Read(access, ticket) => Ok(self.read_in(rt, access, ticket)),
+            Want::Write(resume, ticket) => Ok(self.write_out(rt, resume, ticket)),
+            Want::End(answer) => Ok(Transition::Ends(answer)),
+        }
+    }
+
+    /// Room for an event and for the end of the transfer whose ticket it may give out, and for a kill and an
+    /// answer more besides those that are spared.
+    fn make_room(
+        &self,
+        pass: &mut Pass<L>,
+        answers: &mut Vec<Told>,
+        spare: usize,
+    ) -> Result<(), AllocError>
+        ensures kept { (pass.new.kept ≡ pass.old.kept) × (pass.new.caller ≡ pass.old.caller) }
+        ensures answers { (answers.new.items ≡ answers.old.items) × (vec_len answers.new ≡ vec_len answers.old) × (vec_capacity answers.old ≤ vec_capacity answers.new) }
+        ensures room { OnOk result ((1 < pass.new.room) × (vec_len answers.new + spare + 1 < vec_capacity answers.new)) }
+    {
+        pass.reserve(2)?;
+        answers.reserve(spare.saturating_add(2))
+    }
+
+    /// Room for one turn more. Where a ticket is in hand there is room already.
+    fn ready(
+        &self,
+        pass: &mut Pass<L>,
+        stage: &Stage,
+        answers: &mut Vec<Told>,
+        spare: usize,
+    ) -> Result<(), AllocError>
+        requires held { holds stage.now ≡ true → (0 < pass.old.room) × (vec_len answers.old + spare + 1 < vec_capacity answers.old) }
+        ensures kept { (pass.new.kept ≡ pass.old.kept) × (pass.new.caller ≡ pass.old.caller) }
+        ensures answers { (answers.new.items ≡ answers.old.items) × (vec_len answers.new ≡ vec_len answers.old) × (vec_capacity answers.old ≤ vec_capacity answers.new) }
+        ensures room { OnOk result ((0 < pass.new.room) × (vec_len answers.new + spare + 1 < vec_capacity answers.new)) }
+        ensures free { OnOk result (holds stage.now ≡ false → 1 < pass.new.room) }
+        ensures err { OnErr result (holds stage.now ≡ false) }
+    {
+        if holds(stage) {
+            return Ok(());
+        }
+        self.make_room(pass, answers, spare)
+    }
+
+    /// One turn of a command that stands there, and what is told of it. It answers where the command goes
+    /// on, or nothing where it has ended.
+    fn step<R: Wait>(
+        &self,
+        rt: &R,
+        pass: &mut Pass<L>,
+        actor: Actor,
+        stage: Stage,
+        answers: &mut Vec<Told>,
+        spare: usize,
+    ) -> Option<Stage>
+        requires own { OwnStage pass.old.caller.worker (blocks_in L.opening) stage }
+        requires held { holds stage ≡ true → (0 < pass.old.room) × (vec_len answers.old + spare + 1 < vec_capacity answers.old) }
+        requires space { vec_len answers.old + spare < vec_capacity answers.old }
+        ensures goes { IfSome result (λ next. Linked L.opening.watermarks actor stage pass.old.kept pass.new.kept answers.old.items answers.new.items next) }
+        ensures ends { IfNone result (Closed L.opening.watermarks actor stage pass.old.kept pass.new.kept answers.old.items answers.new.items) }
+        ensures own { IfSome result (λ next. OwnStage pass.new.caller.worker (blocks_in L.opening) next) }
+        ensures caller { pass.new.caller ≡ pass.old.caller }
+        ensures held { IfSome result (λ next. holds next ≡ true → (0 < pass.new.room) × (vec_len answers.new + spare + 1 < vec_capacity answers.new)) }
+        ensures space { IfSome result (λ next. vec_len answers.new + spare < vec_capacity answers.new) }
+        ensures left { IfNone result (vec_len answers.new + spare ≤ vec_capacity answers.new) }
+        ensures share { IfSome result (λ next. Carries pass.old.kept (one_if (holds stage)) pass.new.kept (one_if (holds next))) }
+        ensures share_at_end { IfNone result (Carries pass.old.kept (one_if (holds stage)) pass.new.kept 0) }
+    {
+        if self.ready(pass, &stage, answers, spare).is_err() {
+            let_go(stage);
+            answers.push_reserved(out_of_memory(actor));
+            return None;
+        }
+        match self.turn(rt, pass, stage) {
+            Err(AllocError) => {
+                answers.push_reserved(out_of_memory(actor));
+                None
+            }
+            Ok(Transition::Goes(next)) => Some(next),
+            Ok(Transition::Kills(task, resume)) => {
+                answers.push_reserved(Told {
+                    actor,
+                    answer: Answer::Kill(task),
+                });
+                Some(resumes_at(resume))
+            }
+            Ok(Transition::Waits(resume)) => {
+                self.wait(rt, pass);
+                Some(resumes_at(resume))
+            }
+            Ok(Transition::Ends(answer)) => {
+                answers.push_reserved(Told { actor, answer });
+                None
+            }
+        }
+    }
+
+    /// Turns until the command has ended. There is no limit.
+    fn run<R: Wait>(
+        &self,
+        rt: &R,
+        pass: &mut Pass<L>,
+        actor: Actor,
+        stage: Stage,
+        answers: &mut Vec<Told>,
+        spare: usize,
+    )
+        requires free { holds stage ≡ false }
+        requires space { vec_len answers.old + spare < vec_capacity answers.old }
+        ensures ran { Ran L.opening.watermarks actor stage pass.old.kept pass.new.kept answers.old.items answers.new.items }
+        ensures caller { pass.new.caller ≡ pass.old.caller }
+        ensures left { vec_len answers.new + spare ≤ vec_capacity answers.new }
+        ensures share { Carries pass.old.kept 0 pass.new.kept 0 }
+    {
+        let mut stage = stage;
+        for _turn in rt.forever() {
+            match self.step(rt, pass, actor, stage, answers, spare) {
+                Some(next) => stage = next,
+                None => return,
+            }
+        }
+        let_go(stage);
+        unreachable!()
+    }
+
+    /// The first part of a command's first turn: its paths are looked up, and the rest is judged.
+    fn first<R: Wait>(
+        &self,
+        rt: &R,
+        pass: &mut Pass<L>,
+        actor: Actor,
+        command: &Command,
+    ) -> Result<Result<Stage, Refusal>, AllocError>
+        ensures looked { IfOk result (λ judged. Looked actor command.now pass.old.kept pass.new.kept judged) }
+        ensures free { IfOk result (λ judged. IfOk judged (λ stage. holds stage ≡ false)) }
+        ensures caller { pass.new.caller ≡ pass.old.caller }
+        ensures err { OnErr result (pass.new.kept ≡ pass.old.kept) }
+    {
+        let command = command.copy(self.alloc)?;
+        pass.reserve(2)?;
+        Ok(self.shared.lock(rt).judge(self.alloc, pass, actor, command))
+    }
+
+    /// What was judged is answered, or run.
+    fn judged<R: Wait>(
+        &self,
+        rt: &R,
+        pass: &mut Pass<L>,
+        actor: Actor,
+        judged: Result<Stage, Refusal>,
+        answers: &mut Vec<Told>,
+        spare: usize,
+    )
+        requires space { vec_len answers.old + spare < vec_capacity answers.old }
+        requires free { IfOk judged (λ stage. holds stage ≡ false) }
+        ensures runs { Judging L.opening.watermarks actor judged pass.old.kept pass.new.kept answers.old.items answers.new.items }
+        ensures caller { pass.new.caller ≡ pass.old.caller }
+        ensures left { vec_len answers.new + spare ≤ vec_capacity answers.new }
+        ensures share { Carries pass.old.kept 0 pass.new.kept 0 }
+    {
+        match judged {
+            Err(why) => answers.push_reserved(Told {
+                actor,
+                answer: Answer::Word(Word::Refused(why)),
+            }),
+            Ok(stage) => self.run(rt, pass, actor, stage, answers, spare),
+        }
+    }
+
+    /// One command.
+    fn one<R: Wait>(
+        &self,
+        rt: &R,
+        pass: &mut Pass<L>,
+        actor: Actor,
+        command: &Command,
+        answers: &mut Vec<Told>,
+        spare: usize,
+    )
+        requires space { vec_len answers.old + spare < vec_capacity answers.old }
+        ensures did { Did L.opening.watermarks actor command.now pass.old.kept pass.new.kept answers.old.items answers.new.items }
+        ensures caller { pass.new.caller ≡ pass.old.caller }
+        ensures left { vec_len answers.new + spare ≤ vec_capacity answers.new }
+        ensures share { Carries pass.old.kept 0 pass.new.kept 0 }
+    {
+        match self.first(rt, pass, actor, command) {
+            Err(AllocError) => answers.push_reserved(out_of_memory(actor)),
+            Ok(judged) => self.judged(rt, pass, actor, judged, answers, spare),
+        }
+    }
+
+    /// All commands, in order.
+    pub(crate) fn work<R: Wait>(
+        &self,
+        rt: &R,
+        pass: &mut Pass<L>,
+        actor: Actor,
+        commands: &[Command],
+    ) -> Result<Vec<Told>, Refusal>
+        ensures works { IfOk result (λ answers. Worked L.opening.watermarks actor commands.now pass.old.kept pass.new.kept answers.items) }
+        ensures share { KeepsShare pass.old.kept pass.new.kept }
+        ensures worker { pass.new.caller ≡ pass.old.caller }
+        ensures err { IfErr result (λ cause. (cause ≡ Refusal.NoMemory) × (pass.new.kept ≡ pass.old.kept)) }
+    {
+        let mut answers = Vec::new(self.alloc);
+        if answers
+            .reserve(commands.len().saturating_add(MOST_KILLS))
+            .is_err()
+        {
+            return Err(Refusal::NoMemory);
+        }
+        for (at, command) in commands.iter().enumerate() {
+            let spare = commands.len() - at - 1;
+            self.one(rt, pass, actor, command, &mut answers, spare);
+        }
+        Ok(answers)
+    }
+
+    /// Answers the task's commands, in order. `busy` is no answer: the worker waits until a transfer has ended,
+    /// and tries again.
+    ///
+    /// Room for all answers, with as many kills as there can be, is made first; `NoMemory` where that is
+    /// refused, and nothing is done.
+    pub fn task<R: Wait>(
+        &self,
+        rt: &R,
+        pass: &mut Pass<L>,
+        n: u32,
+        commands: &[Command],
+    ) -> Result<Vec<Told>, Refusal>
+        ensures works { IfOk result (λ answers. Worked L.opening.watermarks (Actor.Task n) commands.now pass.old.kept pass.new.kept answers.items) }
+        ensures share { KeepsShare pass.old.kept pass.new.kept }
+        ensures worker { pass.new.caller ≡ pass.old.caller }
+        ensures err { IfErr result (λ cause. (cause ≡ Refusal.NoMemory) × (pass.new.kept ≡ pass.old.kept)) }
+    {
+        self.work(rt, pass, Actor::Task(n), commands)
+    }
+
+    /// Answers the shell's commands, as [`Live::task`] does.
+    pub fn control<R: Wait>(
+        &self,
+        rt: &R,
+        pass: &mut Pass<L>,
+        commands: &[Command],
+    ) -> Result<Vec<Told>, Refusal>
+        ensures works { IfOk result (λ answers. Worked L.opening.watermarks Actor.Control commands.now pass.old.kept pass.new.kept answers.items) }
+        ensures share { KeepsShare pass.old.kept pass.new.kept }
+        ensures worker { pass.new.caller ≡ pass.old.caller }
+        ensures err { IfErr result (λ cause. (cause ≡ Refusal.NoMemory) × (pass.new.kept ≡ pass.old.kept)) }
+    {
+        self.work(rt, pass, Actor::Control, commands)
+    }
+
+    /// Runs the daemon's command where fewer frames than the low mark are free, then not again before as many
+    /// were free; and once more after [`Live::stop`] (kernel: `kswapd`).
+    pub fn daemon<R: Wait>(&self, rt: &R, pass: &mut Pass<L>)
+        ensures works { Repeated L.opening.watermarks Actor.Daemon Command.Daemon pass.old.kept pass.new.kept }
+        ensures share { KeepsShare pass.old.kept pass.new.kept }
+        ensures worker { pass.new.caller ≡ pass.old.caller }
+    {
+        for _run in rt.forever() {
+            let is_last = self.doze(rt);
+            self.balance(rt, pass);
+            if is_last {
+                return;
+            }
+        }
+        unreachable!()
+    }
+
+    /// Sleeps until the daemon is wanted. Whether it is to end then.
+    fn doze<R: Wait>(&self, rt: &R) -> bool {
+        let guard = self.shared.lock(rt);
+        let mut shared = self
+            .moved
+            .wait_while(rt, guard, |shared| !shared.wants_daemon());
+        shared.begin_daemon()
+    }
+
+    /// One run of the daemon's command.
+    fn balance<R: Wait>(&self, rt: &R, pass: &mut Pass<L>)
+        ensures done { Done L.opening.watermarks Actor.Daemon Command.Daemon pass.old.kept pass.new.kept }
+        ensures caller { pass.new.caller ≡ pass.old.caller }
+        ensures share { Carries pass.old.kept 0 pass.new.kept 0 }
+    {
+        let mut answers = Vec::new(self.alloc);
+        if answers.reserve(1).is_err() {
+            return;
+        }
+        self.one(rt, pass, Actor::Daemon, &Command::Daemon, &mut answers, 0);
+    }
+}

@@ -1,0 +1,241 @@
+//! Runs lines by workers of one machine.
+
+ghost use Rattle.std.specs.Prelude.{◌≡◌, ◌≤◌};
+ghost use Rattle.machine.specs.State.{opening_of};
+ghost use Rattle.driver.specs.Tickets.{blocks_in};
+
+use crate::gate::{Gate, Manner};
+use files::blocks_for;
+use live::{Live, Opened, Pass, Report, Unfinished, Worker, work_together};
+use machine::command::{Actor, Command, Reply};
+use machine::config::Config;
+use scripts::{Mode, read};
+use std::alloc::Global;
+use std::marker::Brand;
+use std::sync::Wait;
+use std::sync::ledger::{Blank, Ledger};
+use std::test::Fail;
+use std::thread::Threads;
+use trace::First;
+
+/// As many passes as there can be, and one part more.
+const PARTS: u64 = 131_073;
+
+/// What came of it.
+#[derive(Debug, Drop)]
+pub struct Ended {
+    /// What was answered before the workers worked at the same time, by each of them, and behind that.
+    pub before: String,
+    pub rows: Vec<String>,
+    pub behind: String,
+    /// How many passes were given out, as is said where one of them is not handed in.
+    pub given: u32,
+    pub replies_match: bool,
+    pub audit: Result<(), First>,
+}
+
+/// What these lines ask for, without those of the header.
+fn asked(alloc: Global, lines: &str) -> Result<Vec<(Actor, Command)>, Fail> {
+    match read(alloc, lines.as_bytes(), Mode::Run) {
+        Ok(script) => Ok(script.setup),
+        Err(_) => Err("a faulty line".into()),
+    }
+}
+
+fn print_all(text: &mut String, answers: &[Reply]) -> Result<(), Fail> {
+    for reply in answers {
+        reply.print(text)?;
+    }
+    Ok(())
+}
+
+/// Each line, one after the other, by one pass. What is answered.
+fn in_turn<L: Ledger + Opened, R: Wait>(
+    rt: &R,
+    alloc: Global,
+    live: &Live<L, Gate>,
+    pass: &mut Pass<L>,
+    lines: &str,
+) -> Result<String, Fail> {
+    let mut text = String::new(alloc);
+    for (actor, command) in asked(alloc, lines)? {
+        let answers = match actor {
+            Actor::Task(task) => live.task(rt, pass, task, &[command]),
+            _ => live.control(rt, pass, &[command]),
+        };
+        print_all(&mut text, &answers?)?;
+    }
+    Ok(text)
+}
+
+/// A worker for lines of one actor.
+fn worker<L: Ledger + Opened, R: Wait>(
+    rt: &R,
+    alloc: Global,
+    live: &Live<L, Gate>,
+    lines: &str,
+) -> Result<Worker<L>, Fail> {
+    let mut who = Actor::Control;
+    let mut commands = Vec::new(alloc);
+    for (actor, command) in asked(alloc, lines)? {
+        if let Actor::Task(_) = actor {
+            who = actor;
+        }
+        commands.push(command)?;
+    }
+    let pass = live.pass(rt)?;
+    Ok(Worker::new(alloc, who, pass, commands))
+}
+
+/// What is known before the end.
+#[derive(Drop)]
+struct Worked<L: Ledger> {
+    before: String,
+    rows: Vec<String>,
+    behind: String,
+    passes: Vec<Pass<L>>,
+}
+
+fn work<L: Ledger + Opened + Send + Sync, R: Threads + Wait + Sync>(
+    rt: &R,
+    alloc: Global,
+    live: &Live<L, Gate>,
+    before: &str,
+    rows: &[&str],
+    behind: &str,
+) -> Result<Worked<L>, Fail> {
+    let mut shell = live.pass(rt)?;
+    let daemon = live.pass(rt)?;
+    let before = in_turn(rt, alloc, live, &mut shell, before)?;
+    let mut workers = Vec::new(alloc);
+    for lines in rows {
+        workers.push(worker(rt, alloc, live, lines)?)?;
+    }
+    let (workers, daemon) = work_together(rt, live, workers, daemon);
+    let mut rows = Vec::new(alloc);
+    let mut passes = Vec::new(alloc);
+    for worker in workers {
+        let mut text = String::new(alloc);
+        print_all(&mut text, worker.answers()?)?;
+        rows.push(text)?;
+        passes.push(worker.into_pass())?;
+    }
+    let behind = in_turn(rt, alloc, live, &mut shell, behind)?;
+    passes.push(shell)?;
+    passes.push(daemon)?;
+    Ok(Worked {
+        before,
+        rows,
+        behind,
+        passes,
+    })
+}
+
+/// The end of a run: it is refused without one of the passes, which says how many there are, and made with it.
+fn finish<L: Ledger + Opened>(
+    live: Live<L, Gate>,
+    passes: Vec<Pass<L>>,
+) -> Result<(u32, Report), Fail> {
+    let mut passes = passes;
+    let last = passes.pop();
+    match live.finish(passes) {
+        Ok(_) => Err("finished without a pass".into()),
+        Err((live, mut passes, cause)) => {
+            let pushed = match last {
+                Some(pass) => passes.push(pass).is_ok(),
+                None => false,
+            };
+            if !pushed {
+                live.give_up();
+                return Err("no pass".into());
+            }
+            match live.finish(passes) {
+                Ok(report) => match cause {
+                    Unfinished::PassMissing(given) => Ok((given, report)),
+                    Unfinished::NoMemory => Err("no memory".into()),
+                },
+                Err((live, _passes, _cause)) => {
+                    live.give_up();
+                    Err("not finished".into())
+                }
+            }
+        }
+    }
+}
+
+fn run_over<L: Ledger + Opened + Send + Sync, R: Threads + Wait + Sync>(
+    rt: &R,
+    alloc: Global,
+    config: Config,
+    gate: Gate,
+    blank: Blank,
+    before: &str,
+    rows: &[&str],
+    behind: &str,
+) -> Result<Ended, Fail>
+    requires name { blank.name ≡ L.name }
+    requires parts { (blank.parts ≡ L.parts) × (blank.parts ≡ 131073) }
+    requires opened { opening_of config ≡ L.opening }
+    requires fits { blocks_in L.opening ≤ gate.count }
+{
+    let Ok(live) = Live::<L, Gate>::open(alloc, config, gate, blank) else {
+        return Err("no machine".into());
+    };
+    match work(rt, alloc, &live, before, rows, behind) {
+        Err(fail) => {
+            live.give_up();
+            Err(fail)
+        }
+        Ok(worked) => {
+            let Worked {
+                before,
+                rows,
+                behind,
+                passes,
+            } = worked;
+            let (given, report) = finish(live, passes)?;
+            let Report {
+                trace: _,
+                replies_match,
+                audit,
+            } = report;
+            Ok(Ended {
+                before,
+                rows,
+                behind,
+                given,
+                replies_match,
+                audit,
+            })
+        }
+    }
+}
+
+/// Runs the lines before, with their header, one after the other; then each of the rows by a worker of its own, all at
+/// once, the daemon beside them; then the lines behind.
+pub fn crowd<R: Threads + Wait + Sync>(
+    rt: &R,
+    alloc: Global,
+    manner: Manner,
+    before: &str,
+    rows: &[&str],
+    behind: &str,
+) -> Result<Ended, Fail> {
+    let Ok(script) = read(alloc, before.as_bytes(), Mode::Run) else {
+        return Err("a faulty line".into());
+    };
+    let Some(blocks) = blocks_for(&script.config) else {
+        return Err("too large".into());
+    };
+    let gate = Gate::new(alloc, blocks, manner)?;
+    run_over::<Brand, R>(
+        rt,
+        alloc,
+        script.config,
+        gate,
+        Blank::new(PARTS),
+        before,
+        rows,
+        behind,
+    )
+}

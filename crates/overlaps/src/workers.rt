@@ -1,0 +1,202 @@
+//! What workers are told whose transfers overlap, or fail, or bring other bytes.
+
+use crate::crowd::{Ended, crowd};
+use crate::gate::Manner;
+use std::alloc::Global;
+use std::test::Fail;
+use trace::First;
+
+const SWAPPED: &str =
+    "swap 2\ngroup /a\ntask 1 /a\ntask 2 /a\n1 write 0 0 5\n2 write 0 0 6\nset / memory.reclaim 8192\n";
+
+fn is_fine(ended: &Ended) -> bool {
+    ended.replies_match && ended.audit == Ok(())
+}
+
+#[test]
+fn reads_overlap(rt: HostRuntime) -> Result<(), Fail> {
+    // The device holds the first read until the second has begun, so that a lock held over it would end both in EIO.
+    let rows = ["1 read 0 0\n", "2 read 0 0\n"];
+    let ended = crowd(&rt, rt.alloc(), Manner::HoldsReads, SWAPPED, &rows, "")?;
+    assert_eq!(rt; ended.before.as_str(), "");
+    assert_eq!(rt; ended.rows[0].as_str(), "1 5\n");
+    assert_eq!(rt; ended.rows[1].as_str(), "2 6\n");
+    assert!(rt; is_fine(&ended));
+    Ok(())
+}
+
+#[test]
+fn writes_overlap(rt: HostRuntime) -> Result<(), Fail> {
+    let before = "swap 2\ngroup /a\ngroup /b\ntask 1 /a\ntask 2 /b\n1 write 0 0 5\n2 write 0 0 6\n";
+    let rows = [
+        "set /a memory.reclaim 4096\n",
+        "set /b memory.reclaim 4096\n",
+    ];
+    let behind = "cat /a memory.current\ncat /b memory.current\n1 read 0 0\n2 read 0 0\n";
+    let ended = crowd(&rt, rt.alloc(), Manner::HoldsWrites, before, &rows, behind)?;
+    assert_eq!(rt; ended.rows[0].as_str(), "");
+    assert_eq!(rt; ended.rows[1].as_str(), "");
+    assert_eq!(rt; ended.behind.as_str(), "0\n0\n1 5\n2 6\n");
+    assert!(rt; is_fine(&ended));
+    Ok(())
+}
+
+#[test]
+fn a_page_that_is_shared_comes_once(rt: HostRuntime) -> Result<(), Fail> {
+    // Both show one page. Whoever is second finds it in transfer, and waits.
+    let before =
+        "swap 1\ngroup /a\ntask 1 /a\n1 write 0 0 7\n1 fork 2\nset / memory.reclaim 4096\n";
+    let rows = ["1 read 0 0\n", "2 read 0 0\n"];
+    let ended = crowd(&rt, rt.alloc(), Manner::Plain, before, &rows, "")?;
+    assert_eq!(rt; ended.rows[0].as_str(), "1 7\n");
+    assert_eq!(rt; ended.rows[1].as_str(), "2 7\n");
+    assert!(rt; is_fine(&ended));
+    Ok(())
+}
+
+#[test]
+fn a_changed_byte_is_the_devices(rt: HostRuntime) -> Result<(), Fail> {
+    let before =
+        "swap 1\ngroup /a\ntask 1 /a\n1 write 0 0 5\nset / memory.reclaim 4096\n1 read 0 0\n";
+    let ended = crowd(&rt, rt.alloc(), Manner::AddsOne, before, &[], "")?;
+    assert_eq!(rt; ended.before.as_str(), "1 6\n");
+    // The arrival: behind a group, a task, a write, a page that is taken, its end, and the access that begins the read.
+    assert_eq!(rt; ended.audit, Err(First { entry: 7 }));
+    assert!(rt; ended.replies_match);
+    Ok(())
+}
+
+#[test]
+fn a_device_that_fails_is_told(rt: HostRuntime) -> Result<(), Fail> {
+    let before =
+        "swap 2\ngroup /a\ntask 1 /a\n1 write 0 0 5\nset /a memory.reclaim 4096\ncat /a memory.current\n1 read 0 0\n";
+    let ended = crowd(&rt, rt.alloc(), Manner::FailsAll, before, &[], "")?;
+    assert_eq!(rt; ended.before.as_str(), "error EIO\n4096\n1 5\n");
+    assert!(rt; is_fine(&ended));
+    Ok(())
+}
+
+#[test]
+fn each_call_fails_once(rt: HostRuntime) -> Result<(), Fail> {
+    let before =
+        "swap 2\ngroup /a\ntask 1 /a\n1 write 0 0 5\nset /a memory.reclaim 4096\nset /a memory.reclaim 4096\n1 read 0 0\n1 read 0 0\n";
+    let ended = crowd(&rt, rt.alloc(), Manner::FailsEachOnce, before, &[], "")?;
+    assert_eq!(rt; ended.before.as_str(), "error EIO\n1 EIO\n1 5\n");
+    assert!(rt; is_fine(&ended));
+    Ok(())
+}
+
+#[test]
+fn the_daemon_takes_pages_at_the_end(rt: HostRuntime) -> Result<(), Fail> {
+    // Three of four frames are used. The daemon begins below two and goes on up to three.
+    let before =
+        "frames 4\nswap 4\nwatermarks 2 3\ngroup /a\ntask 1 /a\n1 write 0 0 1\n1 write 1 0 1\n1 write 2 0 1\n";
+    let ended = crowd(
+        &rt,
+        rt.alloc(),
+        Manner::Plain,
+        before,
+        &[],
+        "cat /a memory.current\n",
+    )?;
+    assert_eq!(rt; ended.behind.as_str(), "4096\n");
+    assert!(rt; is_fine(&ended));
+    Ok(())
+}
+
+#[test]
+fn a_killed_task_is_told(rt: HostRuntime) -> Result<(), Fail> {
+    // Task 1 has three pages and nothing can be written out, so a lower max kills it.
+    let before =
+        "group /a\ntask 1 /a\ntask 2 /a\n1 write 0 0 1\n1 write 1 0 1\n1 write 2 0 1\n2 write 0 0 2\n";
+    let rows = ["set /a memory.max 4096\n", "2 read 0 0\n"];
+    let ended = crowd(
+        &rt,
+        rt.alloc(),
+        Manner::Plain,
+        before,
+        &rows,
+        "1 read 0 0\ncat /a memory.current\n",
+    )?;
+    assert_eq!(rt; ended.rows[0].as_str(), "killed 1\n");
+    assert_eq!(rt; ended.rows[1].as_str(), "2 2\n");
+    assert_eq!(rt; ended.behind.as_str(), "1 killed\n4096\n");
+    assert!(rt; is_fine(&ended));
+    Ok(())
+}
+
+#[test]
+fn a_pass_that_is_missing_is_told(rt: HostRuntime) -> Result<(), Fail> {
+    // A pass for the lines before and behind, one for the daemon, and one for each of the three rows.
+    let rows = ["1 read 0 0\n", "2 read 0 0\n", "cat /a memory.max\n"];
+    let ended = crowd(&rt, rt.alloc(), Manner::Plain, SWAPPED, &rows, "")?;
+    assert_eq!(rt; ended.given, 5);
+    assert_eq!(rt; ended.rows[2].as_str(), "max\n");
+    assert!(rt; is_fine(&ended));
+    Ok(())
+}
+
+/// The lines of a task that goes over more pages than its group has room for, and what they answer.
+fn restless(alloc: Global, task: u32) -> Result<(String, String), Fail> {
+    let mut lines = String::new(alloc);
+    let mut answers = String::new(alloc);
+    for page in 0..4u32 {
+        lines.push_str(&format!(in alloc; "{task} write {page} 0 {}\n", task + page)?)?;
+    }
+    for page in 0..4u32 {
+        lines.push_str(&format!(in alloc; "{task} read {page} 0\n")?)?;
+        answers.push_str(&format!(in alloc; "{task} {}\n", task + page)?)?;
+    }
+    Ok((lines, answers))
+}
+
+/// So many tasks of one group that has room for a few of their pages.
+fn many(alloc: Global, tasks: u32) -> Result<(String, Vec<String>, Vec<String>), Fail> {
+    let mut before = String::new(alloc);
+    before.push_str("frames 32\nswap 1024\ntrace 200000\ngroup /a\nset /a memory.max 64K\n")?;
+    let mut rows = Vec::new(alloc);
+    let mut wanted = Vec::new(alloc);
+    for task in 1..=tasks {
+        before.push_str(&format!(in alloc; "task {task} /a\n")?)?;
+        let (lines, answers) = restless(alloc, task)?;
+        rows.push(lines)?;
+        wanted.push(answers)?;
+    }
+    Ok((before, rows, wanted))
+}
+
+#[test]
+fn many_workers_share_a_limit(rt: HostRuntime) -> Result<(), Fail> {
+    let alloc = rt.alloc();
+    let (before, lines, wanted) = many(alloc, 64)?;
+    let mut rows = Vec::new(alloc);
+    for row in &lines {
+        rows.push(row.as_str())?;
+    }
+    let ended = crowd(&rt, alloc, Manner::Plain, before.as_str(), &rows, "")?;
+    assert_eq!(rt; ended.rows.len(), 64);
+    for (row, answers) in ended.rows.iter().zip(wanted.iter()) {
+        assert_eq!(rt; row.as_str(), answers.as_str());
+    }
+    assert!(rt; is_fine(&ended));
+    Ok(())
+}
+
+#[test]
+fn no_wake_up_is_lost(rt: HostRuntime) -> Result<(), Fail> {
+    // Both tasks show one page, which is written out again and again, so that each meets it in transfer.
+    let rows = [
+        "1 read 0 0\n1 read 0 0\n1 read 0 0\n1 read 0 0\n",
+        "2 read 0 0\n2 read 0 0\n2 read 0 0\n2 read 0 0\n",
+        "set / memory.reclaim 4096\nset / memory.reclaim 4096\nset / memory.reclaim 4096\n",
+    ];
+    let before =
+        "swap 4\ngroup /a\ntask 1 /a\n1 write 0 0 7\n1 fork 2\nset / memory.reclaim 4096\n";
+    for _round in 0..300 {
+        let ended = crowd(&rt, rt.alloc(), Manner::Plain, before, &rows, "")?;
+        assert_eq!(rt; ended.rows[0].as_str(), "1 7\n1 7\n1 7\n1 7\n");
+        assert_eq!(rt; ended.rows[1].as_str(), "2 7\n2 7\n2 7\n2 7\n");
+        assert!(rt; is_fine(&ended));
+    }
+    Ok(())
+}

@@ -1,0 +1,15 @@
+use Rattle.std.proofs.Common.{◌∙◌, ℕ, List, take, drop, ap}
+use Rattle.live.specs.Crews.{WorkerOf}
+use Rattle.subcommands.proofs.RoundLemmas.{ran}
+use Rattle.subcommands.proofs.threads.work_all.Goals as goal
+
+pub returns-in-Ok-all_passes-clause-whole : goal.returns-in-Ok-all_passes-clause-whole
+returns-in-Ok-all_passes-clause-whole g c =
+    let hired : List WorkerOf = c.in-Ok.crew.workers.items in
+    let ready : List WorkerOf = c.set_up.new.crew.workers.items in
+    let parts = c.in-Ok-split.ensures in
+    let front = parts.0 ∙ ap (λ (n : ℕ). take n ready) c.len-rows.ensures in
+    let back = parts.1 ∙ ap (λ (n : ℕ). drop n ready) c.len-rows.ensures in
+    ran g.L.Opened.opening.watermarks c.args.setup.items _ hired ready c.in-Ok-split.workers.items c.in-Ok-split.others.items c.work_together-workers.result.0.items _ _ _ c.in-Ok.ensures c.in_ok-set_up.ensures.whole front back
+    c.work_together-workers.ensures.workers c.work_together-workers.ensures.count (rw c.deref.ensures.value at c.in_ok-print_rows.ensures.whole)
+    c.in-Ok-new_pass.daemon c.work_together-workers.result.1 _ c.in-Ok-new_pass.ensures c.work_together-workers.ensures.daemon c.in-Ok-all_passes.ensures

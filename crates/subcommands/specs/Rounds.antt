@@ -1,0 +1,99 @@
+-- The rounds of a run on threads: words for its own functions. No public clause cites this.
+use Rattle.std.specs.Prelude.{◌≡◌, ◌≢◌, ℕ, ◌==◌, Bool, true, false, Result, Err, List, [], ◌∷◌, ◌++◌, Option, Contains, map, reverse, Ok}
+use Rattle.std.specs.Io.KnownBytes.{Appends}
+use Rattle.machine.specs.declared.config.Watermarks.{Watermarks}
+use Rattle.machine.specs.declared.command.Actor.{Actor}
+use Rattle.machine.specs.declared.command.Actor.TheVariants as actor
+use Rattle.machine.specs.declared.command.Command.{Command}
+use Rattle.machine.specs.declared.command.Command.TheVariants as command
+use Rattle.machine.specs.declared.command.Reply.{Reply}
+use Rattle.machine.specs.declared.entry.Entry.{Entry}
+use Rattle.machine.specs.State.{Opening}
+use Rattle.machine.specs.History.{Numbered}
+use Rattle.book.specs.Passes.{PassOf}
+use Rattle.book.specs.declared.kept.Kept.{Kept}
+use Rattle.live.specs.Crews.{WorkerOf}
+use Rattle.live.specs.Works.{Repeated}
+use Rattle.live.specs.Reports.{IsLegal}
+use Rattle.trace.specs.declared.auditing.First.{First}
+use Rattle.subcommands.specs.declared.threads.Verdict.{Verdict}
+use Rattle.subcommands.specs.declared.threads.Verdict.TheVariants.{Fine, Wrong, Differ}
+use Rattle.subcommands.specs.Prints.{texts}
+use Rattle.subcommands.specs.Threads.{Board, no_pass, pieces_of, Pieces, Concludes, verdict_line}
+use Rattle.scripts.specs.Work.{numbers_of}
+use Rattle.subcommands.specs.Crews.{jobs_of, board_of}
+
+-- the number is none of these
+abbrev pub NotAmong : ℕ → List ℕ → Type 0
+NotAmong n [] = Unit {0}
+NotAmong n (k ∷ ks) = ((n == k) ≡ false) × NotAmong n ks
+
+-- no two of the numbers are the same
+abbrev pub IsApart : List ℕ → Type 0
+IsApart [] = Unit {0}
+IsApart (n ∷ ns) = NotAmong n ns × IsApart ns
+
+-- a worker for each row, whose pass keeps nothing yet
+pub record HiredAll (rows : List (Actor × List Command)) (workers : List WorkerOf) : Type 0 where
+  pub jobs : jobs_of workers ≡ rows
+  pub fresh : (who : Actor) → board_of workers who ≡ []
+  pub apart : IsApart (numbers_of (jobs_of workers))
+
+-- these commands were done one after the other, by workers that were there or were hired behind those, and a writer got the answers
+pub record SetsUp (marks : Watermarks) (setup : List (Actor × Command)) (old new : List WorkerOf) (before after : Option (List ℕ)) : Type 0 where
+  pub said : List Reply
+  pub pieces : Pieces marks (pieces_of setup) (board_of old) said (board_of new)
+  pub more : List (Actor × List Command)
+  pub jobs : jobs_of new ≡ jobs_of old ++ more
+  pub apart : IsApart (numbers_of (jobs_of old)) → IsApart (numbers_of (jobs_of new))
+  pub prints : Appends before after (texts said)
+
+-- what each of the workers answered, one behind the other
+abbrev pub AnswersAre : List WorkerOf → List Reply → Type 0
+AnswersAre [] answers = answers ≡ []
+AnswersAre (worker ∷ workers) answers = (here : List Reply) × (later : List Reply) × (worker.answers ≡ Ok here) × AnswersAre workers later × (answers ≡ here ++ later)
+
+-- and a writer got that
+pub record SaysRows (workers : List WorkerOf) (before after : Option (List ℕ)) : Type 0 where
+  pub answers : List Reply
+  pub are : AnswersAre workers answers
+  pub prints : Appends before after (texts answers)
+
+abbrev pub passes_in : List WorkerOf → List PassOf
+passes_in workers = map (λ (worker : WorkerOf). worker.pass) workers
+
+-- all but the trace of a run
+pub record Ran (marks : Watermarks) (setup : List (Actor × Command)) (work : List (Actor × List Command)) (passes : List PassOf) (before after : Option (List ℕ)) : Type 0 where
+  pub set_up : List Reply
+  pub board : Board
+  pub sets_up : Pieces marks (pieces_of setup) no_pass set_up board
+  pub answers : List Reply
+  pub last : Board
+  pub works : Pieces marks work board answers last
+  pub daemon : List Kept
+  pub balances : Repeated marks actor.Daemon command.Daemon [] daemon
+  pub actors : List Actor
+  pub kept : map (λ (pass : PassOf). pass.kept) passes ≡ map last actors ++ daemon ∷ []
+  pub all : (who : Actor) → last who ≢ [] → Contains actors who
+  pub prints : Appends before after (texts set_up ++ texts answers)
+
+-- the verdict, by whether the passes keep what the trace has, and by its audit
+abbrev pub verdict_by : Bool → Result (Unit {0}) First → Verdict
+verdict_by false audit = Differ
+verdict_by true (Ok done) = Fine
+verdict_by true (Err first) = Wrong first.entry
+
+-- the trace of a run was judged so, over these passes, and a writer got the line that says it
+pub record Concluded (opening : Opening) (passes : List PassOf) (verdict : Verdict) (before after : Option (List ℕ)) : Type 0 where
+  pub entries : List Entry
+  pub legal : IsLegal opening (reverse entries)
+  pub numbered : Numbered (reverse entries)
+  pub concludes : Concludes verdict entries passes
+  pub prints : Appends before after (verdict_line verdict)
+
+-- a run, all of it
+pub record RanAll (opening : Opening) (setup : List (Actor × Command)) (work : List (Actor × List Command)) (verdict : Verdict) (before after : Option (List ℕ)) : Type 0 where
+  pub passes : List PassOf
+  pub mid : Option (List ℕ)
+  pub ran : Ran opening.watermarks setup work passes before mid
+  pub concluded : Concluded opening passes verdict mid after

@@ -1,0 +1,111 @@
+-- What a run of a script on threads prints.
+use Rattle.std.specs.Prelude.{◌≡◌, ◌≢◌, ℕ, List, [], ◌∷◌, ◌++◌, length, Option, Contains, map, reverse, codes, decimal}
+use Rattle.std.specs.List.{sum_by}
+use Rattle.std.specs.Io.KnownBytes.{Appends}
+use Rattle.std.specs.Str.Lines.{lines}
+use Rattle.machine.specs.declared.config.Config.{Config}
+use Rattle.machine.specs.declared.config.Watermarks.{Watermarks}
+use Rattle.machine.specs.declared.command.Actor.{Actor}
+use Rattle.machine.specs.declared.command.Actor.TheVariants as actor
+use Rattle.machine.specs.declared.command.Command.{Command}
+use Rattle.machine.specs.declared.command.Command.TheVariants as command
+use Rattle.machine.specs.declared.command.Reply.{Reply}
+use Rattle.machine.specs.declared.entry.Entry.{Entry}
+use Rattle.machine.specs.Control.{line}
+use Rattle.machine.specs.State.{opening_of}
+use Rattle.machine.specs.History.{Numbered}
+use Rattle.machine.specs.FirstBytes.{first_of}
+use Rattle.machine.specs.Audit.{Passes, IsFirstWrong}
+use Rattle.book.specs.declared.kept.Kept.{Kept}
+use Rattle.machine.specs.Transfers.{transfers_begun, transfers_ended}
+use Rattle.book.specs.Passes.{PassOf, count_of}
+use Rattle.live.specs.Works.{Worked, Repeated}
+use Rattle.live.specs.Matching.{Matches}
+use Rattle.live.specs.Reports.{IsLegal}
+use Rattle.scripts.specs.declared.mode.Mode.TheVariants.{Run}
+use Rattle.scripts.specs.Header.{config_of}
+use Rattle.scripts.specs.Script.{items_of, IsFaultless}
+use Rattle.scripts.specs.Work.{setup_of, worked, work_of}
+use Rattle.subcommands.specs.declared.threads.Verdict.{Verdict}
+use Rattle.subcommands.specs.declared.threads.Verdict.TheVariants.{Fine, Wrong, Differ}
+use Rattle.subcommands.specs.Prints.{texts}
+
+-- by actor, what its pass keeps
+abbrev pub Board : Type 0
+Board = Actor → List Kept
+
+abbrev pub no_pass : Board
+no_pass who = []
+
+-- an actor is asked for these commands, its pass goes on with what that adds, and no other's does
+pub record Piece (marks : Watermarks) (who : Actor) (commands : List Command) (before : Board) (said : List Reply) (after : Board) : Type 0 where
+  pub did : Worked marks who commands (before who) (after who) said
+  pub others : (other : Actor) → other ≢ who → after other ≡ before other
+
+-- pieces, one behind the other; of the order in which different actors did what they did nothing is said
+abbrev pub Pieces : Watermarks → List (Actor × List Command) → Board → List Reply → Board → Type 0
+Pieces marks [] before said after = (said ≡ []) × ((who : Actor) → after who ≡ before who)
+Pieces marks (piece ∷ pieces) before said after =
+    (mid : Board) × (here : List Reply) × (later : List Reply)
+    × Piece marks piece.0 piece.1 before here mid × Pieces marks pieces mid later after × (said ≡ here ++ later)
+
+-- each command as a piece of its own
+abbrev pub pieces_of : List (Actor × Command) → List (Actor × List Command)
+pieces_of setup = map (λ p. (p.0, p.1 ∷ [])) setup
+
+-- a run: what stands before `go` was done and answered, then what stands behind it; and the trace of all that
+pub record RunOnThreads (config : Config) (setup work : List (Actor × List Command)) : Type 0 where
+  pub set_up : List Reply
+  pub board : Board
+  pub sets_up : Pieces config.watermarks setup no_pass set_up board
+  pub answers : List Reply
+  pub last : Board
+  pub works : Pieces config.watermarks work board answers last
+  -- what the daemon's pass keeps
+  pub daemon : List Kept
+  pub balances : Repeated config.watermarks actor.Daemon command.Daemon [] daemon
+  -- all passes: one for each of these actors, among them all that were asked for something, and the daemon's
+  pub passes : List PassOf
+  pub actors : List Actor
+  pub kept : map (λ (pass : PassOf). pass.kept) passes ≡ map last actors ++ daemon ∷ []
+  pub all : (who : Actor) → last who ≢ [] → Contains actors who
+  -- the entries, the oldest first
+  pub entries : List Entry
+  pub legal : IsLegal (opening_of config) (reverse entries)
+  pub numbered : Numbered (reverse entries)
+
+-- the passes keep just what the trace has, all of it is of their workers, and no transfer is in flight. (Excludes the trace of another run.)
+pub record Agree (entries : List Entry) (passes : List PassOf) : Type 0 where
+  pub matches : Matches entries passes
+  pub all : length entries ≡ sum_by (λ (pass : PassOf). count_of pass.kept) passes
+  pub at_rest : transfers_begun (reverse entries) ≡ transfers_ended (reverse entries)
+
+-- what a verdict says of the trace and of the passes. They agree, and an audit finds nothing wrong in the trace; or its first wrong entry is this one.
+-- Where they don't, no more is said
+abbrev pub Concludes : Verdict → List Entry → List PassOf → Type 0
+Concludes Fine entries passes = Agree entries passes × Passes (first_of (reverse entries)) (reverse entries)
+Concludes (Wrong entry) entries passes = Agree entries passes × IsFirstWrong entries entry
+Concludes Differ entries passes = Unit {0}
+
+-- the line that says it
+abbrev pub verdict_line : Verdict → List ℕ
+verdict_line Fine = line (codes "audit ok")
+verdict_line (Wrong entry) = line (codes "audit failed at entry " ++ decimal entry)
+verdict_line Differ = line (codes "replies differ")
+
+-- the exit status that tells it
+abbrev pub status_by : Verdict → ℕ
+status_by Fine = 0
+status_by (Wrong entry) = 1
+status_by Differ = 1
+
+-- a writer got what a run prints: its answers, those before `go` first, and the line of this verdict, and nothing else
+pub record PrintsThreads (config : Config) (setup : List (Actor × Command)) (work : List (Actor × List Command)) (verdict : Verdict) (old new : Option (List ℕ)) : Type 0 where
+  pub run : RunOnThreads config (pieces_of setup) work
+  pub concludes : Concludes verdict run.entries run.passes
+  pub prints : Appends old new (texts run.set_up ++ texts run.answers ++ verdict_line verdict)
+
+-- no line of the script is faulty on threads, and a writer got what a run of it prints
+pub record PrintsScriptOnThreads (script : List ℕ) (verdict : Verdict) (old new : Option (List ℕ)) : Type 0 where
+  pub faultless : IsFaultless Run (lines script)
+  pub run : PrintsThreads (config_of (items_of (lines script))) (setup_of (items_of (lines script))) (work_of (worked (items_of (lines script)))) verdict old new

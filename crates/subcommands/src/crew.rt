@@ -1,0 +1,154 @@
+//! The workers of a run on threads.
+
+ghost use Rattle.std.specs.Prelude.{◌≡◌, ◌⊎◌, ◌<◌, ◌≤◌, ◌++◌, ◌∷◌, [], Ok, length, take, drop, IfSome, IfNone, IfOk, OnOk};
+ghost use Rattle.scripts.specs.Work.{number_of};
+ghost use Rattle.subcommands.specs.Crews.{numbers_at, place_of, Hires, Asked};
+
+use block_store::SharedDevice;
+use indexmap::IndexSet;
+use live::{Live, Opened, Pass, Worker};
+use machine::command::{Actor, Command, Reply};
+use std::alloc::{AllocError, Global};
+use std::sync::Wait;
+use std::sync::ledger::Ledger;
+
+/// The workers, in order of their coming, and the numbers of their actors, so that an actor's place is looked up and not
+/// looked for.
+#[derive(Drop)]
+pub struct Crew<L: Ledger> {
+    pub workers: Vec<Worker<L>>,
+    numbers: IndexSet<u64>,
+    ghost numbered: { numbers.keys ≡ numbers_at workers.items },
+}
+
+/// Different actors have different numbers.
+fn number_of(actor: Actor) -> u64
+    ensures { result ≡ number_of actor }
+{
+    match actor {
+        Actor::Shell => 0,
+        Actor::Control => 1,
+        Actor::Daemon => 2,
+        Actor::Task(task) => u64::from(task) + 3,
+    }
+}
+
+impl<L: Ledger> Crew<L> {
+    /// Nobody.
+    pub fn new(alloc: Global) -> Self
+        ensures { result.workers.items ≡ [] }
+    {
+        Crew {
+            workers: Vec::new(alloc),
+            numbers: IndexSet::new(alloc),
+        }
+    }
+
+    /// The place of the actor's worker, if there is one.
+    fn find(&self, actor: Actor) -> Option<usize>
+        ensures found { IfSome result (λ place. (place ≡ place_of actor self.now.workers.items) × (place < length self.now.workers.items)) }
+        ensures missing { IfNone result (place_of actor self.now.workers.items ≡ length self.now.workers.items) }
+    {
+        self.numbers.get_index_of(&number_of(actor))
+    }
+
+    /// One worker more, of an actor who has none.
+    fn add(&mut self, actor: Actor, worker: Worker<L>) -> Result<(), AllocError>
+        requires new { place_of actor self.old.workers.items ≡ length self.old.workers.items }
+        requires of { worker.actor ≡ actor }
+        ensures { OnOk result (self.new.workers.items ≡ self.old.workers.items ++ worker ∷ []) }
+    {
+        self.workers.reserve(1)?;
+        self.numbers.insert(number_of(actor))?;
+        self.workers.push_reserved(worker);
+        Ok(())
+    }
+
+    /// How many there are.
+    pub fn len(&self) -> usize
+        ensures { result ≡ length self.now.workers.items }
+    {
+        self.workers.len()
+    }
+
+    /// So many that came first, and the others.
+    pub fn split(self, count: usize) -> Result<(Vec<Worker<L>>, Vec<Worker<L>>), AllocError>
+        requires { count ≤ length self.workers.items }
+        ensures { IfOk result (λ parts. (parts.0.items ≡ take count self.workers.items) × (parts.1.items ≡ drop count self.workers.items)) }
+    {
+        let Crew {
+            mut workers,
+            numbers: _,
+        } = self;
+        let others = workers.split_off(count)?;
+        Ok((workers, others))
+    }
+}
+
+impl<L: Ledger + Opened> Crew<L> {
+    /// A worker with a pass of its own, of an actor who has none, for these commands.
+    pub fn hire<D: SharedDevice, R: Wait>(
+        &mut self,
+        rt: &R,
+        alloc: Global,
+        live: &Live<L, D>,
+        actor: Actor,
+        commands: Vec<Command>,
+    ) -> Result<(), AllocError>
+        requires { place_of actor self.old.workers.items ≡ length self.old.workers.items }
+        ensures { OnOk result (Hires actor commands.items self.old.workers.items self.new.workers.items) }
+    {
+        let pass = new_pass(rt, live)?;
+        self.add(actor, Worker::new(alloc, actor, pass, commands))
+    }
+
+    /// The place of the actor's worker, who is hired where there is none.
+    fn place<D: SharedDevice, R: Wait>(
+        &mut self,
+        rt: &R,
+        alloc: Global,
+        live: &Live<L, D>,
+        actor: Actor,
+    ) -> Result<usize, AllocError>
+        ensures placed { IfOk result (λ place. (place ≡ place_of actor self.new.workers.items) × (place < length self.new.workers.items)) }
+        ensures hired { OnOk result ((self.new.workers.items ≡ self.old.workers.items) ⊎ Hires actor [] self.old.workers.items self.new.workers.items) }
+    {
+        if let Some(place) = self.find(actor) {
+            return Ok(place);
+        }
+        let place = self.workers.len();
+        self.hire(rt, alloc, live, actor, Vec::new(alloc))?;
+        Ok(place)
+    }
+
+    /// Answers a command of the actor's at once.
+    pub fn ask<D: SharedDevice, R: Wait>(
+        &mut self,
+        rt: &R,
+        alloc: Global,
+        live: &Live<L, D>,
+        actor: Actor,
+        command: Command,
+    ) -> Result<Vec<Reply>, AllocError>
+        ensures { IfOk result (λ answers. Asked L.opening.watermarks actor command self.old.workers.items self.new.workers.items answers.items) }
+    {
+        let place = self.place(rt, alloc, live, actor)?;
+        match self.workers[place].answer(rt, live, command) {
+            Ok(answers) => Ok(answers),
+            Err(_) => Err(AllocError),
+        }
+    }
+}
+
+/// A pass more. It fails for want of memory: no script names so many actors as there can be passes.
+pub fn new_pass<L: Ledger + Opened, D: SharedDevice, R: Wait>(
+    rt: &R,
+    live: &Live<L, D>,
+) -> Result<Pass<L>, AllocError>
+    ensures { IfOk result (λ pass. pass.kept ≡ []) }
+{
+    match live.pass(rt) {
+        Ok(pass) => Ok(pass),
+        Err(_) => Err(AllocError),
+    }
+}

@@ -1,0 +1,480 @@
+//! Runs of scripts on threads.
+
+ghost use Rattle.std.specs.Prelude.{◌≡◌, ◌⊎◌, ℕ, ◌<◌, ◌≤◌, ◌++◌, ◌∷◌, [], true, length, IsErr, IfOk, IfErr, IfSome, OnOk, OnErr};
+ghost use Rattle.std.specs.Io.KnownBytes.{Appends, Keeps};
+ghost use Rattle.std.specs.List.Sorted.{IsStrictlyIncreasing};
+ghost use Rattle.std.specs.Str.Lines.{lines};
+ghost use Rattle.machine.specs.State.{opening_of, is_config, blocks_of};
+ghost use Rattle.driver.specs.Tickets.{blocks_in};
+ghost use Rattle.scripts.specs.declared.fault.Cause.{Cause};
+ghost use Rattle.scripts.specs.declared.mode.Mode.TheVariants.{Run};
+ghost use Rattle.scripts.specs.Script.{IsFirstFault, NamesFirstFault};
+ghost use Rattle.scripts.specs.Work.{numbers_of, shown_rows};
+ghost use Rattle.subcommands.specs.Prints.{texts};
+ghost use Rattle.subcommands.specs.Told.{IsUnread, ExplainsIn, IsOfScript, StartsReport, IsRunFault};
+ghost use Rattle.subcommands.specs.Threads.{verdict_line, status_by, PrintsThreads, PrintsScriptOnThreads};
+ghost use Rattle.subcommands.specs.Rounds.{verdict_by, HiredAll, SetsUp, SaysRows, passes_in, Ran, Concluded, RanAll};
+
+use crate::crew::{Crew, new_pass};
+use crate::fault::{Fault, Wanted};
+use crate::options::Options;
+use crate::output::write_bytes;
+use crate::{faulty, read_script, status_of, unwritten};
+use block_store::{Locked, MemDevice, SharedDevice};
+use files::blocks_for;
+use live::{Live, Opened, Pass, Report, Unfinished, Worker, work_together};
+use machine::command::{Actor, Command, Reply};
+use machine::config::Config;
+use scripts::{Mode, Script, each_actor_has_its_row, one_answer};
+use std::alloc::{AllocError, Global};
+use std::io;
+use std::io::{Read, Write};
+use std::marker::Brand;
+use std::sync::Wait;
+use std::sync::ledger::{Blank, Ledger};
+use std::thread::Threads;
+
+const FAILED: u8 = 1;
+
+/// As many passes as there can be, and one part more.
+const PARTS: u64 = 131_073;
+
+/// What is said at the end of a run.
+#[derive(Clone, Copy, Debug, PartialEq, Eq)]
+pub enum Verdict {
+    /// What each worker was told is what the trace has of it, and an audit of the trace finds nothing wrong.
+    Fine,
+    /// An audit finds something wrong, first at the entry of this place, counted from 1.
+    Wrong(usize),
+    /// A worker was told something else than the trace has of it.
+    Differ,
+}
+
+/// The verdict on a run.
+fn verdict_of(report: &Report) -> Verdict
+    ensures { result ≡ verdict_by report.now.replies_match report.now.audit }
+{
+    if !report.replies_match {
+        return Verdict::Differ;
+    }
+    match &report.audit {
+        Ok(()) => Verdict::Fine,
+        Err(first) => Verdict::Wrong(first.entry),
+    }
+}
+
+/// Writes the line that says it.
+fn tell<O: Write>(alloc: Global, verdict: Verdict, out: &mut O) -> io::Result<()>
+    ensures { OnOk result (Appends (O.contents out.old) (O.contents out.new) (verdict_line verdict)) }
+{
+    match verdict {
+        Verdict::Fine => write_bytes(out, b"audit ok\n"),
+        Verdict::Differ => write_bytes(out, b"replies differ\n"),
+        Verdict::Wrong(entry) => {
+            let text = format!(in alloc; "audit failed at entry {entry}\n")?;
+            write_bytes(out, text.as_bytes())
+        }
+    }
+}
+
+/// Writes what one answer prints, in one piece.
+fn print_answer<O: Write>(text: &mut String, reply: &Reply, out: &mut O) -> io::Result<()>
+    ensures { OnOk result (Appends (O.contents out.old) (O.contents out.new) (texts (reply.now ∷ []))) }
+{
+    text.clear();
+    reply.print(text)?;
+    write_bytes(out, text.as_bytes())
+}
+
+/// Writes what answers print, one behind the other.
+fn print_answers<O: Write>(alloc: Global, answers: &[Reply], out: &mut O) -> io::Result<()>
+    ensures { OnOk result (Appends (O.contents out.old) (O.contents out.new) (texts answers.now)) }
+{
+    let mut text = String::new(alloc);
+    for reply in answers {
+        print_answer(&mut text, reply, out)?;
+    }
+    Ok(())
+}
+
+/// A worker for each row, in their order.
+fn hire_all<L: Ledger + Opened, D: SharedDevice, R: Wait>(
+    rt: &R,
+    alloc: Global,
+    live: &Live<L, D>,
+    work: Vec<(Actor, Vec<Command>)>,
+) -> Result<Crew<L>, AllocError>
+    requires { IsStrictlyIncreasing (numbers_of (shown_rows work.items)) }
+    ensures { IfOk result (λ crew. HiredAll (shown_rows work.items) crew.workers.items) }
+{
+    let mut crew = Crew::new(alloc);
+    for (actor, commands) in work {
+        crew.hire(rt, alloc, live, actor, commands)?;
+    }
+    Ok(crew)
+}
+
+/// One line of what stands before the threads go.
+fn set_up_one<L: Ledger + Opened, D: SharedDevice, R: Wait, O: Write>(
+    rt: &R,
+    alloc: Global,
+    live: &Live<L, D>,
+    crew: &mut Crew<L>,
+    wanted: Wanted,
+    actor: Actor,
+    command: Command,
+    out: &mut O,
+) -> Result<(), Fault>
+    ensures whole { OnOk result (SetsUp L.opening.watermarks ((actor, command) ∷ []) crew.old.workers.items crew.new.workers.items (O.contents out.old) (O.contents out.new)) }
+    ensures why { IfErr result IsRunFault }
+{
+    match crew.ask(rt, alloc, live, actor, command) {
+        Err(AllocError) => Err(Fault::Memory(wanted)),
+        Ok(answers) => match print_answers(alloc, &answers, out) {
+            Ok(()) => Ok(()),
+            Err(error) => Err(unwritten(wanted, error)),
+        },
+    }
+}
+
+/// What stands before the threads go is done, one after the other, and what it answers is written at once.
+fn set_up<L: Ledger + Opened, D: SharedDevice, R: Wait, O: Write>(
+    rt: &R,
+    alloc: Global,
+    live: &Live<L, D>,
+    crew: &mut Crew<L>,
+    wanted: Wanted,
+    setup: Vec<(Actor, Command)>,
+    out: &mut O,
+) -> Result<(), Fault>
+    ensures whole { OnOk result (SetsUp L.opening.watermarks setup.items crew.old.workers.items crew.new.workers.items (O.contents out.old) (O.contents out.new)) }
+    ensures why { IfErr result IsRunFault }
+{
+    for (actor, command) in setup {
+        set_up_one(rt, alloc, live, crew, wanted, actor, command, out)?;
+    }
+    Ok(())
+}
+
+/// Writes what a worker answered. It fails, too, where there was no memory for its answers.
+fn print_row<L: Ledger, O: Write>(
+    alloc: Global,
+    wanted: Wanted,
+    worker: &Worker<L>,
+    out: &mut O,
+) -> Result<(), Fault>
+    ensures whole { OnOk result (SaysRows (worker.now ∷ []) (O.contents out.old) (O.contents out.new)) }
+    ensures why { IfErr result IsRunFault }
+{
+    match worker.answers() {
+        Err(_) => Err(Fault::Memory(wanted)),
+        Ok(answers) => match print_answers(alloc, answers, out) {
+            Ok(()) => Ok(()),
+            Err(error) => Err(unwritten(wanted, error)),
+        },
+    }
+}
+
+/// The same of workers, one behind the other.
+fn print_rows<L: Ledger, O: Write>(
+    alloc: Global,
+    wanted: Wanted,
+    workers: &[Worker<L>],
+    out: &mut O,
+) -> Result<(), Fault>
+    ensures whole { OnOk result (SaysRows workers.now (O.contents out.old) (O.contents out.new)) }
+    ensures why { IfErr result IsRunFault }
+{
+    for worker in workers {
+        print_row(alloc, wanted, worker, out)?;
+    }
+    Ok(())
+}
+
+/// Adds the workers' passes.
+fn add_passes<L: Ledger>(
+    passes: &mut Vec<Pass<L>>,
+    workers: Vec<Worker<L>>,
+) -> Result<(), AllocError>
+    ensures { OnOk result (passes.new.items ≡ passes.old.items ++ passes_in workers.items) }
+{
+    for worker in workers {
+        passes.push(worker.into_pass())?;
+    }
+    Ok(())
+}
+
+/// All passes, the daemon's last.
+fn all_passes<L: Ledger>(
+    alloc: Global,
+    workers: Vec<Worker<L>>,
+    others: Vec<Worker<L>>,
+    daemon: Pass<L>,
+) -> Result<Vec<Pass<L>>, AllocError>
+    ensures { IfOk result (λ passes. passes.items ≡ passes_in workers.items ++ passes_in others.items ++ daemon ∷ []) }
+{
+    let mut passes = Vec::new(alloc);
+    add_passes(&mut passes, workers)?;
+    add_passes(&mut passes, others)?;
+    passes.push(daemon)?;
+    Ok(passes)
+}
+
+/// All that workers do: what stands before the threads go, and then all rows at once with the daemon beside them. It
+/// hands out their passes.
+fn work_all<
+    L: Ledger + Opened + Send + Sync,
+    D: SharedDevice + Sync,
+    R: Threads + Wait + Sync,
+    O: Write,
+>(
+    rt: &R,
+    alloc: Global,
+    live: &Live<L, D>,
+    wanted: Wanted,
+    setup: Vec<(Actor, Command)>,
+    work: Vec<(Actor, Vec<Command>)>,
+    out: &mut O,
+) -> Result<Vec<Pass<L>>, Fault>
+    requires { IsStrictlyIncreasing (numbers_of (shown_rows work.items)) }
+    ensures whole { IfOk result (λ passes. Ran L.opening.watermarks setup.items (shown_rows work.items) passes.items (O.contents out.old) (O.contents out.new)) }
+    ensures why { IfErr result IsRunFault }
+{
+    let Ok(mut crew) = hire_all(rt, alloc, live, work) else {
+        return Err(Fault::Memory(wanted));
+    };
+    let Ok(daemon) = new_pass(rt, live) else {
+        return Err(Fault::Memory(wanted));
+    };
+    let rows = crew.len();
+    set_up(rt, alloc, live, &mut crew, wanted, setup, out)?;
+    let Ok((workers, others)) = crew.split(rows) else {
+        return Err(Fault::Memory(wanted));
+    };
+    let (workers, daemon) = work_together(rt, live, workers, daemon);
+    print_rows(alloc, wanted, &workers, out)?;
+    match all_passes(alloc, workers, others, daemon) {
+        Ok(passes) => Ok(passes),
+        Err(AllocError) => Err(Fault::Memory(wanted)),
+    }
+}
+
+/// The verdict, once its line is written.
+fn say<O: Write>(
+    alloc: Global,
+    wanted: Wanted,
+    verdict: Verdict,
+    out: &mut O,
+) -> Result<Verdict, Fault>
+    ensures whole { IfOk result (λ said. (said ≡ verdict) × Appends (O.contents out.old) (O.contents out.new) (verdict_line verdict)) }
+    ensures why { IfErr result IsRunFault }
+{
+    match tell(alloc, verdict, out) {
+        Ok(()) => Ok(verdict),
+        Err(error) => Err(unwritten(wanted, error)),
+    }
+}
+
+/// Ends a run: its verdict, which is written.
+fn conclude<L: Ledger + Opened, D: SharedDevice + Drop, O: Write>(
+    alloc: Global,
+    live: Live<L, D>,
+    wanted: Wanted,
+    passes: Vec<Pass<L>>,
+    out: &mut O,
+) -> Result<Verdict, Fault>
+    ensures whole { IfOk result (λ verdict. Concluded L.opening passes.items verdict (O.contents out.old) (O.contents out.new)) }
+    ensures why { IfErr result IsRunFault }
+{
+    match live.finish(passes) {
+        Ok(report) => say(alloc, wanted, verdict_of(&report), out),
+        Err((live, _passes, cause)) => {
+            live.give_up();
+            match cause {
+                Unfinished::NoMemory => Err(Fault::Memory(wanted)),
+                // All passes are there, and no worker ends with a ticket out.
+                Unfinished::PassMissing(_) => say(alloc, wanted, Verdict::Differ, out),
+            }
+        }
+    }
+}
+
+/// The same, without a last flush.
+fn run_live<
+    L: Ledger + Opened + Send + Sync,
+    D: SharedDevice + Sync + Drop,
+    R: Threads + Wait + Sync,
+    O: Write,
+>(
+    rt: &R,
+    alloc: Global,
+    live: Live<L, D>,
+    wanted: Wanted,
+    setup: Vec<(Actor, Command)>,
+    work: Vec<(Actor, Vec<Command>)>,
+    out: &mut O,
+) -> Result<Verdict, Fault>
+    requires { IsStrictlyIncreasing (numbers_of (shown_rows work.items)) }
+    ensures whole { IfOk result (λ verdict. RanAll L.opening setup.items (shown_rows work.items) verdict (O.contents out.old) (O.contents out.new)) }
+    ensures why { IfErr result IsRunFault }
+{
+    match work_all(rt, alloc, &live, wanted, setup, work, out) {
+        Ok(passes) => conclude(alloc, live, wanted, passes, out),
+        Err(fault) => {
+            live.give_up();
+            Err(fault)
+        }
+    }
+}
+
+/// Runs what a script asks of threads over a device that has as many blocks as the script's header asks for: what
+/// stands before the first `go`, one after the other, and each answer is written at once; then each actor's row in a
+/// thread of its own, with the daemon beside them, and the answers are written row by row; then what the trace of all
+/// that says in one line.
+///
+/// `L` tells what the machine was opened with, and names the ledger of its entries; the proof of a call at `Brand`
+/// picks both.
+pub fn run_over<
+    L: Ledger + Opened + Send + Sync,
+    D: SharedDevice + Sync + Drop,
+    R: Threads + Wait + Sync,
+    O: Write,
+>(
+    rt: &R,
+    alloc: Global,
+    script: Script,
+    device: D,
+    blank: Blank,
+    out: &mut O,
+) -> Result<Verdict, Fault>
+    requires name { blank.name ≡ L.name }
+    requires parts { (blank.parts ≡ L.parts) × (blank.parts ≡ 131073) }
+    requires opened { opening_of script.config ≡ L.opening }
+    requires fits { blocks_in L.opening ≤ D.extent device }
+    requires rows { IsStrictlyIncreasing (numbers_of (shown_rows script.work.items)) }
+    ensures whole { IfOk result (λ verdict. PrintsThreads script.config script.setup.items (shown_rows script.work.items) verdict (O.contents out.old) (O.contents out.new)) }
+    ensures why { IfErr result IsRunFault }
+{
+    let Script {
+        config,
+        setup,
+        work,
+        ..
+    } = script;
+    let wanted = Wanted::of(&config, device.blocks());
+    let Ok(live) = Live::<L, D>::open(alloc, config, device, blank) else {
+        return Err(Fault::Memory(wanted));
+    };
+    let ran = run_live(rt, alloc, live, wanted, setup, work, out);
+    let flushed = out.flush();
+    match ran {
+        Err(fault) => Err(fault),
+        Ok(verdict) => match flushed {
+            Ok(()) => Ok(verdict),
+            Err(error) => Err(unwritten(wanted, error)),
+        },
+    }
+}
+
+/// Runs what was read of a script over a new device.
+fn run_new<R: Threads + Wait + Sync, O: Write>(
+    rt: &R,
+    alloc: Global,
+    script: Script,
+    out: &mut O,
+) -> Result<Verdict, Fault>
+    requires limits { is_config script.config ≡ true }
+    requires rows { IsStrictlyIncreasing (numbers_of (shown_rows script.work.items)) }
+    ensures whole { IfOk result (λ verdict. PrintsThreads script.config script.setup.items (shown_rows script.work.items) verdict (O.contents out.old) (O.contents out.new)) }
+    ensures why { IfErr result IsRunFault }
+{
+    let Some(blocks) = blocks_for(&script.config) else {
+        unreachable!()
+    };
+    let wanted = Wanted::of(&script.config, blocks);
+    let device = match MemDevice::new(alloc, blocks, &script.read_faults, &script.write_faults) {
+        Ok(device) => Locked::new(device),
+        Err(_) => return Err(Fault::Memory(wanted)),
+    };
+    run_over::<Brand, Locked<MemDevice>, R, O>(rt, alloc, script, device, Blank::new(PARTS), out)
+}
+
+/// Runs a script that was read on threads, over a new device, which has the blocks that the script asks for, and
+/// its faults.
+pub fn run_script_on_threads<R: Threads + Wait + Sync, O: Write>(
+    rt: &R,
+    alloc: Global,
+    options: Options,
+    script: &[u8],
+    out: &mut O,
+) -> Result<Verdict, Fault>
+    ensures whole { IfOk result (λ verdict. PrintsScriptOnThreads script.now verdict (O.contents out.old) (O.contents out.new)) }
+    ensures faulty { (n : ℕ) (cause : Cause) → IsFirstFault Run (lines script.now) n cause → IsErr result × (O.contents out.new ≡ O.contents out.old) }
+    ensures why { IfErr result (ExplainsIn Run options script.now) }
+    // It is the script's only where nothing was run.
+    ensures unrun { IfErr result (λ why. IsOfScript why → O.contents out.new ≡ O.contents out.old) }
+{
+    one_answer();
+    each_actor_has_its_row();
+    match scripts::read(alloc, script, Mode::Run) {
+        Ok(script) => run_new(rt, alloc, script, out),
+        Err(fault) => Err(faulty(alloc, options, script, Mode::Run, fault)),
+    }
+}
+
+/// The exit status of a run on threads: 0 for the verdict that all is fine, and 1 for another, or where there is a
+/// fault. Then `err` gets the lines that say why, as [`Fault::report`] writes them; the status tells of the failure
+/// even where they can't be written.
+pub fn status_of_run<E: Write>(ran: Result<Verdict, Fault>, err: &mut E) -> u8
+    ensures judged { IfOk ran (λ verdict. (result ≡ status_by verdict) × (E.contents err.new ≡ E.contents err.old)) }
+    ensures failed { IfErr ran (λ why. (result ≡ 1) × StartsReport why (E.contents err.old) (E.contents err.new)) }
+{
+    match ran {
+        Ok(Verdict::Fine) => 0,
+        Ok(Verdict::Wrong(_) | Verdict::Differ) => FAILED,
+        Err(fault) => status_of(Err(fault), err),
+    }
+}
+
+fn read_and_run<R: Threads + Wait + Sync, I: Read, O: Write>(
+    rt: &R,
+    alloc: Global,
+    options: Options,
+    script: &mut I,
+    out: &mut O,
+) -> Result<Verdict, Fault>
+    ensures whole { IfOk result (λ verdict. IfSome (I.remaining script.old) (λ all. PrintsScriptOnThreads all verdict (O.contents out.old) (O.contents out.new))) }
+    ensures faulty { IfSome (I.remaining script.old) (λ all. (n : ℕ) (cause : Cause) → IsFirstFault Run (lines all) n cause → IsErr result × Keeps (O.contents out.old) (O.contents out.new)) }
+    ensures why { IfErr result (λ why. IfSome (I.remaining script.old) (λ all. IsUnread all why ⊎ ExplainsIn Run options all why)) }
+{
+    match read_script(alloc, script) {
+        Ok(bytes) => run_script_on_threads(rt, alloc, options, &bytes, out),
+        Err(fault) => Err(fault),
+    }
+}
+
+/// `memcgrun run FILE`, for a reader of the script and two writers: runs the script on threads, and writes its answers to
+/// `out`, those to what stands before the first `go` as they come, and then those of each actor's row; and behind
+/// them the verdict, in one line.
+///
+/// The exit status is 0 where that is `audit ok`, and 1 for another verdict, of which `err` is told nothing, or where the
+/// run fails, as [`crate::schedule`] does. It is [`read_script`], [`run_script_on_threads`] and [`status_of_run`].
+///
+/// The clauses speak of readers whose bytes are known, and of writers that tell what they hold.
+pub fn run<R: Threads + Wait + Sync, I: Read, O: Write, E: Write>(
+    rt: &R,
+    alloc: Global,
+    script: &mut I,
+    out: &mut O,
+    err: &mut E,
+) -> u8
+    ensures success_or_failure { result ≤ 1 }
+    // Where it is 0, `out` got what a run of the script prints, `audit ok` behind it, and `err` nothing.
+    ensures sound { result ≡ 0 → IfSome (I.remaining script.old) (λ all. PrintsScriptOnThreads all Verdict.Fine (O.contents out.old) (O.contents out.new)) }
+    ensures silent { result ≡ 0 → Keeps (E.contents err.old) (E.contents err.new) }
+    // Of a script with a faulty line it is 1, and `out` got nothing.
+    ensures faulty { IfSome (I.remaining script.old) (λ all. (n : ℕ) (cause : Cause) → IsFirstFault Run (lines all) n cause → (result ≡ 1) × Keeps (O.contents out.old) (O.contents out.new)) }
+{
+    let ran = read_and_run(rt, alloc, Options::default(), script, out);
+    status_of_run(ran, err)
+}
