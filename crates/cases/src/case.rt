@@ -108,12 +108,7 @@ impl Case {
     }
 
     /// Whether it came out as the file says.
-    fn run_in_turns<W: Write>(
-        &self,
-        alloc: Global,
-        file: &str,
-        to: &mut W,
-    ) -> io::Result<bool> {
+    fn run_in_turns<W: Write>(&self, alloc: Global, file: &str, to: &mut W) -> io::Result<bool> {
         let mut out = Vec::new(alloc);
         let mut err = Vec::new(alloc);
         let script = self.script.as_bytes();
