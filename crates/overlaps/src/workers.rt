@@ -141,11 +141,11 @@ fn restless(alloc: Global, task: u32) -> Result<(String, String), Fail> {
     let mut lines = String::new(alloc);
     let mut answers = String::new(alloc);
     for page in 0..4u32 {
-        lines.push_str(&format!(in alloc; "{task} write {page} 0 {}\n", task + page)?)?;
+        lines.push_str(&format!(in alloc; "{task} write {page} 0 {}\n", task.wrapping_add(page))?)?;
     }
     for page in 0..4u32 {
         lines.push_str(&format!(in alloc; "{task} read {page} 0\n")?)?;
-        answers.push_str(&format!(in alloc; "{task} {}\n", task + page)?)?;
+        answers.push_str(&format!(in alloc; "{task} {}\n", task.wrapping_add(page))?)?;
     }
     Ok((lines, answers))
 }
