@@ -9,7 +9,7 @@ use files::blocks_for;
 use live::{Live, Opened, Pass, Report, Unfinished, Worker, work_together};
 use machine::command::{Actor, Command, Reply};
 use machine::config::Config;
-use scripts::{Mode, read};
+use scripts::{Mode, Script, read};
 use std::alloc::Global;
 use std::marker::Brand;
 use std::sync::Wait;
@@ -34,6 +34,16 @@ pub struct Ended {
     pub audit: Result<(), First>,
 }
 
+impl Ended {
+    /// What was answered to the worker of this row.
+    pub fn row(&self, number: usize) -> Option<&str> {
+        match self.rows.get(number) {
+            Some(row) => Some(row.as_str()),
+            None => None,
+        }
+    }
+}
+
 /// What these lines ask for, without those of the header.
 fn asked(alloc: Global, lines: &str) -> Result<Vec<(Actor, Command)>, Fail> {
     match read(alloc, lines.as_bytes(), Mode::Run) {
@@ -49,16 +59,16 @@ fn print_all(text: &mut String, answers: &[Reply]) -> Result<(), Fail> {
     Ok(())
 }
 
-/// Each line, one after the other, by one pass. What is answered.
+/// Each command, one after the other, by one pass. What is answered.
 fn in_turn<L: Ledger + Opened, R: Wait>(
     rt: &R,
     alloc: Global,
     live: &Live<L, Gate>,
     pass: &mut Pass<L>,
-    lines: &str,
+    asked: Vec<(Actor, Command)>,
 ) -> Result<String, Fail> {
     let mut text = String::new(alloc);
-    for (actor, command) in asked(alloc, lines)? {
+    for (actor, command) in asked {
         let answers = match actor {
             Actor::Task(task) => live.task(rt, pass, task, &[command]),
             _ => live.control(rt, pass, &[command]),
@@ -68,16 +78,16 @@ fn in_turn<L: Ledger + Opened, R: Wait>(
     Ok(text)
 }
 
-/// A worker for lines of one actor.
+/// A worker for commands of one actor.
 fn worker<L: Ledger + Opened, R: Wait>(
     rt: &R,
     alloc: Global,
     live: &Live<L, Gate>,
-    lines: &str,
+    asked: Vec<(Actor, Command)>,
 ) -> Result<Worker<L>, Fail> {
     let mut who = Actor::Control;
     let mut commands = Vec::new(alloc);
-    for (actor, command) in asked(alloc, lines)? {
+    for (actor, command) in asked {
         if let Actor::Task(_) = actor {
             who = actor;
         }
@@ -100,16 +110,16 @@ fn work<L: Ledger + Opened + Send + Sync, R: Threads + Wait + Sync>(
     rt: &R,
     alloc: Global,
     live: &Live<L, Gate>,
-    before: &str,
-    rows: &[&str],
-    behind: &str,
+    before: Vec<(Actor, Command)>,
+    rows: Vec<Vec<(Actor, Command)>>,
+    behind: Vec<(Actor, Command)>,
 ) -> Result<Worked<L>, Fail> {
     let mut shell = live.pass(rt)?;
     let daemon = live.pass(rt)?;
     let before = in_turn(rt, alloc, live, &mut shell, before)?;
     let mut workers = Vec::new(alloc);
-    for lines in rows {
-        workers.push(worker(rt, alloc, live, lines)?)?;
+    for asked in rows {
+        workers.push(worker(rt, alloc, live, asked)?)?;
     }
     let (workers, daemon) = work_together(rt, live, workers, daemon);
     let mut rows = Vec::new(alloc);
@@ -169,9 +179,9 @@ fn run_over<L: Ledger + Opened + Send + Sync, R: Threads + Wait + Sync>(
     config: Config,
     gate: Gate,
     blank: Blank,
-    before: &str,
-    rows: &[&str],
-    behind: &str,
+    before: Vec<(Actor, Command)>,
+    rows: Vec<Vec<(Actor, Command)>>,
+    behind: Vec<(Actor, Command)>,
 ) -> Result<Ended, Fail>
     requires name { blank.name ≡ L.name }
     requires parts { (blank.parts ≡ L.parts) × (blank.parts ≡ 131073) }
@@ -224,18 +234,16 @@ pub fn crowd<R: Threads + Wait + Sync>(
     let Ok(script) = read(alloc, before.as_bytes(), Mode::Run) else {
         return Err("a faulty line".into());
     };
-    let Some(blocks) = blocks_for(&script.config) else {
+    let Script { config, setup, .. } = script;
+    let Some(blocks) = blocks_for(&config) else {
         return Err("too large".into());
     };
     let gate = Gate::new(alloc, blocks, manner)?;
-    run_over::<Brand, R>(
-        rt,
-        alloc,
-        script.config,
-        gate,
-        Blank::new(PARTS),
-        before,
-        rows,
-        behind,
-    )
+    let mut workers = Vec::new(alloc);
+    for lines in rows {
+        workers.push(asked(alloc, lines)?)?;
+    }
+    let behind = asked(alloc, behind)?;
+    let blank = Blank::new(PARTS);
+    run_over::<Brand, R>(rt, alloc, config, gate, blank, setup, workers, behind)
 }

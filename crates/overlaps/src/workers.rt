@@ -19,8 +19,8 @@ fn reads_overlap(rt: HostRuntime) -> Result<(), Fail> {
     let rows = ["1 read 0 0\n", "2 read 0 0\n"];
     let ended = crowd(&rt, rt.alloc(), Manner::HoldsReads, SWAPPED, &rows, "")?;
     assert_eq!(rt; ended.before.as_str(), "");
-    assert_eq!(rt; ended.rows[0].as_str(), "1 5\n");
-    assert_eq!(rt; ended.rows[1].as_str(), "2 6\n");
+    assert_eq!(rt; ended.row(0), Some("1 5\n"));
+    assert_eq!(rt; ended.row(1), Some("2 6\n"));
     assert!(rt; is_fine(&ended));
     Ok(())
 }
@@ -34,8 +34,8 @@ fn writes_overlap(rt: HostRuntime) -> Result<(), Fail> {
     ];
     let behind = "cat /a memory.current\ncat /b memory.current\n1 read 0 0\n2 read 0 0\n";
     let ended = crowd(&rt, rt.alloc(), Manner::HoldsWrites, before, &rows, behind)?;
-    assert_eq!(rt; ended.rows[0].as_str(), "");
-    assert_eq!(rt; ended.rows[1].as_str(), "");
+    assert_eq!(rt; ended.row(0), Some(""));
+    assert_eq!(rt; ended.row(1), Some(""));
     assert_eq!(rt; ended.behind.as_str(), "0\n0\n1 5\n2 6\n");
     assert!(rt; is_fine(&ended));
     Ok(())
@@ -48,8 +48,8 @@ fn a_page_that_is_shared_comes_once(rt: HostRuntime) -> Result<(), Fail> {
         "swap 1\ngroup /a\ntask 1 /a\n1 write 0 0 7\n1 fork 2\nset / memory.reclaim 4096\n";
     let rows = ["1 read 0 0\n", "2 read 0 0\n"];
     let ended = crowd(&rt, rt.alloc(), Manner::Plain, before, &rows, "")?;
-    assert_eq!(rt; ended.rows[0].as_str(), "1 7\n");
-    assert_eq!(rt; ended.rows[1].as_str(), "2 7\n");
+    assert_eq!(rt; ended.row(0), Some("1 7\n"));
+    assert_eq!(rt; ended.row(1), Some("2 7\n"));
     assert!(rt; is_fine(&ended));
     Ok(())
 }
@@ -118,8 +118,8 @@ fn a_killed_task_is_told(rt: HostRuntime) -> Result<(), Fail> {
         &rows,
         "1 read 0 0\ncat /a memory.current\n",
     )?;
-    assert_eq!(rt; ended.rows[0].as_str(), "killed 1\n");
-    assert_eq!(rt; ended.rows[1].as_str(), "2 2\n");
+    assert_eq!(rt; ended.row(0), Some("killed 1\n"));
+    assert_eq!(rt; ended.row(1), Some("2 2\n"));
     assert_eq!(rt; ended.behind.as_str(), "1 killed\n4096\n");
     assert!(rt; is_fine(&ended));
     Ok(())
@@ -131,7 +131,7 @@ fn a_pass_that_is_missing_is_told(rt: HostRuntime) -> Result<(), Fail> {
     let rows = ["1 read 0 0\n", "2 read 0 0\n", "cat /a memory.max\n"];
     let ended = crowd(&rt, rt.alloc(), Manner::Plain, SWAPPED, &rows, "")?;
     assert_eq!(rt; ended.given, 5);
-    assert_eq!(rt; ended.rows[2].as_str(), "max\n");
+    assert_eq!(rt; ended.row(2), Some("max\n"));
     assert!(rt; is_fine(&ended));
     Ok(())
 }
@@ -194,8 +194,8 @@ fn no_wake_up_is_lost(rt: HostRuntime) -> Result<(), Fail> {
         "swap 4\ngroup /a\ntask 1 /a\n1 write 0 0 7\n1 fork 2\nset / memory.reclaim 4096\n";
     for _round in 0..300 {
         let ended = crowd(&rt, rt.alloc(), Manner::Plain, before, &rows, "")?;
-        assert_eq!(rt; ended.rows[0].as_str(), "1 7\n1 7\n1 7\n1 7\n");
-        assert_eq!(rt; ended.rows[1].as_str(), "2 7\n2 7\n2 7\n2 7\n");
+        assert_eq!(rt; ended.row(0), Some("1 7\n1 7\n1 7\n1 7\n"));
+        assert_eq!(rt; ended.row(1), Some("2 7\n2 7\n2 7\n2 7\n"));
         assert!(rt; is_fine(&ended));
     }
     Ok(())
