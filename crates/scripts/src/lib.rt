@@ -23,4 +23,4 @@ pub use fault::{Cause, FaultText, ScriptFault};
 pub use forms::{DeviceCall, Form, Kind, Speaker, Word, each_word_is_found};
 pub use mode::Mode;
 pub use script::{Script, frames_line_has_its_own_fault, one_answer, read};
-pub use work::each_actor_has_its_row;
+pub use work::{each_actor_has_its_row, number_of};

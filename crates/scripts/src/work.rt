@@ -33,8 +33,8 @@ impl Model for Work {
     ghost invariant = { λ w. keys w.rows ≡ numbers_of (shown_rows (values w.rows)) };
 }
 
-/// Different actors have different numbers.
-fn number_of(actor: Actor) -> u64
+/// An actor's number, by which rows of a run on threads are ordered. Different actors have different numbers.
+pub fn number_of(actor: Actor) -> u64
     ensures { result ≡ number_of actor }
 {
     match actor {

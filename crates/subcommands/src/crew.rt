@@ -1,13 +1,13 @@
 //! The workers of a run on threads.
 
 ghost use Rattle.std.specs.Prelude.{◌≡◌, ◌⊎◌, ◌<◌, ◌≤◌, ◌++◌, ◌∷◌, [], Ok, length, take, drop, IfSome, IfNone, IfOk, OnOk};
-ghost use Rattle.scripts.specs.Work.{number_of};
 ghost use Rattle.subcommands.specs.Crews.{numbers_at, place_of, Hires, Asked};
 
 use block_store::SharedDevice;
 use indexmap::IndexSet;
 use live::{Live, Opened, Pass, Worker};
 use machine::command::{Actor, Command, Reply};
+use scripts::number_of;
 use std::alloc::{AllocError, Global};
 use std::sync::Wait;
 use std::sync::ledger::Ledger;
@@ -19,18 +19,6 @@ pub struct Crew<L: Ledger> {
     pub workers: Vec<Worker<L>>,
     numbers: IndexSet<u64>,
     ghost numbered: { numbers.keys ≡ numbers_at workers.items },
-}
-
-/// Different actors have different numbers.
-fn number_of(actor: Actor) -> u64
-    ensures { result ≡ number_of actor }
-{
-    match actor {
-        Actor::Shell => 0,
-        Actor::Control => 1,
-        Actor::Daemon => 2,
-        Actor::Task(task) => u64::from(task) + 3,
-    }
 }
 
 impl<L: Ledger> Crew<L> {
