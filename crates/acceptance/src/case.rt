@@ -17,7 +17,7 @@ fn ends<R: Abort + AllocGlobal>(
 ) {
     let mut printed = Vec::new(rt.alloc());
     let mut said = Vec::new(rt.alloc());
-    let ran = run_script(rt.alloc(), options, script, &mut printed, &mut said);
+    let ran = run_script(rt.alloc(), options, "case", script, &mut printed, &mut said);
     let given = status_of(ran, &mut said);
     let printed = std::str::from_utf8(&printed).unwrap_or("no text");
     let said = std::str::from_utf8(&said).unwrap_or("no text");
@@ -31,6 +31,21 @@ pub fn prints<R: Abort + AllocGlobal>(rt: &R, name: &str, script: &str, out: &st
     ends(rt, name, Options::default(), script.as_bytes(), out, "", 0);
 }
 
+/// The same where a line takes so many turns at most.
+pub fn prints_in_turns<R: Abort + AllocGlobal>(
+    rt: &R,
+    name: &str,
+    turns: u32,
+    script: &str,
+    out: &str,
+) {
+    let options = Options {
+        turns,
+        ..Options::default()
+    };
+    ends(rt, name, options, script.as_bytes(), out, "", 0);
+}
+
 /// The script has a faulty line: this line alone goes to the standard error, and nothing is run.
 pub fn faults<R: Abort + AllocGlobal>(rt: &R, name: &str, script: &str, line: &str) {
     faults_in_bytes(rt, name, script.as_bytes(), line);
@@ -42,13 +57,28 @@ pub fn faults_in_bytes<R: Abort + AllocGlobal>(rt: &R, name: &str, script: &[u8]
 }
 
 /// The script has a faulty line, and it is asked for more of the fault: these lines go to the standard
-/// error.
+/// error. There its file is called `case`.
 pub fn explains<R: Abort + AllocGlobal>(rt: &R, name: &str, script: &[u8], lines: &str) {
     let options = Options {
         explain: true,
         ..Options::default()
     };
     ends(rt, name, options, script, "", lines, 1);
+}
+
+/// The script runs and prints this, and it is asked why lines are refused: these lines go to the standard error.
+pub fn explains_refusals<R: Abort + AllocGlobal>(
+    rt: &R,
+    name: &str,
+    script: &str,
+    out: &str,
+    lines: &str,
+) {
+    let options = Options {
+        explain: true,
+        ..Options::default()
+    };
+    ends(rt, name, options, script.as_bytes(), out, lines, 0);
 }
 
 /// A line for each number, with this before and this after it.

@@ -11,6 +11,8 @@ mod amounts;
 #[cfg(test)]
 mod case;
 #[cfg(test)]
+mod charts;
+#[cfg(test)]
 mod daemon_turns;
 #[cfg(test)]
 mod device_faults;

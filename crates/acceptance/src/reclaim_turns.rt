@@ -2,7 +2,7 @@
 //! after the third. One turn more ends the command, where as many pages as were asked for have
 //! left.
 
-use crate::case::{Between, numbered, prints};
+use crate::case::{Between, numbered, prints, prints_in_turns};
 use std::test::Fail;
 
 // Both pages are to leave. Between the turns another page is written.
@@ -136,5 +136,55 @@ cat /a memory.current
         &script,
         "error turn limit\nerror Underway\n0\n",
     );
+    Ok(())
+}
+
+#[test]
+fn a_line_takes_as_many_turns_as_are_asked_for(rt: HostRuntime) -> Result<(), Fail> {
+    let alloc = rt.alloc();
+    let writes = numbered(alloc, "1 write ", 1..=334, " 0 1")?;
+    let script = format!(in alloc;
+        "\
+frames 400
+swap 400
+group /a
+task 1 /a
+{writes}set /a memory.reclaim 1336K
+begin cat /a memory.current
+finish control
+"
+    )?;
+    // Three turns for each page, and one that finds the end. The page whose transfer is open is charged still.
+    prints_in_turns(&rt, "all of them", 1003, &script, "0\n");
+    prints_in_turns(
+        &rt,
+        "the end is not found",
+        1002,
+        &script,
+        "error turn limit\n0\n",
+    );
+    prints_in_turns(
+        &rt,
+        "one is on its way",
+        1001,
+        &script,
+        "error turn limit\n4096\n",
+    );
+    let script = "group /a\ntask 1 /a\n1 write 0 0 1\nset /a memory.max 0\n";
+    prints_in_turns(
+        &rt,
+        "the max, the kill and the room",
+        3,
+        script,
+        "killed 1\n",
+    );
+    prints_in_turns(
+        &rt,
+        "without the room",
+        2,
+        script,
+        "killed 1\nerror turn limit\n",
+    );
+    prints_in_turns(&rt, "the max alone", 1, script, "error turn limit\n");
     Ok(())
 }

@@ -15,7 +15,7 @@ use Rattle.book.specs.declared.event.Event.TheVariants as event
 use Rattle.book.specs.declared.event.Reply.{Reply}
 use Rattle.book.specs.declared.event.Reply.TheVariants as reply
 
--- an arrival stands with the bytes that were read
+-- what stands in a history of an event; an arrival stands with the bytes that were read. (Excludes a history of another event than the one that was asked.)
 abbrev pub event_of : Event → Plain_event
 event_of (event.Access task place op) = plain.Access task place op
 event_of (event.Arrived ticket) = plain.Arrived (record { 0 = ticket.number }) ticket.bytes
@@ -34,6 +34,7 @@ event_of (event.Rmdir group) = plain.Rmdir group
 event_of (event.Set group setting) = plain.Set group setting
 event_of (event.Show query) = plain.Show query
 
+-- and of a reply. Where the ticket of an ending comes back, a refusal stands there
 abbrev pub reply_of : Reply → Plain_reply
 reply_of (reply.Done byte hit) = said.Done byte hit
 reply_of (reply.Fetch ticket) = said.Fetch (record { 0 = ticket.number })

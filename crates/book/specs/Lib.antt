@@ -8,3 +8,4 @@ pub mod MakesStep
 pub mod Decisions
 pub mod Told
 pub mod Books
+pub mod Looks

@@ -13,6 +13,7 @@ use Rattle.book.specs.declared.kept.Asked.TheVariants.{Whole, Arrival}
 use Rattle.book.specs.declared.kept.Kept.{Kept}
 use Rattle.book.specs.declared.kept.Kept.TheVariants.{Call, Find}
 
+-- whose pass it is, and what was asked with it
 pub record PassOf : Type 0 where
   pub caller : Caller
   -- each event that was asked, with its answer, and each path that was looked for, the oldest first
@@ -22,6 +23,7 @@ pub record PassOf : Type 0 where
 
 -- ---- what is kept
 
+-- an event as a pass keeps it: an arrival without its bytes
 abbrev pub asked_of : Event → Asked
 asked_of (event.Arrived ticket bytes) = Arrival ticket
 asked_of what = Whole what

@@ -13,6 +13,7 @@ use Rattle.book.specs.declared.event.Reply.TheVariants as reply
 
 -- ---- which replies
 
+-- of an access, a relief, a page that is asked for, and what is done or refused
 abbrev pub IsAccessReply : Reply → Type 0
 IsAccessReply (reply.Done byte hit) = Unit {0}
 IsAccessReply (reply.Fetch ticket) = Unit {0}
@@ -69,6 +70,7 @@ IsOutReply reply.Ok = Unit {0}
 IsOutReply (reply.StrangeOut ticket) = Unit {0}
 IsOutReply said = ⊥
 
+-- which replies an event can have. (Excludes a reply that no caller has a use for.)
 abbrev pub Replies : Event → Reply → Type 0
 Replies (event.Access task place op) said = IsAccessReply said
 Replies (event.Arrived ticket) said = IsInReply said

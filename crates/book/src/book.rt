@@ -53,7 +53,7 @@ use trace::Trace;
 /// A book must be spent, by [`Book::close`].
 pub struct Book {
     alloc: Global,
-    state: State,
+    pub(crate) state: State,
     trace: Trace,
     /// How many entries each worker has.
     counts: Vec<u64>,

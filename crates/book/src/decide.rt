@@ -298,7 +298,7 @@ fn is_wanted(state: &State, cause: Cause) -> bool
 }
 
 /// The group under which room is wanted.
-fn target_of(cause: Cause) -> GroupId
+pub fn target_of(cause: Cause) -> GroupId
     ensures { result.0 ≡ target_of cause }
 {
     match cause {

@@ -8,6 +8,7 @@
 pub use book::Book;
 pub use event::{Event, Reply};
 pub use kept::{Asked, Kept};
+pub use looks::{GroupLook, Victim};
 pub use pages::{InTicket, OutTicket};
 pub use pass::Pass;
 
@@ -17,4 +18,5 @@ mod decide;
 mod decision;
 mod event;
 mod kept;
+mod looks;
 mod pass;

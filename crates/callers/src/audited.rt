@@ -166,6 +166,7 @@ fn after_swap(alloc: Global, lie: Lie) -> Result<(Result<(), First>, usize), Fai
         files: FileList::new(alloc),
         watermarks: Watermarks { low: 0, high: 0 },
         trace: 100,
+        turns: 1000,
     };
     let place = Place::Virtual { page: 0, offset: 0 };
     let path = Text::new(String::from_str(alloc, "/a")?);
@@ -197,6 +198,7 @@ fn after_a_second_read(alloc: Global, lie: Lie) -> Result<(Result<(), First>, us
         files,
         watermarks: Watermarks { low: 0, high: 0 },
         trace: 100,
+        turns: 1000,
     };
     let place = Place::File {
         file: 0,
@@ -260,6 +262,7 @@ fn what_is_refused_is_kept_and_leaves_no_entry(rt: HostRuntime) -> Result<(), Fa
         files: FileList::new(rt.alloc()),
         watermarks: Watermarks { low: 0, high: 0 },
         trace: 100,
+        turns: 1000,
     };
     let made = Text::new(String::from_str(rt.alloc(), "/a")?);
     let sought = Text::new(String::from_str(rt.alloc(), "/b")?);

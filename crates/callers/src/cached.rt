@@ -22,6 +22,7 @@ pub fn machine<R: AllocGlobal>(rt: &R) -> Result<Config, AllocError> {
         files,
         watermarks: Watermarks { low: 0, high: 0 },
         trace: 100,
+        turns: 1000,
     })
 }
 

@@ -4,9 +4,10 @@ ghost use Rattle.std.specs.Prelude.{◌≡◌, []};
 
 use crate::cached::{begin, machine, reach};
 use block_store::{BlockDevice, MemDevice};
+use book::Book;
 use driver::{Closed, Reply, Sink, Stop, run_into};
 use machine::bytes::PAGE_BYTES;
-use machine::event::Op;
+use machine::event::{Cause, Op};
 use std::test::Fail;
 
 /// It is closed from the beginning.
@@ -21,15 +22,25 @@ impl Sink for Deaf {
 
     ghost failed = { λ a b begun. Unit {0} };
 
+    ghost saw = { λ a b pasts. Unit {0} };
+
     fn take(&mut self, _step: usize, _reply: Reply) -> Result<(), Closed> {
         Err(Closed)
     }
+
+    fn look(&mut self, _step: usize, _book: &Book) {}
+
+    fn see_relief(&mut self, _step: usize, _book: &Book, _cause: Cause) {}
 
     ghost nothing = { λ s. refl };
 
     ghost more = { λ a b c xs ys first second. ap (λ (rs : List Answer_of). rs ++ ys) first ∙ second };
 
     ghost stays = { λ s. tt };
+
+    ghost unseen = { λ s. tt };
+
+    ghost further = { λ a b c ps qs first second. tt };
 }
 
 // A task is started, which is answered, and then reads a page of a file. The device's first read fails.

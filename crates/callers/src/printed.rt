@@ -6,9 +6,9 @@ ghost use Rattle.machine.specs.declared.command.Reply.{Reply};
 ghost use Rattle.block_store.specs.Device.{Disk};
 ghost use Rattle.driver.specs.Schedule.{Schedules};
 ghost use Rattle.scripts.specs.declared.mode.Mode.TheVariants.{Schedule};
-ghost use Rattle.scripts.specs.Header.{config_of};
 ghost use Rattle.scripts.specs.Script.{items_of, steps_of, IsFaultless};
-ghost use Rattle.subcommands.specs.Prints.{disk_of, texts};
+ghost use Rattle.subcommands.specs.Prints.{configured, disk_of, texts};
+ghost use Rattle.subcommands.specs.Told.{plain};
 
 use std::alloc::Global;
 use std::str;
@@ -19,7 +19,7 @@ use subcommands::schedule;
 fn printed(alloc: Global, script: &[u8]) -> Option<Vec<u8>>
     ensures faultless { IfSome result (λ out. IsFaultless Schedule (lines script.now)) }
     ensures answers { IfSome result (λ out. (answers : List Reply) × (after : Disk)
-        × Schedules (config_of (items_of (lines script.now))) (disk_of (items_of (lines script.now))) (steps_of (items_of (lines script.now))) answers after
+        × Schedules (configured plain (items_of (lines script.now))) (disk_of (items_of (lines script.now))) (steps_of (items_of (lines script.now))) answers after
         × (out.items ≡ texts answers)) }
 {
     let mut bytes = script;

@@ -69,13 +69,13 @@ fn a_faulty_line_is_explained(rt: HostRuntime) -> Result<(), Fail> {
     let mut options = Options::default();
     options.explain = true;
     let mut out = Vec::new(rt.alloc());
-    let ran = run_script_on_threads(&rt, rt.alloc(), options, b"step 1\n", &mut out);
+    let ran = run_script_on_threads(&rt, rt.alloc(), options, "a.memcg", b"step 1\n", &mut out);
     let fault = ran.err().ok_or("it was run")?;
     let mut err = Vec::new(rt.alloc());
     fault.report(&mut err)?;
     assert_eq!(rt;
         err.as_slice(),
-        b"line 1: only in schedule\nword 1, \"step\", is for schedule alone: a run on threads has no turns to count\n".as_slice()
+        b"a.memcg:1: only in schedule\nword 1, \"step\", is for schedule alone: a run on threads has no turns to count\n".as_slice()
     );
     Ok(())
 }
@@ -111,6 +111,7 @@ fn many_tasks_at_once(rt: HostRuntime) -> Result<(), Fail> {
         &rt,
         rt.alloc(),
         Options::default(),
+        "a.memcg",
         script.as_bytes(),
         &mut out,
     );

@@ -3,10 +3,15 @@
 //! A file of cases has, for each, a line `== ` with its name, the script's lines, and a line `-- prints`
 //! with the lines that it prints behind it, or a line `-- faults ` with the line of standard error that
 //! it is refused with. Behind these, blank lines and lines that begin with `#` belong to no case; nor do
-//! lines before the first. A line `-- on threads` among the script's says that a run on threads prints the same, and
-//! behind it the line of an audit that finds nothing wrong.
+//! lines before the first.
+//!
+//! A line `-- on threads` among the script's says that a run on threads prints the same, each time
+//! of a thousand, and behind it the line of an audit that finds nothing wrong. A line `-- with ` among them names the options, as the
+//! command line does. A line `-- says ` has a line of standard error of a script that is run to its end, and `-- faults ` one of a
+//! script that is not; there may be several, in the order in which they come. There the script's file is called `case`. One that begins with
+//! `-- checked` says what a check prints behind the file's name.
 
-ghost use Rattle.std.specs.Prelude.{◌≡◌, ◌==◌, ◌&&◌, length, if◌then◌else◌};
+ghost use Rattle.std.specs.Prelude.{◌≡◌, ◌==◌, ◌&&◌, if◌then◌else◌};
 ghost use Rattle.std.specs.Str.{bytes_eq};
 
 use std::alloc::{AllocError, Global};
@@ -14,10 +19,18 @@ use std::io;
 use std::io::Write;
 use std::sync::Wait;
 use std::thread::Threads;
-use subcommands::{Options, run_script, run_script_on_threads, status_of, status_of_run};
+use subcommands::{
+    Options, read_and_check, run_script, run_script_on_threads, status_of, status_of_run,
+};
 
 /// What stands behind the answers of a run with an audit, and of one on threads.
 const VERDICT: &[u8] = b"audit ok\n";
+
+/// How the file of a case's script is called.
+const FILE: &str = "case";
+
+/// How often a case is run on threads.
+const RUNS_ON_THREADS: u32 = 1000;
 
 /// The part of a case that a line belongs to.
 #[derive(Clone, Copy)]
@@ -35,7 +48,11 @@ pub struct Case {
     script: String,
     out: String,
     err: String,
+    /// It is not run to its end.
+    fails: bool,
     options: Options,
+    /// What a check prints behind the file's name, with its line feed; nothing where the script is not checked.
+    checked: String,
     /// It is run on threads too.
     on_threads: bool,
     /// Where the next line of the file belongs.
@@ -49,7 +66,9 @@ impl Case {
             script: String::new(alloc),
             out: String::new(alloc),
             err: String::new(alloc),
+            fails: false,
             options: Options::default(),
+            checked: String::new(alloc),
             on_threads: false,
             next: Part::Script,
         })
@@ -65,8 +84,22 @@ impl Case {
             self.on_threads = true;
             return Ok(());
         }
+        if let Some(checked) = line.strip_prefix("-- checked") {
+            return add_line(&mut self.checked, checked);
+        }
+        if let Some(names) = line.strip_prefix("-- with ") {
+            for name in names.split(' ') {
+                ask_for(&mut self.options, name);
+            }
+            return Ok(());
+        }
+        if let Some(said) = line.strip_prefix("-- says ") {
+            self.next = Part::Printed;
+            return add_line(&mut self.err, said);
+        }
         if let Some(fault) = line.strip_prefix("-- faults ") {
             self.next = Part::Printed;
+            self.fails = true;
             return add_line(&mut self.err, fault);
         }
         if let Some(more) = line.strip_prefix("-- explained ") {
@@ -83,10 +116,10 @@ impl Case {
     /// Whether a run came out as the file says: each byte that it wrote, and its exit status, which is
     /// 1 where a fault is named, and else 0.
     fn is_met(&self, status: u8, out: &[u8], err: &[u8]) -> bool
-        ensures { result ≡ (status == (if length self.now.err.bytes.items == 0 then 0 else 1)
+        ensures { result ≡ (status == (if self.now.fails then 1 else 0)
             && (bytes_eq out.now self.now.out.bytes.items && bytes_eq err.now self.now.err.bytes.items)) }
     {
-        let wanted = if self.err.is_empty() { 0 } else { 1 };
+        let wanted = if self.fails { 1 } else { 0 };
         status == wanted && out == self.out.as_bytes() && err == self.err.as_bytes()
     }
 
@@ -102,7 +135,10 @@ impl Case {
             self.run_audited(alloc, file, to)?;
         }
         if self.on_threads {
-            self.run_on_threads(rt, alloc, file, to)?;
+            self.run_often_on_threads(rt, alloc, file, to)?;
+        }
+        if !self.checked.is_empty() {
+            self.check(alloc, file, to)?;
         }
         Ok(())
     }
@@ -112,7 +148,7 @@ impl Case {
         let mut out = Vec::new(alloc);
         let mut err = Vec::new(alloc);
         let script = self.script.as_bytes();
-        let ran = run_script(alloc, self.options, script, &mut out, &mut err);
+        let ran = run_script(alloc, self.options, FILE, script, &mut out, &mut err);
         let status = status_of(ran, &mut err);
         if self.is_met(status, &out, &err) {
             return Ok(true);
@@ -130,7 +166,7 @@ impl Case {
         let mut out = Vec::new(alloc);
         let mut err = Vec::new(alloc);
         let script = self.script.as_bytes();
-        let ran = run_script(alloc, options, script, &mut out, &mut err);
+        let ran = run_script(alloc, options, FILE, script, &mut out, &mut err);
         let status = status_of(ran, &mut err);
         if self.is_audited(status, &out) {
             return Ok(());
@@ -144,25 +180,81 @@ impl Case {
         status == 0 && out.strip_suffix(VERDICT) == Some(self.out.as_bytes())
     }
 
-    /// The same on threads.
-    fn run_on_threads<R: Threads + Wait + Sync, W: Write>(
+    /// The same on threads, until it comes out otherwise.
+    fn run_often_on_threads<R: Threads + Wait + Sync, W: Write>(
         &self,
         rt: &R,
         alloc: Global,
         file: &str,
         to: &mut W,
     ) -> io::Result<()> {
+        for _run in 0..RUNS_ON_THREADS {
+            if !self.run_on_threads(rt, alloc, file, to)? {
+                break;
+            }
+        }
+        Ok(())
+    }
+
+    /// Whether a run on threads came out as the file says.
+    fn run_on_threads<R: Threads + Wait + Sync, W: Write>(
+        &self,
+        rt: &R,
+        alloc: Global,
+        file: &str,
+        to: &mut W,
+    ) -> io::Result<bool> {
         let mut out = Vec::new(alloc);
         let mut err = Vec::new(alloc);
         let script = self.script.as_bytes();
-        let ran = run_script_on_threads(rt, alloc, Options::default(), script, &mut out);
+        let ran = run_script_on_threads(rt, alloc, Options::default(), FILE, script, &mut out);
         let status = status_of_run(ran, &mut err);
         if self.is_audited(status, &out) {
-            return Ok(());
+            return Ok(true);
         }
         writeln!(to, "{file}: {}: on threads: status {status}", self.name)?;
         to.write_all(&out)?;
-        to.write_all(&err)
+        to.write_all(&err)?;
+        Ok(false)
+    }
+
+    /// Whether a check came out as the file says. Its status is 0 for a script that answers what it expects.
+    fn is_checked(&self, status: u8, told: &[u8]) -> bool {
+        let wanted = if self.checked.starts_with(": ok, ") {
+            0
+        } else {
+            1
+        };
+        status == wanted && told.strip_prefix(FILE.as_bytes()) == Some(self.checked.as_bytes())
+    }
+
+    /// Checks the script.
+    fn check<W: Write>(&self, alloc: Global, file: &str, to: &mut W) -> io::Result<()> {
+        let mut out = Vec::new(alloc);
+        let mut err = Vec::new(alloc);
+        let mut script = self.script.as_bytes();
+        let status = read_and_check(alloc, FILE, &mut script, &mut out, &mut err);
+        out.extend_from_slice(&err)?;
+        if self.is_checked(status, &out) {
+            return Ok(());
+        }
+        writeln!(to, "{file}: {}: checked: status {status}", self.name)?;
+        to.write_all(&out)
+    }
+}
+
+/// Asks for what the option of this name does.
+fn ask_for(options: &mut Options, name: &str) {
+    match name {
+        "--audit" => options.audit = true,
+        "--explain" => options.explain = true,
+        "--labels" => options.labels = true,
+        "--lines" => options.lines = true,
+        "--progress" => options.progress = true,
+        "--quiet" => options.quiet = true,
+        "--strict" => options.strict = true,
+        "--summary" => options.summary = true,
+        _ => {}
     }
 }
 

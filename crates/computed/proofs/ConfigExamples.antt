@@ -12,7 +12,7 @@ named name pages = record { name = name; pages = pages }
 
 -- 6 frames, 4 swap blocks, and these files
 abbrev sized : ℕ → List File → Config
-sized swap files = record { frames = 6; swap = swap; files = files; watermarks = record { low = 1; high = 2 }; trace = 8 }
+sized swap files = record { frames = 6; swap = swap; files = files; watermarks = record { low = 1; high = 2 }; trace = 8; turns = 3 }
 
 -- the opening has the files' sizes, in their order
 opening-sizes : (opening_of (sized 4 (named (codes "a") 3 ∷ named (codes "b") 2 ∷ []))).files ≡ 3 ∷ 2 ∷ []

@@ -397,11 +397,11 @@ bound-goings old new who [] goes = bound-same old new [] goes refl
 bound-goings old new who (outcome ∷ outcomes) goes =
     bound-then old goes.0 new (said_at who outcome) (all_said who outcomes) (bound-turn old goes.0 who (activity_of who old.seats) outcome refl goes.1) (bound-goings goes.0 new who outcomes goes.3)
 
-bound-finish : (old mid new : World) (who : Actor) (earlier : List Outcome) (answers : List Told_by) → Bound old (all_said who earlier) mid → EndsIn mid who earlier answers new ⊎ RunsOut mid who earlier answers new
+bound-finish : (turns : ℕ) (old mid new : World) (who : Actor) (earlier : List Outcome) (answers : List Told_by) → Bound old (all_said who earlier) mid → EndsIn turns mid who earlier answers new ⊎ RunsOut turns mid who earlier answers new
     → Bound old answers new
-bound-finish old mid new who earlier answers h (inl ends) =
+bound-finish turns old mid new who earlier answers h (inl ends) =
     rw ends.answers_are (bound-then old mid new (all_said who earlier) (said_at who ends.last) h (bound-turn mid new who (activity_of who mid.seats) ends.last refl ends.turn))
-bound-finish old mid new who earlier answers h (inr out) = rw out.answers_are (bound-then old mid new (all_said who earlier) _ h (bound-same mid new _ out.stays refl))
+bound-finish turns old mid new who earlier answers h (inr out) = rw out.answers_are (bound-then old mid new (all_said who earlier) _ h (bound-same mid new _ out.stays refl))
 
 bound-begin : (old new : World) (who : Actor) (what : Command) (at : Activity) (answers : List Told_by) → activity_of who old.seats ≡ at → Begins old who what at answers new → Bound old answers new
 bound-begin old new who what Rests answers is h = bound-set old new who (Begun what) answers refl (ap owed is) (ap errors h.0) h.1
@@ -411,7 +411,7 @@ bound-begin old new who what (Does now) answers is h = bound-same old new answer
 bound-step : (old new : World) (line : Line) (answers : List Told_by) → Stepped old line answers new → Bound old answers new
 bound-step old new (Begin who what) answers h = bound-begin old new who what (activity_of who old.seats) answers refl h
 bound-step old new (Advance who) answers h = rw h.2 (bound-turn old new who (activity_of who old.seats) h.0 refl h.1)
-bound-step old new (Finish who) answers h = bound-finish old h.1 new who h.0 answers (bound-goings old h.1 who h.0 h.2) h.3
+bound-step old new (Finish who) answers h = bound-finish old.turns old h.1 new who h.0 answers (bound-goings old h.1 who h.0 h.2) h.3
 
 bound-runs : (old new : World) (lines : List Line) (answers : List Told_by) → Runs old lines answers new → Bound old answers new
 bound-runs old new [] answers h = bound-same old new answers h.1 (ap errors h.0)

@@ -114,7 +114,7 @@ module _ (bytes : List ℕ) where
   }
 
   abbrev world : Past → Activity → World
-  world past what = record { past = past; caller = caller; disk = disk; seats = record { actor = actor.Task 1; activity = what } ∷ [] }
+  world past what = record { past = past; caller = caller; disk = disk; seats = record { actor = actor.Task 1; activity = what } ∷ []; turns = 1000 }
 
   begins_to_come : GoesOn Youngest [] lists coming lists
   begins_to_come = record { fresh = None; which = which; groups = refl; size = refl; marks = marks }
@@ -160,6 +160,7 @@ module _ (bytes : List ℕ) where
     shows = refl;
     leaves = refl;
     same = refl;
+    limit = refl;
   }
 
   -- the home block is read
@@ -170,6 +171,7 @@ module _ (bytes : List ℕ) where
     shows = refl;
     leaves = refl;
     same = refl;
+    limit = refl;
   }
 
   arrives_listed : GoesOn SecondYoungest coming lists held filed
@@ -210,6 +212,7 @@ module _ (bytes : List ℕ) where
     shows = refl;
     leaves = refl;
     same = refl;
+    limit = refl;
   }
 
   is_used : GoesOn Youngest held (with_mark (Some 0) filed) held (record { groups = filed.groups; marks = true ∷ false ∷ [] })
@@ -242,6 +245,7 @@ module _ (bytes : List ℕ) where
     shows = refl;
     leaves = refl;
     same = refl;
+    limit = refl;
   }
 
 -- ---- a page that is dropped
@@ -282,7 +286,7 @@ once_dropped = record {
 }
 
 abbrev shell_at : Past → Activity → World
-shell_at past what = record { past = past; caller = caller; disk = no_disk; seats = record { actor = actor.Shell; activity = what } ∷ [] }
+shell_at past what = record { past = past; caller = caller; disk = no_disk; seats = record { actor = actor.Shell; activity = what } ∷ []; turns = 1000 }
 
 picks : PicksOf false (old_lists (first_listed ∷ [])) 1 (Some 0) (old_lists (first_listed ∷ []))
 picks = record {
@@ -330,6 +334,7 @@ drops = record {
   shows = refl;
   leaves = refl;
   same = refl;
+  limit = refl;
 }
 
 -- /r is full, so that an access of its task has to make room
@@ -343,7 +348,7 @@ abbrev once_roomy : Past
 once_roomy = record once_dropped { state = full (None ∷ []); history = entries_of caller [] (event.Relieve (cause.Charge r)) reply.Dropped ++ [] }
 
 abbrev task_at : Past → Activity → World
-task_at past what = record { past = past; caller = caller; disk = no_disk; seats = record { actor = actor.Task 1; activity = what } ∷ [] }
+task_at past what = record { past = past; caller = caller; disk = no_disk; seats = record { actor = actor.Task 1; activity = what } ∷ []; turns = 1000 }
 
 -- it drops the page, and is tried again
 makes_room : Turn (task_at full_once (Does (stage.MakeRoom access (cause.Charge r)))) (actor.Task 1) Goes (task_at once_roomy (Does (stage.Try access)))
@@ -368,6 +373,7 @@ makes_room = record {
   shows = refl;
   leaves = refl;
   same = refl;
+  limit = refl;
 }
 
 -- a reclaim of two pages takes one, and has one less to take when that was dropped

@@ -300,12 +300,12 @@ module _ (P : World → Type 0)
       let later = goings_keep goes.0 new who outcomes goes.3 first.0 in
       (later.0, fine-append (said_at who outcome) (all_said who outcomes) (fine_said who outcome first.1) later.1)
 
-  finish_keeps : (mid new : World) (who : Actor) (earlier : List Outcome) (answers : List Told_by) → AllFine (all_said who earlier) → EndsIn mid who earlier answers new ⊎ RunsOut mid who earlier answers new → P mid
+  finish_keeps : (most : ℕ) (mid new : World) (who : Actor) (earlier : List Outcome) (answers : List Told_by) → AllFine (all_said who earlier) → EndsIn most mid who earlier answers new ⊎ RunsOut most mid who earlier answers new → P mid
       → P new × AllFine answers
-  finish_keeps mid new who earlier answers fine (inl ended) h =
+  finish_keeps most mid new who earlier answers fine (inl ended) h =
       let turn = turn_keeps mid new who (activity_of who mid.seats) ended.last refl ended.turn h in
       (turn.0, subst AllFine (sym ended.answers_are) (fine-append (all_said who earlier) (said_at who ended.last) fine (fine_said who ended.last turn.1)))
-  finish_keeps mid new who earlier answers fine (inr out) h =
+  finish_keeps most mid new who earlier answers fine (inr out) h =
       (same_world mid new out.stays h, subst AllFine (sym out.answers_are) (fine-append (all_said who earlier) (answer_by who (answer.Word word.TurnLimit)) fine (λ e. cc, tt)))
 
   begin_keeps : (old new : World) (who : Actor) (what : Command) (at : Activity) (answers : List Told_by) → Begins old who what at answers new → P old → P new × AllFine answers
@@ -319,7 +319,7 @@ module _ (P : World → Type 0)
   step_keeps old new (Advance who) answers step h =
       let turn = turn_keeps old new who (activity_of who old.seats) step.0 refl step.1 h in (turn.0, subst AllFine (sym step.2) (fine_said who step.0 turn.1))
   step_keeps old new (Finish who) answers step h =
-      let goes = goings_keep old step.1 who step.0 step.2 h in finish_keeps step.1 new who step.0 answers goes.1 step.3 goes.0
+      let goes = goings_keep old step.1 who step.0 step.2 h in finish_keeps old.turns step.1 new who step.0 answers goes.1 step.3 goes.0
 
   pub runs_keep : (old new : World) (lines : List Line) (answers : List Told_by) → Runs old lines answers new → P old → P new × AllFine answers
   runs_keep old new [] answers runs h = (same_world old new runs.1 h, subst AllFine (sym runs.0) tt)

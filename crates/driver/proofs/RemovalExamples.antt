@@ -105,11 +105,11 @@ asks_removal = record {
 
 -- the shell removes the group of a path in one turn
 removes : Turn (world actor.Shell at_first (Begun rmdir)) actor.Shell (Ends answer.Done) (world actor.Shell once_removed Rests)
-removes = record { transition = transition.Ends answer.Done; turns = (asks_removal, refl); shows = refl; leaves = refl; same = refl }
+removes = record { transition = transition.Ends answer.Done; turns = (asks_removal, refl); shows = refl; leaves = refl; same = refl; limit = refl }
 
 -- and so does control
 removes-control : Turn (world actor.Control at_first (Begun rmdir)) actor.Control (Ends answer.Done) (world actor.Control once_removed Rests)
-removes-control = record { transition = transition.Ends answer.Done; turns = (asks_removal, refl); shows = refl; leaves = refl; same = refl }
+removes-control = record { transition = transition.Ends answer.Done; turns = (asks_removal, refl); shows = refl; leaves = refl; same = refl; limit = refl }
 
 -- ---- what is refused
 
@@ -134,6 +134,7 @@ meets-task = record {
   shows = refl;
   leaves = refl;
   same = refl;
+  limit = refl;
 }
 
 -- the path of the root is found, and the book refuses its removal

@@ -1,7 +1,6 @@
 -- Runs go on by one.
-use Rattle.std.proofs.Common.{◌≡◌, ℕ, ◌<◌, ◌≤◌, Bool, true, length, arith, rules, false, Some, None, List, [], ◌∷◌, ◌++◌, refl, sym, ap, ◌∙◌, append_assoc, append-nil, subst}
+use Rattle.std.proofs.Common.{◌≡◌, ℕ, ◌≤◌, Bool, true, length, arith, rules, false, Some, None, List, [], ◌∷◌, ◌++◌, refl, sym, ap, ◌∙◌, append_assoc, append-nil, subst}
 use Rattle.machine.specs.declared.command.Actor.{Actor}
-use Rattle.machine.specs.declared.command.Step.{Step}
 use Rattle.machine.specs.declared.command.Reply.{Reply}
 use Rattle.driver.specs.declared.turn.Outcome.{Outcome}
 use Rattle.std.specs.Prelude.{if◌then◌else◌, Ok, Err}
@@ -21,7 +20,7 @@ use Rattle.driver.specs.declared.desk.Desk.{Desk}
 use Rattle.driver.specs.Tickets.{blocks_in, OwnSeats}
 use Rattle.driver.specs.Desks.{world, blocks_of_desk, worker_of_desk, IsOn, IsSame}
 use Rattle.driver.specs.Turns.{judged, ends_refused}
-use Rattle.driver.specs.Schedule.{World, first_world, fits, activity_of, with_activity, outcome_of, left_of, WantTurn, wants_at, StageTurn, Turn, Goings, is_end, said_at, all_said, Stepped, Runs}
+use Rattle.driver.specs.Schedule.{World, first_world, fits, activity_of, with_activity, outcome_of, left_of, WantTurn, wants_at, StageTurn, Turn, Goings, is_end, said_at, all_said}
 
 pub Goings-more : (old : World) (actor : Actor) (earlier : List Outcome) (mid new : World) (outcome : Outcome)
     → Goings old actor earlier mid → Turn mid actor outcome new → is_end outcome ≡ false → Goings old actor (earlier ++ outcome ∷ []) new
@@ -35,14 +34,6 @@ all_said-more actor [] outcome = append-nil (said_at actor outcome)
 all_said-more actor (first ∷ earlier) outcome =
     ap (λ (rs : List Reply). said_at actor first ++ rs) (all_said-more actor earlier outcome) ∙ sym (append_assoc (said_at actor first) (all_said actor earlier) (said_at actor outcome))
 
-pub Runs-more : (old : World) (steps : List Step) (answers : List Reply) (mid new : World) (step : Step) (here : List Reply)
-    → Runs old steps answers mid → Stepped mid step here new → Runs old (steps ++ step ∷ []) (answers ++ here) new
-Runs-more old [] answers mid new step here h one =
-    let From : World → Type 0 = λ w. Stepped w step here new in
-    (here, [], new, subst From h.1 one, (refl, refl), ap (λ (rs : List Reply). rs ++ here) h.0 ∙ sym (append-nil here))
-Runs-more old (first ∷ steps) answers mid new step here h one =
-    (h.0, h.1 ++ here, h.2, h.3, Runs-more h.2 steps h.1 mid new step here h.4 one, ap (λ (rs : List Reply). rs ++ here) h.5 ∙ append_assoc h.0 h.1 here)
-
 -- ---- one turn
 
 -- a turn of a command that was taken from its seat
@@ -55,6 +46,7 @@ turn_taken old caller taken new who stage outcome same others turn =
       shows = turn.shows;
       leaves = turn.leaves ∙ others (left_of turn.transition);
       same = turn.same ∙ same;
+      limit = turn.limit;
     }
 
 pub turn_does : (old new : World) (who : Actor) (stage : Stage) (outcome : Outcome) → activity_of who old.seats ≡ Does stage → StageTurn old who stage outcome new → Turn old who outcome new

@@ -1,13 +1,13 @@
 -- What a sink has of a run that is cut short.
 use Rattle.std.proofs.Common.{◌≡◌, ℕ, suc, ◌+◌, ◌<◌, ◌≤◌, true, List, [], ◌∷◌, ◌++◌, length, take, drop, get_or, inl, inr, append-nil, length-append, refl, sym, ap, ◌∙◌, subst, arith, append_assoc, false}
-use Rattle.std.specs.Prelude.{Result, Ok, Err, OnErr}
+use Rattle.std.specs.Prelude.{◌⊎◌, Result, Ok, Err, OnErr}
 use Rattle.std.specs.List.{AllByRecursion}
 use Rattle.std.proofs.lemmas.List.{take-append-drop}
 use Rattle.std.proofs.Math.Seq.{drop-cons}
 use Rattle.machine.specs.declared.config.Config.{Config}
 use Rattle.machine.specs.declared.command.Actor.{Actor}
 use Rattle.machine.specs.declared.command.Step.{Step}
-use Rattle.machine.specs.declared.command.Step.TheVariants.{Advance, Finish}
+use Rattle.machine.specs.declared.command.Step.TheVariants.{Begin, Advance, Finish}
 use Rattle.machine.specs.declared.command.Answer.TheVariants.{Word}
 use Rattle.machine.specs.declared.command.Word.TheVariants.{TurnLimit, Underway}
 use Rattle.machine.specs.declared.command.Command.{Command}
@@ -15,12 +15,14 @@ use Rattle.driver.specs.declared.turn.Activity.{Activity}
 use Rattle.driver.specs.declared.turn.Activity.TheVariants.{Rests, Begun, Does}
 use Rattle.driver.specs.Seats.{is_under_way}
 use Rattle.machine.specs.declared.command.Reply.{Reply}
+use Rattle.machine.specs.Call.{Past}
 use Rattle.machine.specs.History.{at_first, Honest}
 use Rattle.block_store.specs.Device.{Disk}
 use Rattle.driver.specs.declared.turn.Outcome.{Outcome}
 use Rattle.driver.specs.declared.turn.Outcome.TheVariants.{Goes, Kills, Ends}
-use Rattle.driver.specs.Schedule.{World, first_world, Turn, Begins, begun, Goings, answer_by, said_at, all_said, Stepped, Runs, files_on, fits, most_turns}
-use Rattle.driver.specs.Sinks.{Heard, BeginsWith, Starts, IsRightOnce, StartsStep, StartsRun, CutsStep, CutsRun}
+use Rattle.driver.specs.Schedule.{World, first_world, activity_of, with_activity, JudgedTurn, ActivityTurn, EndsIn, RunsOut, Turn, Begins, begun, Goings, answer_by, said_at, all_said, Stepped, Runs, RunsThrough, files_on, fits}
+use Rattle.driver.specs.Turns.{Judged, judged}
+use Rattle.driver.specs.Sinks.{Heard, ArePartOf, BeginsWith, Starts, IsRightOnce, StartsStep, StartsRun, CutsStep, CutsRun}
 use Rattle.driver.proofs.Faithful.{runs_are_honest}
 
 -- what holds of a call that failed holds where its result is looked at
@@ -69,7 +71,7 @@ whole_starts : (old : World) (step : Step) (answers : List Reply) (end : World) 
 whole_starts old step answers end stepped right = record { part = step ∷ []; is_part = inr (inl refl); end = end; runs = one_step old step answers end stepped; device = refl; right = right }
 
 -- of a finish, so many turns
-pub turns_start : (old : World) (who : Actor) (outcomes : List Outcome) (end : World) (after : Disk) → length outcomes ≤ most_turns → Goings old who outcomes end → end.disk ≡ after → IsRightOnce end
+pub turns_start : (old : World) (who : Actor) (outcomes : List Outcome) (end : World) (after : Disk) → length outcomes ≤ old.turns → Goings old who outcomes end → end.disk ≡ after → IsRightOnce end
     → StartsStep old (Finish who) (all_said who outcomes ++ []) after
 turns_start old who outcomes end after few goes device right =
     record {
@@ -82,7 +84,7 @@ turns_start old who outcomes end after few goes device right =
     }
 
 -- and one turn more
-pub turn_starts : (old : World) (who : Actor) (outcomes : List Outcome) (mid : World) (last : Outcome) (end : World) → length outcomes < most_turns → Goings old who outcomes mid → Turn mid who last end → IsRightOnce end
+pub turn_starts : (old : World) (who : Actor) (outcomes : List Outcome) (mid : World) (last : Outcome) (end : World) → length outcomes < old.turns → Goings old who outcomes mid → Turn mid who last end → IsRightOnce end
     → StartsStep old (Finish who) (all_said who outcomes ++ said_at who last) end.disk
 turn_starts old who outcomes mid last end few goes turn right =
     let earlier = single_turns who outcomes in
@@ -100,14 +102,86 @@ turn_starts old who outcomes mid last end few goes turn right =
     all-more (step ∷ steps) all = (all.0, all-more steps all.1)
 
 -- and the last that it has, behind which it says that there are no more
-pub limit_starts : (old : World) (who : Actor) (outcomes : List Outcome) (end : World) → length outcomes ≡ most_turns → Goings old who outcomes end → IsRightOnce end
+pub limit_starts : (old : World) (who : Actor) (outcomes : List Outcome) (end : World) → length outcomes ≡ old.turns → Goings old who outcomes end → IsRightOnce end
     → StartsStep old (Finish who) (all_said who outcomes ++ answer_by who (Word TurnLimit)) end.disk
 limit_starts old who outcomes end spent goes right =
     whole_starts old (Finish who) (all_said who outcomes ++ answer_by who (Word TurnLimit)) end (outcomes, end, goes, inr (record { spent = spent; stays = refl; answers_are = refl })) right
 
-begins_none : (steps : List Step) → BeginsWith steps []
-begins_none [] = refl
-begins_none (step ∷ steps) = inl refl
+-- ---- how many turns a finish takes stays
+
+stays-limit : (old new : World) → new ≡ old → new.turns ≡ old.turns
+stays-limit old new same = ap (λ (w : World). w.turns) same
+
+judged-limit : (old new : World) (who : Actor) (found : Judged) (outcome : Outcome) → JudgedTurn old who found outcome new → new.turns ≡ old.turns
+judged-limit old new who (Err why) outcome turn = stays-limit (record old { seats = with_activity who Rests old.seats }) new turn.1
+judged-limit old new who (Ok stage) outcome turn = turn.limit
+
+turn-limit : (old new : World) (who : Actor) (at : Activity) (outcome : Outcome) → ActivityTurn old who at outcome new → new.turns ≡ old.turns
+turn-limit old new who Rests outcome turn = stays-limit old new turn.1
+turn-limit old new who (Begun what) outcome turn = judged-limit old new who (judged old.past.state.tree who what) outcome turn
+turn-limit old new who (Does stage) outcome turn = turn.limit
+
+goings-limit : (old new : World) (who : Actor) (outcomes : List Outcome) → Goings old who outcomes new → new.turns ≡ old.turns
+goings-limit old new who [] goes = stays-limit old new goes
+goings-limit old new who (outcome ∷ outcomes) goes = goings-limit goes.0 new who outcomes goes.3 ∙ turn-limit old goes.0 who (activity_of who old.seats) outcome goes.1
+
+finish-limit : (turns : ℕ) (mid new : World) (who : Actor) (earlier : List Outcome) (answers : List Reply) → EndsIn turns mid who earlier answers new ⊎ RunsOut turns mid who earlier answers new → new.turns ≡ mid.turns
+finish-limit turns mid new who earlier answers (inl ends) = turn-limit mid new who (activity_of who mid.seats) ends.last ends.turn
+finish-limit turns mid new who earlier answers (inr out) = stays-limit mid new out.stays
+
+begin-limit : (old new : World) (who : Actor) (what : Command) (at : Activity) (answers : List Reply) → Begins old who what at answers new → new.turns ≡ old.turns
+begin-limit old new who what Rests answers h = stays-limit (begun old who what) new h.1
+begin-limit old new who what (Begun other) answers h = stays-limit old new h.1
+begin-limit old new who what (Does stage) answers h = stays-limit old new h.1
+
+step-limit : (old new : World) (step : Step) (answers : List Reply) → Stepped old step answers new → new.turns ≡ old.turns
+step-limit old new (Begin who what) answers h = begin-limit old new who what (activity_of who old.seats) answers h
+step-limit old new (Advance who) answers h = turn-limit old new who (activity_of who old.seats) h.0 h.1
+step-limit old new (Finish who) answers h = finish-limit old.turns h.1 new who h.0 answers h.3 ∙ goings-limit old h.1 who h.0 h.2
+
+runs_limit : (old : World) (steps : List Step) (answers : List Reply) (new : World) → Runs old steps answers new → new.turns ≡ old.turns
+runs_limit old [] answers new h = stays-limit old new h.1
+runs_limit old (step ∷ steps) answers new h = runs_limit h.2 steps h.1 new h.4 ∙ step-limit old h.2 step h.0 h.3
+
+-- ---- what a sink is shown
+
+-- a run with the pasts between its steps is a run
+pub runs_of : (old : World) (steps : List Step) (answers : List Reply) (pasts : List Past) (new : World) → RunsThrough old steps answers pasts new → Runs old steps answers new
+runs_of old [] answers pasts new h = (h.0, h.2)
+runs_of old (step ∷ steps) answers pasts new h = (h.0, h.1, h.3, h.4, runs_of h.3 steps h.1 h.2 new h.5, h.6)
+
+-- and one step more
+pub RunsThrough-more : (old : World) (steps : List Step) (answers : List Reply) (pasts : List Past) (mid new : World) (step : Step) (here : List Reply)
+    → RunsThrough old steps answers pasts mid → Stepped mid step here new → RunsThrough old (steps ++ step ∷ []) (answers ++ here) (pasts ++ new.past ∷ []) new
+RunsThrough-more old [] answers pasts mid new step here h one =
+    let From : World → Type 0 = λ w. Stepped w step here new in (
+      here,
+      [],
+      [],
+      new,
+      subst From h.2 one,
+      (refl, refl, refl),
+      ap (λ (rs : List Reply). rs ++ here) h.0 ∙ sym (append-nil here),
+      ap (λ (ps : List Past). ps ++ new.past ∷ []) h.1,
+    )
+RunsThrough-more old (first ∷ steps) answers pasts mid new step here h one = (
+  h.0,
+  h.1 ++ here,
+  h.2 ++ new.past ∷ [],
+  h.3,
+  h.4,
+  RunsThrough-more h.3 steps h.1 h.2 mid new step here h.5 one,
+  ap (λ (rs : List Reply). rs ++ here) h.6 ∙ append_assoc h.0 h.1 here,
+  ap (λ (ps : List Past). ps ++ new.past ∷ []) h.7,
+)
+
+-- a sink that took some answers, and then none
+pub took_none : {S : Type 0} (took : S → S → List Reply → Type 0) → ((a b c : S) (xs ys : List Reply) → took a b xs → took b c ys → took a c (xs ++ ys)) → (a b c : S) (xs : List Reply) → took a b xs → took b c [] → took a c xs
+took_none took more a b c xs first second = subst (λ (rs : List Reply). took a c rs) (append-nil xs) (more a b c xs [] first second)
+
+begins_none : (most : ℕ) (steps : List Step) → BeginsWith most steps []
+begins_none most [] = refl
+begins_none most (step ∷ steps) = inl refl
 
 -- of a step that was cut short before anything was told
 nothing_starts : (old : World) (step : Step) (after : Disk) → old.disk ≡ after → IsRightOnce old → StartsStep old step [] after
@@ -130,7 +204,7 @@ step_starts old steps i step answers mid added after lt is ran starts =
       left = step ∷ drop (i + 1) steps;
       cut = cut_at steps i step lt is;
       part = starts.part;
-      begins = starts.is_part;
+      begins = subst (λ (n : ℕ). ArePartOf n step starts.part) (runs_limit old (take i steps) answers mid ran) starts.is_part;
       end = starts.end;
       runs = Runs-then old (take i steps) answers mid starts.part added starts.end ran starts.runs;
       device = starts.device;
@@ -149,13 +223,13 @@ module _ {S : Type 0} (took failed : S → S → List Reply → Type 0) where
   heard-more more a b c xs ys begun first second = record { mid = second.mid; takes = more a b second.mid xs ys first second.takes; fails = second.fails }
 
   -- nothing of a step was taken; of one that is carried out an answer may have been begun
-  pub cut_before : ((s : S) → took s s []) → ((s : S) → failed s s []) → (s : S) (before : World) (step : Step) (after : Disk) → before.disk ≡ after → IsRightOnce before → CutsStep took failed s s before step after
-  cut_before nothing stays s before step after device right =
-      record { answers = []; begun = []; few = omega arith; heard = record { mid = s; takes = nothing s; fails = stays s }; starts = nothing_starts before step after device right }
+  pub cut_before : ((s : S) → failed s s []) → (s t : S) → took s t [] → (before : World) (step : Step) (after : Disk) → before.disk ≡ after → IsRightOnce before → CutsStep took failed s t before step after
+  cut_before stays s t none before step after device right =
+      record { answers = []; begun = []; few = omega arith; heard = record { mid = t; takes = none; fails = stays t }; starts = nothing_starts before step after device right }
 
-  pub cut_behind : ((s : S) → took s s []) → (s t : S) (before : World) (step : Step) (begun : List Reply) (end : World) → length begun ≤ 1 → failed s t begun → Stepped before step begun end → IsRightOnce end → CutsStep took failed s t before step end.disk
-  cut_behind nothing s t before step begun end few fails stepped right =
-      record { answers = []; begun = begun; few = few; heard = record { mid = s; takes = nothing s; fails = fails }; starts = whole_starts before step begun end stepped right }
+  pub cut_behind : (s t u : S) → took s t [] → (before : World) (step : Step) (begun : List Reply) (end : World) → length begun ≤ 1 → failed t u begun → Stepped before step begun end → IsRightOnce end → CutsStep took failed s u before step end.disk
+  cut_behind s t u none before step begun end few fails stepped right =
+      record { answers = []; begun = begun; few = few; heard = record { mid = t; takes = none; fails = fails }; starts = whole_starts before step begun end stepped right }
 
   -- some steps were done, and the next was cut short
   pub step_cuts : ((a b c : S) (xs ys : List Reply) → took a b xs → took b c ys → took a c (xs ++ ys)) → (a b c : S) (old : World) (steps : List Step) (i : ℕ) (step : Step) (answers : List Reply) (mid : World) (after : Disk) → i < length steps → step ≡ get_or steps i step
@@ -187,7 +261,7 @@ run_starts config before steps answers after fit starts =
 pub opening_starts : (config : Config) (before : Disk) (steps : List Step) → fits config before ≡ true → Starts config before steps [] before
 opening_starts config before steps fit =
     let right : IsRightOnce (first_world config before) = λ files honest. tt in
-    run_starts config before steps [] before fit (record { done = []; left = steps; cut = refl; part = []; begins = begins_none steps; end = first_world config before; runs = (refl, refl); device = refl; right = right })
+    run_starts config before steps [] before fit (record { done = []; left = steps; cut = refl; part = []; begins = begins_none config.turns steps; end = first_world config before; runs = (refl, refl); device = refl; right = right })
 
 -- a command that is begun over another is not
 pub begins_fresh : (old new : World) (who : Actor) (what : Command) (activity : Activity) → is_under_way activity ≡ false → new ≡ begun old who what → Begins old who what activity [] new

@@ -94,7 +94,7 @@ once_freed = after once_moved (event.Free (task 1) 0) reply.Ok freed
 
 -- the actor is at this, and nobody else has a command
 abbrev pub world : Actor → Past → Activity → World
-world who past what = record { past = past; caller = caller; disk = disk; seats = record { actor = who; activity = what } ∷ [] }
+world who past what = record { past = past; caller = caller; disk = disk; seats = record { actor = who; activity = what } ∷ []; turns = 1000 }
 
 -- the page is held neither before nor after, and no page is marked
 none_fresh : (p : ℕ) → is_number None p ≡ is_fresh (Some away ∷ []) (Some away ∷ []) p
@@ -147,6 +147,7 @@ forks = record {
   shows = refl;
   leaves = refl;
   same = refl;
+  limit = refl;
 }
 
 moved_tasks : (t : ℕ) → t ≢ 2 → at moved.tasks t ≡ at shared.tasks t
@@ -173,6 +174,7 @@ attaches = record {
   shows = refl;
   leaves = refl;
   same = refl;
+  limit = refl;
 }
 
 freed_places : (u w : ℕ) → ((1 == u) && (0 == w)) ≡ false → mapped_at freed.page_tables u w ≡ mapped_at moved.page_tables u w
@@ -208,6 +210,7 @@ frees = record {
   shows = refl;
   leaves = refl;
   same = refl;
+  limit = refl;
 }
 
 -- ---- a killed task
@@ -235,6 +238,7 @@ forks-killed = record {
   shows = refl;
   leaves = refl;
   same = refl;
+  limit = refl;
 }
 
 -- ---- who is told what

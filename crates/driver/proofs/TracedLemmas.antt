@@ -10,7 +10,7 @@ use Rattle.machine.specs.declared.refusal.Refusal.{Refusal}
 use Rattle.machine.specs.declared.refusal.Refusal.TheVariants.{Stranger, TraceFull}
 use Rattle.machine.specs.History.{Spot, IsHonest, Honest}
 use Rattle.machine.specs.Refusals.{refusal}
-use Rattle.machine.specs.Call.{Past, Caller, knows_pass, is_trace_full, entry_of, Refuses, Answers, Answered, JudgedBy, Called}
+use Rattle.machine.specs.Call.{Past, Caller, knows_pass, is_trace_full, entry_of, Refuses, Answered, JudgedBy, Called}
 use Rattle.driver.specs.Traced.{is_given_up, AreGivenUp, GivesUp}
 
 pub gives_up-none : (history : List Entry) → GivesUp history history

@@ -69,7 +69,7 @@ disk = record { contents = []; failures = 0; fault_limit = 0; plan = None }
 
 -- the shell is at this, and nobody else has a command
 abbrev world : Past → Activity → World
-world at what = record { past = at; caller = caller; disk = disk; seats = record { actor = actor.Shell; activity = what } ∷ [] }
+world at what = record { past = at; caller = caller; disk = disk; seats = record { actor = actor.Shell; activity = what } ∷ []; turns = 1000 }
 
 abbrev limited : State
 limited = record empty { limits = no_limits ∷ record { max = amount.Pages 1; min = amount.Pages 0 } ∷ [] }
@@ -106,6 +106,7 @@ sets = record {
   shows = refl;
   leaves = refl;
   same = refl;
+  limit = refl;
 }
 
 -- the second finds room, and ends it
@@ -126,6 +127,7 @@ lowers = record {
   shows = refl;
   leaves = refl;
   same = refl;
+  limit = refl;
 }
 
 -- the whole finish: two turns, and the answer of the second

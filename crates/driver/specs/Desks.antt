@@ -7,7 +7,7 @@ use Rattle.driver.specs.Tickets.{blocks_in, OwnSeats}
 use Rattle.driver.specs.declared.desk.Desk.{Desk}
 
 abbrev pub world : Desk → Disk → World
-world desk disk = record { past = desk.book; caller = desk.pass.caller; disk = disk; seats = desk.seats }
+world desk disk = record { past = desk.book; caller = desk.pass.caller; disk = disk; seats = desk.seats; turns = desk.turns }
 
 -- how many blocks its book uses
 abbrev pub blocks_of_desk : Desk → ℕ

@@ -55,12 +55,13 @@ with_activity who what [] = record { actor = who; activity = what } ∷ []
 with_activity who what (seat ∷ seats) =
     if is_of who seat then record { actor = seat.actor; activity = what } ∷ seats else seat ∷ with_activity who what seats
 
--- a book and who calls it, a device, and what each actor is at
+-- a book and who calls it, a device, what each actor is at, and how many turns a finish takes at most, which stays
 pub record World : Type 0 where
   pub past : Past
   pub caller : Caller
   pub disk : Disk
   pub seats : List Seat
+  pub turns : ℕ
 
 -- the run asks with the first pass
 abbrev pub first_caller : Caller
@@ -68,7 +69,7 @@ first_caller = record { worker = 0 }
 
 -- the opening world: that pass was given out, and nobody has a command
 abbrev pub first_world : Config → Disk → World
-first_world config disk = record { past = record (first_past (opening_of config)) { passes = 1 }; caller = first_caller; disk = disk; seats = [] }
+first_world config disk = record { past = record (first_past (opening_of config)) { passes = 1 }; caller = first_caller; disk = disk; seats = []; turns = config.turns }
 
 -- ---- one turn
 
@@ -79,13 +80,15 @@ outcome_of (transition.Kills t on) = Kills t
 outcome_of (transition.Waits on) = Ends (answer.Word word.Busy)
 outcome_of (transition.Ends said) = Ends said
 
+-- where a turn leaves the command. (Excludes one that goes on unasked once a transfer has ended.)
 abbrev pub left_of : Transition → Activity
 left_of (transition.Goes stage) = Does stage
 left_of (transition.Kills t on) = Does (resumes_at on)
 left_of (transition.Waits on) = Rests
 left_of (transition.Ends said) = Rests
 
--- the caller asks the book one event; and what the command makes of the reply
+-- the caller asks the book one event; and what the command makes of the reply. A ticket that is given out is that of a page in transfer, and none is lost.
+-- (Excludes a turn without its event, and one with two.)
 pub record Asks (caller : Caller) (old : Past) (remembers : Pending) (what : Event) (transition : Transition) (new : Past) : Type 0 where
   pub said : Reply
   pub called : Called old caller (event_of what) (reply_of said) new
@@ -93,7 +96,8 @@ pub record Asks (caller : Caller) (old : Past) (remembers : Pending) (what : Eve
   pub keeps : KeepsTicket caller.worker what said
   pub told : Told remembers said transition
 
--- a turn asks the book or the device, and leaves the other as it was; or it asks neither, and the command ends
+-- a turn asks the book or the device, and leaves the other as it was; or it asks neither, and the command ends. (Excludes an EIO without a call of the
+-- device that failed.)
 abbrev pub WantTurn : Caller → Past → Disk → Want → Transition → Past → Disk → Type 0
 WantTurn caller past disk (want.Call remembers what) transition past' disk' = Asks caller past remembers what transition past' × (disk' ≡ disk)
 WantTurn caller past disk (want.Read access ticket) transition past' disk' = ReadsIn disk access ticket transition disk' × (past' ≡ past)
@@ -104,19 +108,22 @@ WantTurn caller past disk (want.End said) made past' disk' = (made ≡ transitio
 abbrev pub wants_at : Past → Stage → Want
 wants_at past stage = wants past.state.opening.watermarks (free_frames past.state) stage
 
--- a turn of a command that stands there
+-- a turn of a command that stands there. (Excludes a turn that moves another actor.)
 pub record StageTurn (old : World) (who : Actor) (stage : Stage) (outcome : Outcome) (new : World) : Type 0 where
   pub transition : Transition
   pub turns : WantTurn old.caller old.past old.disk (wants_at old.past stage) transition new.past new.disk
   pub shows : outcome ≡ outcome_of transition
   pub leaves : new.seats ≡ with_activity who (left_of transition) old.seats
   pub same : new.caller ≡ old.caller
+  pub limit : new.turns ≡ old.turns
 
+-- a command's first turn: it has ended, or takes a turn where it stands
 abbrev pub JudgedTurn : World → Actor → Judged → Outcome → World → Type 0
 JudgedTurn old who (Err why) outcome new =
     (outcome ≡ outcome_of (ends_refused why)) × (new ≡ record old { seats = with_activity who Rests old.seats })
 JudgedTurn old who (Ok stage) outcome new = StageTurn old who stage outcome new
 
+-- a turn of an actor that is at this; one without a command is answered idle
 abbrev pub ActivityTurn : World → Actor → Activity → Outcome → World → Type 0
 ActivityTurn old who Rests outcome new = (outcome ≡ Ends (answer.Word word.Idle)) × (new ≡ old)
 ActivityTurn old who (Begun what) outcome new = JudgedTurn old who (judged old.past.state.tree who what) outcome new
@@ -131,7 +138,7 @@ Turn old who outcome new = ActivityTurn old who (activity_of who old.seats) outc
 abbrev pub answer_by : Actor → Answer → List Told_by
 answer_by who said = record { actor = who; answer = said } ∷ []
 
--- what a turn prints; a kill is printed at the moment it is made
+-- what a turn prints; a kill is printed at the moment it is made. (Excludes kills that are printed late or left out.)
 abbrev pub said_at : Actor → Outcome → List Told_by
 said_at who Goes = []
 said_at who (Kills t) = answer_by who (answer.Kill t)
@@ -141,6 +148,7 @@ abbrev pub all_said : Actor → List Outcome → List Told_by
 all_said who [] = []
 all_said who (outcome ∷ outcomes) = said_at who outcome ++ all_said who outcomes
 
+-- the turn ends the command
 abbrev pub is_end : Outcome → Bool
 is_end Goes = false
 is_end (Kills t) = false
@@ -151,40 +159,39 @@ abbrev pub Goings : World → Actor → List Outcome → World → Type 0
 Goings old who [] new = new ≡ old
 Goings old who (outcome ∷ outcomes) new = (mid : World) × Turn old who outcome mid × (is_end outcome ≡ false) × Goings mid who outcomes new
 
-abbrev pub most_turns : ℕ
-most_turns = 1000
-
--- the last turn answers
-pub record EndsIn (mid : World) (who : Actor) (earlier : List Outcome) (answers : List Told_by) (new : World) : Type 0 where
+-- the last turn answers, behind fewer than so many
+pub record EndsIn (turns : ℕ) (mid : World) (who : Actor) (earlier : List Outcome) (answers : List Told_by) (new : World) : Type 0 where
   pub last : Outcome
   pub turn : Turn mid who last new
   pub ends : is_end last ≡ true
-  pub within : length earlier < most_turns
+  pub within : length earlier < turns
   pub answers_are : answers ≡ all_said who earlier ++ said_at who last
 
--- as many turns as a finish takes, and no answer: the command stays under way
-pub record RunsOut (mid : World) (who : Actor) (earlier : List Outcome) (answers : List Told_by) (new : World) : Type 0 where
-  pub spent : length earlier ≡ most_turns
+-- so many turns, and no answer: the command stays under way
+pub record RunsOut (turns : ℕ) (mid : World) (who : Actor) (earlier : List Outcome) (answers : List Told_by) (new : World) : Type 0 where
+  pub spent : length earlier ≡ turns
   pub stays : new ≡ mid
   pub answers_are : answers ≡ all_said who earlier ++ answer_by who (answer.Word word.TurnLimit)
 
--- turns until an answer, at most so many
+-- turns until an answer, at most as many as a finish takes. (Excludes a finish that stops early, and one that goes on for ever.)
 abbrev pub Finishes : World → Actor → List Told_by → World → Type 0
 Finishes old who answers new =
-    (earlier : List Outcome) × (mid : World) × Goings old who earlier mid × (EndsIn mid who earlier answers new ⊎ RunsOut mid who earlier answers new)
+    (earlier : List Outcome) × (mid : World) × Goings old who earlier mid × (EndsIn old.turns mid who earlier answers new ⊎ RunsOut old.turns mid who earlier answers new)
 
+-- an actor has a command that has had no turn yet
 abbrev pub begun : World → Actor → Command → World
 begun old who what = record old { seats = with_activity who (Begun what) old.seats }
 
--- a command is begun, unless one is under way
+-- a command is begun, unless one is under way. (Excludes a new command that drops the old one.)
 abbrev pub Begins : World → Actor → Command → Activity → List Told_by → World → Type 0
 Begins old who what Rests answers new = (answers ≡ []) × (new ≡ begun old who what)
 Begins old who what under_way answers new = (answers ≡ answer_by who (answer.Word word.Underway)) × (new ≡ old)
 
--- one turn, whatever comes of it
+-- one turn, whatever comes of it. (Excludes a step that goes on to the answer, and one that swallows it.)
 abbrev pub Advances : World → Actor → List Told_by → World → Type 0
 Advances old who answers new = (outcome : Outcome) × Turn old who outcome new × (answers ≡ said_at who outcome)
 
+-- one step of a schedule
 abbrev pub Stepped : World → Step → List Told_by → World → Type 0
 Stepped old (step.Begin who what) answers new = Begins old who what (activity_of who old.seats) answers new
 Stepped old (step.Advance who) answers new = Advances old who answers new
@@ -198,7 +205,13 @@ Runs old [] answers new = (answers ≡ []) × (new ≡ old)
 Runs old (s ∷ steps) answers new =
     (here : List Told_by) × (later : List Told_by) × (mid : World) × Stepped old s here mid × Runs mid steps later new × (answers ≡ here ++ later)
 
--- what the files have at first: what the device's blocks behind those of swap hold
+-- the same, with the pasts between the steps: what stands behind each of them, in order
+abbrev pub RunsThrough : World → List Step → List Told_by → List Past → World → Type 0
+RunsThrough old [] answers pasts new = (answers ≡ []) × (pasts ≡ []) × (new ≡ old)
+RunsThrough old (s ∷ steps) answers pasts new =
+    (here : List Told_by) × (later : List Told_by) × (rest : List Past) × (mid : World) × Stepped old s here mid × RunsThrough mid steps later rest new × (answers ≡ here ++ later) × (pasts ≡ mid.past ∷ rest)
+
+-- what the files have at first: what the device's blocks behind those of swap hold. (Excludes a file that reads as zeros whatever is there, or as swap.)
 abbrev pub files_on : Config → Disk → ℕ → ℕ → ℕ → ℕ
 files_on config disk file q o = slice_index (bytes_on disk.contents (home_block config.swap (sizes_of config.files) file q)) o
 

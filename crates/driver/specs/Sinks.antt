@@ -10,9 +10,10 @@ use Rattle.machine.specs.History.{at_first, Honest, Right}
 use Rattle.block_store.specs.Device.{Disk}
 use Rattle.driver.specs.declared.sink.Stop.{Stop}
 use Rattle.driver.specs.declared.sink.Stop.TheVariants.{Refused, Closed}
-use Rattle.driver.specs.Schedule.{World, Runs, Schedules, errors, most_turns}
+use Rattle.machine.specs.Call.{Past}
+use Rattle.driver.specs.Schedule.{World, first_world, Runs, RunsThrough, Schedules, errors}
 
--- it took these answers, and may have begun to take those behind them, which are one at most (`few` below)
+-- the sink took these answers, and may have begun to take those behind them, which are one at most (`few` below)
 pub record Heard {S : Type 0} (took failed : S → S → List Told_by → Type 0) (old new : S) (answers begun : List Told_by) : Type 0 where
   pub mid : S
   pub takes : took old mid answers
@@ -20,32 +21,37 @@ pub record Heard {S : Type 0} (took failed : S → S → List Told_by → Type 0
 
 -- ---- a run that went through
 
--- the sink took the answers of the plain machine to the steps, which are at most as many EIO as calls of the device failed meanwhile
-pub record Gives {S : Type 0} (took : S → S → List Told_by → Type 0) (config : Config) (before : Disk) (steps : List Step) (old new : S) (after : Disk) : Type 0 where
+-- the sink took the answers of the plain machine to the steps, which are at most as many EIO as calls of the device failed meanwhile; and it was
+-- shown the book behind each step, as it stood there. Of the book that it is lent before a relief nothing is said.
+-- (Excludes an answer that is left out, told twice, or told before its turn; and a look behind a step at what stood elsewhere.)
+pub record Gives {S : Type 0} (took : S → S → List Told_by → Type 0) (saw : S → S → List Past → Type 0) (config : Config) (before : Disk) (steps : List Step) (old new : S) (after : Disk) : Type 0 where
   pub answers : List Told_by
   pub takes : took old new answers
   pub schedules : Schedules config before steps answers after
   pub failures : errors answers + before.failures ≤ after.failures
+  pub pasts : List Past
+  pub sees : saw old new pasts
+  pub shown : RunsThrough (first_world config before) steps answers pasts schedules.end
 
 -- ---- a run that was cut short
 
--- why it was, where it had begun
+-- why it was, where it had begun: memory was wanted, or the sink took no more. (Excludes a run that had begun and is called Invalid.)
 abbrev pub IsCut : Stop → Type 0
 IsCut (Refused why) = why ≡ NoMemory
 IsCut Closed = Unit {0}
 
--- what was carried out of the step that was under way: nothing, or all of it, though not all of its answers were taken; or, of a finish, single turns
-abbrev pub AreTurnsOf : Step → List Step → Type 0
-AreTurnsOf (Begin who what) turns = ⊥
-AreTurnsOf (Advance who) turns = ⊥
-AreTurnsOf (Finish who) turns = (length turns ≤ most_turns) × AllByRecursion (λ (s : Step). s ≡ Advance who) turns
+-- what was carried out of the step that was under way: nothing, or all of it, though not all of its answers were taken; or, of a finish, single turns. (Excludes half a turn.)
+abbrev pub AreTurnsOf : ℕ → Step → List Step → Type 0
+AreTurnsOf most (Begin who what) turns = ⊥
+AreTurnsOf most (Advance who) turns = ⊥
+AreTurnsOf most (Finish who) turns = (length turns ≤ most) × AllByRecursion (λ (s : Step). s ≡ Advance who) turns
 
-abbrev pub ArePartOf : Step → List Step → Type 0
-ArePartOf step part = (part ≡ []) ⊎ ((part ≡ step ∷ []) ⊎ AreTurnsOf step part)
+abbrev pub ArePartOf : ℕ → Step → List Step → Type 0
+ArePartOf most step part = (part ≡ []) ⊎ ((part ≡ step ∷ []) ⊎ AreTurnsOf most step part)
 
-abbrev pub BeginsWith : List Step → List Step → Type 0
-BeginsWith [] part = part ≡ []
-BeginsWith (step ∷ later) part = ArePartOf step part
+abbrev pub BeginsWith : ℕ → List Step → List Step → Type 0
+BeginsWith most [] part = part ≡ []
+BeginsWith most (step ∷ later) part = ArePartOf most step part
 
 -- these answers are those of the plain machine to the first of the steps, and to what was carried out of the step behind them before the run was cut short;
 -- and the device is left as it is behind them. (Excludes a run that goes on to use the device behind an answer that is not taken, where that leaves a trace on it:
@@ -55,10 +61,11 @@ pub record Starts (config : Config) (before : Disk) (steps : List Step) (answers
   pub left : List Step
   pub cut : steps ≡ done ++ left
   pub part : List Step
-  pub begins : BeginsWith left part
+  pub begins : BeginsWith config.turns left part
   pub schedules : Schedules config before (done ++ part) answers after
 
--- the sink took some answers, and these, with the one that it may have begun to take, are such
+-- the sink took some answers, and these, with the one that it may have begun to take, are such. (Excludes a run that is cut short and had told what no
+-- run tells.)
 pub record GivesStart {S : Type 0} (took failed : S → S → List Told_by → Type 0) (config : Config) (before : Disk) (steps : List Step) (old new : S) (after : Disk) : Type 0 where
   pub answers : List Told_by
   pub begun : List Told_by
@@ -77,7 +84,7 @@ pub record StartsRun (old : World) (steps : List Step) (answers : List Told_by) 
   pub left : List Step
   pub cut : steps ≡ done ++ left
   pub part : List Step
-  pub begins : BeginsWith left part
+  pub begins : BeginsWith old.turns left part
   pub end : World
   pub runs : Runs old (done ++ part) answers end
   pub device : end.disk ≡ after
@@ -86,7 +93,7 @@ pub record StartsRun (old : World) (steps : List Step) (answers : List Told_by) 
 -- of the one step that is under way
 pub record StartsStep (old : World) (step : Step) (answers : List Told_by) (after : Disk) : Type 0 where
   pub part : List Step
-  pub is_part : ArePartOf step part
+  pub is_part : ArePartOf old.turns step part
   pub end : World
   pub runs : Runs old part answers end
   pub device : end.disk ≡ after

@@ -6,6 +6,7 @@ use Rattle.machine.specs.declared.event.Event.{Event}
 use Rattle.machine.specs.declared.event.Event.TheVariants as event
 use Rattle.machine.specs.declared.command.Step.{Step}
 use Rattle.machine.specs.declared.command.Reply.{Reply as Told_by}
+use Rattle.machine.specs.Call.{Past}
 use Rattle.machine.specs.FirstBytes.{first_of}
 use Rattle.machine.specs.Audit.{Passes}
 use Rattle.block_store.specs.Device.{Disk}
@@ -29,7 +30,7 @@ pub record GivesUp (old new : List Entry) : Type 0 where
 
 -- a run that went through, and its entries, the oldest first: what it did, and behind that nothing but ends of transfers that failed. An audit finds nothing wrong in them.
 -- (Excludes the trace of another run, and one that is cut off.)
-pub record GivesTrace {S : Type 0} (took : S → S → List Told_by → Type 0) (config : Config) (before : Disk) (steps : List Step) (old new : S) (after : Disk) (entries : List Entry) : Type 0 where
-  pub gives : Gives took config before steps old new after
+pub record GivesTrace {S : Type 0} (took : S → S → List Told_by → Type 0) (saw : S → S → List Past → Type 0) (config : Config) (before : Disk) (steps : List Step) (old new : S) (after : Disk) (entries : List Entry) : Type 0 where
+  pub gives : Gives took saw config before steps old new after
   pub traced : GivesUp gives.schedules.end.past.history (reverse entries)
   pub passes : Passes (first_of (reverse entries)) (reverse entries)

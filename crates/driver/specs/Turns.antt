@@ -101,6 +101,7 @@ ends_with what = Ends (answer.Word what)
 abbrev pub ends_refused : Refusal → Transition
 ends_refused why = ends_with (word.Refused why)
 
+-- a read is answered with its byte, and a write with nothing to print
 abbrev pub byte_answer : Op → ℕ → Answer
 byte_answer Read byte = answer.Byte byte
 byte_answer (Write b) byte = answer.Done
@@ -134,6 +135,7 @@ MaxSet g reply.Ok transition = transition ≡ Goes (stage.Lower (record { 0 = g 
 MaxSet g (reply.Refused why) transition = transition ≡ ends_refused why
 MaxSet g said transition = ⊥
 
+-- room is made until there is enough, or nobody is left to kill
 abbrev pub Lowered : ℕ → Reply → Transition → Type 0
 Lowered g reply.Room transition = transition ≡ Ends answer.Done
 Lowered g reply.Dropped transition = transition ≡ Goes (stage.Lower (record { 0 = g }))
@@ -175,6 +177,7 @@ TaskDid reply.Killed transition = transition ≡ ends_with word.Killed
 TaskDid (reply.Refused why) transition = transition ≡ ends_refused why
 TaskDid said transition = ⊥
 
+-- a control file is shown as its text
 abbrev pub WasShown : Reply → Transition → Type 0
 WasShown (reply.Shown numbers) transition = transition ≡ Ends (answer.Text (text_of numbers))
 WasShown (reply.Refused why) transition = transition ≡ ends_refused why
@@ -195,6 +198,8 @@ Closed resumed (reply.StrangeIn ticket) transition = transition ≡ ends_refused
 Closed resumed (reply.StrangeOut ticket) transition = transition ≡ ends_refused Stranger
 Closed resumed said transition = ⊥
 
+-- what a command makes of the reply, by what it remembers. (Excludes a command that ends at a kill, tries again without room, takes a max back, or ends a transfer that the
+-- device was not asked for.)
 abbrev pub Told : Pending → Reply → Transition → Type 0
 Told (pending.Try access) said transition = Tried access said transition
 Told (pending.MakeRoom access why) said transition = MadeRoom access why said transition
@@ -239,6 +244,7 @@ AwaitsAll (want.End said) = Unit {0}
 
 -- ---- what it makes of the device's answer
 
+-- the book is told that the page has arrived, or that it could not be read; that it has left, or could not be written
 abbrev pub after_read : Access → Result (Unit {0}) Fault → TicketOf → Stage
 after_read access (Ok _) ticket = stage.Arrive access ticket
 after_read access (Err fault) ticket = stage.FetchFail ticket
@@ -263,6 +269,7 @@ pub record WritesOut (old : Disk) (on : Resume) (ticket : TicketOf) (transition 
 
 -- ---- the first turn: paths are found; then a control file's name, mode and amount are judged
 
+-- where a command stands then, or why it has ended
 abbrev pub Judged : Type 0
 Judged = Result Stage Refusal
 
@@ -305,6 +312,7 @@ writes_file g text file.Max = with_amount (amount_of text) (λ max. Ok (stage.Se
 writes_file g text file.Min = with_amount (amount_of text) (λ min. Ok (stage.SetMin (record { 0 = g }) min))
 writes_file g text file.Reclaim = with_amount (amount_of text) (reclaims g)
 
+-- a command of a task; one that is none of a task's is Invalid
 abbrev pub task_judged : ℕ → Command → Judged
 task_judged t (command.Access place op) = Ok (stage.Try (record { task = record { 0 = t }; place = place; op = op }))
 task_judged t (command.Fork child) = Ok (stage.Fork (record { 0 = t }) (record { 0 = child }))

@@ -6,10 +6,11 @@ ghost use Rattle.machine.specs.State.{is_config};
 ghost use Rattle.machine.specs.FirstBytes.{first_of};
 ghost use Rattle.machine.specs.Audit.{Passes};
 ghost use Rattle.machine.specs.History.{at_first, Honest};
+ghost use Rattle.machine.specs.Call.{Past};
 ghost use Rattle.block_store.specs.Device.{Disk};
 ghost use Rattle.book.specs.Passes.{is_current};
 ghost use Rattle.driver.specs.Turns.{AwaitsAll};
-ghost use Rattle.driver.specs.Schedule.{Asks, WantTurn, StageTurn, wants_at, Turn, Advances, Finishes, Begins, Stepped, Runs, activity_of, first_world};
+ghost use Rattle.driver.specs.Schedule.{Asks, WantTurn, StageTurn, wants_at, Turn, Advances, Finishes, Begins, Stepped, RunsThrough, activity_of, first_world};
 ghost use Rattle.driver.specs.Tickets.{OwnEvent, OwnStage, OwnWant, OwnTransition, OwnSeats};
 ghost use Rattle.driver.specs.Seats.{place_of, is_under_way};
 ghost use Rattle.driver.specs.Desks.{world, blocks_of_desk, worker_of_desk, IsOn, IsSame};
@@ -26,7 +27,6 @@ use block_store::BlockDevice;
 use book::{Book, Event, Pass};
 use machine::command::{Actor, Answer, Command, Reply, Step, Word};
 use machine::config::Config;
-use machine::limit::MOST_TURNS;
 use machine::refusal::Refusal;
 use std::alloc::{AllocError, Global};
 use trace::Trace;
@@ -38,6 +38,8 @@ pub struct Desk {
     pub book: Book,
     pub pass: Pass,
     pub seats: Seats,
+    /// The most turns of a finish.
+    pub turns: u32,
 }
 
 impl Desk {
@@ -48,6 +50,7 @@ impl Desk {
         ensures sized { IfOk result (λ desk. is_config config ≡ true) }
         ensures err { IfErr result (λ cause. (cause ≡ Refusal.Invalid) × (is_config config ≡ false) ⊎ (cause ≡ Refusal.NoMemory) × (is_config config ≡ true)) }
     {
+        let turns = config.turns;
         let mut book = Book::open(alloc, config)?;
         match book.pass() {
             Err(_) => {
@@ -59,6 +62,7 @@ impl Desk {
                 book,
                 pass,
                 seats: Seats::new(alloc),
+                turns,
             }),
         }
     }
@@ -76,6 +80,7 @@ impl Desk {
         ensures room { self.old.pass.room ≤ self.new.pass.room + 1 }
         ensures opening { self.new.book.state.opening ≡ self.old.book.state.opening }
         ensures seats { self.new.seats ≡ self.old.seats }
+        ensures limit { self.new.turns ≡ self.old.turns }
     {
         let reply = calls::call(&mut self.book, &mut self.pass, event);
         told(self.alloc, pending, reply)
@@ -107,6 +112,7 @@ impl Desk {
         ensures room { self.old.pass.room ≤ self.new.pass.room + 1 }
         ensures opening { self.new.book.state.opening ≡ self.old.book.state.opening }
         ensures seats { self.new.seats ≡ self.old.seats }
+        ensures limit { self.new.turns ≡ self.old.turns }
         ensures same { IsSame (D.disk device.old) (D.disk device.new) }
         ensures unmoved { OnErr result (D.disk device.new ≡ D.disk device.old) }
     {
@@ -147,6 +153,7 @@ impl Desk {
         ensures room { OnOk result (length self.new.seats + 3 ≤ self.new.pass.room) }
         ensures same { (disk : Disk) → world self.new disk ≡ world self.old disk }
         ensures seats { self.new.seats ≡ self.old.seats }
+        ensures limit { self.new.turns ≡ self.old.turns }
         ensures on { (disk : Disk) → IsOn self.old disk → IsOn self.new disk }
     {
         match self.pass.reserve(self.seats.len() + 3) {
@@ -206,6 +213,7 @@ impl Desk {
         sink: &mut S,
     ) -> Result<(), Cut>
         ensures begins { OnOk result ((added : List Told_by) × S.took sink.old sink.new added × ((disk : Disk) → Begins (world self.old disk) actor command.now (activity_of actor self.old.seats) added (world self.new disk))) }
+        ensures unseen { OnOk result (S.saw sink.old sink.new []) }
         ensures cut { OnErr result ((disk : Disk) → CutsStep S.took S.failed sink.old sink.new (world self.old disk) (Step.Begin actor command.now) disk) }
         ensures on { (disk : Disk) → IsOn self.old disk → IsOn self.new disk }
     {
@@ -220,6 +228,16 @@ impl Desk {
         Ok(())
     }
 
+    /// Shows the book to the sink where the actor's next turn asks for relief.
+    fn show_relief<S: Sink>(&self, at: usize, actor: Actor, sink: &mut S)
+        ensures quiet { S.took sink.old sink.new [] }
+        ensures unseen { S.saw sink.old sink.new [] }
+    {
+        if let Some(cause) = self.seats.relief_of(actor) {
+            sink.see_relief(at, &self.book, cause);
+        }
+    }
+
     /// One turn, whatever comes of it: `idle` where the actor has no command.
     fn advance<D: BlockDevice, S: Sink>(
         &mut self,
@@ -230,10 +248,12 @@ impl Desk {
     ) -> Result<(), Cut>
         requires { IsOn self.old (D.disk device.old) }
         ensures advances { OnOk result ((added : List Told_by) × S.took sink.old sink.new added × Advances (world self.old (D.disk device.old)) actor added (world self.new (D.disk device.new))) }
+        ensures unseen { OnOk result (S.saw sink.old sink.new []) }
         ensures cut { OnErr result (CutsStep S.took S.failed sink.old sink.new (world self.old (D.disk device.old)) (Step.Advance actor) (D.disk device.new)) }
         ensures on { IsOn self.new (D.disk device.new) }
         ensures same { IsSame (D.disk device.old) (D.disk device.new) }
     {
+        self.show_relief(at, actor, sink);
         self.book.history_is_right();
         let shown = self.turn(device, actor)?;
         self.book.history_is_right();
@@ -241,7 +261,7 @@ impl Desk {
         Ok(())
     }
 
-    /// Turns until an answer, at most 1,000.
+    /// Turns until an answer, at most as many as a finish takes.
     fn finish<D: BlockDevice, S: Sink>(
         &mut self,
         device: &mut D,
@@ -251,11 +271,13 @@ impl Desk {
     ) -> Result<(), Cut>
         requires { IsOn self.old (D.disk device.old) }
         ensures finishes { OnOk result ((added : List Told_by) × S.took sink.old sink.new added × Finishes (world self.old (D.disk device.old)) actor added (world self.new (D.disk device.new))) }
+        ensures unseen { OnOk result (S.saw sink.old sink.new []) }
         ensures cut { OnErr result (CutsStep S.took S.failed sink.old sink.new (world self.old (D.disk device.old)) (Step.Finish actor) (D.disk device.new)) }
         ensures on { IsOn self.new (D.disk device.new) }
         ensures same { IsSame (D.disk device.old) (D.disk device.new) }
     {
-        for _turn in 0..MOST_TURNS {
+        for _turn in 0..self.turns {
+            self.show_relief(at, actor, sink);
             self.book.history_is_right();
             let outcome = self.turn(device, actor)?;
             self.book.history_is_right();
@@ -280,6 +302,7 @@ impl Desk {
     ) -> Result<(), Cut>
         requires { IsOn self.old (D.disk device.old) }
         ensures step { OnOk result ((added : List Told_by) × S.took sink.old sink.new added × Stepped (world self.old (D.disk device.old)) step.now added (world self.new (D.disk device.new))) }
+        ensures unseen { OnOk result (S.saw sink.old sink.new []) }
         ensures cut { OnErr result (CutsStep S.took S.failed sink.old sink.new (world self.old (D.disk device.old)) step.now (D.disk device.new)) }
         ensures on { IsOn self.new (D.disk device.new) }
         ensures same { IsSame (D.disk device.old) (D.disk device.new) }
@@ -291,7 +314,8 @@ impl Desk {
         }
     }
 
-    /// All steps of a schedule, in order. Each answer goes to the sink as it comes.
+    /// All steps of a schedule, in order. Each answer goes to the sink as it comes, and behind each step it may look at
+    /// the book.
     pub fn run_all<D: BlockDevice, S: Sink>(
         &mut self,
         device: &mut D,
@@ -299,13 +323,14 @@ impl Desk {
         sink: &mut S,
     ) -> Result<(), Cut>
         requires { IsOn self.old (D.disk device.old) }
-        ensures runs { OnOk result ((answers : List Told_by) × S.took sink.old sink.new answers × Runs (world self.old (D.disk device.old)) steps.now answers (world self.new (D.disk device.new))) }
+        ensures runs { OnOk result ((answers : List Told_by) × (pasts : List Past) × S.took sink.old sink.new answers × S.saw sink.old sink.new pasts × RunsThrough (world self.old (D.disk device.old)) steps.now answers pasts (world self.new (D.disk device.new))) }
         ensures cut { OnErr result (CutsRun S.took S.failed sink.old sink.new (world self.old (D.disk device.old)) steps.now (D.disk device.new)) }
         ensures on { IsOn self.new (D.disk device.new) }
         ensures same { IsSame (D.disk device.old) (D.disk device.new) }
     {
         for (at, step) in steps.iter().enumerate() {
             self.step(device, at, step, sink)?;
+            sink.look(at, &self.book);
         }
         Ok(())
     }
@@ -324,6 +349,7 @@ impl Desk {
             mut book,
             mut pass,
             seats,
+            turns: _,
         } = self;
         let mut seats = seats.into_list();
         while let Some(seat) = seats.pop() {

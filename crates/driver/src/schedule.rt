@@ -44,8 +44,9 @@ pub fn run<D: BlockDevice>(
 }
 
 /// The same, but each answer goes to the sink as it comes, so that what was answered is known while the
-/// run goes on, and also where it does not go through. The trace of a run that goes through is handed out: what
-/// the run did, and behind that the ends of the transfers that it left open, which fail.
+/// run goes on, and also where it does not go through. Behind each step the sink is shown the book. The trace of a run
+/// that goes through is handed out: what the run did, and behind that the ends of the transfers that it left open,
+/// which fail.
 ///
 /// `Closed` where the sink takes no more answers; the run ends then.
 pub fn run_into<D: BlockDevice, S: Sink>(
@@ -55,7 +56,7 @@ pub fn run_into<D: BlockDevice, S: Sink>(
     steps: &[Step],
     sink: &mut S,
 ) -> Result<Trace, Stop>
-    ensures gives { IfOk result (λ trace. GivesTrace S.took config (D.disk device.old) steps.now sink.old sink.new (D.disk device.new) trace.entries) }
+    ensures gives { IfOk result (λ trace. GivesTrace S.took S.saw config (D.disk device.old) steps.now sink.old sink.new (D.disk device.new) trace.entries) }
     ensures starts { OnErr result (fits config (D.disk device.old) ≡ true → GivesStart S.took S.failed config (D.disk device.old) steps.now sink.old sink.new (D.disk device.new)) }
     ensures sized { OnOk result (fits config (D.disk device.old) ≡ true) }
     ensures err { IfErr result (λ stop. (stop ≡ Stop.Refused Refusal.Invalid) × (fits config (D.disk device.old) ≡ false) ⊎ IsCut stop × (fits config (D.disk device.old) ≡ true)) }

@@ -7,9 +7,10 @@ ghost use Rattle.driver.specs.Seats.{place_of, is_under_way, IsTaken};
 
 use crate::automaton;
 use crate::sink::{Closed, Sink};
-use crate::turn::{Activity, Outcome, Seat, Transition};
+use crate::turn::{Activity, Outcome, Seat, Stage, Transition};
 use indexmap::IndexSet;
 use machine::command::{Actor, Answer, Command, Reply, Word};
+use machine::event::Cause;
 use std::alloc::{AllocError, Global};
 use std::marker::Model;
 use std::mem;
@@ -102,6 +103,16 @@ impl Seats {
         match self.find(actor) {
             None => false,
             Some(place) => is_at_work(&self.list[place].activity),
+        }
+    }
+
+    /// Why the actor's command asks for relief in its next turn, if it does.
+    pub fn relief_of(&self, actor: Actor) -> Option<Cause> {
+        let place = self.find(actor)?;
+        match &self.list[place].activity {
+            Activity::Does(Stage::MakeRoom(_, cause)) => Some(*cause),
+            Activity::Does(Stage::Lower(group)) => Some(Cause::Lower(*group)),
+            _ => None,
         }
     }
 
@@ -221,6 +232,7 @@ pub fn ends(outcome: &Outcome) -> bool
 pub fn say<S: Sink>(sink: &mut S, at: usize, actor: Actor, outcome: Outcome) -> Result<(), Closed>
     ensures said { OnOk result (S.took sink.old sink.new (said_at actor outcome)) }
     ensures failed { OnErr result (S.failed sink.old sink.new (said_at actor outcome)) }
+    ensures unseen { S.saw sink.old sink.new [] }
 {
     match outcome {
         Outcome::Goes => Ok(()),
@@ -233,6 +245,7 @@ pub fn say<S: Sink>(sink: &mut S, at: usize, actor: Actor, outcome: Outcome) -> 
 pub fn answer<S: Sink>(sink: &mut S, at: usize, actor: Actor, answer: Answer) -> Result<(), Closed>
     ensures said { OnOk result (S.took sink.old sink.new (answer_by actor answer)) }
     ensures failed { OnErr result (S.failed sink.old sink.new (answer_by actor answer)) }
+    ensures unseen { S.saw sink.old sink.new [] }
 {
     sink.take(at, Reply { actor, answer })
 }

@@ -1,5 +1,5 @@
 -- What a schedule does to the history: it stays legal.
-use Rattle.std.proofs.Common.{◌≡◌, inl, inr, Bool, true, false, List, [], ◌∷◌, Option, Some, None, refl, sym, subst}
+use Rattle.std.proofs.Common.{ℕ, ◌≡◌, inl, inr, Bool, true, false, List, [], ◌∷◌, Option, Some, None, refl, sym, subst}
 use Rattle.std.specs.Prelude.{◌⊎◌, MatchBool, Ok, Err}
 use Rattle.machine.specs.declared.event.Event.{Event}
 use Rattle.machine.specs.declared.refusal.Refusal.{Refusal}
@@ -83,9 +83,9 @@ module _ (opening : Opening) where
   legal-goings old new who [] goes legal = legal-world old new goes legal
   legal-goings old new who (outcome ∷ outcomes) goes legal = legal-goings goes.0 new who outcomes goes.3 (legal-turn old goes.0 who (activity_of who old.seats) outcome goes.1 legal)
 
-  legal-finish : (mid new : World) (who : Actor) (earlier : List Outcome) (answers : List Told_by) → EndsIn mid who earlier answers new ⊎ RunsOut mid who earlier answers new → IsLegal mid.past → IsLegal new.past
-  legal-finish mid new who earlier answers (inl ends) legal = legal-turn mid new who (activity_of who mid.seats) ends.last ends.turn legal
-  legal-finish mid new who earlier answers (inr out) legal = legal-world mid new out.stays legal
+  legal-finish : (turns : ℕ) (mid new : World) (who : Actor) (earlier : List Outcome) (answers : List Told_by) → EndsIn turns mid who earlier answers new ⊎ RunsOut turns mid who earlier answers new → IsLegal mid.past → IsLegal new.past
+  legal-finish turns mid new who earlier answers (inl ends) legal = legal-turn mid new who (activity_of who mid.seats) ends.last ends.turn legal
+  legal-finish turns mid new who earlier answers (inr out) legal = legal-world mid new out.stays legal
 
   legal-begin : (old new : World) (who : Actor) (what : Command) (at : Activity) (answers : List Told_by) → Begins old who what at answers new → IsLegal old.past → IsLegal new.past
   legal-begin old new who what Rests answers h legal = subst (λ (w : World). Legal opening w.past.history w.past.state) (sym h.1) legal
@@ -95,7 +95,7 @@ module _ (opening : Opening) where
   legal-step : (old new : World) (line : Line) (answers : List Told_by) → Stepped old line answers new → IsLegal old.past → IsLegal new.past
   legal-step old new (Begin who what) answers h legal = legal-begin old new who what (activity_of who old.seats) answers h legal
   legal-step old new (Advance who) answers h legal = legal-turn old new who (activity_of who old.seats) h.0 h.1 legal
-  legal-step old new (Finish who) answers h legal = legal-finish h.1 new who h.0 answers h.3 (legal-goings old h.1 who h.0 h.2 legal)
+  legal-step old new (Finish who) answers h legal = legal-finish old.turns h.1 new who h.0 answers h.3 (legal-goings old h.1 who h.0 h.2 legal)
 
   legal-runs : (old new : World) (lines : List Line) (answers : List Told_by) → Runs old lines answers new → IsLegal old.past → IsLegal new.past
   legal-runs old new [] answers h legal = legal-world old new h.1 legal

@@ -11,6 +11,7 @@ use Rattle.machine.specs.declared.refusal.Refusal.TheVariants.{NoMemory}
 use Rattle.book.specs.Passes.{PassOf}
 use Rattle.live.specs.Works.{Worked}
 
+-- a worker: whose commands it does, and with which pass
 pub record WorkerOf : Type 0 where
   pub actor : Actor
   pub pass : PassOf
@@ -35,7 +36,7 @@ pub record HasAnswered (marks : Watermarks) (command : Command) (old new : Worke
   pub caller : new.pass.caller ≡ old.pass.caller
   pub worked : Worked marks old.actor (command ∷ []) old.pass.kept new.pass.kept said
 
--- each of them
+-- each of them did. (Excludes a worker that is left out.)
 abbrev pub HaveWorked : Watermarks → List WorkerOf → List WorkerOf → Type 0
 HaveWorked marks old new = (k : ℕ) (other : WorkerOf) → k < length old → HasWorked marks (slice_index_or old k other) (slice_index_or new k other)
 

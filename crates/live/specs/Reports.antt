@@ -8,7 +8,7 @@ use Rattle.live.specs.declared.report.Unfinished.{Unfinished}
 use Rattle.live.specs.declared.report.Unfinished.TheVariants.{PassMissing, NoMemory}
 use Rattle.live.specs.Matching.{has_share}
 
--- the history leads by steps of the plain machine from the opening to a state, newest entry first
+-- the history leads by steps of the plain machine from the opening to a state, newest entry first. (Excludes the trace of another machine.)
 pub record IsLegal (opening : Opening) (history : List Entry) : Type 0 where
   pub state : State
   pub legal : Legal opening history state

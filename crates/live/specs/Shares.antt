@@ -14,7 +14,7 @@ is_strange other = false
 abbrev pub strange : List Kept → ℕ
 strange kept = count_by is_strange kept
 
--- the share is as it was, unless an end was answered Stranger
+-- the share is as it was, unless an end was answered Stranger. (Excludes a ticket that is kept or thrown away.)
 abbrev pub KeepsShare : List Kept → List Kept → Type 0
 KeepsShare old new = strange new ≡ strange old → begun new + ended old ≡ begun old + ended new
 

@@ -30,7 +30,8 @@ use Rattle.driver.specs.Tickets.{holds}
 
 -- ---- one turn
 
--- the book is asked this, whatever it is by then; what is asked and answered is kept
+-- the book is asked this, whatever it is by then; what is asked and answered is kept. (Excludes an event that the table does not ask, and an answer that
+-- the book did not give.)
 pub record Calls (remembers : Pending) (what : Event) (added : List Kept) (transition : Transition) : Type 0 where
   pub said : Reply
   pub kept : added ≡ call_of (event_of what) (reply_of said) ∷ []
@@ -49,6 +50,7 @@ pub record Writes (on : Resume) (ticket : TicketOf) (added : List Kept) (transit
   pub kept : added ≡ []
   pub goes : transition ≡ Goes (after_write on answered ticket)
 
+-- what is wanted is done. (Excludes a read that is told as failed to the book and as done to the task.)
 abbrev pub WantMade : Want → List Kept → Transition → Type 0
 WantMade (want.Call remembers what) added transition = Calls remembers what added transition
 WantMade (want.Read access ticket) added transition = Reads access ticket added transition
@@ -86,7 +88,7 @@ abbrev pub no_memory : Answer
 no_memory = answer.Word (word.Refused NoMemory)
 
 -- the last turn: it ends the command, or memory is wanted and refused: for room in the pass while no ticket is in hand, which adds nothing, or for a control
--- file's text, which was shown
+-- file's text, which was shown. (Excludes a worker that gives up with a ticket in hand.)
 abbrev pub Closes : Watermarks → Stage → List Kept → Answer → Type 0
 Closes marks stage added what =
     TurnMade marks stage added (Ends what)
@@ -114,6 +116,7 @@ finds_of [] found = []
 finds_of (path ∷ paths) [] = []
 finds_of (path ∷ paths) (g ∷ found) = find_of path g ∷ finds_of paths found
 
+-- what was judged has ended, or runs from where it stands
 abbrev pub JudgedRuns : Watermarks → Actor → Judged → List Kept → List Told_by → Type 0
 JudgedRuns marks who (Err why) added said = (added ≡ []) × (said ≡ answer_by who (answer.Word (word.Refused why)))
 JudgedRuns marks who (Ok stage) added said = Answered marks who stage added said

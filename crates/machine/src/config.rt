@@ -91,6 +91,8 @@ pub struct Config {
     pub watermarks: Watermarks,
     /// The trace's limit, 1 to 1,048,576 entries.
     pub trace: u32,
+    /// The most turns of a line of a schedule that is run to its answer. The machine itself takes no heed of it.
+    pub turns: u32,
 }
 
 impl Config {

@@ -30,8 +30,8 @@ pub const LAST_NUMBER: u32 = u32::MAX;
 /// Passes that a book gives out, at most.
 pub const MOST_PASSES: usize = 131_072;
 
-/// Turns that one line of a script takes, at most.
-pub const MOST_TURNS: u32 = 1000;
+/// Turns that one line of a script takes at most, where nothing else is asked for.
+pub const USUAL_TURNS: u32 = 1000;
 
 /// Bytes that a script has, at most.
 pub const SCRIPT_BYTES: u64 = 1 << 26;

@@ -1,4 +1,6 @@
-//! `memcgrun schedule FILE` runs a script of memory control groups and prints its answers; `memcgrun run FILE` runs one on threads.
+//! `memcgrun schedule FILE` runs a script of memory control groups and prints its answers; `memcgrun run FILE` runs one on
+//! threads; `memcgrun chart FILE` draws what its groups are charged with; `memcgrun check FILE..` holds what scripts
+//! print against what they expect.
 #![tactic(auto)]
 
 mod told;
@@ -13,9 +15,11 @@ use std::rt::{Env, Files};
 use std::sync::Wait;
 use std::thread::Threads;
 use std::{env, io};
-use subcommands::{read_script, run_script, run_script_on_threads, status_of, status_of_run};
-use told::{tell_no_script, tell_no_text};
-use words::{Refused, Request, Subcommand};
+use subcommands::{
+    chart, read_and_check, read_script, run_script, run_script_on_threads, status_of, status_of_run,
+};
+use told::{plain_name, tell_no_memory, tell_no_script, tell_no_text};
+use words::{Asked, Refused, Request, Subcommand};
 
 const FAILED: u8 = 1;
 
@@ -60,14 +64,25 @@ fn run<R: Threads + Wait + Sync + AllocGlobal, I: Read, O: Write, E: Write>(
         Ok(bytes) => bytes,
         Err(fault) => return status_of(Err(fault), err),
     };
+    let name = match plain_name(alloc, request.file) {
+        Ok(name) => name,
+        Err(_) => {
+            tell_no_memory(err);
+            return FAILED;
+        }
+    };
     match request.subcommand {
         Subcommand::Schedule => {
-            let ran = run_script(alloc, request.options, &bytes, out, err);
+            let ran = run_script(alloc, request.options, &name, &bytes, out, err);
             status_of(ran, err)
         }
         Subcommand::Run => {
-            let ran = run_script_on_threads(rt, alloc, request.options, &bytes, out);
+            let ran = run_script_on_threads(rt, alloc, request.options, &name, &bytes, out);
             status_of_run(ran, err)
+        }
+        Subcommand::Chart(kind) => {
+            let ran = chart(alloc, request.options, kind, &name, &bytes, out);
+            status_of(ran, err)
         }
     }
 }
@@ -95,6 +110,26 @@ fn serve<R: Files + AllocGlobal + Threads + Wait + Sync, O: Write, E: Write>(
         }
     }
     run(rt, request, &mut script, out, err)
+}
+
+/// Checks the scripts of these files, one after the other, whatever comes of those before.
+fn check_all<R: Files + AllocGlobal, O: Write, E: Write>(
+    rt: &R,
+    files: &[&str],
+    out: &mut O,
+    err: &mut E,
+) -> u8
+    ensures success_or_failure { result ≤ 1 }
+{
+    let mut all_met = true;
+    for file in files {
+        let status = match open(rt, file, err) {
+            Some(mut script) => read_and_check(rt.alloc(), file, &mut script, out, err),
+            None => FAILED,
+        };
+        all_met = all_met && status == 0;
+    }
+    if all_met { 0 } else { FAILED }
 }
 
 fn given_words<R: Env + AllocGlobal>(rt: &R) -> io::Result<Vec<String>> {
@@ -136,7 +171,8 @@ fn start<R: Env + Files + AllocGlobal + Threads + Wait + Sync, O: Write, E: Writ
         }
     };
     match words::read_words(rt.alloc(), &words) {
-        Ok(request) => serve(rt, request, terminals, out, err),
+        Ok(Asked::Script(request)) => serve(rt, request, terminals, out, err),
+        Ok(Asked::Check(files)) => check_all(rt, &files, out, err),
         Err(Refused::Text(text)) if !text.use_stderr() => show(out, err, &text),
         Err(Refused::Text(text)) => {
             // The status tells of the failure even where its text can't be written.
@@ -144,7 +180,7 @@ fn start<R: Env + Files + AllocGlobal + Threads + Wait + Sync, O: Write, E: Writ
             BAD_WORDS
         }
         Err(Refused::Memory) => {
-            let _ = writeln!(err, "memcgrun: out of memory");
+            tell_no_memory(err);
             FAILED
         }
     }

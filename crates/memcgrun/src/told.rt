@@ -1,6 +1,7 @@
 //! The lines of standard error for what was given on the command line. Each names it, in quotes and with
 //! its control characters written out.
 
+use std::alloc::{AllocError, Global};
 use std::env::FillError;
 use std::io::{ErrorKind, Write};
 use std::rt::Env;
@@ -8,6 +9,20 @@ use std::{io, str};
 
 /// As many bytes of a word that is not UTF-8 are shown at most.
 const WORD_BYTES: usize = 4096;
+
+/// The name of a file as the lines about its script begin with it: as it is, and in quotes where it has control characters.
+pub fn plain_name(alloc: Global, name: &str) -> Result<String, AllocError> {
+    if name.chars().any(|found| found.is_control()) {
+        return format!(in alloc; "{name:?}");
+    }
+    String::from_str(alloc, name)
+}
+
+/// The program got no memory before a script was run.
+pub fn tell_no_memory<E: Write>(err: &mut E) {
+    // The status tells of the failure even where its line can't be written.
+    let _ = writeln!(err, "memcgrun: out of memory");
+}
 
 /// A file that gives no script.
 pub fn tell_no_script<E: Write>(err: &mut E, name: &str, error: &io::Error) {
@@ -97,6 +112,19 @@ mod tests {
             let mut err = Vec::new(rt.alloc());
             tell_no_script(&mut err, name, &io::Error::from(kind));
             assert_eq!(rt; str::from_utf8(&err), Ok(line));
+        }
+        Ok(())
+    }
+
+    #[test]
+    fn a_name_stands_as_it_is_before_a_line(rt: HostRuntime) -> Result<(), Fail> {
+        let rows = [
+            ("a.memcg", "a.memcg"),
+            ("x/a b", "x/a b"),
+            ("a\nb", "\"a\\nb\""),
+        ];
+        for (name, shown) in rows {
+            assert_eq!(rt; plain_name(rt.alloc(), name)?.as_str(), shown);
         }
         Ok(())
     }

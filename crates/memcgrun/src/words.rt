@@ -1,9 +1,9 @@
 //! The words of the command line.
 
 use clap::error::ErrorKind;
-use clap::{Arg, ArgAction, Command, Error};
+use clap::{Arg, ArgAction, Command, Error, value_parser};
 use std::alloc::{AllocError, Global};
-use subcommands::Options;
+use subcommands::{Drawing, Options};
 
 /// The program's version, and the logic in which it is proved, which `rt version` says of a toolchain. What is
 /// proved hangs on the logic, and not on the toolchain's number. `docs/check_commands` compares the logic.
@@ -16,6 +16,17 @@ pub enum Subcommand {
     Schedule,
     /// Runs a script on threads.
     Run,
+    /// Runs a script, and draws or lists what its groups are charged with.
+    Chart(Drawing),
+}
+
+/// What is asked for.
+#[derive(Debug, Drop)]
+pub enum Asked<'a> {
+    /// To run a script.
+    Script(Request<'a>),
+    /// To check the scripts of these paths.
+    Check(Vec<&'a str>),
 }
 
 /// A subcommand and the path of its script.
@@ -55,13 +66,23 @@ impl From<AllocError> for Refused {
 
 const AUDIT: &str = "audit";
 
+const CSV: &str = "csv";
+
 const EXPLAIN: &str = "explain";
+
+const LABELS: &str = "labels";
 
 const LINES: &str = "lines";
 
 const PROGRESS: &str = "progress";
 
+const QUIET: &str = "quiet";
+
+const STRICT: &str = "strict";
+
 const SUMMARY: &str = "summary";
+
+const TURNS: &str = "turns";
 
 const UNBUFFERED: &str = "unbuffered";
 
@@ -80,6 +101,7 @@ fn script<'a>(alloc: Global) -> Arg<'a> {
         .help("The script")
 }
 
+/// As it is of subcommands that refuse no line.
 fn explain<'a>(alloc: Global) -> Arg<'a> {
     flag(
         alloc,
@@ -88,11 +110,30 @@ fn explain<'a>(alloc: Global) -> Arg<'a> {
     )
 }
 
+fn turns<'a>(alloc: Global) -> Arg<'a> {
+    Arg::new(alloc, TURNS)
+        .long(TURNS)
+        .action(ArgAction::Set)
+        .value_parser(value_parser!(u32).range(1..))
+        .help("The most turns of a line, 1,000 where this is not given")
+        .value_name("N")
+}
+
 fn schedule<'a>(alloc: Global) -> Result<Command<'a>, AllocError> {
     let audit = flag(
         alloc,
         AUDIT,
         "Say behind the last answer what an audit of the run finds",
+    );
+    let explain = flag(
+        alloc,
+        EXPLAIN,
+        "Say why each refused line was refused, on standard error, and more of a faulty line",
+    );
+    let labels = flag(
+        alloc,
+        LABELS,
+        "Put the number of its line and its words before each line of an answer",
     );
     let lines = flag(
         alloc,
@@ -103,6 +144,12 @@ fn schedule<'a>(alloc: Global) -> Result<Command<'a>, AllocError> {
         alloc,
         PROGRESS,
         "Show on a terminal how many lines are done",
+    );
+    let quiet = flag(alloc, QUIET, "Leave out the bytes that tasks read");
+    let strict = flag(
+        alloc,
+        STRICT,
+        "End the run at the first line that is refused, and say why",
     );
     let summary = flag(
         alloc,
@@ -118,10 +165,14 @@ fn schedule<'a>(alloc: Global) -> Result<Command<'a>, AllocError> {
         .about("Runs a script, one turn after another")
         .arg(script(alloc))?
         .arg(audit)?
-        .arg(explain(alloc))?
+        .arg(explain)?
+        .arg(labels)?
         .arg(lines)?
         .arg(progress)?
+        .arg(quiet)?
+        .arg(strict)?
         .arg(summary)?
+        .arg(turns(alloc))?
         .arg(unbuffered)
 }
 
@@ -132,22 +183,54 @@ fn run<'a>(alloc: Global) -> Result<Command<'a>, AllocError> {
         .arg(explain(alloc))
 }
 
+fn chart<'a>(alloc: Global) -> Result<Command<'a>, AllocError> {
+    let csv = flag(
+        alloc,
+        CSV,
+        "Write a table for plotting tools in place of the picture",
+    );
+    Command::new(alloc, "chart")
+        .about("Draws memory.current of each group over the lines of a script, as SVG")
+        .arg(script(alloc))?
+        .arg(csv)?
+        .arg(explain(alloc))?
+        .arg(turns(alloc))
+}
+
+fn check<'a>(alloc: Global) -> Result<Command<'a>, AllocError> {
+    let scripts = Arg::new(alloc, "FILE")
+        .required(true)
+        .num_args(1..)
+        .action(ArgAction::Append)
+        .help("The scripts");
+    Command::new(alloc, "check")
+        .about("Says whether scripts print what their lines `#> ..` expect")
+        .arg(scripts)
+}
+
 fn command<'a>(alloc: Global) -> Result<Command<'a>, AllocError> {
     Command::new(alloc, "memcgrun")
         .about("Runs scripts of memory control groups")
         .version(VERSION)
         .subcommand_required(true)
         .subcommand(schedule(alloc)?)?
-        .subcommand(run(alloc)?)
+        .subcommand(run(alloc)?)?
+        .subcommand(chart(alloc)?)?
+        .subcommand(check(alloc)?)
 }
 
 /// Reads the words, the program's own name first. Words that ask for help or for the version are
 /// refused too, with that as the text.
-pub fn read_words<'a>(alloc: Global, words: &'a [String]) -> Result<Request<'a>, Refused> {
+pub fn read_words<'a>(alloc: Global, words: &'a [String]) -> Result<Asked<'a>, Refused> {
     let matches = command(alloc)?.try_get_matches_from(words)?;
+    let usual = Options::default();
     // The subcommand and its FILE are required, so clap has found both.
-    match matches.subcommand() {
-        Some(("run", run)) => Ok(Request {
+    let request = match matches.subcommand() {
+        Some(("check", check)) => {
+            let files = check.get_strs("FILE").unwrap_or(&[]);
+            return Ok(Asked::Check(Vec::from_slice(alloc, files)?));
+        }
+        Some(("run", run)) => Request {
             subcommand: Subcommand::Run,
             file: run.get_str("FILE").unwrap_or(""),
             options: Options {
@@ -155,26 +238,45 @@ pub fn read_words<'a>(alloc: Global, words: &'a [String]) -> Result<Request<'a>,
                 ..Options::default()
             },
             is_unbuffered: false,
-        }),
-        Some((_, schedule)) => Ok(Request {
+        },
+        Some(("chart", chart)) => Request {
+            subcommand: Subcommand::Chart(if chart.get_flag(CSV) {
+                Drawing::Table
+            } else {
+                Drawing::Picture
+            }),
+            file: chart.get_str("FILE").unwrap_or(""),
+            options: Options {
+                explain: chart.get_flag(EXPLAIN),
+                turns: chart.get_one(TURNS).unwrap_or(usual.turns),
+                ..usual
+            },
+            is_unbuffered: false,
+        },
+        Some((_, schedule)) => Request {
             subcommand: Subcommand::Schedule,
             file: schedule.get_str("FILE").unwrap_or(""),
             options: Options {
                 audit: schedule.get_flag(AUDIT),
                 explain: schedule.get_flag(EXPLAIN),
+                labels: schedule.get_flag(LABELS),
                 lines: schedule.get_flag(LINES),
                 progress: schedule.get_flag(PROGRESS),
+                quiet: schedule.get_flag(QUIET),
+                strict: schedule.get_flag(STRICT),
                 summary: schedule.get_flag(SUMMARY),
+                turns: schedule.get_one(TURNS).unwrap_or(usual.turns),
             },
             is_unbuffered: schedule.get_flag(UNBUFFERED),
-        }),
-        None => Ok(Request {
+        },
+        None => Request {
             subcommand: Subcommand::Schedule,
             file: "",
             options: Options::default(),
             is_unbuffered: false,
-        }),
-    }
+        },
+    };
+    Ok(Asked::Script(request))
 }
 
 #[cfg(test)]
@@ -192,61 +294,156 @@ mod tests {
 
     #[test]
     fn a_script_is_asked_for(rt: HostRuntime) -> Result<(), Fail> {
+        let none = Options::default();
         let rows = [
-            ("memcgrun schedule a", [false; 6]),
-            ("memcgrun schedule -- a", [false; 6]),
+            ("memcgrun schedule a", none),
+            ("memcgrun schedule -- a", none),
             (
                 "memcgrun schedule --audit a",
-                [true, false, false, false, false, false],
+                Options {
+                    audit: true,
+                    ..none
+                },
             ),
             (
                 "memcgrun schedule --explain a",
-                [false, true, false, false, false, false],
+                Options {
+                    explain: true,
+                    ..none
+                },
             ),
             (
                 "memcgrun schedule a --explain",
-                [false, true, false, false, false, false],
+                Options {
+                    explain: true,
+                    ..none
+                },
             ),
             (
                 "memcgrun schedule --explain -- a",
-                [false, true, false, false, false, false],
+                Options {
+                    explain: true,
+                    ..none
+                },
+            ),
+            (
+                "memcgrun schedule --labels a",
+                Options {
+                    labels: true,
+                    ..none
+                },
             ),
             (
                 "memcgrun schedule --lines a",
-                [false, false, true, false, false, false],
+                Options {
+                    lines: true,
+                    ..none
+                },
             ),
             (
                 "memcgrun schedule --progress a",
-                [false, false, false, true, false, false],
+                Options {
+                    progress: true,
+                    ..none
+                },
+            ),
+            (
+                "memcgrun schedule --quiet a",
+                Options {
+                    quiet: true,
+                    ..none
+                },
+            ),
+            (
+                "memcgrun schedule --strict a",
+                Options {
+                    strict: true,
+                    ..none
+                },
             ),
             (
                 "memcgrun schedule a --summary",
-                [false, false, false, false, true, false],
+                Options {
+                    summary: true,
+                    ..none
+                },
             ),
             (
-                "memcgrun schedule --summary --lines a",
-                [false, false, true, false, true, false],
-            ),
-            (
-                "memcgrun schedule --unbuffered a",
-                [false, false, false, false, false, true],
+                "memcgrun schedule --labels --quiet a --strict",
+                Options {
+                    labels: true,
+                    quiet: true,
+                    strict: true,
+                    ..none
+                },
             ),
         ];
-        for (line, [audit, explain, lines, progress, summary, unbuffered]) in rows {
+        for (line, options) in rows {
             let words = words_of(rt.alloc(), line)?;
-            let request = read_words(rt.alloc(), &words).ok().ok_or("refused")?;
-            let options = Options {
-                audit,
-                explain,
-                lines,
-                progress,
-                summary,
+            let Ok(Asked::Script(request)) = read_words(rt.alloc(), &words) else {
+                return Err("refused".into());
             };
             assert_eq!(rt; request.subcommand, Subcommand::Schedule, "{line}");
             assert_eq!(rt; request.file, "a", "{line}");
             assert_eq!(rt; request.options, options, "{line}");
-            assert_eq!(rt; request.is_unbuffered, unbuffered, "{line}");
+            assert!(rt; !request.is_unbuffered, "{line}");
         }
+        Ok(())
+    }
+
+    #[test]
+    fn turns_are_asked_for(rt: HostRuntime) -> Result<(), Fail> {
+        let rows = [
+            ("memcgrun schedule --turns 1 a", 1),
+            ("memcgrun schedule a --turns 4294967295", 4_294_967_295),
+            ("memcgrun schedule --turns=25000 a", 25_000),
+        ];
+        for (line, turns) in rows {
+            let words = words_of(rt.alloc(), line)?;
+            let Ok(Asked::Script(request)) = read_words(rt.alloc(), &words) else {
+                return Err("refused".into());
+            };
+            let options = Options {
+                turns,
+                ..Options::default()
+            };
+            assert_eq!(rt; request.file, "a", "{line}");
+            assert_eq!(rt; request.options, options, "{line}");
+        }
+        Ok(())
+    }
+
+    #[test]
+    fn a_chart_is_asked_for(rt: HostRuntime) -> Result<(), Fail> {
+        let rows = [
+            ("memcgrun chart a", Drawing::Picture, 1000),
+            ("memcgrun chart --csv a", Drawing::Table, 1000),
+            ("memcgrun chart a --turns 7", Drawing::Picture, 7),
+        ];
+        for (line, kind, turns) in rows {
+            let words = words_of(rt.alloc(), line)?;
+            let Ok(Asked::Script(request)) = read_words(rt.alloc(), &words) else {
+                return Err("refused".into());
+            };
+            let options = Options {
+                turns,
+                ..Options::default()
+            };
+            assert_eq!(rt; request.subcommand, Subcommand::Chart(kind), "{line}");
+            assert_eq!(rt; request.file, "a", "{line}");
+            assert_eq!(rt; request.options, options, "{line}");
+        }
+        Ok(())
+    }
+
+    #[test]
+    fn answers_are_asked_for_as_they_come(rt: HostRuntime) -> Result<(), Fail> {
+        let words = words_of(rt.alloc(), "memcgrun schedule --unbuffered a")?;
+        let Ok(Asked::Script(request)) = read_words(rt.alloc(), &words) else {
+            return Err("refused".into());
+        };
+        assert_eq!(rt; request.options, Options::default());
+        assert!(rt; request.is_unbuffered);
         Ok(())
     }
 
@@ -260,7 +457,9 @@ mod tests {
         ];
         for (line, explain) in rows {
             let words = words_of(rt.alloc(), line)?;
-            let request = read_words(rt.alloc(), &words).ok().ok_or("refused")?;
+            let Ok(Asked::Script(request)) = read_words(rt.alloc(), &words) else {
+                return Err("refused".into());
+            };
             let options = Options {
                 explain,
                 ..Options::default()
@@ -269,6 +468,23 @@ mod tests {
             assert_eq!(rt; request.file, "a", "{line}");
             assert_eq!(rt; request.options, options, "{line}");
             assert!(rt; !request.is_unbuffered, "{line}");
+        }
+        Ok(())
+    }
+
+    #[test]
+    fn a_check_is_asked_for(rt: HostRuntime) -> Result<(), Fail> {
+        let rows = [
+            ("memcgrun check a", ["a"].as_slice()),
+            ("memcgrun check a b a", ["a", "b", "a"].as_slice()),
+            ("memcgrun check -- a -b", ["a", "-b"].as_slice()),
+        ];
+        for (line, wanted) in rows {
+            let words = words_of(rt.alloc(), line)?;
+            let Ok(Asked::Check(files)) = read_words(rt.alloc(), &words) else {
+                return Err("refused".into());
+            };
+            assert_eq!(rt; files.as_slice(), wanted, "{line}");
         }
         Ok(())
     }
@@ -293,13 +509,22 @@ mod tests {
             ("memcgrun schedule --explain", false),
             ("memcgrun schedule --lines --lines a", false),
             ("memcgrun --summary schedule a", false),
+            ("memcgrun schedule --turns -1 a", false),
+            ("memcgrun schedule --turns 1 --turns 2 a", false),
             ("memcgrun --explain schedule a", false),
             ("memcgrun run", false),
             ("memcgrun run a b", false),
             ("memcgrun run --audit a", false),
+            ("memcgrun run --strict a", false),
             ("memcgrun run --explain", false),
             ("memcgrun --explain run a", false),
+            ("memcgrun check", false),
+            ("memcgrun check --lines a", false),
+            ("memcgrun check --help", true),
+            ("memcgrun chart", false),
+            ("memcgrun chart --audit a", false),
             ("memcgrun walk a", false),
+            ("memcgrun chart --help", true),
             ("memcgrun run --help", true),
             ("memcgrun help run", true),
             ("memcgrun schedule --help", true),
@@ -312,6 +537,21 @@ mod tests {
             let (text, asked) = text_of(rt.alloc(), line)?;
             assert!(rt; text.contains("Usage: memcgrun"), "{line}: {text}");
             assert_eq!(rt; asked, is_asked_for, "{line}");
+        }
+        Ok(())
+    }
+
+    #[test]
+    fn turns_that_are_no_number_are_told(rt: HostRuntime) -> Result<(), Fail> {
+        let lines = [
+            "memcgrun schedule --turns a",
+            "memcgrun schedule --turns 0 a",
+            "memcgrun chart --turns 4294967296 a",
+        ];
+        for line in lines {
+            let (text, asked) = text_of(rt.alloc(), line)?;
+            assert!(rt; text.contains("'--turns <N>'"), "{line}: {text}");
+            assert!(rt; !asked, "{line}");
         }
         Ok(())
     }

@@ -75,7 +75,7 @@ fn worst_with(
 }
 
 /// Whether the task is live, in a group at or under the limit.
-fn is_candidate(tree: &Tree, spaces: &Spaces, limit: GroupId, task: TaskId) -> bool
+pub fn is_candidate(tree: &Tree, spaces: &Spaces, limit: GroupId, task: TaskId) -> bool
     ensures { result ≡ is_candidate tree.now spaces.now.tasks limit.0 task.0 }
 {
     match spaces.task(task) {

@@ -19,7 +19,7 @@ use std::thread::Threads;
 use trace::First;
 
 /// As many passes as there can be, and one part more.
-const PARTS: u64 = 131_073;
+pub const PARTS: u64 = 131_073;
 
 /// What came of it.
 #[derive(Debug, Drop)]
@@ -45,7 +45,7 @@ impl Ended {
 }
 
 /// What these lines ask for, without those of the header.
-fn asked(alloc: Global, lines: &str) -> Result<Vec<(Actor, Command)>, Fail> {
+pub fn asked(alloc: Global, lines: &str) -> Result<Vec<(Actor, Command)>, Fail> {
     match read(alloc, lines.as_bytes(), Mode::Run) {
         Ok(script) => Ok(script.setup),
         Err(_) => Err("a faulty line".into()),
@@ -60,7 +60,7 @@ fn print_all(text: &mut String, answers: &[Reply]) -> Result<(), Fail> {
 }
 
 /// Each command, one after the other, by one pass. What is answered.
-fn in_turn<L: Ledger + Opened, R: Wait>(
+pub fn in_turn<L: Ledger + Opened, R: Wait>(
     rt: &R,
     alloc: Global,
     live: &Live<L, Gate>,
@@ -142,7 +142,7 @@ fn work<L: Ledger + Opened + Send + Sync, R: Threads + Wait + Sync>(
 }
 
 /// The end of a run: it is refused without one of the passes, which says how many there are, and made with it.
-fn finish<L: Ledger + Opened>(
+pub fn finish<L: Ledger + Opened>(
     live: Live<L, Gate>,
     passes: Vec<Pass<L>>,
 ) -> Result<(u32, Report), Fail> {

@@ -4,8 +4,8 @@ ghost use Rattle.std.specs.Prelude.{◌≡◌, IfOk};
 
 use block_store::{BLOCK_BYTES, Fault, SharedDevice};
 use std::alloc::{AllocError, Global};
-use std::sync::atomic::{AtomicU64, Ordering};
-use std::sync::{Mutex, Wait};
+use std::sync::atomic::{AtomicBool, AtomicU64, Ordering};
+use std::sync::{Arc, Mutex, Wait};
 
 /// For so many turns of its loop a call is held at most.
 const MOST_TURNS: u64 = 100_000_000;
@@ -18,6 +18,10 @@ pub enum Manner {
     HoldsReads,
     /// The first write, likewise.
     HoldsWrites,
+    /// A third read is held until a third write has begun, and a second write until a third read has.
+    HoldsAcross,
+    /// Each write is held until it is let go.
+    HoldsUntilLetGo,
     /// Each byte that is read is one more than it was written.
     AddsOne,
     /// Each call fails.
@@ -26,14 +30,53 @@ pub enum Manner {
     FailsEachOnce,
 }
 
+/// What a device and its test know of each other.
+#[derive(Drop)]
+pub struct Signals {
+    reads: AtomicU64,
+    writes: AtomicU64,
+    is_let_go: AtomicBool,
+}
+
+impl Signals {
+    /// Waits until a write has begun. Whether one has.
+    pub fn wait_for_write(&self) -> bool {
+        reaches(&self.writes, 1)
+    }
+
+    /// Writes that are held are let go.
+    pub fn let_go(&self) {
+        self.is_let_go.store(true, Ordering::SeqCst);
+    }
+
+    /// Waits until writes are let go. Whether they are.
+    fn wait_until_let_go(&self) -> bool {
+        for _turn in 0..MOST_TURNS {
+            if self.is_let_go.load(Ordering::SeqCst) {
+                return true;
+            }
+        }
+        false
+    }
+}
+
+/// Waits until so many calls have begun. Whether they have.
+fn reaches(begun: &AtomicU64, calls: u64) -> bool {
+    for _turn in 0..MOST_TURNS {
+        if begun.load(Ordering::SeqCst) >= calls {
+            return true;
+        }
+    }
+    false
+}
+
 /// Blocks in memory.
 #[derive(Drop)]
 pub struct Gate {
     blocks: Mutex<Vec<[u8; BLOCK_BYTES]>>,
     count: u32,
     manner: Manner,
-    reads: AtomicU64,
-    writes: AtomicU64,
+    signals: Arc<Signals, Global>,
 }
 
 impl Gate {
@@ -41,13 +84,21 @@ impl Gate {
         ensures { IfOk result (λ gate. gate.count ≡ count) }
     {
         let blocks = vec![in alloc; [0; BLOCK_BYTES]; count as usize]?;
+        let signals = Signals {
+            reads: AtomicU64::new(0),
+            writes: AtomicU64::new(0),
+            is_let_go: AtomicBool::new(false),
+        };
         Ok(Gate {
             blocks: Mutex::new(blocks),
             count,
             manner,
-            reads: AtomicU64::new(0),
-            writes: AtomicU64::new(0),
+            signals: Arc::new(alloc, signals)?,
         })
+    }
+
+    pub fn signals(&self) -> Result<Arc<Signals, Global>, AllocError> {
+        Arc::try_clone(&self.signals)
     }
 
     /// Whether a call fails, of which there were so many of both kinds before.
@@ -58,16 +109,25 @@ impl Gate {
             _ => false,
         }
     }
-}
 
-/// Waits until two calls have begun. Whether they have.
-fn overlaps(begun: &AtomicU64) -> bool {
-    for _turn in 0..MOST_TURNS {
-        if begun.load(Ordering::SeqCst) >= 2 {
-            return true;
+    /// Holds a read, before which there were so many, as long as it has to be. Whether it is let go.
+    fn hold_read(&self, before: u64) -> bool {
+        match self.manner {
+            Manner::HoldsReads => reaches(&self.signals.reads, 2),
+            Manner::HoldsAcross if before == 2 => reaches(&self.signals.writes, 3),
+            _ => true,
         }
     }
-    false
+
+    /// The same of a write.
+    fn hold_write(&self, before: u64) -> bool {
+        match self.manner {
+            Manner::HoldsWrites => reaches(&self.signals.writes, 2),
+            Manner::HoldsAcross if before == 1 => reaches(&self.signals.reads, 3),
+            Manner::HoldsUntilLetGo => self.signals.wait_until_let_go(),
+            _ => true,
+        }
+    }
 }
 
 impl SharedDevice for Gate {
@@ -78,12 +138,9 @@ impl SharedDevice for Gate {
     }
 
     fn read<R: Wait>(&self, rt: &R, block: u32, to: &mut [u8; BLOCK_BYTES]) -> Result<(), Fault> {
-        let before = self.reads.fetch_add(1, Ordering::SeqCst);
-        let written = self.writes.load(Ordering::SeqCst);
-        if self.fails(before.wrapping_add(written)) {
-            return Err(Fault);
-        }
-        if self.manner == Manner::HoldsReads && !overlaps(&self.reads) {
+        let before = self.signals.reads.fetch_add(1, Ordering::SeqCst);
+        let written = self.signals.writes.load(Ordering::SeqCst);
+        if self.fails(before.wrapping_add(written)) || !self.hold_read(before) {
             return Err(Fault);
         }
         let blocks = self.blocks.lock(rt);
@@ -100,12 +157,9 @@ impl SharedDevice for Gate {
     }
 
     fn write<R: Wait>(&self, rt: &R, block: u32, from: &[u8; BLOCK_BYTES]) -> Result<(), Fault> {
-        let before = self.writes.fetch_add(1, Ordering::SeqCst);
-        let read = self.reads.load(Ordering::SeqCst);
-        if self.fails(before.wrapping_add(read)) {
-            return Err(Fault);
-        }
-        if self.manner == Manner::HoldsWrites && !overlaps(&self.writes) {
+        let before = self.signals.writes.fetch_add(1, Ordering::SeqCst);
+        let read = self.signals.reads.load(Ordering::SeqCst);
+        if self.fails(before.wrapping_add(read)) || !self.hold_write(before) {
             return Err(Fault);
         }
         let mut blocks = self.blocks.lock(rt);

@@ -9,4 +9,6 @@ mod crowd;
 #[cfg(test)]
 mod gate;
 #[cfg(test)]
+mod stops;
+#[cfg(test)]
 mod workers;

@@ -5,6 +5,7 @@ use Rattle.scripts.specs.declared.fault.Cause.TheVariants.{NotText, UnknownWord,
 use Rattle.scripts.specs.declared.fault.ScriptFault.{ScriptFault}
 use Rattle.scripts.specs.declared.fault.ScriptFault.TheVariants.{At, Memory}
 
+-- how the line says a cause. (Excludes a cause by another's text.)
 abbrev pub cause_text : Cause → List ℕ
 cause_text NotText = codes "not text"
 cause_text UnknownWord = codes "unknown word"
@@ -18,6 +19,7 @@ cause_text TooManyFiles = codes "too many files"
 cause_text TooManyBlocks = codes "too many blocks"
 cause_text OnlyInSchedule = codes "only in schedule"
 
+-- the line, without its end
 abbrev pub fault_text : ScriptFault → List ℕ
 fault_text (At line cause) = codes "line " ++ (decimal line ++ (codes ": " ++ cause_text cause))
 fault_text Memory = codes "out of memory"

@@ -20,7 +20,7 @@ use Rattle.scripts.specs.Faults.{fault}
 
 -- what holds where the header says nothing
 abbrev pub default_config : Config
-default_config = record { frames = 64; swap = 0; files = []; watermarks = record { low = 0; high = 0 }; trace = 65536 }
+default_config = record { frames = 64; swap = 0; files = []; watermarks = record { low = 0; high = 0 }; trace = 65536; turns = 1000 }
 
 abbrev pub config_after : Config → Item → Config
 config_after c (item.Frames n) = record c { frames = n }
@@ -36,6 +36,7 @@ config_after c (item.Advances actor) = c
 config_after c (item.Finishes actor) = c
 config_after c item.EndsSetup = c
 
+-- what the lines of the header say, one after the other
 abbrev pub config_of : List Item → Config
 config_of is = fold config_after default_config is
 

@@ -77,6 +77,7 @@ lines_in mode.Run is = []
 
 -- ---- the first faulty line
 
+-- the line is none of the header's, and not skipped
 abbrev pub is_command : Item → Bool
 is_command (item.Does actor what) = true
 is_command (item.Begins actor what) = true
@@ -91,6 +92,7 @@ is_command (item.Marks m) = false
 is_command (item.Trace n) = false
 is_command (item.Fails what n) = false
 
+-- the word of the header that the line begins with
 abbrev pub header_word : Item → Option Word
 header_word (item.Frames n) = Some word.Frames
 header_word (item.Swap n) = Some word.Swap
@@ -113,6 +115,7 @@ around_of frames is = record { frames = frames; commands = list_any is_command i
 abbrev pub fault_at : Mode → List (List ℕ) → ℕ → Option Cause
 fault_at mode ls k = fault mode (around_of (header_frames ls) (items_of (take k ls))) (slice_index_or ls k [])
 
+-- no line is faulty
 abbrev pub IsFaultless : Mode → List (List ℕ) → Type 0
 IsFaultless mode ls = (k : ℕ) → k < length ls → fault_at mode ls k ≡ None
 
@@ -122,6 +125,7 @@ pub record IsFirstFault (mode : Mode) (ls : List (List ℕ)) (number : ℕ) (cau
   pub faulty : fault_at mode ls (number - 1) ≡ Some cause
   pub first : (k : ℕ) → k + 1 < number → fault_at mode ls k ≡ None
 
+-- the fault is the first of the script; or memory was wanted to tell
 abbrev pub NamesFirstFault : Mode → ScriptFault → List (List ℕ) → Type 0
 NamesFirstFault mode script_fault.Memory ls = Unit {0}
 NamesFirstFault mode (script_fault.At line cause) ls = IsFirstFault mode ls line cause

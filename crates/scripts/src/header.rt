@@ -14,6 +14,7 @@ use crate::meaning::Item;
 use crate::mode::Mode;
 use crate::words::{Token, words_of};
 use machine::config::{Config, FileList, Watermarks};
+use machine::limit::USUAL_TURNS;
 use std::alloc::{AllocError, Global};
 
 /// How many frames there are where the header says nothing of them.
@@ -29,6 +30,7 @@ pub fn default_config(alloc: Global) -> Config
         files: FileList::new(alloc),
         watermarks: Watermarks { low: 0, high: 0 },
         trace: 65_536,
+        turns: USUAL_TURNS,
     }
 }
 

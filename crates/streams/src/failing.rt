@@ -2,7 +2,7 @@
 
 use std::io;
 use std::io::{Error, ErrorKind, Read, Write};
-use subcommands::{SCRIPT_BYTES, schedule};
+use subcommands::{SCRIPT_BYTES, read_and_check, schedule};
 
 const OVER_LIMIT: &str = "\
 group /a
@@ -213,4 +213,33 @@ fn the_status_holds_where_its_line_cannot_be_written(rt: HostRuntime) {
     assert_eq!(rt; schedule(alloc, &mut script, &mut out, &mut err), 1);
     assert!(rt; out.is_empty());
     let Full { room: _ } = err;
+}
+
+// A check has one line to write, and nobody hears of it where nobody reads that.
+#[test]
+fn a_check_whose_line_cannot_be_written_ends_with_status_1(rt: HostRuntime) {
+    let alloc = rt.alloc();
+    let line = "script: ok, 0 answers\n";
+    for room in 0..=line.len() {
+        let mut out = Full { room };
+        let mut err = Vec::new(alloc);
+        let mut script = "group /a\n".as_bytes();
+        let fits = room == line.len();
+        let status = read_and_check(alloc, "script", &mut script, &mut out, &mut err);
+        assert_eq!(rt; status, if fits { 0 } else { 1 }, "room for {room}");
+        assert_eq!(rt; is_one_line(&err), !fits, "room for {room}");
+        assert_eq!(rt;
+            err.starts_with(b"script: the answers can't be written: "),
+            !fits,
+            "room for {room}"
+        );
+        let Full { room: _ } = out;
+    }
+    let mut out = Closed;
+    let mut err = Vec::new(alloc);
+    let mut script = "group /a\n".as_bytes();
+    let status = read_and_check(alloc, "script", &mut script, &mut out, &mut err);
+    assert_eq!(rt; status, 1);
+    assert!(rt; err.is_empty());
+    let Closed = out;
 }

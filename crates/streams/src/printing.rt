@@ -56,7 +56,14 @@ fn answers_are_written_as_they_come(rt: HostRuntime) {
         };
         let mut err = Vec::new(alloc);
         let script = OVER_LIMIT.as_bytes();
-        let ran = run_script(alloc, Options::default(), script, &mut out, &mut err);
+        let ran = run_script(
+            alloc,
+            Options::default(),
+            "a.memcg",
+            script,
+            &mut out,
+            &mut err,
+        );
         let status = status_of(ran, &mut err);
         assert_eq!(rt; status, if writes == 4 { 0 } else { 1 }, "{writes} writes");
         let Limited { kept, writes: _ } = out;
@@ -78,7 +85,7 @@ fn writes<R: Abort + AllocGlobal>(rt: &R, options: Options, script: &str, out: &
     let script = script.as_bytes();
     let mut printed = Vec::new(alloc);
     let mut said = Vec::new(alloc);
-    let ran = run_script(alloc, options, script, &mut printed, &mut said);
+    let ran = run_script(alloc, options, "a.memcg", script, &mut printed, &mut said);
     let status = status_of(ran, &mut said);
     assert_eq!(rt; str::from_utf8(&said), Ok(err), "standard error");
     assert_eq!(rt; str::from_utf8(&printed), Ok(out), "standard output");
@@ -134,29 +141,31 @@ fn an_audit_has_the_last_line(rt: HostRuntime) {
         ..Options::default()
     };
     let out = "4: 1 5\n5: 4096\naudit ok\n";
-    let err = "lines 5, kills 0, refused 0, unfinished 0\n";
+    let err =
+        "lines: 5\nkills: 0\nrefused: 0\nunfinished: 0\npages read in: 0\npages written to swap: 0\npages dropped: 0\npages written home: 0\n";
     writes(&rt, options, script, out, err);
 }
 
+const SUMMARY: &str = "\
+lines: 9
+kills: 1
+refused: 1
+refused with ENOENT: 1
+unfinished: 1
+pages read in: 0
+pages written to swap: 0
+pages dropped: 0
+pages written home: 0
+";
+
+// What is counted otherwise is in options.cases of `cases`.
 #[test]
 fn a_summary_counts_what_was_done(rt: HostRuntime) {
     let options = Options {
         summary: true,
         ..Options::default()
     };
-    let err = "lines 9, kills 1, refused 1, unfinished 1\n";
-    writes(&rt, options, OVER_LIMIT, PRINTED, err);
-    writes(
-        &rt,
-        options,
-        "",
-        "",
-        "lines 0, kills 0, refused 0, unfinished 0\n",
-    );
-    // One that was begun over another was not begun.
-    let script = "group /a\ntask 1 /a\nbegin 1 write 0 0 1\nbegin 1 read 0 0\nfinish 1\n";
-    let err = "lines 5, kills 0, refused 1, unfinished 0\n";
-    writes(&rt, options, script, "1 Underway\n", err);
+    writes(&rt, options, OVER_LIMIT, PRINTED, SUMMARY);
 }
 
 // Keeps back what it takes, until it is to pass it on. After so many writes it takes no more.
@@ -194,7 +203,14 @@ fn all_answers_are_passed_on_at_the_end(rt: HostRuntime) {
         };
         let mut err = Vec::new(alloc);
         let script = OVER_LIMIT.as_bytes();
-        let ran = run_script(alloc, Options::default(), script, &mut out, &mut err);
+        let ran = run_script(
+            alloc,
+            Options::default(),
+            "a.memcg",
+            script,
+            &mut out,
+            &mut err,
+        );
         assert_eq!(rt; ran.is_ok(), writes == 4, "{writes} writes");
         assert!(rt; err.is_empty(), "{writes} writes");
         let KeepsBack {
@@ -214,10 +230,10 @@ fn a_terminal_sees_how_many_lines_are_done(rt: HostRuntime) {
         progress: true,
         ..Options::default()
     };
-    let err = "\r1 of 2 lines\r2 of 2 lines\r\u{1b}[K";
+    let err = "reading the script\r\u{1b}[K\r1 of 2 lines\r2 of 2 lines\r\u{1b}[K";
     writes(&rt, options, "group /a\ntask 1 /a\n", "", err);
     // It is taken back before an answer, and not written again for less than a hundredth of the lines.
-    let err = "\r1 of 2 lines\r\u{1b}[K\r2 of 2 lines\r\u{1b}[K";
+    let err = "reading the script\r\u{1b}[K\r1 of 2 lines\r\u{1b}[K\r2 of 2 lines\r\u{1b}[K";
     writes(
         &rt,
         options,
@@ -225,7 +241,33 @@ fn a_terminal_sees_how_many_lines_are_done(rt: HostRuntime) {
         "0\n",
         err,
     );
-    writes(&rt, options, "", "", "");
+    writes(&rt, options, "", "", "reading the script\r\u{1b}[K");
+}
+
+// Of a run that is cut short it stays, as a line of its own, and so does what is said of it.
+#[test]
+fn a_terminal_sees_how_many_lines_were_done(rt: HostRuntime) {
+    let alloc = rt.alloc();
+    let options = Options {
+        progress: true,
+        strict: true,
+        ..Options::default()
+    };
+    let mut out = Vec::new(alloc);
+    let mut err = Vec::new(alloc);
+    let script = b"group /a\nrmdir /b\ngroup /c\n";
+    let ran = run_script(alloc, options, "a.memcg", script, &mut out, &mut err);
+    assert_eq!(rt; status_of(ran, &mut err), 1);
+    assert_eq!(rt; str::from_utf8(&out), Ok("error ENOENT\n"));
+    let wanted =
+        "reading the script\r\u{1b}[K\r1 of 3 lines\r\u{1b}[K2 of 3 lines\na.memcg:2: rmdir /b: ENOENT, there is no group /b\n";
+    assert_eq!(rt; str::from_utf8(&err), Ok(wanted));
+    // A script with a fault is not run.
+    let mut err = Vec::new(alloc);
+    let ran = run_script(alloc, options, "a.memcg", b"foo\n", &mut out, &mut err);
+    assert_eq!(rt; status_of(ran, &mut err), 1);
+    let wanted = "reading the script\r\u{1b}[Ka.memcg:1: unknown word\n";
+    assert_eq!(rt; str::from_utf8(&err), Ok(wanted));
 }
 
 #[test]
@@ -241,11 +283,56 @@ fn a_run_that_is_cut_short_says_how_far_it_came(rt: HostRuntime) {
     };
     let mut err = Vec::new(alloc);
     let script = OVER_LIMIT.as_bytes();
-    let ran = run_script(alloc, options, script, &mut out, &mut err);
+    let ran = run_script(alloc, options, "a.memcg", script, &mut out, &mut err);
     assert_eq!(rt; status_of(ran, &mut err), 1);
     let Limited { kept, writes: _ } = out;
     assert_eq!(rt; str::from_utf8(&kept), Ok("killed 1\n1 killed\n"));
     let wanted =
-        "lines 6, kills 1, refused 0, unfinished 0\nthe answers can't be written: no storage space\n";
+        "lines: 6\nkills: 1\nrefused: 0\nunfinished: 0\nthe answers can't be written: no storage space\n";
     assert_eq!(rt; str::from_utf8(&err), Ok(wanted));
+}
+
+// Notes the order in which it and another are written to: what it takes it passes on at once.
+struct Noted<'a> {
+    all: &'a mut Vec<u8>,
+    kept: Vec<u8>,
+}
+
+impl Write for Noted<'_> {
+    fn write(&mut self, buf: &[u8]) -> io::Result<usize> {
+        self.kept.write(buf)
+    }
+
+    fn flush(&mut self) -> io::Result<()> {
+        self.all.write_all(self.kept.as_slice())?;
+        self.kept.clear();
+        Ok(())
+    }
+}
+
+// All answers are passed on before why a line was refused is told.
+#[test]
+fn why_a_line_is_refused_is_told_behind_its_answer(rt: HostRuntime) {
+    let alloc = rt.alloc();
+    let options = Options {
+        explain: true,
+        ..Options::default()
+    };
+    let mut passed_on = Vec::new(alloc);
+    let mut out = Noted {
+        all: &mut passed_on,
+        kept: Vec::new(alloc),
+    };
+    let mut err = Limited {
+        kept: Vec::new(alloc),
+        writes: 0,
+    };
+    // Where it can't be told the run goes on.
+    let script = b"group /a\ncat /a memory.max\nrmdir /b\ncat /a memory.min\n";
+    let ran = run_script(alloc, options, "a.memcg", script, &mut out, &mut err);
+    assert!(rt; ran.is_ok());
+    let Limited { kept, writes: _ } = err;
+    assert!(rt; kept.is_empty());
+    let Noted { all: _, kept: _ } = out;
+    assert_eq!(rt; str::from_utf8(&passed_on), Ok("max\nerror ENOENT\n0\n"));
 }

@@ -1,5 +1,5 @@
 -- A run on threads, once its trace was judged.
-use Rattle.std.proofs.Common.{◌≡◌, ℕ, Bool, true, false, List, ◌++◌, length, reverse, Option, refl, subst, sym, ◌∙◌, append_assoc}
+use Rattle.std.proofs.Common.{◌≡◌, ℕ, Bool, true, false, List, ◌++◌, length, reverse, Option, refl, subst, sym, ◌∙◌}
 use Rattle.std.specs.Prelude.{MatchBool, Result, Ok, Err, IsErr, IfOk, IfErr, is_ok}
 use Rattle.std.specs.List.{sum_by}
 use Rattle.std.specs.Io.KnownBytes.{Appends, Keeps}

@@ -1,5 +1,5 @@
 -- Runs that were begun, as what a writer got of them.
-use Rattle.std.proofs.Common.{◌≡◌, ℕ, true, List, [], Option, length, replicate, arith}
+use Rattle.std.proofs.Common.{◌≡◌, ℕ, true, false, List, [], Option, length, replicate, arith}
 use Rattle.std.proofs.lemmas.List.{length-replicate}
 use Rattle.machine.specs.declared.config.Config.{Config}
 use Rattle.machine.specs.declared.command.Step.{Step}
@@ -9,8 +9,10 @@ use Rattle.block_store.specs.Device.{Disk, new_disk}
 use Rattle.driver.specs.Schedule.{fits}
 use Rattle.driver.proofs.Runs.{fitting}
 use Rattle.driver.proofs.SinkLemmas.{opening_starts}
-use Rattle.subcommands.specs.Prints.{texts, PrintsStart, Cut}
-use Rattle.subcommands.specs.SinkLaws.{starts-nil}
+use Rattle.subcommands.specs.declared.options.Options.{Options}
+use Rattle.subcommands.specs.Asked.{marks_lines}
+use Rattle.subcommands.specs.Prints.{PrintsStart, Cut}
+use Rattle.subcommands.specs.SinkLaws.{out_begins-nil}
 
 -- a new device has the blocks that were asked for
 pub new_fits : (config : Config) (reads writes : List ℕ) → is_config config ≡ true → fits config (new_disk (blocks_of config) reads writes) ≡ true
@@ -19,5 +21,5 @@ new_fits config reads writes limits =
     fitting config (new_disk (blocks_of config) reads writes) limits (omega (arith, blocks))
 
 -- nothing was printed
-pub nothing_prints : (config : Config) (before : Disk) (steps : List Step) (behind : List ℕ) (old : Option (List ℕ)) → fits config before ≡ true → PrintsStart config before steps behind old old
-nothing_prints config before steps behind old fit = Cut [] before (opening_starts config before steps fit) (starts-nil old (texts []))
+pub nothing_prints : (config : Config) (before : Disk) (steps : List Step) (options : Options) (old : Option (List ℕ)) → fits config before ≡ true → marks_lines options ≡ false → PrintsStart config before steps options old old
+nothing_prints config before steps options old fit plain = Cut [] before (opening_starts config before steps fit) (out_begins-nil options old plain)

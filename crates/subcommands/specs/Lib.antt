@@ -1,3 +1,4 @@
+pub mod Asked
 pub mod Prints
 pub mod Told
 pub mod SinkLaws

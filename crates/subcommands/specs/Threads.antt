@@ -37,7 +37,8 @@ Board = Actor → List Kept
 abbrev pub no_pass : Board
 no_pass who = []
 
--- an actor is asked for these commands, its pass goes on with what that adds, and no other's does
+-- an actor is asked for these commands, its pass goes on with what that adds, and no other's does. (Excludes an actor that is answered for
+-- another.)
 pub record Piece (marks : Watermarks) (who : Actor) (commands : List Command) (before : Board) (said : List Reply) (after : Board) : Type 0 where
   pub did : Worked marks who commands (before who) (after who) said
   pub others : (other : Actor) → other ≢ who → after other ≡ before other

@@ -4,9 +4,9 @@ ghost use Rattle.std.specs.Prelude.{◌≡◌, ◌↔◌, IsTrue, OnOk};
 ghost use Rattle.std.specs.Io.KnownBytes.{Appends};
 ghost use Rattle.machine.specs.Control.{line};
 ghost use Rattle.subcommands.specs.Prints.{AppendsStart};
-ghost use Rattle.subcommands.specs.Told.{front_of, rest_of, behind_of, IsSilent, Reports, StartsReport, Behind};
+ghost use Rattle.subcommands.specs.Told.{front_of, rest_of, IsSilent, Reports, StartsReport, Behind};
 
-use crate::output::write_bytes;
+use crate::output::{write_bytes, write_line};
 use arrayvec::ArrayVec;
 use machine::bytes::PAGE_BYTES;
 use machine::config::Config;
@@ -31,12 +31,15 @@ pub enum Fault {
     TooLong,
     /// A line is faulty, or there was no memory for what the script says.
     Script(ScriptFault),
-    /// The same, and behind its line stands one that says more of it.
-    Explained(ScriptFault, String),
+    /// A line is faulty. The text is what is told of it: its line with the name of the script's file, and behind that one
+    /// that says more, if there is more to say.
+    Placed(ScriptFault, String),
     /// Memory was wanted for the run, for what is no command's answer.
     Memory(Wanted),
     /// An answer could not be written.
     Unwritable(io::Error),
+    /// A line was refused, where that ends a run. The text is the line that says which, and why.
+    Refused(String),
 }
 
 impl Fault {
@@ -48,7 +51,7 @@ impl Fault {
             Fault::Unreadable(_) => "the script can't be read: ",
             Fault::Memory(_) => "the run can't be made: ",
             Fault::Unwritable(_) => "the answers can't be written: ",
-            Fault::TooLong | Fault::Script(_) | Fault::Explained(_, _) => "",
+            Fault::TooLong | Fault::Script(_) | Fault::Placed(_, _) | Fault::Refused(_) => "",
         }
     }
 
@@ -69,9 +72,9 @@ impl Fault {
         }
     }
 
-    /// Writes the line that says why, and what is said behind it; nothing where nobody wants to hear of it.
-    /// It takes no memory. The error is the writer's, which took no more than the beginning; or the line would be
-    /// longer than a line may be, which only a reader's or a writer's own text can be, and then nothing is written.
+    /// Writes the lines that say why; nothing where nobody wants to hear of it. It takes no memory. The error is the
+    /// writer's, which took no more than the beginning; or the line would be longer than a line may be, which only a reader's or a
+    /// writer's own text can be, and then nothing is written.
     pub fn report<E: Write>(&self, err: &mut E) -> io::Result<()>
         ensures whole { OnOk result (Reports self.now (E.contents err.old) (E.contents err.new)) }
         ensures start { StartsReport self.now (E.contents err.old) (E.contents err.new) }
@@ -79,29 +82,11 @@ impl Fault {
         if self.is_silent() {
             return Ok(());
         }
-        tell_line(err, self.front(), self.rest())?;
-        self.tell_behind(err)
-    }
-
-    /// Writes what is said behind the line, if anything is.
-    fn tell_behind<E: Write>(&self, err: &mut E) -> io::Result<()>
-        ensures whole { OnOk result (Appends (E.contents err.old) (E.contents err.new) (behind_of self.now)) }
-        ensures start { AppendsStart (E.contents err.old) (E.contents err.new) (behind_of self.now) }
-    {
         match self {
-            Fault::Explained(_, more) => write_line(err, more.as_bytes()),
-            _ => Ok(()),
+            Fault::Placed(_, told) | Fault::Refused(told) => write_line(err, told.as_bytes()),
+            _ => tell_line(err, self.front(), self.rest()),
         }
     }
-}
-
-/// Writes bytes and the end of their line.
-fn write_line<E: Write>(err: &mut E, bytes: &[u8]) -> io::Result<()>
-    ensures whole { OnOk result (Appends (E.contents err.old) (E.contents err.new) (line bytes.now)) }
-    ensures start { AppendsStart (E.contents err.old) (E.contents err.new) (line bytes.now) }
-{
-    write_bytes(err, bytes)?;
-    write_bytes(err, b"\n")
 }
 
 /// Writes a line of two texts, in one piece.
@@ -130,7 +115,8 @@ impl fmt::Display for Rest<'_> {
     fn fmt<W: fmt::Write>(&self, f: &mut fmt::Formatter<W>) -> fmt::Result {
         match self.fault {
             Fault::TooLong => f.write_str("the script has more than 64 MiB"),
-            Fault::Script(fault) | Fault::Explained(fault, _) => write!(f, "{}", fault.text()),
+            Fault::Script(fault) => write!(f, "{}", fault.text()),
+            Fault::Placed(_, told) | Fault::Refused(told) => f.write_str(told.as_str()),
             Fault::Memory(wanted) => write!(f, "{wanted}"),
             Fault::Unreadable(error) | Fault::Unwritable(error) => write!(f, "{error}"),
         }

@@ -2,6 +2,7 @@
 
 ghost use Rattle.std.specs.Prelude.{OnOk};
 ghost use Rattle.std.specs.Io.KnownBytes.{Appends};
+ghost use Rattle.machine.specs.Control.{line};
 ghost use Rattle.subcommands.specs.Prints.{AppendsStart};
 
 use std::io;
@@ -27,4 +28,13 @@ pub fn write_bytes<W: Write>(writer: &mut W, bytes: &[u8]) -> io::Result<()>
         }
     }
     Err(ErrorKind::Interrupted.into())
+}
+
+/// Writes bytes and the end of their line.
+pub fn write_line<E: Write>(err: &mut E, bytes: &[u8]) -> io::Result<()>
+    ensures whole { OnOk result (Appends (E.contents err.old) (E.contents err.new) (line bytes.now)) }
+    ensures start { AppendsStart (E.contents err.old) (E.contents err.new) (line bytes.now) }
+{
+    write_bytes(err, bytes)?;
+    write_bytes(err, b"\n")
 }

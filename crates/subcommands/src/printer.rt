@@ -1,95 +1,62 @@
 //! Prints the answers of a run as they come.
 
-ghost use Rattle.std.specs.Prelude.{◌≡◌, IfOk, OnOk, OnErr, true, false, None, reverse};
+ghost use Rattle.std.specs.Prelude.{◌≡◌, ◌⊎◌, ◌∷◌, [], IsErr, IfOk, IfErr, OnOk, OnErr, true, false, None, reverse};
 ghost use Rattle.std.specs.Io.KnownBytes.{Appends, Keeps};
 ghost use Rattle.machine.specs.FirstBytes.{first_of};
 ghost use Rattle.machine.specs.Audit.{Passes};
 ghost use Rattle.driver.specs.Schedule.{fits};
-ghost use Rattle.machine.specs.Printed.{printed};
-ghost use Rattle.subcommands.specs.Prints.{texts, behind_answers, AppendsStart, PrintsRun, PrintsStart};
-ghost use Rattle.subcommands.specs.Sinks.{OutTakes, OutBegins, IsQuiet};
+ghost use Rattle.subcommands.specs.Asked.{marks_lines, speaks};
+ghost use Rattle.subcommands.specs.Prints.{behind_answers, refuses, AppendsStart, PrintsRun, PrintsStart, EndsRun};
+ghost use Rattle.subcommands.specs.Sinks.{OutTakes, OutBegins, IsQuiet, GoesOn, is_end, is_ended, EndsAt};
 
+use crate::begun::Begun;
+use crate::judged::{is_byte, refusal_of};
+use crate::metered::{Calls, Metered, Moved};
 use crate::options::Options;
-use crate::output::write_bytes;
+use crate::output::{write_bytes, write_line};
+use crate::source::Source;
+use crate::stopped::Stopped;
+use crate::tally::{Summary, Tally};
 use block_store::BlockDevice;
-use driver::{Answer, Closed, Config, Reply, Sink, Step, Stop, Word, run_into};
+use book::Book;
+use driver::{Actor, Closed, Config, Reply, Sink, Step, Stop, Word, run_into};
+use explain::{Reason, Told, Words, reason_of};
+use machine::event::Cause;
 use std::alloc::Global;
 use std::io;
 use std::io::Write;
 use trace::{Trace, audit};
 
 /// How a terminal takes back what stands in its line.
-const ERASE: &[u8] = b"\r\x1b[K";
-
-/// What a run has answered.
-#[derive(Clone, Copy, Debug, Default, PartialEq, Eq)]
-struct Tally {
-    /// Commands that came to their end.
-    ended: u64,
-    kills: u64,
-    /// Commands that were refused, one that was begun over another among them.
-    refused: u64,
-    /// Of these, those that were begun over another.
-    underway: u64,
-}
-
-impl Tally {
-    fn count(&mut self, answer: &Answer) {
-        match answer {
-            Answer::Kill(_) => bump(&mut self.kills),
-            Answer::Word(Word::Underway) => {
-                bump(&mut self.refused);
-                bump(&mut self.underway);
-            }
-            Answer::Word(Word::Refused(_)) => {
-                bump(&mut self.refused);
-                bump(&mut self.ended);
-            }
-            Answer::Word(Word::Idle | Word::TurnLimit) => {}
-            Answer::Word(Word::Killed | Word::Busy | Word::Io | Word::OutOfMemory | Word::Again) =>
-                bump(&mut self.ended),
-            Answer::Done | Answer::Text(_) | Answer::Byte(_) => bump(&mut self.ended),
-        }
-    }
-}
-
-/// One more, up to the greatest number that there is.
-fn bump(count: &mut u64) {
-    *count = count.saturating_add(1);
-}
+pub const ERASE: &[u8] = b"\r\x1b[K";
 
 /// Where the answers of a run go. Each is written as it comes, in one piece.
 ///
 /// It owns no memory: the proof of [`print_run`] knows what the writers behind it hold only where none stands
 /// beside them.
 #[derive(Drop)]
-struct Printer<'o, 'e, 's, 'l, 't, 'f, O: Write, E: Write> {
+struct Printer<'o, 'e, 's, 't, 'b, 'f, O: Write, E: Write> {
     out: &'o mut O,
     err: &'e mut E,
     options: Options,
-    steps: &'s [Step],
-    /// For each of the steps the number of its line.
-    lines: &'l [usize],
+    source: Source<'s>,
     /// What is written next.
     text: &'t mut String,
+    /// Which command each actor is at, where something asks for it.
+    begun: &'b mut Begun,
     /// What a terminal shows of how many lines are done, in hundredths, if it shows any.
     shown: Option<usize>,
     /// How many of the steps are done, as far as is known.
     done: usize,
     tally: Tally,
-    /// Why an answer could not be written.
-    fault: &'f mut Option<io::Error>,
+    /// Why no more answers are taken.
+    stopped: &'f mut Option<Stopped>,
 }
 
-impl<'o, 'e, 's, 'l, 't, 'f, O: Write, E: Write> Printer<'o, 'e, 's, 'l, 't, 'f, O, E> {
-    /// The number of the line of the step that stands there; 0 where there is none.
-    fn line_of(&self, step: usize) -> usize {
-        self.lines.get(step).copied().unwrap_or(0)
-    }
-
-    /// The number of the last line.
-    fn last_line(&self) -> usize {
-        self.lines.last().copied().unwrap_or(0)
+impl<'o, 'e, 's, 't, 'b, 'f, O: Write, E: Write> Printer<'o, 'e, 's, 't, 'b, 'f, O, E> {
+    /// The number of the line that was done last.
+    fn line_done(&self) -> usize {
+        self.source.line_of(self.done.saturating_sub(1))
     }
 
     /// Writes the answer, if it prints anything.
@@ -97,26 +64,48 @@ impl<'o, 'e, 's, 'l, 't, 'f, O: Write, E: Write> Printer<'o, 'e, 's, 'l, 't, 'f,
         ensures out { self.new.out.ghost_name ≡ self.old.out.ghost_name }
         ensures err { self.new.err.ghost_name ≡ self.old.err.ghost_name }
         ensures options { self.new.options ≡ self.old.options }
-        ensures whole { OnOk result (OutTakes self.old.options (O.contents self.old.out.now) (O.contents self.new.out.now) (printed reply.now)) }
-        ensures start { OnErr result (OutBegins self.old.options (O.contents self.old.out.now) (O.contents self.new.out.now) (printed reply.now)) }
+        ensures stopped { self.new.stopped.now ≡ self.old.stopped.now }
+        ensures whole { OnOk result (OutTakes self.old.options (O.contents self.old.out.now) (O.contents self.new.out.now) (reply.now ∷ [])) }
+        ensures start { OnErr result (OutBegins self.old.options (O.contents self.old.out.now) (O.contents self.new.out.now) (reply.now ∷ [])) }
         ensures quiet { IsQuiet self.old.options self.old.shown self.new.shown (E.contents self.old.err.now) (E.contents self.new.err.now) }
     {
+        if self.options.quiet && is_byte(&reply.answer) {
+            return Ok(());
+        }
         self.text.clear();
         reply.print(self.text)?;
         if self.text.is_empty() {
             return Ok(());
         }
         self.hide();
-        if !self.options.lines {
+        if !self.options.marks_lines() {
             return write_bytes(self.out, self.text.as_bytes());
         }
-        let number = self.line_of(step);
+        self.write_marked(step)
+    }
+
+    /// Writes the lines that are to be written next, each behind the number of their line of the script, and behind its words
+    /// where these are asked for.
+    fn write_marked(&mut self, step: usize) -> io::Result<()>
+        requires { marks_lines self.old.options ≡ true }
+        ensures out { self.new.out.ghost_name ≡ self.old.out.ghost_name }
+        ensures err { self.new.err ≡ self.old.err }
+        ensures options { self.new.options ≡ self.old.options }
+        ensures stopped { self.new.stopped.now ≡ self.old.stopped.now }
+        ensures shown { self.new.shown ≡ self.old.shown }
+    {
+        let number = self.source.line_of(step);
+        let words = Words(self.source.text_of(number));
         let alloc = *self.text.allocator();
-        let mut numbered = String::new(alloc);
+        let mut marked = String::new(alloc);
         for line in self.text.lines() {
-            writeln!(numbered, "{number}: {line}")?;
+            if self.options.labels {
+                writeln!(marked, "{number} {words}: {line}")?;
+            } else {
+                writeln!(marked, "{number}: {line}")?;
+            }
         }
-        write_bytes(self.out, numbered.as_bytes())
+        write_bytes(self.out, marked.as_bytes())
     }
 
     /// Takes back what a terminal shows.
@@ -125,6 +114,7 @@ impl<'o, 'e, 's, 'l, 't, 'f, O: Write, E: Write> Printer<'o, 'e, 's, 'l, 't, 'f,
         ensures err { self.new.err.ghost_name ≡ self.old.err.ghost_name }
         ensures options { self.new.options ≡ self.old.options }
         ensures text { self.new.text.now ≡ self.old.text.now }
+        ensures stopped { self.new.stopped.now ≡ self.old.stopped.now }
         ensures quiet { IsQuiet self.old.options self.old.shown self.new.shown (E.contents self.old.err.now) (E.contents self.new.err.now) }
     {
         if self.shown.take().is_some() {
@@ -138,9 +128,11 @@ impl<'o, 'e, 's, 'l, 't, 'f, O: Write, E: Write> Printer<'o, 'e, 's, 'l, 't, 'f,
         ensures out { self.new.out ≡ self.old.out }
         ensures err { self.new.err.ghost_name ≡ self.old.err.ghost_name }
         ensures options { self.new.options ≡ self.old.options }
+        ensures stopped { self.new.stopped.now ≡ self.old.stopped.now }
     {
-        let done = self.line_of(step);
-        let last = self.last_line();
+        let source = self.source;
+        let done = source.line_of(step);
+        let last = source.last_line();
         let hundredth = done.saturating_mul(100).checked_div(last).unwrap_or(100);
         if self.shown != Some(hundredth) {
             let _ = write!(self.err, "\r{done} of {last} lines");
@@ -148,38 +140,156 @@ impl<'o, 'e, 's, 'l, 't, 'f, O: Write, E: Write> Printer<'o, 'e, 's, 'l, 't, 'f,
         }
     }
 
-    /// How many commands were begun that have not come to their end.
-    fn unfinished(&self) -> u64 {
-        let begun = self
+    /// Leaves on a terminal how many lines were done when the run was cut short.
+    fn leave_shown(&mut self)
+        ensures out { self.new.out ≡ self.old.out }
+        ensures err { self.new.err.ghost_name ≡ self.old.err.ghost_name }
+        ensures options { self.new.options ≡ self.old.options }
+        ensures stopped { self.new.stopped.now ≡ self.old.stopped.now }
+    {
+        let source = self.source;
+        let done = source.line_of(self.done.saturating_sub(1));
+        let last = source.last_line();
+        let _ = writeln!(self.err, "{done} of {last} lines");
+    }
+
+    /// Makes the text say which line was refused, and why.
+    fn say_why(&mut self, step: usize, actor: Actor, word: Word) -> io::Result<()>
+        ensures out { self.new.out ≡ self.old.out }
+        ensures err { self.new.err ≡ self.old.err }
+        ensures options { self.new.options ≡ self.old.options }
+        ensures stopped { self.new.stopped.now ≡ self.old.stopped.now }
+        ensures shown { self.new.shown ≡ self.old.shown }
+    {
+        self.begun.look(self.source, step)?;
+        if word == Word::Underway {
+            self.begun.pass_by(step);
+        }
+        let source = self.source;
+        let number = source.line_of(step);
+        let words = Words(source.text_of(number));
+        self.text.clear();
+        write!(self.text, "{}:{number}: {words}: {word}", source.name)?;
+        let told = told_of(source, self.begun.of(actor), actor, number);
+        if let Some(reason) = reason_for(actor, told, word) {
+            write!(self.text, ", {reason}")?;
+        }
+        Ok(())
+    }
+
+    /// What comes of an answer that refuses something: the end of a strict run, or a line that says why.
+    fn heed(&mut self, step: usize, actor: Actor, word: Word) -> Result<(), Stopped>
+        ensures out { self.new.out.ghost_name ≡ self.old.out.ghost_name }
+        ensures err { self.new.err.ghost_name ≡ self.old.err.ghost_name }
+        ensures options { self.new.options ≡ self.old.options }
+        ensures stopped { self.new.stopped.now ≡ self.old.stopped.now }
+        ensures kept { Keeps (O.contents self.old.out.now) (O.contents self.new.out.now) }
+        ensures goes_on { OnOk result (self.old.options.strict ≡ false) }
+        ensures ends { IfErr result (λ why. is_end why ≡ true → self.old.options.strict ≡ true) }
+        ensures quiet { IsQuiet self.old.options self.old.shown self.new.shown (E.contents self.old.err.now) (E.contents self.new.err.now) }
+    {
+        if self.options.strict {
+            return Err(self.end_at(step, actor, word));
+        }
+        if self.options.explain {
+            self.tell_why(step, actor, word)?;
+        }
+        Ok(())
+    }
+
+    /// A strict run ends there.
+    fn end_at(&mut self, step: usize, actor: Actor, word: Word) -> Stopped
+        ensures out { self.new.out ≡ self.old.out }
+        ensures err { self.new.err ≡ self.old.err }
+        ensures options { self.new.options ≡ self.old.options }
+        ensures stopped { self.new.stopped.now ≡ self.old.stopped.now }
+        ensures shown { self.new.shown ≡ self.old.shown }
+    {
+        if let Err(error) = self.say_why(step, actor, word) {
+            return Stopped::Unwritten(error);
+        }
+        let alloc = *self.text.allocator();
+        match String::from_str(alloc, self.text.as_str()) {
+            Ok(told) => Stopped::Refused(told),
+            Err(error) => Stopped::Unwritten(error.into()),
+        }
+    }
+
+    /// Says which line was refused, and why, once all answers are out.
+    fn tell_why(&mut self, step: usize, actor: Actor, word: Word) -> Result<(), Stopped>
+        requires { self.old.options.explain ≡ true }
+        ensures out { self.new.out.ghost_name ≡ self.old.out.ghost_name }
+        ensures err { self.new.err.ghost_name ≡ self.old.err.ghost_name }
+        ensures options { self.new.options ≡ self.old.options }
+        ensures stopped { self.new.stopped.now ≡ self.old.stopped.now }
+        ensures kept { Keeps (O.contents self.old.out.now) (O.contents self.new.out.now) }
+        ensures ends { IfErr result (λ why. is_end why ≡ false) }
+    {
+        if let Err(error) = self.say_why(step, actor, word) {
+            return Err(Stopped::Unwritten(error));
+        }
+        if let Err(error) = self.out.flush() {
+            return Err(Stopped::Unwritten(error));
+        }
+        // Nothing hangs on it: the run goes on where it can't be written.
+        let _ = write_line(self.err, self.text.as_bytes());
+        Ok(())
+    }
+
+    /// Writes an answer, and what is to be said of it. The error is why no more are taken.
+    fn serve(&mut self, step: usize, reply: &Reply) -> Result<(), Stopped>
+        ensures out { self.new.out.ghost_name ≡ self.old.out.ghost_name }
+        ensures err { self.new.err.ghost_name ≡ self.old.err.ghost_name }
+        ensures options { self.new.options ≡ self.old.options }
+        ensures stopped { self.new.stopped.now ≡ self.old.stopped.now }
+        ensures whole { OnOk result (OutTakes self.old.options (O.contents self.old.out.now) (O.contents self.new.out.now) (reply.now ∷ [])) }
+        ensures start { OnErr result (OutBegins self.old.options (O.contents self.old.out.now) (O.contents self.new.out.now) (reply.now ∷ [])) }
+        ensures goes_on { OnOk result (GoesOn self.old.options (reply.now ∷ [])) }
+        ensures ends { IfErr result (λ why. is_end why ≡ true → EndsAt self.old.options (O.contents self.old.out.now) (O.contents self.new.out.now) (reply.now ∷ [])) }
+        ensures quiet { IsQuiet self.old.options self.old.shown self.new.shown (E.contents self.old.err.now) (E.contents self.new.err.now) }
+    {
+        match self.write(step, reply) {
+            Ok(()) => {}
+            Err(error) => return Err(Stopped::Unwritten(error)),
+        }
+        if let Some(word) = refusal_of(&reply.answer) {
+            self.heed(step, reply.actor, word)?;
+        }
+        if self.options.progress {
+            self.show(step);
+        }
+        Ok(())
+    }
+
+    /// How many commands were begun, those that were begun over another among them.
+    fn count_begun(&self) -> u64 {
+        self.source
             .steps
             .iter()
             .take(self.done)
             .filter(|step| matches!(step, Step::Begin(_, _)))
-            .count() as u64;
-        begun
-            .saturating_sub(self.tally.underway)
-            .saturating_sub(self.tally.ended)
+            .count() as u64
     }
 
-    /// The run has come to its end, or was cut short: what is left to say is said. The error is why an
-    /// answer could not be written.
-    fn end(&mut self, is_whole: bool) -> io::Result<()>
+    /// The run has come to its end, or was cut short: what is left to say is said. The error is why not all answers were taken.
+    fn end(&mut self, moved: Option<Moved>) -> Result<(), Stopped>
         ensures out { self.new.out.ghost_name ≡ self.old.out.ghost_name }
         ensures err { self.new.err.ghost_name ≡ self.old.err.ghost_name }
         ensures kept { Keeps (O.contents self.old.out.now) (O.contents self.new.out.now) }
-        ensures quiet { self.old.options.summary ≡ false → IsQuiet self.old.options self.old.shown self.new.shown (E.contents self.old.err.now) (E.contents self.new.err.now) }
+        ensures ends { IfErr result (λ why. is_end why ≡ true → is_ended self.old.stopped.now ≡ true) }
+        ensures quiet { speaks self.old.options ≡ false → self.old.shown ≡ None → E.contents self.new.err.now ≡ E.contents self.old.err.now }
     {
         self.hide();
         // What the writer still has comes before anything that is said beside it, also where it took no more.
         let flushed = self.out.flush();
-        let written = match self.fault.take() {
-            Some(error) => Err(error),
-            None => flushed,
-        };
-        if self.options.summary {
-            self.sum_up(is_whole);
+        let stopped = self.stopped.take();
+        if moved.is_none() && self.options.progress {
+            self.leave_shown();
         }
-        written
+        if self.options.summary {
+            self.sum_up(moved);
+        }
+        stopped_by(stopped, flushed)
     }
 
     /// Writes what an audit of the run says, where it is asked for.
@@ -188,6 +298,7 @@ impl<'o, 'e, 's, 'l, 't, 'f, O: Write, E: Write> Printer<'o, 'e, 's, 'l, 't, 'f,
         ensures out { self.new.out.ghost_name ≡ self.old.out.ghost_name }
         ensures err { self.new.err.ghost_name ≡ self.old.err.ghost_name }
         ensures options { self.new.options ≡ self.old.options }
+        ensures stopped { self.new.stopped.now ≡ self.old.stopped.now }
         ensures whole { OnOk result (Appends (O.contents self.old.out.now) (O.contents self.new.out.now) (behind_answers self.old.options)) }
         ensures start { AppendsStart (O.contents self.old.out.now) (O.contents self.new.out.now) (behind_answers self.old.options) }
         ensures quiet { IsQuiet self.old.options self.old.shown self.new.shown (E.contents self.old.err.now) (E.contents self.new.err.now) }
@@ -204,125 +315,180 @@ impl<'o, 'e, 's, 'l, 't, 'f, O: Write, E: Write> Printer<'o, 'e, 's, 'l, 't, 'f,
     }
 
     /// The run has come to its end, or was cut short: what an audit of it says, and what is left to say. The error
-    /// is why an answer, or that, could not be written.
-    fn conclude(&mut self, ran: &Result<Trace, Stop>) -> io::Result<()>
+    /// is why an answer, or that, could not be written, or that a strict run ended.
+    fn conclude(&mut self, ran: &Result<Trace, Stop>, moved: Option<Moved>) -> Result<(), Stopped>
         requires { IfOk ran.now (λ trace. Passes (first_of (reverse trace.entries)) (reverse trace.entries)) }
         ensures out { self.new.out.ghost_name ≡ self.old.out.ghost_name }
         ensures err { self.new.err.ghost_name ≡ self.old.err.ghost_name }
         ensures whole { OnOk ran.now (OnOk result (Appends (O.contents self.old.out.now) (O.contents self.new.out.now) (behind_answers self.old.options))) }
         ensures short { OnOk ran.now (AppendsStart (O.contents self.old.out.now) (O.contents self.new.out.now) (behind_answers self.old.options)) }
         ensures kept { OnErr ran.now (Keeps (O.contents self.old.out.now) (O.contents self.new.out.now)) }
-        ensures quiet { self.old.options.summary ≡ false → IsQuiet self.old.options self.old.shown self.new.shown (E.contents self.old.err.now) (E.contents self.new.err.now) }
+        ensures ends { IfErr result (λ why. is_end why ≡ true → is_ended self.old.stopped.now ≡ true) }
+        ensures quiet { speaks self.old.options ≡ false → self.old.shown ≡ None → E.contents self.new.err.now ≡ E.contents self.old.err.now }
     {
         let told = match ran {
             Ok(trace) => self.tell_audit(trace),
-            Err(_) => return self.end(false),
+            Err(_) => return self.end(None),
         };
-        let ended = self.end(true);
+        let ended = self.end(moved);
         match told {
             Ok(()) => ended,
-            Err(error) => Err(error),
+            Err(error) => Err(Stopped::Unwritten(error)),
         }
     }
 
-    /// Says how much was done.
-    fn sum_up(&mut self, is_whole: bool)
+    /// Says how much was done. Of pages nothing is known where the run was cut short.
+    fn sum_up(&mut self, moved: Option<Moved>)
         ensures out { self.new.out ≡ self.old.out }
         ensures err { self.new.err.ghost_name ≡ self.old.err.ghost_name }
     {
-        if is_whole {
-            self.done = self.steps.len();
+        if moved.is_some() {
+            self.done = self.source.steps.len();
         }
-        let lines = if is_whole {
-            self.last_line()
-        } else {
-            let last = self.done.saturating_sub(1);
-            self.line_of(last)
+        let summary = Summary {
+            tally: self.tally,
+            line: self.line_done(),
+            begun: self.count_begun(),
+            moved,
         };
-        let Tally { kills, refused, .. } = self.tally;
-        let unfinished = self.unfinished();
-        let _ = writeln!(
-            self.err,
-            "lines {lines}, kills {kills}, refused {refused}, unfinished {unfinished}"
-        );
+        // Nothing hangs on it.
+        let _ = summary.write(self.err);
     }
 }
 
-/// How a run went, with its trace where it went through, and whether all that it answered was written.
+/// The command that this step began, if one did, as it stands when a line of this number is answered.
+fn told_of<'s>(
+    source: Source<'s>,
+    step: Option<usize>,
+    actor: Actor,
+    line: usize,
+) -> Option<Told<'s>> {
+    let command = source.command_at(step?)?;
+    let number = source.line_of(step?);
+    Some(Told {
+        actor,
+        command,
+        line: source.text_of(number),
+        number,
+        in_turns: number != line,
+        turns: source.turns,
+    })
+}
+
+/// Why the actor's line was refused.
+fn reason_for<'s>(actor: Actor, told: Option<Told<'s>>, word: Word) -> Option<Reason<'s>> {
+    match word {
+        Word::Idle => Some(Reason::Idle(actor)),
+        _ => reason_of(told?, word),
+    }
+}
+
+/// Why not all answers were taken, if they were not. That one could not be written counts first.
+fn stopped_by(stopped: Option<Stopped>, flushed: io::Result<()>) -> Result<(), Stopped>
+    ensures { IfErr result (λ why. is_end why ≡ true → is_ended stopped ≡ true) }
+{
+    match stopped {
+        None => match flushed {
+            Ok(()) => Ok(()),
+            Err(error) => Err(Stopped::Unwritten(error)),
+        },
+        Some(Stopped::Unwritten(error)) => Err(Stopped::Unwritten(error)),
+        Some(Stopped::Refused(told)) => match flushed {
+            Ok(()) => Err(Stopped::Refused(told)),
+            Err(error) => Err(Stopped::Unwritten(error)),
+        },
+    }
+}
+
+/// How a run went, with its trace where it went through, and whether all that it answered was taken.
 #[derive(Drop)]
 pub struct Ended {
     pub ran: Result<Trace, Stop>,
-    pub written: io::Result<()>,
+    pub written: Result<(), Stopped>,
 }
 
 /// Runs steps over a device. Each answer is written to `out` as it comes; what the options ask for goes to
 /// `err`, and nothing else.
-pub fn print_run<D: BlockDevice, O: Write, E: Write>(
+pub fn print_run<D: BlockDevice + Drop, O: Write, E: Write>(
     alloc: Global,
     options: Options,
     config: Config,
-    device: &mut D,
-    steps: &[Step],
-    lines: &[usize],
+    device: &mut Metered<D>,
+    source: Source<'_>,
     out: &mut O,
     err: &mut E,
 ) -> Ended
-    requires { fits config (D.disk device.old) ≡ true }
-    ensures whole { OnOk result.ran (OnOk result.written (options.lines ≡ false → PrintsRun config (D.disk device.old) steps.now (behind_answers options) (O.contents out.old) (O.contents out.new))) }
-    ensures short { OnOk result.ran (options.lines ≡ false → PrintsStart config (D.disk device.old) steps.now (behind_answers options) (O.contents out.old) (O.contents out.new)) }
-    ensures start { OnErr result.ran (options.lines ≡ false → PrintsStart config (D.disk device.old) steps.now (behind_answers options) (O.contents out.old) (O.contents out.new)) }
-    ensures quiet { options.progress ≡ false → options.summary ≡ false → E.contents err.new ≡ E.contents err.old }
+    requires { fits config (D.disk device.old.device) ≡ true }
+    ensures whole { OnOk result.ran (OnOk result.written (marks_lines options ≡ false → PrintsRun config (D.disk device.old.device) source.entry.steps.now options (O.contents out.old) (O.contents out.new))) }
+    ensures short { OnOk result.ran (marks_lines options ≡ false → PrintsStart config (D.disk device.old.device) source.entry.steps.now options (O.contents out.old) (O.contents out.new)) }
+    ensures start { OnErr result.ran (marks_lines options ≡ false → PrintsStart config (D.disk device.old.device) source.entry.steps.now options (O.contents out.old) (O.contents out.new)) }
+    ensures ends { IfErr result.written (λ why. is_end why ≡ true → IsErr result.ran × (options.strict ≡ true) × (marks_lines options ≡ false → EndsRun config (D.disk device.old.device) source.entry.steps.now options (O.contents out.old) (O.contents out.new))) }
+    ensures quiet { speaks options ≡ false → E.contents err.new ≡ E.contents err.old }
 {
     let mut text = String::new(alloc);
-    let mut fault = None;
+    let mut begun = Begun::new(alloc);
+    let mut stopped = None;
     let mut printer = Printer {
         out,
         err,
         options,
-        steps,
-        lines,
+        source,
         text: &mut text,
+        begun: &mut begun,
         shown: None,
         done: 0,
-        tally: Tally::default(),
-        fault: &mut fault,
+        tally: Tally::new(),
+        stopped: &mut stopped,
     };
-    let ran = run_into(alloc, config, device, steps, &mut printer);
-    let written = printer.conclude(&ran);
+    let ran = run_into(alloc, config, device, source.steps, &mut printer);
+    let moved = moved_by(&ran, device.calls());
+    let written = printer.conclude(&ran, moved);
     Ended { ran, written }
 }
 
-impl<'o, 'e, 's, 'l, 't, 'f, O: Write, E: Write> Sink for Printer<'o, 'e, 's, 'l, 't, 'f, O, E> {
-    // What is said of the one and of the other writer. Both stay the writers that they are.
+/// How many pages a run moved that went through.
+fn moved_by(ran: &Result<Trace, Stop>, written: Calls) -> Option<Moved> {
+    match ran {
+        Ok(trace) => Some(Moved::of(trace.entries(), written)),
+        Err(_) => None,
+    }
+}
+
+impl<'o, 'e, 's, 't, 'b, 'f, O: Write, E: Write> Sink for Printer<'o, 'e, 's, 't, 'b, 'f, O, E> {
+    // What is said of the one and of the other writer, and when a strict run goes on. Both stay the writers that they are.
     ghost took = { λ a b xs. (b.out.ghost_name ≡ a.out.ghost_name) × (b.err.ghost_name ≡ a.err.ghost_name) × (b.options ≡ a.options)
-        × OutTakes a.options (O.contents a.out.now) (O.contents b.out.now) (texts xs)
-        × IsQuiet a.options a.shown b.shown (E.contents a.err.now) (E.contents b.err.now) };
+        × OutTakes a.options (O.contents a.out.now) (O.contents b.out.now) xs
+        × IsQuiet a.options a.shown b.shown (E.contents a.err.now) (E.contents b.err.now)
+        × (b.stopped.now ≡ a.stopped.now)
+        × GoesOn a.options xs };
 
     ghost failed = { λ a b begun. (b.out.ghost_name ≡ a.out.ghost_name) × (b.err.ghost_name ≡ a.err.ghost_name) × (b.options ≡ a.options)
-        × OutBegins a.options (O.contents a.out.now) (O.contents b.out.now) (texts begun)
-        × IsQuiet a.options a.shown b.shown (E.contents a.err.now) (E.contents b.err.now) };
+        × OutBegins a.options (O.contents a.out.now) (O.contents b.out.now) begun
+        × IsQuiet a.options a.shown b.shown (E.contents a.err.now) (E.contents b.err.now)
+        × (is_ended b.stopped.now ≡ true → (is_ended a.stopped.now ≡ true) ⊎ EndsAt a.options (O.contents a.out.now) (O.contents b.out.now) begun) };
+
+    ghost saw = { λ a b pasts. Unit {0} };
 
     fn take(&mut self, step: usize, reply: Reply) -> Result<(), Closed> {
         self.tally.count(&reply.answer);
         self.done = step.saturating_add(1);
-        match self.write(step, &reply) {
-            Ok(()) => {
-                if self.options.progress {
-                    self.show(step);
-                }
-                Ok(())
-            }
-            Err(error) => {
-                *self.fault = Some(error);
+        match self.serve(step, &reply) {
+            Ok(()) => Ok(()),
+            Err(stopped) => {
+                *self.stopped = Some(stopped);
                 Err(Closed)
             }
         }
     }
 
-    ghost use Rattle.std.proofs.Common.{refl, ◌∙◌};
-    ghost use Rattle.subcommands.specs.SinkLaws.{out_takes-nil, out_takes-more, out_begins-nil, quiet-refl, quiet-more};
+    fn look(&mut self, _step: usize, _book: &Book) {}
 
-    ghost nothing = { λ s. (refl, refl, refl, out_takes-nil s.options (O.contents s.out.now), quiet-refl s.options s.shown (E.contents s.err.now)) };
+    fn see_relief(&mut self, _step: usize, _book: &Book, _cause: Cause) {}
+
+    ghost use Rattle.std.proofs.Common.{refl, ◌∙◌, inl};
+    ghost use Rattle.subcommands.specs.SinkLaws.{out_takes-nil, out_takes-more, out_begins-nil, quiet-refl, quiet-more, goes_on-nil, goes_on-more};
+
+    ghost nothing = { λ s. (refl, refl, refl, out_takes-nil s.options (O.contents s.out.now), quiet-refl s.options s.shown (E.contents s.err.now), refl, goes_on-nil s.options) };
 
     ghost more = { λ a b c xs ys first second. (
       second.0 ∙ first.0,
@@ -330,7 +496,13 @@ impl<'o, 'e, 's, 'l, 't, 'f, O: Write, E: Write> Sink for Printer<'o, 'e, 's, 'l
       second.2 ∙ first.2,
       out_takes-more a.options b.options first.2 (O.contents a.out.now) (O.contents b.out.now) (O.contents c.out.now) xs ys first.3 second.3,
       quiet-more a.options b.options first.2 a.shown b.shown c.shown (E.contents a.err.now) (E.contents b.err.now) (E.contents c.err.now) first.4 second.4,
+      second.5 ∙ first.5,
+      goes_on-more a.options b.options first.2 xs ys first.6 second.6,
     ) };
 
-    ghost stays = { λ s. (refl, refl, refl, out_begins-nil s.options (O.contents s.out.now), quiet-refl s.options s.shown (E.contents s.err.now)) };
+    ghost stays = { λ s. (refl, refl, refl, out_begins-nil s.options (O.contents s.out.now), quiet-refl s.options s.shown (E.contents s.err.now), λ ended. inl ended) };
+
+    ghost unseen = { λ s. tt };
+
+    ghost further = { λ a b c ps qs first second. tt };
 }

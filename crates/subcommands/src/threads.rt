@@ -11,7 +11,7 @@ ghost use Rattle.scripts.specs.declared.mode.Mode.TheVariants.{Run};
 ghost use Rattle.scripts.specs.Script.{IsFirstFault, NamesFirstFault};
 ghost use Rattle.scripts.specs.Work.{numbers_of, shown_rows};
 ghost use Rattle.subcommands.specs.Prints.{texts};
-ghost use Rattle.subcommands.specs.Told.{IsUnread, ExplainsIn, IsOfScript, StartsReport, IsRunFault};
+ghost use Rattle.subcommands.specs.Told.{plain, IsUnread, ExplainsIn, IsOfScript, StartsReport, IsRunFault};
 ghost use Rattle.subcommands.specs.Threads.{verdict_line, status_by, PrintsThreads, PrintsScriptOnThreads};
 ghost use Rattle.subcommands.specs.Rounds.{verdict_by, HiredAll, SetsUp, SaysRows, passes_in, Ran, Concluded, RanAll};
 
@@ -400,17 +400,18 @@ fn run_new<R: Threads + Wait + Sync, O: Write>(
 }
 
 /// Runs a script that was read on threads, over a new device, which has the blocks that the script asks for, and
-/// its faults.
+/// its faults. In the fault the script's file has the name `file`.
 pub fn run_script_on_threads<R: Threads + Wait + Sync, O: Write>(
     rt: &R,
     alloc: Global,
     options: Options,
+    file: &str,
     script: &[u8],
     out: &mut O,
 ) -> Result<Verdict, Fault>
     ensures whole { IfOk result (λ verdict. PrintsScriptOnThreads script.now verdict (O.contents out.old) (O.contents out.new)) }
     ensures faulty { (n : ℕ) (cause : Cause) → IsFirstFault Run (lines script.now) n cause → IsErr result × (O.contents out.new ≡ O.contents out.old) }
-    ensures why { IfErr result (ExplainsIn Run options script.now) }
+    ensures why { IfErr result (ExplainsIn Run options file.now script.now) }
     // It is the script's only where nothing was run.
     ensures unrun { IfErr result (λ why. IsOfScript why → O.contents out.new ≡ O.contents out.old) }
 {
@@ -418,7 +419,7 @@ pub fn run_script_on_threads<R: Threads + Wait + Sync, O: Write>(
     each_actor_has_its_row();
     match scripts::read(alloc, script, Mode::Run) {
         Ok(script) => run_new(rt, alloc, script, out),
-        Err(fault) => Err(faulty(alloc, options, script, Mode::Run, fault)),
+        Err(fault) => Err(faulty(alloc, options, file, script, Mode::Run, fault)),
     }
 }
 
@@ -439,16 +440,15 @@ pub fn status_of_run<E: Write>(ran: Result<Verdict, Fault>, err: &mut E) -> u8
 fn read_and_run<R: Threads + Wait + Sync, I: Read, O: Write>(
     rt: &R,
     alloc: Global,
-    options: Options,
     script: &mut I,
     out: &mut O,
 ) -> Result<Verdict, Fault>
     ensures whole { IfOk result (λ verdict. IfSome (I.remaining script.old) (λ all. PrintsScriptOnThreads all verdict (O.contents out.old) (O.contents out.new))) }
     ensures faulty { IfSome (I.remaining script.old) (λ all. (n : ℕ) (cause : Cause) → IsFirstFault Run (lines all) n cause → IsErr result × Keeps (O.contents out.old) (O.contents out.new)) }
-    ensures why { IfErr result (λ why. IfSome (I.remaining script.old) (λ all. IsUnread all why ⊎ ExplainsIn Run options all why)) }
+    ensures why { IfErr result (λ why. IfSome (I.remaining script.old) (λ all. IsUnread all why ⊎ ExplainsIn Run plain [] all why)) }
 {
     match read_script(alloc, script) {
-        Ok(bytes) => run_script_on_threads(rt, alloc, options, &bytes, out),
+        Ok(bytes) => run_script_on_threads(rt, alloc, Options::default(), "", &bytes, out),
         Err(fault) => Err(fault),
     }
 }
@@ -475,6 +475,6 @@ pub fn run<R: Threads + Wait + Sync, I: Read, O: Write, E: Write>(
     // Of a script with a faulty line it is 1, and `out` got nothing.
     ensures faulty { IfSome (I.remaining script.old) (λ all. (n : ℕ) (cause : Cause) → IsFirstFault Run (lines all) n cause → (result ≡ 1) × Keeps (O.contents out.old) (O.contents out.new)) }
 {
-    let ran = read_and_run(rt, alloc, Options::default(), script, out);
+    let ran = read_and_run(rt, alloc, script, out);
     status_of_run(ran, err)
 }

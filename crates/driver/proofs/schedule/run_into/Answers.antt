@@ -1,7 +1,7 @@
 use Rattle.std.proofs.Common.{◌≡◌, ◌++◌, inr, [], true, refl, subst, arith}
 use Rattle.machine.specs.History.{at_first, Honest}
 use Rattle.block_store.specs.Device.{Disk}
-use Rattle.driver.specs.Schedule.{World, first_world, Runs, files_on, fits}
+use Rattle.driver.specs.Schedule.{World, first_world, Runs, RunsThrough, files_on, fits}
 use Rattle.std.specs.Prelude.{reverse}
 use Rattle.driver.specs.Sinks.{Gives, StartsRun}
 use Rattle.driver.specs.Desks.{world}
@@ -9,7 +9,7 @@ use Rattle.driver.proofs.ErrorLemmas.{errors_are_failures}
 use Rattle.driver.proofs.Faithful.{runs_are_honest}
 use Rattle.driver.proofs.Runs.{opened_on, blocks_known, fitting}
 use Rattle.driver.proofs.TracedLemmas.{honest-given_up}
-use Rattle.driver.proofs.SinkLemmas.{run_starts, opening_starts}
+use Rattle.driver.proofs.SinkLemmas.{run_starts, opening_starts, runs_of}
 use Rattle.driver.proofs.schedule.run_into.Goals as goal
 
 pub returns-in-Err-clause-starts : goal.returns-in-Err-clause-starts
@@ -32,16 +32,20 @@ returns-in-Ok-ran-clause-gives g c =
     let before : Disk = g.D.BlockDevice.disk c.args.device.now in
     let end : World = world c.run_all-ran.new.self (g.D.BlockDevice.disk c.run_all-ran.new.device) in
     let told = c.in-Ok-ran.ensures.runs in
-    let From : World → Type 0 = λ w. Runs w c.args.steps.now told.0 end in
-    let ran : Runs (first_world c.args.config before) c.args.steps.now told.0 end = subst From (c.in-Ok.ensures.opens before) told.2 in
+    let From : World → Type 0 = λ w. RunsThrough w c.args.steps.now told.0 told.1 end in
+    let shown : RunsThrough (first_world c.args.config before) c.args.steps.now told.0 told.1 end = subst From (c.in-Ok.ensures.opens before) told.4 in
+    let ran : Runs (first_world c.args.config before) c.args.steps.now told.0 end = runs_of (first_world c.args.config before) c.args.steps.now told.0 told.1 end shown in
     let fit : fits c.args.config before ≡ true = fitting c.args.config before c.in-Ok.ensures.sized (omega (arith, c.if-blocks.false, c.blocks-2.ensures, blocks_known c.args.config c.in-Some.blocks c.in-Some.ensures)) in
     let honest : Honest (at_first (files_on c.args.config before)) end.past.history = runs_are_honest c.args.config before c.args.steps.now told.0 end fit ran in
-    let gives : Gives g.S.Sink.took c.args.config before c.args.steps.now c.args.sink.now c.run_all-ran.new.sink (g.D.BlockDevice.disk c.run_all-ran.new.device) =
+    let gives : Gives g.S.Sink.took g.S.Sink.saw c.args.config before c.args.steps.now c.args.sink.now c.run_all-ran.new.sink (g.D.BlockDevice.disk c.run_all-ran.new.device) =
     record {
       answers = told.0;
-      takes = told.1;
+      takes = told.2;
       schedules = record { end = end; runs = ran; device = refl; honest = honest; right = c.history_is_right.ensures.right (files_on c.args.config before) honest };
       failures = errors_are_failures c.args.config before c.args.steps.now told.0 end ran;
+      pasts = told.1;
+      sees = told.3;
+      shown = shown;
     } in
     record {
       gives = gives;

@@ -1,4 +1,3 @@
-use Rattle.std.proofs.Common.{◌≡◌}
 use Rattle.subcommands.proofs.EndLemmas.{concluded}
 use Rattle.subcommands.proofs.threads.conclude.Goals as goal
 

@@ -22,17 +22,17 @@ returns-clause-on g c =
 pub returns-in_err-answer-clause-cut : goal.returns-in_err-answer-clause-cut
 returns-in_err-answer-clause-cut g c =
     on_err c.from_residual.result (λ disk.
-    cut_behind g.S.Sink.took g.S.Sink.failed g.met.S.Sink.nothing c.args.sink.now c.answer.new.sink (world c.args.self.now disk) _ _ (world c.args.self.now disk) (omega arith) c.in_err-answer.ensures.failed
+    cut_behind g.S.Sink.took g.S.Sink.failed c.args.sink.now c.args.sink.now c.answer.new.sink (g.met.S.Sink.nothing _) (world c.args.self.now disk) _ _ (world c.args.self.now disk) (omega arith) c.in_err-answer.ensures.failed
     (begins_over (world c.args.self.now disk) c.args.actor c.args.command.now _ (sym c.is_under_way.ensures ∙ c.if-is_under_way.true)) c.history_is_right.ensures.right)
 
 pub returns-in_err-command-clause-cut : goal.returns-in_err-command-clause-cut
-returns-in_err-command-clause-cut g c = on_err c.from_residual-in_err-command.result (λ disk. cut_before g.S.Sink.took g.S.Sink.failed g.met.S.Sink.nothing g.met.S.Sink.stays c.args.sink.now _ _ disk refl c.history_is_right.ensures.right)
+returns-in_err-command-clause-cut g c = on_err c.from_residual-in_err-command.result (λ disk. cut_before g.S.Sink.took g.S.Sink.failed g.met.S.Sink.stays c.args.sink.now c.args.sink.now (g.met.S.Sink.nothing _) _ _ disk refl c.history_is_right.ensures.right)
 
 pub returns-in_err-seat-clause-cut : goal.returns-in_err-seat-clause-cut
-returns-in_err-seat-clause-cut g c = on_err c.from_residual-in_err-seat.result (λ disk. cut_before g.S.Sink.took g.S.Sink.failed g.met.S.Sink.nothing g.met.S.Sink.stays c.args.sink.now _ _ disk refl c.history_is_right.ensures.right)
+returns-in_err-seat-clause-cut g c = on_err c.from_residual-in_err-seat.result (λ disk. cut_before g.S.Sink.took g.S.Sink.failed g.met.S.Sink.stays c.args.sink.now c.args.sink.now (g.met.S.Sink.nothing _) _ _ disk refl c.history_is_right.ensures.right)
 
 pub returns-in_err-make_room-clause-cut : goal.returns-in_err-make_room-clause-cut
-returns-in_err-make_room-clause-cut g c = on_err c.from_residual-in_err-make_room.result (λ disk. cut_before g.S.Sink.took g.S.Sink.failed g.met.S.Sink.nothing g.met.S.Sink.stays c.args.sink.now _ _ disk refl c.history_is_right.ensures.right)
+returns-in_err-make_room-clause-cut g c = on_err c.from_residual-in_err-make_room.result (λ disk. cut_before g.S.Sink.took g.S.Sink.failed g.met.S.Sink.stays c.args.sink.now c.args.sink.now (g.met.S.Sink.nothing _) _ _ disk refl c.history_is_right.ensures.right)
 
 pub seat-requires : goal.seat-requires
 seat-requires g c = ap (λ (ss : List Seat). is_under_way (activity_of c.args.actor ss)) c.make_room.ensures.seats ∙ sym c.is_under_way.ensures ∙ c.if-is_under_way.false
@@ -46,3 +46,6 @@ returns-clause-begins g c = (
       ∙ ap (λ (ss : List Seat). record (world c.args.self.now disk) { seats = ss })
       (c.in_ok-seat.ensures.seated ∙ ap (λ (ss : List Seat). with_activity c.args.actor (Begun c.in_ok-command.command) ss) c.make_room.ensures.seats ∙ ap (λ (what : Command). with_activity c.args.actor (Begun what) c.args.self.now.seats) c.in_ok-command.ensures)),
 )
+
+pub returns-clause-unseen : goal.returns-clause-unseen
+returns-clause-unseen g c = g.met.S.Sink.unseen _

@@ -1,4 +1,4 @@
-use Rattle.std.proofs.Common.{◌≡◌, List, length}
+use Rattle.std.proofs.Common.{◌≡◌, List, [], length}
 use Rattle.driver.specs.declared.turn.Outcome.{Outcome}
 use Rattle.driver.specs.Schedule.{Goings, all_said}
 use Rattle.driver.specs.Desks.{world, IsOn, IsSame}
@@ -10,4 +10,5 @@ invariant-loop-turn g l = record {
   same : IsSame (g.D.BlockDevice.disk l.fn.device) (g.D.BlockDevice.disk l.device);
   goes : (earlier : List Outcome) × (length earlier ≡ l._turn) × g.S.Sink.took l.fn.sink l.sink (all_said l.fn.actor earlier)
       × Goings (world l.fn.self (g.D.BlockDevice.disk l.fn.device)) l.fn.actor earlier (world l.self (g.D.BlockDevice.disk l.device));
+  unseen : g.S.Sink.saw l.fn.sink l.sink [];
 }

@@ -1,7 +1,7 @@
 use Rattle.std.proofs.Common.{[], ◌∷◌}
 use Rattle.subcommands.proofs.ToldLemmas.{starts-front}
 use Rattle.subcommands.specs.SinkLaws.{starts-behind}
-use Rattle.subcommands.proofs.fault.write_line.Goals as goal
+use Rattle.subcommands.proofs.output.write_line.Goals as goal
 
 pub returns-in_err-write_bytes-clause-start : goal.returns-in_err-write_bytes-clause-start
 returns-in_err-write_bytes-clause-start g c = starts-front _ _ c.args.bytes.now (10 ∷ []) c.write_bytes.ensures.start

@@ -1,0 +1,106 @@
+//! Charts: what is drawn and listed of a run, worked out by hand.
+
+use std::str;
+use std::test::Fail;
+use subcommands::{Drawing, Options, chart};
+
+/// A group has room for two pages. The task's third is refused, and it is killed.
+const KILLED: &str =
+    "group /a\nset /a memory.max 8K\ntask 1 /a\n1 write 0 0 1\n1 write 1 0 1\n1 write 2 0 1\n";
+
+#[test]
+fn a_table_has_each_line(rt: HostRuntime) -> Result<(), Fail> {
+    let mut out = Vec::new(rt.alloc());
+    let options = Options::default();
+    let ran = chart(
+        rt.alloc(),
+        options,
+        Drawing::Table,
+        "",
+        KILLED.as_bytes(),
+        &mut out,
+    );
+    assert!(rt; ran.is_ok());
+    let table = "\
+line,group,current,anon,file,max,min,refused,oom,oom_kill
+1,/a,0,0,0,max,0,0,0,0
+2,/a,0,0,0,8192,0,0,0,0
+3,/a,0,0,0,8192,0,0,0,0
+4,/a,4096,4096,0,8192,0,0,0,0
+5,/a,8192,8192,0,8192,0,0,0,0
+6,/a,0,0,0,8192,0,1,1,1
+";
+    assert_eq!(rt; str::from_utf8(&out), Ok(table));
+    Ok(())
+}
+
+#[test]
+fn a_picture_has_the_curve_and_the_marks(rt: HostRuntime) -> Result<(), Fail> {
+    let mut out = Vec::new(rt.alloc());
+    let options = Options::default();
+    let title = "a<b";
+    let ran = chart(
+        rt.alloc(),
+        options,
+        Drawing::Picture,
+        title,
+        KILLED.as_bytes(),
+        &mut out,
+    );
+    assert!(rt; ran.is_ok());
+    let text = str::from_utf8(&out).unwrap_or("");
+    assert!(rt; text.contains(">memory.current: a&lt;b</text>"));
+    // Six lines stand 174 pixels apart between 70 and 940; two pages are 300 pixels high, from 360 up to 60.
+    let curve = "\"M70.0 360.0V360.0H592.0V210.0H766.0V60.0H940.0V360.0H940.0\"";
+    assert!(rt; text.contains(curve), "{text}");
+    assert!(rt; text.contains("<title>line 6: task 1 was killed</title>"));
+    let refused = "<title>line 6: a charge of /a was refused at its memory.max</title>";
+    assert!(rt; text.contains(refused));
+    assert!(rt; text.contains("/a, peak 8K"));
+    assert!(rt; text.starts_with("<svg ") && text.ends_with("</svg>\n"));
+    Ok(())
+}
+
+#[test]
+fn a_group_that_is_made_anew_goes_on_where_it_stands(rt: HostRuntime) -> Result<(), Fail> {
+    let script = "group /a\ntask 1 /a\n1 write 0 0 1\n1 exit\nrmdir /a\ngroup /a\n";
+    let mut out = Vec::new(rt.alloc());
+    let options = Options::default();
+    let ran = chart(
+        rt.alloc(),
+        options,
+        Drawing::Table,
+        "",
+        script.as_bytes(),
+        &mut out,
+    );
+    assert!(rt; ran.is_ok());
+    // Behind line 5 no group has the path.
+    let table = "\
+line,group,current,anon,file,max,min,refused,oom,oom_kill
+1,/a,0,0,0,max,0,0,0,0
+2,/a,0,0,0,max,0,0,0,0
+3,/a,4096,4096,0,max,0,0,0,0
+4,/a,0,0,0,max,0,0,0,0
+6,/a,0,0,0,max,0,0,0,0
+";
+    assert_eq!(rt; str::from_utf8(&out), Ok(table));
+    Ok(())
+}
+
+#[test]
+fn a_faulty_script_is_not_drawn(rt: HostRuntime) -> Result<(), Fail> {
+    let mut out = Vec::new(rt.alloc());
+    let options = Options::default();
+    let ran = chart(
+        rt.alloc(),
+        options,
+        Drawing::Picture,
+        "",
+        b"gruop /a\n",
+        &mut out,
+    );
+    assert!(rt; ran.is_err());
+    assert!(rt; out.is_empty());
+    Ok(())
+}

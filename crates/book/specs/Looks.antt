@@ -1,0 +1,26 @@
+-- What a look at a book shows, which is no event.
+use Rattle.std.specs.Prelude.{ℕ, List, Option, option_map}
+use Rattle.machine.specs.declared.record.MemoryStat.{MemoryStat}
+use Rattle.machine.specs.Tree.{Node, find_group}
+use Rattle.machine.specs.Tasks.{Tasks}
+use Rattle.machine.specs.Slots.{count_there}
+use Rattle.machine.specs.Victim.{is_live_under}
+use Rattle.machine.specs.Counts.{limits_at, counts_by, local}
+use Rattle.machine.specs.State.{State, usage, stat_of}
+use Rattle.book.specs.declared.looks.GroupLook.{GroupLook}
+
+-- a group: what is charged to it and below it, its settings, and what was counted at itself
+abbrev pub group_look : State → ℕ → GroupLook
+group_look s g = record { number = g; usage = usage s g; max = (limits_at s.limits g).max; min = (limits_at s.limits g).min; local = counts_by (local s.counted g) }
+
+-- the group that has this path now, if one has
+abbrev pub look_at : State → List ℕ → Option GroupLook
+look_at s path = option_map (group_look s) (find_group s.tree path)
+
+-- what its pages are
+abbrev pub stat_at : State → List ℕ → Option MemoryStat
+stat_at s path = option_map (stat_of s) (find_group s.tree path)
+
+-- how many tasks live in a group at or under the limit
+abbrev pub candidates : List Node → Tasks → ℕ → ℕ
+candidates tree tasks limit = count_there (is_live_under tree limit) tasks

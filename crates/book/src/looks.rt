@@ -1,0 +1,99 @@
+//! Looks at a book, which are no events: nothing is asked, and nothing changes.
+
+ghost use Rattle.std.specs.Prelude.{◌≡◌, option_map, IfSome};
+ghost use Rattle.machine.specs.Reclaim.{target_of};
+ghost use Rattle.machine.specs.Tasks.{size_of};
+ghost use Rattle.machine.specs.Victim.{IsVictim};
+ghost use Rattle.book.specs.Looks.{look_at, stat_at, candidates};
+
+use crate::book::Book;
+use crate::decide::target_of;
+use machine::amount::Amount;
+use machine::event::Cause;
+use machine::id::{GroupId, TaskId};
+use machine::record::{EventCounts, MemoryStat};
+use oom::{is_candidate, victim};
+use page_state::State;
+
+/// What is known of a group at a time.
+#[derive(Clone, Copy, Debug, PartialEq, Eq)]
+pub struct GroupLook {
+    /// Which group of all that ever were it is.
+    pub number: u32,
+    /// Pages that are charged to it and below it (`memory.current`, in pages).
+    pub usage: u64,
+    /// `memory.max`
+    pub max: Amount,
+    /// `memory.min`
+    pub min: Amount,
+    /// What was counted at the group itself (`memory.events.local`).
+    pub local: EventCounts,
+}
+
+/// Whom a relief kills, where it kills anybody.
+#[derive(Clone, Copy, Debug, PartialEq, Eq)]
+pub struct Victim {
+    pub task: TaskId,
+    /// How many of its virtual pages show a page.
+    pub pages: usize,
+    /// How many tasks live at or below the group under which room is wanted, itself among them.
+    pub tasks: u32,
+    /// The group under which room is wanted.
+    pub limit: GroupId,
+}
+
+/// How many tasks live in a group at or under the limit.
+fn candidates(state: &State, limit: GroupId) -> u32
+    ensures { result ≡ candidates state.now.tables.tree state.now.tables.tasks limit.0 }
+{
+    let mut count = 0;
+    for task in 0..state.spaces().slots() as u32 {
+        if is_candidate(state.tree(), state.spaces(), limit, TaskId(task)) {
+            count += 1;
+        }
+    }
+    count
+}
+
+impl Book {
+    /// What is known of the group that has this path now. Nothing where none has.
+    pub fn look(&self, path: &str) -> Option<GroupLook>
+        ensures { result ≡ look_at self.now.state path.now }
+    {
+        let group = self.state.tree().find(path)?;
+        Some(GroupLook {
+            number: group.0,
+            usage: self.state.usage(group),
+            max: self.state.max(group),
+            min: self.state.min(group),
+            local: self.state.local_events(group),
+        })
+    }
+
+    /// What the pages of the group that has this path now hold (`memory.stat`, in pages). It goes over all page
+    /// numbers.
+    pub fn stat(&self, path: &str) -> Option<MemoryStat>
+        ensures { result ≡ stat_at self.now.state path.now }
+    {
+        let group = self.state.tree().find(path)?;
+        Some(self.state.stat(group))
+    }
+
+    /// Whom a relief for this cause takes if it kills a task now, which it does only where the cause stands, no page
+    /// can be taken and none is in transfer. It goes over all task numbers.
+    pub fn victim(&self, cause: Cause) -> Option<Victim>
+        ensures who { IsVictim self.now.state.tree self.now.state.tasks self.now.state.page_tables (target_of cause) (option_map (λ v. v.task.0) result) }
+        ensures pages { IfSome result (λ v. v.pages ≡ size_of self.now.state.page_tables v.task.0) }
+        ensures tasks { IfSome result (λ v. v.tasks ≡ candidates self.now.state.tree self.now.state.tasks (target_of cause)) }
+        ensures limit { IfSome result (λ v. v.limit.0 ≡ target_of cause) }
+    {
+        let limit = target_of(cause);
+        let task = victim(self.state.tree(), self.state.spaces(), limit)?;
+        Some(Victim {
+            task,
+            pages: self.state.spaces().size(task),
+            tasks: candidates(&self.state, limit),
+            limit,
+        })
+    }
+}

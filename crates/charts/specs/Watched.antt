@@ -1,0 +1,34 @@
+-- What is shown of groups behind each step of a run.
+use Rattle.std.specs.Prelude.{◌≡◌, ℕ, Bool, true, false, if◌then◌else◌, List, [], ◌∷◌, ◌++◌, map, replicate, Option, Some, None}
+use denote.Ref.{Bor}
+use Rattle.machine.specs.declared.config.Config.{Config}
+use Rattle.machine.specs.declared.command.Step.{Step}
+use Rattle.machine.specs.declared.command.Reply.{Reply}
+use Rattle.machine.specs.Call.{Past}
+use Rattle.block_store.specs.Device.{Disk}
+use Rattle.book.specs.Looks.{look_at, stat_at}
+use Rattle.driver.specs.Schedule.{World, first_world, RunsThrough, Schedules}
+use Rattle.charts.specs.declared.watching.Shown.{Shown}
+use Rattle.charts.specs.declared.watching.Row.{Row}
+
+-- what is shown of the group of a path, in the state of that time; what its pages hold is looked at only where that is wanted
+abbrev pub shown_at : Bool → Past → List ℕ → Shown
+shown_at detailed past path = record { look = look_at past.state path; stat = if detailed then stat_at past.state path else None }
+
+-- and of all paths
+abbrev pub row_at : Bool → List (List ℕ) → Past → List Shown
+row_at detailed paths past = map (shown_at detailed past) paths
+
+-- what rows say, step by step: each stands for as many steps as it says
+abbrev pub expanded : List Row → List (List Shown)
+expanded [] = []
+expanded (row ∷ rows) = replicate row.steps row.groups.items ++ expanded rows
+
+-- the rows say what each of the paths' groups was charged with behind each of the steps, in a run that is the plain machine's. (Excludes numbers of another run, or of another time.)
+pub record IsWatched (config : Config) (before : Disk) (steps : List Step) (paths : List (List ℕ)) (detailed : Bool) (rows : List Row) : Type 0 where
+  pub answers : List Reply
+  pub after : Disk
+  pub schedules : Schedules config before steps answers after
+  pub pasts : List Past
+  pub runs : RunsThrough (first_world config before) steps answers pasts schedules.end
+  pub rows_are : expanded rows ≡ map (row_at detailed paths) pasts

@@ -1,0 +1,14 @@
+//! What each group is charged with behind each step of a run, as a picture and as a table.
+//!
+//! [`watch`] runs a schedule and keeps what a look at the book shows between the steps; it weaves no command in, so
+//! the run is the one that it would be without. [`picture`] draws it, and [`table`] lists it.
+#![tactic(auto)]
+
+mod drawing;
+mod listing;
+mod scale;
+mod watching;
+
+pub use drawing::picture;
+pub use listing::table;
+pub use watching::{Kill, Row, Shown, Watched, watch};

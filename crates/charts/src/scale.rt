@@ -1,0 +1,94 @@
+//! Scales, and what is written along them.
+
+use std::alloc::{AllocError, Global};
+
+/// Where values stand on a line: the least at 0, and the greatest at its end.
+#[derive(Clone, Copy, Debug, PartialEq, Eq)]
+pub struct Scale {
+    pub least: u64,
+    pub greatest: u64,
+    /// How long the line is.
+    pub length: u64,
+}
+
+impl Scale {
+    /// Where the value stands. What is beyond an end stands there.
+    pub fn place(self, value: u64) -> u64 {
+        let above = value.saturating_sub(self.least);
+        let whole = self.greatest.saturating_sub(self.least).max(1);
+        let place = u128::from(above.min(whole)).saturating_mul(u128::from(self.length));
+        u64::try_from(place.checked_div(u128::from(whole)).unwrap_or(0)).unwrap_or(self.length)
+    }
+}
+
+/// The most marks along a line.
+const MOST_MARKS: u64 = 8;
+
+/// The distance of round numbers of which at most eight stand below this one: of numbers of lines.
+fn decimal_step(greatest: u64) -> u64 {
+    let mut step = 1u64;
+    for turn in 0..60u32 {
+        if greatest.checked_div(step).unwrap_or(0) <= MOST_MARKS {
+            break;
+        }
+        // 1, 2, 5, 10, 20, 50, and so on.
+        step = if turn % 3 == 1 {
+            step.saturating_mul(5).checked_div(2).unwrap_or(step)
+        } else {
+            step.saturating_mul(2)
+        };
+    }
+    step
+}
+
+/// The same of numbers of pages: the powers of two.
+fn binary_step(greatest: u64) -> u64 {
+    let mut step = 1u64;
+    for _turn in 0..60u32 {
+        if greatest.checked_div(step).unwrap_or(0) <= MOST_MARKS {
+            break;
+        }
+        step = step.saturating_mul(2);
+    }
+    step
+}
+
+fn marks(alloc: Global, scale: Scale, step: u64) -> Result<Vec<u64>, AllocError> {
+    let mut marks = Vec::new(alloc);
+    let mut at = 0u64;
+    for _mark in 0..=MOST_MARKS {
+        if at >= scale.least && at <= scale.greatest {
+            marks.push(at)?;
+        }
+        at = at.saturating_add(step);
+    }
+    Ok(marks)
+}
+
+/// Round numbers of lines along a scale.
+pub fn line_marks(alloc: Global, scale: Scale) -> Result<Vec<u64>, AllocError> {
+    marks(alloc, scale, decimal_step(scale.greatest))
+}
+
+/// Round numbers of pages along a scale.
+pub fn page_marks(alloc: Global, scale: Scale) -> Result<Vec<u64>, AllocError> {
+    marks(alloc, scale, binary_step(scale.greatest))
+}
+
+/// Bytes as people write them: in the greatest of the units G, M and K that leaves no rest.
+pub fn amount_text(alloc: Global, bytes: u64) -> Result<String, AllocError> {
+    for (unit, name) in [(1u64 << 30, "G"), (1u64 << 20, "M"), (1u64 << 10, "K")] {
+        if bytes >= unit && bytes % unit == 0 {
+            let count = bytes / unit;
+            return format!(in alloc; "{count}{name}");
+        }
+    }
+    format!(in alloc; "{bytes}")
+}
+
+/// Tenths of a pixel, as pixels.
+pub fn pixels(alloc: Global, tenths: u64) -> Result<String, AllocError> {
+    let whole = tenths / 10;
+    let rest = tenths % 10;
+    format!(in alloc; "{whole}.{rest}")
+}

@@ -1,0 +1,65 @@
+//! Where what was answered is not what the script expects.
+
+use std::{fmt, str};
+
+/// Where what was answered is not what the script expects, by a line of the script.
+#[derive(Clone, Copy, Debug, PartialEq, Eq)]
+pub enum Difference<'a> {
+    /// The line expects a text, and another was answered.
+    Other {
+        line: usize,
+        wanted: &'a [u8],
+        got: &'a [u8],
+    },
+    /// The line expects a text, and the lines that it belongs to answered no more.
+    Nothing {
+        line: usize,
+        wanted: &'a [u8],
+    },
+    /// The line answered a text that nothing expects.
+    Unexpected {
+        line: usize,
+        got: &'a [u8],
+    },
+}
+
+/// A text of a script, or of its output, which are UTF-8 where a script was run. Its control characters are written out.
+#[derive(Clone, Copy)]
+struct Text<'a>(&'a [u8]);
+
+impl fmt::Display for Text<'_> {
+    fn fmt<W: fmt::Write>(&self, f: &mut fmt::Formatter<W>) -> fmt::Result {
+        let Ok(text) = str::from_utf8(self.0) else {
+            return write!(f, "{}", self.0.escape_ascii());
+        };
+        for character in text.chars() {
+            if character.is_control() {
+                write!(f, "{}", character.escape_debug())?;
+            } else {
+                f.write_char(character)?;
+            }
+        }
+        Ok(())
+    }
+}
+
+/// The line's number, and what is wrong.
+impl fmt::Display for Difference<'_> {
+    fn fmt<W: fmt::Write>(&self, f: &mut fmt::Formatter<W>) -> fmt::Result {
+        match *self {
+            Difference::Other { line, wanted, got } => {
+                write!(f, "{line}: wanted {}, and got {}", Text(wanted), Text(got))
+            }
+            Difference::Nothing { line, wanted } => {
+                write!(
+                    f,
+                    "{line}: wanted {}, and nothing was answered",
+                    Text(wanted)
+                )
+            }
+            Difference::Unexpected { line, got } => {
+                write!(f, "{line}: answered {}, which nothing expects", Text(got))
+            }
+        }
+    }
+}

@@ -1,0 +1,237 @@
+//! The texts that say why a command ended with a word.
+
+use machine::command::Actor;
+use machine::limit::{LAST_TASK, MOST_TASKS, TASK_PAGES};
+use std::fmt;
+use std::fmt::{Formatter, Write};
+
+/// Groups at a time, the root counted, at most.
+const MOST_GROUPS: u32 = 256;
+
+/// Levels below the root, at most.
+const MOST_LEVELS: usize = 16;
+
+/// The last offset of a page.
+const LAST_OFFSET: usize = machine::bytes::PAGE_BYTES - 1;
+
+/// Who does something, in words.
+#[derive(Clone, Copy)]
+struct Named(Actor);
+
+impl fmt::Display for Named {
+    fn fmt<W: Write>(&self, f: &mut Formatter<W>) -> fmt::Result {
+        match self.0 {
+            Actor::Task(task) => write!(f, "task {task}"),
+            Actor::Shell => f.write_str("the shell"),
+            Actor::Control => f.write_str("control"),
+            Actor::Daemon => f.write_str("the daemon"),
+        }
+    }
+}
+
+/// Why a command ended with a word that says that it did not do what it was asked for, or why it did not begin. Each is
+/// either known from the command and the word, or says what it can be.
+#[derive(Clone, Copy, Debug, PartialEq, Eq)]
+pub enum Reason<'a> {
+    /// The actor has no command under way.
+    Idle(Actor),
+    /// The actor's command of this line is not answered yet.
+    Underway { actor: Actor, line: usize },
+    /// So many turns, which is as many as a line takes, brought no answer.
+    TurnLimit(u32),
+    /// The page that an access wants is in transfer, or one that might leave for it.
+    PageOnItsWay,
+    /// No page under the group can be taken, and one is in transfer.
+    RoomOnItsWay(&'a str),
+    /// A page could not be read in, or none written out for it.
+    AccessFailed,
+    /// A page could not be written out.
+    WriteFailed,
+    /// There is no room, and nobody who could be killed for it.
+    NobodyLeft,
+    /// No page under the group can be taken any more, and none is in transfer.
+    NothingLeft(&'a str),
+    /// There is a group of this path.
+    GroupThere(&'a str),
+    /// There is no group of this path.
+    NoGroup(&'a str),
+    /// The same, or it went while the command was under way.
+    NoGroupNow(&'a str),
+    /// There is no group of this path to be a parent.
+    NoParent(&'a str),
+    /// No group has a control file of this name.
+    NotModelled(&'a str),
+    /// The root has no control file of this name, and other groups do.
+    RootLacks(&'a str),
+    /// The second group could not be below the first, wherever they are.
+    NotBelow { target: &'a str, path: &'a str },
+    /// The group has live tasks, so it can have no children.
+    HasTasks(&'a str),
+    /// The group has children, so it can have no tasks.
+    HasGroups(&'a str),
+    /// The group has children or live tasks, so it can't be removed.
+    InUse(&'a str),
+    /// The root can't be removed.
+    RootStays,
+    /// The path has more levels than there can be.
+    TooDeep(usize),
+    /// There are as many groups as there can be.
+    GroupsFull,
+    /// As many tasks live as there can be.
+    TasksFull,
+    /// No task can have this number.
+    NoTaskNumber(u32),
+    /// A task had this number before.
+    NumberUsed(u32),
+    /// No task has this number, or it ended by itself.
+    NoTask(u32),
+    /// The same, or it was killed.
+    NoLiveTask(u32),
+    /// A task has no such virtual page.
+    PagePast(u32),
+    /// A page has no such offset.
+    OffsetPast(u32),
+    /// There is no file of this name.
+    NoFile(&'a str),
+    /// The file has no such page.
+    FilePagePast { name: &'a str, page: u32 },
+    /// The text is no amount.
+    NoAmount(&'a str),
+    /// The text is more bytes than an amount can be.
+    AmountTooLarge(&'a str),
+    /// `max` is written to `memory.reclaim`.
+    MaxReclaimed,
+    /// The control file of this name is read alone.
+    NotWritten(&'a str),
+    /// The control file of this name is written alone.
+    NotRead(&'a str),
+    /// The text is no path of a group.
+    NoPath(&'a str),
+    /// The trace has no room for what the command does.
+    TraceFull,
+    /// The program itself got no memory.
+    NoMemory,
+}
+
+impl fmt::Display for Reason<'_> {
+    fn fmt<W: Write>(&self, f: &mut Formatter<W>) -> fmt::Result {
+        match self {
+            Reason::Idle(actor) => write!(f, "{} has no command under way", Named(*actor)),
+            Reason::Underway { actor, line } => write!(
+                f,
+                "the command of line {line} is not answered yet, and {} has one at a time",
+                Named(*actor)
+            ),
+            Reason::TurnLimit(turns) => write!(
+                f,
+                "{turns} turns brought no answer, and the command stays under way"
+            ),
+            Reason::PageOnItsWay => f.write_str(
+                "the page is on its way, or room for it may come of one that is",
+            ),
+            Reason::RoomOnItsWay(path) => write!(
+                f,
+                "a page of {path} or below it is on its way, and no other can be taken"
+            ),
+            Reason::AccessFailed => f.write_str(
+                "a call of the device failed: the page was not read in, or none written out to make room",
+            ),
+            Reason::WriteFailed => {
+                f.write_str("a call of the device failed: a page was not written out")
+            }
+            Reason::NobodyLeft => f.write_str(
+                "there is no room, no page can be taken, and no task is left that could be killed",
+            ),
+            Reason::NothingLeft(path) => write!(
+                f,
+                "no page of {path} or below it can be taken any more"
+            ),
+            Reason::GroupThere(path) => write!(f, "there is a group {path} already"),
+            Reason::NoGroup(path) => write!(f, "there is no group {path}"),
+            Reason::NoGroupNow(path) => write!(
+                f,
+                "there is no group {path}, or it was removed meanwhile"
+            ),
+            Reason::NoParent(path) => write!(
+                f,
+                "there is no group {path}, which would be its parent"
+            ),
+            Reason::NotModelled(file) => {
+                write_name(f, file)?;
+                f.write_str(" is not modelled")
+            }
+            Reason::RootLacks(file) => write!(
+                f,
+                "the root has no {file}, and of the control files memory.reclaim alone"
+            ),
+            Reason::NotBelow { target, path } => write!(f, "{path} is not below {target}"),
+            Reason::HasTasks(path) => write!(
+                f,
+                "{path} has live tasks, and so can have no groups below it"
+            ),
+            Reason::HasGroups(path) => write!(
+                f,
+                "{path} has groups below it, and so can have no tasks"
+            ),
+            Reason::InUse(path) => write!(f, "{path} has groups below it, or live tasks"),
+            Reason::RootStays => f.write_str("the root can't be removed"),
+            Reason::TooDeep(levels) => write!(
+                f,
+                "it would be {levels} levels below the root, and {MOST_LEVELS} are the most"
+            ),
+            Reason::GroupsFull => write!(
+                f,
+                "there are {MOST_GROUPS} groups already, the root counted, which are the most"
+            ),
+            Reason::TasksFull => write!(f, "{MOST_TASKS} tasks live already, which are the most"),
+            Reason::NoTaskNumber(task) => write!(
+                f,
+                "{task} is no number of a task: these go from 1 to {LAST_TASK}"
+            ),
+            Reason::NumberUsed(task) => write!(f, "a task had the number {task} before"),
+            Reason::NoTask(task) => {
+                write!(f, "task {task} was never started, or has ended by exit")
+            }
+            Reason::NoLiveTask(task) => write!(
+                f,
+                "task {task} was never started, has ended by exit, or was killed"
+            ),
+            Reason::PagePast(page) => write!(
+                f,
+                "page {page} is past {}, the last of a task",
+                TASK_PAGES - 1
+            ),
+            Reason::OffsetPast(offset) => write!(
+                f,
+                "offset {offset} is past {LAST_OFFSET}, the last of a page"
+            ),
+            Reason::NoFile(name) => write!(f, "there is no file {name}"),
+            Reason::FilePagePast { name, page } => write!(f, "the file {name} has no page {page}"),
+            Reason::NoAmount(text) => write!(
+                f,
+                "{text:?} is no amount: max, or a number of bytes without a zero in front, with K, M, G or T behind it or none of them"
+            ),
+            Reason::AmountTooLarge(text) => write!(
+                f,
+                "{text} is no amount: it is more than {} bytes",
+                u64::MAX
+            ),
+            Reason::MaxReclaimed => f.write_str("max is no amount for memory.reclaim"),
+            Reason::NotWritten(file) => write!(f, "{file} can't be written"),
+            Reason::NotRead(file) => write!(f, "{file} can't be read"),
+            Reason::NoPath(path) => write!(f, "{path:?} is no path of a group"),
+            Reason::TraceFull => f.write_str(
+                "the trace has no room left for it; a line trace N of the header gives it room for N entries",
+            ),
+            Reason::NoMemory => f.write_str("the program itself got no memory"),
+        }
+    }
+}
+
+/// A name of a control file, in quotes where it is no name at all.
+fn write_name<W: Write>(f: &mut Formatter<W>, name: &str) -> fmt::Result {
+    if text_forms::name::is_name(name) {
+        return f.write_str(name);
+    }
+    write!(f, "{name:?}")
+}

@@ -1,0 +1,163 @@
+//! How the daemon is told to end.
+
+ghost use Rattle.std.specs.Prelude.{◌≡◌, ◌≤◌};
+ghost use Rattle.machine.specs.State.{opening_of};
+ghost use Rattle.driver.specs.Tickets.{blocks_in};
+
+use crate::crowd::{PARTS, asked, finish, in_turn};
+use crate::gate::{Gate, Manner, Signals};
+use files::blocks_for;
+use live::{Live, Opened, Pass, Report};
+use machine::command::{Actor, Command};
+use machine::config::Config;
+use scripts::{Mode, Script, read};
+use std::alloc::Global;
+use std::marker::Brand;
+use std::sync::Wait;
+use std::sync::ledger::{Blank, Ledger};
+use std::test::Fail;
+use std::thread;
+use std::thread::Threads;
+
+/// Three of four frames are used. The daemon begins below two free ones, and goes on up to three.
+const USED: &str =
+    "frames 4\nswap 4\nwatermarks 2 3\ngroup /a\ntask 1 /a\n1 write 0 0 1\n1 write 1 0 1\n1 write 2 0 1\n";
+
+/// When the daemon is told to end.
+#[derive(Clone, Copy, PartialEq, Eq)]
+enum When {
+    /// Before it begins.
+    Before,
+    /// While a page that it takes is being written out.
+    During,
+}
+
+/// The daemon runs until it has ended. Whether it was told to when it was to be told.
+fn run_daemon<L: Ledger + Opened + Send + Sync, R: Threads + Wait + Sync>(
+    rt: &R,
+    live: &Live<L, Gate>,
+    signals: &Signals,
+    when: When,
+    daemon: Pass<L>,
+) -> (Pass<L>, bool) {
+    let mut daemon = daemon;
+    if when == When::Before {
+        live.stop(rt);
+        live.daemon(rt, &mut daemon);
+        return (daemon, true);
+    }
+    let balance = move || -> Pass<L> {
+        let mut daemon = daemon;
+        live.daemon(rt, &mut daemon);
+        daemon
+    };
+    let tell = move || -> bool {
+        let is_held = signals.wait_for_write();
+        live.stop(rt);
+        signals.let_go();
+        is_held
+    };
+    thread::join(rt, balance, tell)
+}
+
+/// What is answered behind the daemon's end.
+fn work<L: Ledger + Opened + Send + Sync, R: Threads + Wait + Sync>(
+    rt: &R,
+    alloc: Global,
+    live: &Live<L, Gate>,
+    signals: &Signals,
+    when: When,
+    before: Vec<(Actor, Command)>,
+    behind: Vec<(Actor, Command)>,
+) -> Result<(String, Vec<Pass<L>>), Fail> {
+    let mut shell = live.pass(rt)?;
+    let daemon = live.pass(rt)?;
+    in_turn(rt, alloc, live, &mut shell, before)?;
+    let (daemon, is_told) = run_daemon(rt, live, signals, when, daemon);
+    if !is_told {
+        return Err("no write".into());
+    }
+    let answers = in_turn(rt, alloc, live, &mut shell, behind)?;
+    let mut passes = Vec::new(alloc);
+    passes.push(shell)?;
+    passes.push(daemon)?;
+    Ok((answers, passes))
+}
+
+fn run_over<L: Ledger + Opened + Send + Sync, R: Threads + Wait + Sync>(
+    rt: &R,
+    alloc: Global,
+    config: Config,
+    gate: Gate,
+    blank: Blank,
+    when: When,
+    before: Vec<(Actor, Command)>,
+    behind: Vec<(Actor, Command)>,
+) -> Result<String, Fail>
+    requires name { blank.name ≡ L.name }
+    requires parts { (blank.parts ≡ L.parts) × (blank.parts ≡ 131073) }
+    requires opened { opening_of config ≡ L.opening }
+    requires fits { blocks_in L.opening ≤ gate.count }
+{
+    let signals = gate.signals()?;
+    let Ok(live) = Live::<L, Gate>::open(alloc, config, gate, blank) else {
+        return Err("no machine".into());
+    };
+    match work(rt, alloc, &live, &signals, when, before, behind) {
+        Err(fail) => {
+            live.give_up();
+            Err(fail)
+        }
+        Ok((answers, passes)) => {
+            let (_given, report) = finish(live, passes)?;
+            let Report {
+                trace: _,
+                replies_match,
+                audit,
+            } = report;
+            if replies_match && audit.is_ok() {
+                Ok(answers)
+            } else {
+                Err("no honest run".into())
+            }
+        }
+    }
+}
+
+/// Runs the lines before, lets the daemon run until it was told to end, and then runs the lines behind.
+fn stopped<R: Threads + Wait + Sync>(
+    rt: &R,
+    alloc: Global,
+    manner: Manner,
+    when: When,
+    behind: &str,
+) -> Result<String, Fail> {
+    let Ok(script) = read(alloc, USED.as_bytes(), Mode::Run) else {
+        return Err("a faulty line".into());
+    };
+    let Script { config, setup, .. } = script;
+    let Some(blocks) = blocks_for(&config) else {
+        return Err("too large".into());
+    };
+    let gate = Gate::new(alloc, blocks, manner)?;
+    let behind = asked(alloc, behind)?;
+    let blank = Blank::new(PARTS);
+    run_over::<Brand, R>(rt, alloc, config, gate, blank, when, setup, behind)
+}
+
+const LOOKS: &str = "cat /a memory.current\n1 read 0 0\n";
+
+#[test]
+fn the_daemon_runs_once_where_it_is_told_before(rt: HostRuntime) -> Result<(), Fail> {
+    let answers = stopped(&rt, rt.alloc(), Manner::Plain, When::Before, LOOKS)?;
+    assert_eq!(rt; answers.as_str(), "4096\n1 1\n");
+    Ok(())
+}
+
+#[test]
+fn the_daemon_ends_its_work_where_it_is_told_meanwhile(rt: HostRuntime) -> Result<(), Fail> {
+    let manner = Manner::HoldsUntilLetGo;
+    let answers = stopped(&rt, rt.alloc(), manner, When::During, LOOKS)?;
+    assert_eq!(rt; answers.as_str(), "4096\n1 1\n");
+    Ok(())
+}

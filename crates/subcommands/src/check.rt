@@ -1,0 +1,149 @@
+//! Whether a script answers what it expects.
+
+ghost use Rattle.std.specs.Prelude.{◌≡◌, ◌≤◌, [], false, IfSome, IfOk, IfErr};
+ghost use Rattle.expectations.specs.Expected.{expected_of};
+ghost use Rattle.subcommands.specs.Asked.{marks_lines};
+ghost use Rattle.subcommands.specs.Prints.{PrintsScript};
+ghost use Rattle.subcommands.specs.Told.{Explains, plain};
+
+use crate::fault::Fault;
+use crate::options::Options;
+use crate::output::write_bytes;
+use crate::{FAILED, read_script, run_script, status_of};
+use expectations::{Difference, compare};
+use scripts::ScriptFault;
+use std::alloc::{AllocError, Global};
+use std::io::{ErrorKind, Read, Write};
+use std::{io, str};
+
+/// What comes of a check.
+#[derive(Clone, Copy, Debug, PartialEq, Eq)]
+pub enum Checked {
+    /// The script answers what it expects, and nothing else.
+    Met,
+    /// It answers something else.
+    Differs,
+}
+
+/// What a script answers.
+#[derive(Drop)]
+struct Answers {
+    output: Vec<u8>,
+    /// For each line of it the number of the script's line that it comes of.
+    numbers: Vec<usize>,
+}
+
+/// What a run of the script prints, with what the options ask for, which is no name of a file.
+fn output_of(alloc: Global, options: Options, script: &[u8]) -> Result<Vec<u8>, Fault>
+    ensures whole { IfOk result (λ output. marks_lines options ≡ false → PrintsScript options script.now (Some []) (Some output.items)) }
+    ensures why { IfErr result (Explains options [] script.now) }
+{
+    let mut output = Vec::new(alloc);
+    let mut err = Vec::new(alloc);
+    run_script(alloc, options, "", script, &mut output, &mut err)?;
+    Ok(output)
+}
+
+/// The numbers that stand before the lines of an output, with a colon behind each.
+fn numbers_of(alloc: Global, numbered: &[u8]) -> Result<Vec<usize>, AllocError> {
+    let mut numbers = Vec::new(alloc);
+    for line in str::from_utf8(numbered).unwrap_or("").lines() {
+        let number = line
+            .split_once(':')
+            .and_then(|(number, _)| number.parse().ok());
+        numbers.push(number.unwrap_or(0))?;
+    }
+    Ok(numbers)
+}
+
+/// A script is run twice, since its output says of no line where it comes of, or of each.
+fn answers_of(alloc: Global, script: &[u8]) -> Result<Answers, Fault>
+    ensures whole { IfOk result (λ answers. PrintsScript plain script.now (Some []) (Some answers.output.items)) }
+    ensures why { IfErr result (Explains plain [] script.now) }
+{
+    let output = output_of(alloc, Options::default(), script)?;
+    let options = Options {
+        lines: true,
+        ..Options::default()
+    };
+    let numbered = output_of(alloc, options, script)?;
+    match numbers_of(alloc, &numbered) {
+        Ok(numbers) => Ok(Answers { output, numbers }),
+        Err(AllocError) => Err(Fault::Script(ScriptFault::Memory)),
+    }
+}
+
+/// Writes the line that says what comes of the check, in one piece.
+fn tell<O: Write>(
+    alloc: Global,
+    name: &str,
+    compared: &Result<(), Difference<'_>>,
+    answers: usize,
+    out: &mut O,
+) -> io::Result<()> {
+    let mut text = String::new(alloc);
+    match compared {
+        Ok(()) if answers == 1 => writeln!(text, "{name}: ok, 1 answer")?,
+        Ok(()) => writeln!(text, "{name}: ok, {answers} answers")?,
+        Err(difference) => writeln!(text, "{name}:{difference}")?,
+    }
+    write_bytes(out, text.as_bytes())?;
+    out.flush()
+}
+
+/// Runs a script that was read, holds its answers against what it expects, and writes a line to `out` that says what comes
+/// of it: behind the file's name how many answers there were, or the first difference.
+pub fn check_script<O: Write>(
+    alloc: Global,
+    name: &str,
+    script: &[u8],
+    out: &mut O,
+) -> Result<Checked, Fault>
+    // It is met only where the answers of the plain machine print exactly what the script expects.
+    ensures met { IfOk result (λ checked. checked ≡ Checked.Met → PrintsScript plain script.now (Some []) (Some (expected_of script.now))) }
+    ensures why { IfErr result (Explains plain [] script.now) }
+{
+    let Answers { output, numbers } = answers_of(alloc, script)?;
+    let compared = compare(script, &output, &numbers);
+    match tell(alloc, name, &compared, numbers.len(), out) {
+        Ok(()) => Ok(match compared {
+            Ok(()) => Checked::Met,
+            Err(_) => Checked::Differs,
+        }),
+        Err(error) if error.kind() == ErrorKind::OutOfMemory => {
+            Err(Fault::Script(ScriptFault::Memory))
+        }
+        Err(error) => Err(Fault::Unwritable(error)),
+    }
+}
+
+/// Reads a script and checks it as [`check_script`] does.
+///
+/// The exit status is 0 where it answers what it expects, and else 1. Where it can't be run, `err` gets the lines
+/// that say why, the file's name before them.
+pub fn read_and_check<R: Read, O: Write, E: Write>(
+    alloc: Global,
+    name: &str,
+    script: &mut R,
+    out: &mut O,
+    err: &mut E,
+) -> u8
+    ensures success_or_failure { result ≤ 1 }
+    ensures met { result ≡ 0 → IfSome (R.remaining script.old) (λ all. PrintsScript plain all (Some []) (Some (expected_of all))) }
+{
+    let checked = match read_script(alloc, script) {
+        Ok(bytes) => check_script(alloc, name, &bytes, out),
+        Err(fault) => Err(fault),
+    };
+    match checked {
+        Ok(Checked::Met) => 0,
+        Ok(Checked::Differs) => FAILED,
+        Err(fault) => {
+            if !fault.is_silent() {
+                // The status tells of the failure even where its line can't be written.
+                let _ = write!(err, "{name}: ");
+            }
+            status_of(Err(fault), err)
+        }
+    }
+}

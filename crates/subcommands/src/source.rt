@@ -1,0 +1,66 @@
+//! Where the steps of a run come from.
+
+use driver::{Command, Step};
+use std::alloc::{AllocError, Global};
+use std::str;
+
+/// The steps of a run, and the lines of the script that they come of.
+#[derive(Clone, Copy)]
+pub struct Source<'s> {
+    /// How the script's file is called.
+    pub name: &'s str,
+    pub steps: &'s [Step],
+    /// For each of the steps the number of its line.
+    pub lines: &'s [usize],
+    /// The lines of the script, where something asks for them.
+    pub texts: &'s [Line<'s>],
+    /// The most turns of a line.
+    pub turns: u32,
+}
+
+/// A line of a script, without its end.
+#[derive(Clone, Copy, Debug)]
+pub struct Line<'s> {
+    pub text: &'s str,
+}
+
+impl<'s> Source<'s> {
+    /// The number of the line of the step that stands there; 0 where there is none.
+    pub fn line_of(&self, step: usize) -> usize {
+        self.lines.get(step).copied().unwrap_or(0)
+    }
+
+    /// The number of the last line.
+    pub fn last_line(&self) -> usize {
+        self.lines.last().copied().unwrap_or(0)
+    }
+
+    /// The text of the line of this number, from 1 on.
+    pub fn text_of(&self, number: usize) -> &'s str {
+        match self.texts.get(number.saturating_sub(1)) {
+            Some(line) => line.text,
+            None => "",
+        }
+    }
+
+    /// The command that begins with the step that stands there.
+    pub fn command_at(&self, step: usize) -> Option<&'s Command> {
+        match self.steps.get(step) {
+            Some(Step::Begin(_, command)) => Some(command),
+            _ => None,
+        }
+    }
+}
+
+/// The lines of a script, in their order. One that is no text is none of a script that can be run, and is empty here.
+pub fn lines_of(alloc: Global, script: &[u8]) -> Result<Vec<Line<'_>>, AllocError> {
+    let mut lines = Vec::new(alloc);
+    let mut rest = script;
+    while !rest.is_empty() {
+        let (line, after) = scripts::lines::first_line(rest);
+        let text = str::from_utf8(line).unwrap_or("");
+        lines.push(Line { text })?;
+        rest = after;
+    }
+    Ok(lines)
+}

@@ -1,0 +1,127 @@
+//! What a run has answered and done, in numbers, and the lines that say so.
+
+use crate::metered::Moved;
+use driver::{Answer, Word};
+use machine::refusal::Refusal;
+use std::io;
+use std::io::Write;
+
+/// The words that refuse something, in the order in which they are told.
+const REFUSING: [Word; 18] = [
+    Word::Busy,
+    Word::Io,
+    Word::Again,
+    Word::OutOfMemory,
+    Word::TurnLimit,
+    Word::Underway,
+    Word::Idle,
+    Word::Refused(Refusal::Exists),
+    Word::Refused(Refusal::NoEntry),
+    Word::Refused(Refusal::Busy),
+    Word::Refused(Refusal::NoSpace),
+    Word::Refused(Refusal::Invalid),
+    Word::Refused(Refusal::NumberUsed),
+    Word::Refused(Refusal::NoTask),
+    Word::Refused(Refusal::BadPlace),
+    Word::Refused(Refusal::TraceFull),
+    Word::Refused(Refusal::NoMemory),
+    Word::Refused(Refusal::Stranger),
+];
+
+/// What a run has answered.
+#[derive(Clone, Copy, Debug)]
+pub struct Tally {
+    /// Commands that came to their end.
+    ended: u64,
+    kills: u64,
+    /// How often each of the words came that refuse something, in their order.
+    refused: [u64; REFUSING.len()],
+    /// Commands that were begun over another, and so not begun.
+    underway: u64,
+}
+
+impl Tally {
+    /// Nothing was answered yet.
+    pub fn new() -> Tally {
+        Tally {
+            ended: 0,
+            kills: 0,
+            refused: [0; REFUSING.len()],
+            underway: 0,
+        }
+    }
+
+    /// One answer more.
+    pub fn count(&mut self, answer: &Answer) {
+        match answer {
+            Answer::Kill(_) => bump(&mut self.kills),
+            Answer::Word(word) => self.count_word(*word),
+            Answer::Done | Answer::Text(_) | Answer::Byte(_) => bump(&mut self.ended),
+        }
+    }
+
+    fn count_word(&mut self, word: Word) {
+        match word {
+            Word::Underway => bump(&mut self.underway),
+            Word::Idle | Word::TurnLimit => {}
+            _ => bump(&mut self.ended),
+        }
+        for (refusing, count) in REFUSING.iter().zip(self.refused.iter_mut()) {
+            if *refusing == word {
+                bump(count);
+            }
+        }
+    }
+
+    /// How many of so many commands that began have not come to their end.
+    fn unfinished(&self, begun: u64) -> u64 {
+        begun
+            .saturating_sub(self.underway)
+            .saturating_sub(self.ended)
+    }
+}
+
+/// One more, up to the greatest number that there is.
+fn bump(count: &mut u64) {
+    *count = count.saturating_add(1);
+}
+
+/// How much was done, a line a number. Of pages it says nothing where the run was cut short.
+#[derive(Clone, Copy, Debug)]
+pub struct Summary {
+    pub tally: Tally,
+    /// Up to which line the script was run.
+    pub line: usize,
+    /// How many commands began, those among them that began over another.
+    pub begun: u64,
+    pub moved: Option<Moved>,
+}
+
+impl Summary {
+    pub fn write<W: Write>(&self, to: &mut W) -> io::Result<()> {
+        writeln!(to, "lines: {}", self.line)?;
+        writeln!(to, "kills: {}", self.tally.kills)?;
+        self.write_refused(to)?;
+        writeln!(to, "unfinished: {}", self.tally.unfinished(self.begun))?;
+        match self.moved {
+            Some(moved) => moved.write(to),
+            None => Ok(()),
+        }
+    }
+
+    /// How many lines were refused, and with which words.
+    fn write_refused<W: Write>(&self, to: &mut W) -> io::Result<()> {
+        let all = self
+            .tally
+            .refused
+            .iter()
+            .fold(0u64, |sum, count| sum.saturating_add(*count));
+        writeln!(to, "refused: {all}")?;
+        for (word, count) in REFUSING.iter().zip(self.tally.refused.iter()) {
+            if *count > 0 {
+                writeln!(to, "refused with {word}: {count}")?;
+            }
+        }
+        Ok(())
+    }
+}
