@@ -11,13 +11,13 @@ mod amounts;
 #[cfg(test)]
 mod case;
 #[cfg(test)]
-mod charts;
-#[cfg(test)]
 mod daemon_turns;
 #[cfg(test)]
 mod device_faults;
 #[cfg(test)]
 mod device_words;
+#[cfg(test)]
+mod drawn;
 #[cfg(test)]
 mod event_files;
 #[cfg(test)]
