@@ -7,6 +7,8 @@ use Rattle.machine.specs.Slots.{count_there}
 use Rattle.machine.specs.Victim.{is_live_under}
 use Rattle.machine.specs.Counts.{limits_at, counts_by, local}
 use Rattle.machine.specs.State.{State, usage, stat_of}
+use Rattle.machine.specs.Generations.{gens_at}
+use Rattle.machine.specs.Lists.{Order}
 use Rattle.book.specs.declared.looks.GroupLook.{GroupLook}
 
 -- a group: what is charged to it and below it, its settings, and what was counted at itself
@@ -20,6 +22,10 @@ look_at s path = option_map (group_look s) (find_group s.tree path)
 -- what its pages are
 abbrev pub stat_at : State → List ℕ → Option MemoryStat
 stat_at s path = option_map (stat_of s) (find_group s.tree path)
+
+-- the number of its youngest generation, which rises by one with each aging
+abbrev pub max_seq_at : State → Order → List ℕ → Option ℕ
+max_seq_at s order path = option_map (λ g. (gens_at order.held.groups g).max_seq) (find_group s.tree path)
 
 -- how many tasks live in a group at or under the limit
 abbrev pub candidates : List Node → Tasks → ℕ → ℕ

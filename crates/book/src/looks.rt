@@ -4,7 +4,7 @@ ghost use Rattle.std.specs.Prelude.{◌≡◌, option_map, IfSome};
 ghost use Rattle.machine.specs.Reclaim.{target_of};
 ghost use Rattle.machine.specs.Tasks.{size_of};
 ghost use Rattle.machine.specs.Victim.{IsVictim};
-ghost use Rattle.book.specs.Looks.{look_at, stat_at, candidates};
+ghost use Rattle.book.specs.Looks.{look_at, stat_at, max_seq_at, candidates};
 
 use crate::book::Book;
 use crate::decide::target_of;
@@ -77,6 +77,15 @@ impl Book {
     {
         let group = self.state.tree().find(path)?;
         Some(self.state.stat(group))
+    }
+
+    /// The number of the youngest generation of the group that has this path now, which begins at 3 and rises by one
+    /// with each aging (kernel: `lrugen.max_seq`). Nothing where none has.
+    pub fn max_seq(&self, path: &str) -> Option<u64>
+        ensures { result ≡ max_seq_at self.now.state self.now.order path.now }
+    {
+        let group = self.state.tree().find(path)?;
+        Some(self.state.max_seq(group))
     }
 
     /// Whom a relief for this cause takes if it kills a task now, which it does only where the cause stands, no page

@@ -5,6 +5,7 @@ ghost use Rattle.machine.specs.declared.record.Key.{Key as Key_of};
 ghost use Rattle.machine.specs.Names.{parent_path};
 ghost use Rattle.machine.specs.Tree.{is_live, under, find_group};
 ghost use Rattle.machine.specs.Counts.{is_key, limits_at, counts_by, total, local};
+ghost use Rattle.machine.specs.Generations.{gens_at};
 ghost use Rattle.machine.specs.State.{usage, stat_of, effective_min};
 ghost use Rattle.machine.specs.Refusals.{mkdir_refusal, rmdir_refusal, bars_children};
 ghost use Rattle.page_state.specs.Changes.{counts_event, AddsGroup, RemovesGroup, sets_limits};
@@ -74,6 +75,16 @@ impl State {
         ensures { result ≡ counts_by (local self.now.tables.counted group.0) }
     {
         self.events.locals(group)
+    }
+
+    /// The number of the group's youngest generation, which begins at 3 and rises by one with each aging (kernel:
+    /// `lrugen.max_seq`).
+    pub fn max_seq(&self, group: GroupId) -> u64
+        requires { is_live self.now.tables.tree group.0 ≡ true }
+        ensures { result ≡ (gens_at self.now.order.held.groups group.0).max_seq }
+    {
+        self.is_joined();
+        self.holdings.max_seq(group)
     }
 
     /// Counts the key once at the group (kernel: `memcg_memory_event`).

@@ -221,6 +221,15 @@ impl Holdings {
         cursors.next_group(tree, &self.counters, self.held.gens(), swap_free, target)
     }
 
+    /// The number of the group's youngest generation (kernel: `lrugen.max_seq`).
+    pub fn max_seq(&self, group: GroupId) -> u64
+        requires { is_live self.now.kin group.0 ≡ true }
+        ensures { result ≡ (gens_at self.now.held.groups group.0).max_seq }
+    {
+        self.are_counted();
+        self.held.gens().max_seq(group)
+    }
+
     /// The page that the group gives, which has one to give to a reclaim of the target; it stands on its
     /// list still (kernel: isolate_folios). Takes no memory.
     pub fn pick(&mut self, group: GroupId) -> PageId

@@ -142,7 +142,7 @@ fn an_audit_has_the_last_line(rt: HostRuntime) {
     };
     let out = "4: 1 5\n5: 4096\naudit ok\n";
     let err =
-        "lines: 5\nkills: 0\nrefused: 0\nunfinished: 0\npages read in: 0\npages written to swap: 0\npages dropped: 0\npages written home: 0\n";
+        "lines: 5\nkills: 0\nrefused: 0\nunfinished: 0\npages read in: 0\npages written to swap: 0\npages dropped: 0\npages written home: 0\nagings: 0\ngreatest memory.current of /a: 4096\n";
     writes(&rt, options, script, out, err);
 }
 
@@ -156,6 +156,8 @@ pages read in: 0
 pages written to swap: 0
 pages dropped: 0
 pages written home: 0
+agings: 0
+greatest memory.current of /a: 4096
 ";
 
 // What is counted otherwise is in options.cases of `cases`.

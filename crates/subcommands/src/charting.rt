@@ -11,12 +11,12 @@ ghost use Rattle.subcommands.specs.Told.{Explains, IsOfScript, IsRunFault};
 use crate::fault::{Fault, Wanted};
 use crate::options::Options;
 use crate::output::write_bytes;
+use crate::source::paths_of;
 use crate::{faulty, unwritten};
 use block_store::MemDevice;
 use charts::{Watched, picture, table, watch};
-use driver::{Command, Step};
+use driver::Step;
 use files::blocks_for;
-use indexmap::IndexSet;
 use scripts::{Mode, Script, one_answer};
 use std::alloc::{AllocError, Global};
 use std::io::Write;
@@ -30,17 +30,9 @@ pub enum Drawing {
     Table,
 }
 
-/// The paths of all groups that the steps make, in order of their lines; the root's where they make none.
-fn paths_of(alloc: Global, steps: &[Step]) -> Result<Vec<&str>, AllocError> {
-    let mut known = IndexSet::new(alloc);
-    let mut paths = Vec::new(alloc);
-    for step in steps {
-        if let Step::Begin(_, Command::Group(path)) = step {
-            if known.insert(path.as_str())? {
-                paths.push(path.as_str())?;
-            }
-        }
-    }
+/// The paths whose groups are drawn: those of all groups that the steps make, or the root's where they make none.
+fn charted_paths(alloc: Global, steps: &[Step]) -> Result<Vec<&str>, AllocError> {
+    let mut paths = paths_of(alloc, steps)?;
     if paths.is_empty() {
         paths.push("/")?;
     }
@@ -88,7 +80,7 @@ fn chart_steps<O: Write>(
     let Ok(mut device) = MemDevice::new(alloc, blocks, &read_faults, &write_faults) else {
         return Err(Fault::Memory(wanted));
     };
-    let Ok(paths) = paths_of(alloc, &steps) else {
+    let Ok(paths) = charted_paths(alloc, &steps) else {
         return Err(Fault::Memory(wanted));
     };
     let is_detailed = kind == Drawing::Table;

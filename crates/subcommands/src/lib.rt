@@ -7,7 +7,9 @@ mod check;
 mod crew;
 mod fault;
 mod judged;
+mod killing;
 mod metered;
+mod observed;
 mod options;
 mod output;
 mod printer;
@@ -34,10 +36,11 @@ ghost use Rattle.subcommands.specs.Told.{plain, placed_text, BeginsSo, Places, I
 use block_store::{BlockDevice, MemDevice};
 pub use charting::{Drawing, chart};
 pub use check::{Checked, check_script, read_and_check};
-use driver::{Config, Stop};
+use driver::{Config, Step, Stop};
 pub use fault::{Fault, Wanted};
 use files::blocks_for;
 use metered::Metered;
+use observed::Observed;
 pub use options::Options;
 use printer::{ERASE, Ended, print_run};
 use scripts::{Mode, Script, ScriptFault, one_answer};
@@ -103,6 +106,7 @@ fn run_on<O: Write, E: Write>(
     config: Config,
     device: &mut Metered<MemDevice>,
     source: Source<'_>,
+    observed: &mut Observed<'_>,
     out: &mut O,
     err: &mut E,
 ) -> Result<(), Fault>
@@ -114,7 +118,7 @@ fn run_on<O: Write, E: Write>(
     ensures quiet { speaks options ≡ false → E.contents err.new ≡ E.contents err.old }
 {
     let wanted = Wanted::of(&config, device.blocks());
-    let Ended { ran, written } = print_run(alloc, options, config, device, source, out, err);
+    let Ended { ran, written } = print_run(alloc, options, config, device, source, observed, out, err);
     match ran {
         Ok(_) => match written {
             Ok(()) => Ok(()),
@@ -167,6 +171,10 @@ fn run_steps<O: Write, E: Write>(
         Ok(texts) => texts,
         Err(_) => return Err(Fault::Memory(wanted)),
     };
+    let mut observed = match observed_of(alloc, options, &steps) {
+        Ok(observed) => observed,
+        Err(_) => return Err(Fault::Memory(wanted)),
+    };
     let mut device = Metered::new(device, config.swap);
     let source = Source {
         name: file,
@@ -175,7 +183,7 @@ fn run_steps<O: Write, E: Write>(
         texts: &texts,
         turns: config.turns,
     };
-    run_on(alloc, options, config, &mut device, source, out, err)
+    run_on(alloc, options, config, &mut device, source, &mut observed, out, err)
 }
 
 /// The lines of a script, where the options ask for them.
@@ -184,6 +192,18 @@ fn texts_for(alloc: Global, options: Options, script: &[u8]) -> Result<Vec<Line<
         return Ok(Vec::new(alloc));
     }
     lines_of(alloc, script)
+}
+
+/// What is to be seen of the groups that the steps make, where the options ask for it.
+fn observed_of(
+    alloc: Global,
+    options: Options,
+    steps: &[Step],
+) -> Result<Observed<'_>, AllocError> {
+    if options.summary || options.explain {
+        return Observed::of(alloc, steps);
+    }
+    Ok(Observed::nothing(alloc))
 }
 
 /// The line of a fault with the name of the script's file, without its end.

@@ -12,6 +12,7 @@ ghost use Rattle.subcommands.specs.Sinks.{OutTakes, OutBegins, IsQuiet, GoesOn, 
 use crate::begun::Begun;
 use crate::judged::{is_byte, refusal_of};
 use crate::metered::{Calls, Metered, Moved};
+use crate::observed::Observed;
 use crate::options::Options;
 use crate::output::{write_bytes, write_line};
 use crate::source::Source;
@@ -19,9 +20,10 @@ use crate::stopped::Stopped;
 use crate::tally::{Summary, Tally};
 use block_store::BlockDevice;
 use book::Book;
-use driver::{Actor, Closed, Config, Reply, Sink, Step, Stop, Word, run_into};
+use driver::{Actor, Answer, Closed, Config, Reply, Sink, Step, Stop, Word, run_into};
 use explain::{Reason, Told, Words, reason_of};
 use machine::event::Cause;
+use machine::id::TaskId;
 use std::alloc::Global;
 use std::io;
 use std::io::Write;
@@ -35,7 +37,7 @@ pub const ERASE: &[u8] = b"\r\x1b[K";
 /// It owns no memory: the proof of [`print_run`] knows what the writers behind it hold only where none stands
 /// beside them.
 #[derive(Drop)]
-struct Printer<'o, 'e, 's, 't, 'b, 'f, O: Write, E: Write> {
+struct Printer<'o, 'e, 's, 't, 'b, 'g, 'p, 'f, O: Write, E: Write> {
     out: &'o mut O,
     err: &'e mut E,
     options: Options,
@@ -44,6 +46,8 @@ struct Printer<'o, 'e, 's, 't, 'b, 'f, O: Write, E: Write> {
     text: &'t mut String,
     /// Which command each actor is at, where something asks for it.
     begun: &'b mut Begun,
+    /// What was seen of groups, where something asks for it.
+    observed: &'g mut Observed<'p>,
     /// What a terminal shows of how many lines are done, in hundredths, if it shows any.
     shown: Option<usize>,
     /// How many of the steps are done, as far as is known.
@@ -53,7 +57,7 @@ struct Printer<'o, 'e, 's, 't, 'b, 'f, O: Write, E: Write> {
     stopped: &'f mut Option<Stopped>,
 }
 
-impl<'o, 'e, 's, 't, 'b, 'f, O: Write, E: Write> Printer<'o, 'e, 's, 't, 'b, 'f, O, E> {
+impl<'o, 'e, 's, 't, 'b, 'g, 'p, 'f, O: Write, E: Write> Printer<'o, 'e, 's, 't, 'b, 'g, 'p, 'f, O, E> {
     /// The number of the line that was done last.
     fn line_done(&self) -> usize {
         self.source.line_of(self.done.saturating_sub(1))
@@ -228,12 +232,68 @@ impl<'o, 'e, 's, 't, 'b, 'f, O: Write, E: Write> Printer<'o, 'e, 's, 't, 'b, 'f,
         if let Err(error) = self.say_why(step, actor, word) {
             return Err(Stopped::Unwritten(error));
         }
+        self.say()
+    }
+
+    /// Writes the text as a line beside the answers, once all of these are out.
+    fn say(&mut self) -> Result<(), Stopped>
+        requires { self.old.options.explain ≡ true }
+        ensures out { self.new.out.ghost_name ≡ self.old.out.ghost_name }
+        ensures err { self.new.err.ghost_name ≡ self.old.err.ghost_name }
+        ensures options { self.new.options ≡ self.old.options }
+        ensures stopped { self.new.stopped.now ≡ self.old.stopped.now }
+        ensures kept { Keeps (O.contents self.old.out.now) (O.contents self.new.out.now) }
+        ensures ends { IfErr result (λ why. is_end why ≡ false) }
+    {
         if let Err(error) = self.out.flush() {
             return Err(Stopped::Unwritten(error));
         }
         // Nothing hangs on it: the run goes on where it can't be written.
         let _ = write_line(self.err, self.text.as_bytes());
         Ok(())
+    }
+
+    /// Says why a task was killed, where that was the answer and it is asked for.
+    fn tell_kill(&mut self, step: usize, answer: &Answer) -> Result<(), Stopped>
+        ensures out { self.new.out.ghost_name ≡ self.old.out.ghost_name }
+        ensures err { self.new.err.ghost_name ≡ self.old.err.ghost_name }
+        ensures options { self.new.options ≡ self.old.options }
+        ensures stopped { self.new.stopped.now ≡ self.old.stopped.now }
+        ensures kept { Keeps (O.contents self.old.out.now) (O.contents self.new.out.now) }
+        ensures ends { IfErr result (λ why. is_end why ≡ false) }
+        ensures quiet { IsQuiet self.old.options self.old.shown self.new.shown (E.contents self.old.err.now) (E.contents self.new.err.now) }
+    {
+        let Answer::Kill(task) = answer else {
+            return Ok(());
+        };
+        if !self.options.explain {
+            return Ok(());
+        }
+        match self.say_kill(step, *task) {
+            Ok(false) => Ok(()),
+            Ok(true) => self.say(),
+            Err(error) => Err(Stopped::Unwritten(error)),
+        }
+    }
+
+    /// Makes the text say why the task was killed, and says whether anything is known of it.
+    fn say_kill(&mut self, step: usize, task: TaskId) -> io::Result<bool>
+        ensures out { self.new.out ≡ self.old.out }
+        ensures err { self.new.err ≡ self.old.err }
+        ensures options { self.new.options ≡ self.old.options }
+        ensures stopped { self.new.stopped.now ≡ self.old.stopped.now }
+        ensures shown { self.new.shown ≡ self.old.shown }
+    {
+        let Some(killing) = self.observed.killing_of(task) else {
+            return Ok(false);
+        };
+        let source = self.source;
+        let number = source.line_of(step);
+        let words = Words(source.text_of(number));
+        self.text.clear();
+        let name = source.name;
+        write!(self.text, "{name}:{number}: {words}: {killing}")?;
+        Ok(true)
     }
 
     /// Writes an answer, and what is to be said of it. The error is why no more are taken.
@@ -255,6 +315,7 @@ impl<'o, 'e, 's, 't, 'b, 'f, O: Write, E: Write> Printer<'o, 'e, 's, 't, 'b, 'f,
         if let Some(word) = refusal_of(&reply.answer) {
             self.heed(step, reply.actor, word)?;
         }
+        self.tell_kill(step, &reply.answer)?;
         if self.options.progress {
             self.show(step);
         }
@@ -352,7 +413,7 @@ impl<'o, 'e, 's, 't, 'b, 'f, O: Write, E: Write> Printer<'o, 'e, 's, 't, 'b, 'f,
             moved,
         };
         // Nothing hangs on it.
-        let _ = summary.write(self.err);
+        let _ = summary.write(self.err, self.observed);
     }
 }
 
@@ -415,6 +476,7 @@ pub fn print_run<D: BlockDevice + Drop, O: Write, E: Write>(
     config: Config,
     device: &mut Metered<D>,
     source: Source<'_>,
+    observed: &mut Observed<'_>,
     out: &mut O,
     err: &mut E,
 ) -> Ended
@@ -435,6 +497,7 @@ pub fn print_run<D: BlockDevice + Drop, O: Write, E: Write>(
         source,
         text: &mut text,
         begun: &mut begun,
+        observed,
         shown: None,
         done: 0,
         tally: Tally::new(),
@@ -454,7 +517,7 @@ fn moved_by(ran: &Result<Trace, Stop>, written: Calls) -> Option<Moved> {
     }
 }
 
-impl<'o, 'e, 's, 't, 'b, 'f, O: Write, E: Write> Sink for Printer<'o, 'e, 's, 't, 'b, 'f, O, E> {
+impl<'o, 'e, 's, 't, 'b, 'g, 'p, 'f, O: Write, E: Write> Sink for Printer<'o, 'e, 's, 't, 'b, 'g, 'p, 'f, O, E> {
     // What is said of the one and of the other writer, and when a strict run goes on. Both stay the writers that they are.
     ghost took = { λ a b xs. (b.out.ghost_name ≡ a.out.ghost_name) × (b.err.ghost_name ≡ a.err.ghost_name) × (b.options ≡ a.options)
         × OutTakes a.options (O.contents a.out.now) (O.contents b.out.now) xs
@@ -481,9 +544,17 @@ impl<'o, 'e, 's, 't, 'b, 'f, O: Write, E: Write> Sink for Printer<'o, 'e, 's, 't
         }
     }
 
-    fn look(&mut self, _step: usize, _book: &Book) {}
+    fn look(&mut self, _step: usize, book: &Book) {
+        if self.options.summary {
+            self.observed.look(book);
+        }
+    }
 
-    fn see_relief(&mut self, _step: usize, _book: &Book, _cause: Cause) {}
+    fn see_relief(&mut self, _step: usize, book: &Book, cause: Cause) {
+        if self.options.explain {
+            self.observed.see_relief(book, cause);
+        }
+    }
 
     ghost use Rattle.std.proofs.Common.{refl, ◌∙◌, inl};
     ghost use Rattle.subcommands.specs.SinkLaws.{out_takes-nil, out_takes-more, out_begins-nil, quiet-refl, quiet-more, goes_on-nil, goes_on-more};

@@ -1,6 +1,7 @@
 //! Where the steps of a run come from.
 
 use driver::{Command, Step};
+use indexmap::IndexSet;
 use std::alloc::{AllocError, Global};
 use std::str;
 
@@ -63,4 +64,18 @@ pub fn lines_of(alloc: Global, script: &[u8]) -> Result<Vec<Line<'_>>, AllocErro
         rest = after;
     }
     Ok(lines)
+}
+
+/// The paths of all groups that the steps make, each once, in order of their lines.
+pub fn paths_of(alloc: Global, steps: &[Step]) -> Result<Vec<&str>, AllocError> {
+    let mut known = IndexSet::new(alloc);
+    let mut paths = Vec::new(alloc);
+    for step in steps {
+        if let Step::Begin(_, Command::Group(path)) = step {
+            if known.insert(path.as_str())? {
+                paths.push(path.as_str())?;
+            }
+        }
+    }
+    Ok(paths)
 }

@@ -1,6 +1,7 @@
 //! What a run has answered and done, in numbers, and the lines that say so.
 
 use crate::metered::Moved;
+use crate::observed::Observed;
 use driver::{Answer, Word};
 use machine::refusal::Refusal;
 use std::io;
@@ -98,15 +99,16 @@ pub struct Summary {
 }
 
 impl Summary {
-    pub fn write<W: Write>(&self, to: &mut W) -> io::Result<()> {
+    /// All lines, with those of what was seen of groups behind them.
+    pub fn write<W: Write>(&self, to: &mut W, observed: &Observed<'_>) -> io::Result<()> {
         writeln!(to, "lines: {}", self.line)?;
         writeln!(to, "kills: {}", self.tally.kills)?;
         self.write_refused(to)?;
         writeln!(to, "unfinished: {}", self.tally.unfinished(self.begun))?;
-        match self.moved {
-            Some(moved) => moved.write(to),
-            None => Ok(()),
+        if let Some(moved) = self.moved {
+            moved.write(to)?;
         }
+        observed.write(to)
     }
 
     /// How many lines were refused, and with which words.
