@@ -19,6 +19,7 @@ pub record SeatOf : Type 0 where
   pub table : TableId
   pub log : Log
 
+-- a seat's log
 abbrev pub log_of : SeatOf → Log
 log_of seat = seat.log
 
@@ -29,11 +30,12 @@ abbrev pub found_of : ℕ → Found
 found_of zero = Clear
 found_of (suc n) = Marked
 
--- 1 or 0: whether the frame was clear, and whether it was marked
+-- 1 where the frame was clear, and else 0
 abbrev pub as_clear : Found → ℕ
 as_clear Clear = 1
 as_clear Marked = 0
 
+-- 1 where it was marked, and else 0
 abbrev pub as_marked : Found → ℕ
 as_marked Clear = 0
 as_marked Marked = 1
@@ -62,7 +64,7 @@ found frame log = sum_by (mark_found frame) log.sets
 abbrev pub taken : ℕ → Log → ℕ
 taken frame log = sum_by (mark_taken frame) log.harvests
 
--- how many marks of the frame were set in a log and not taken in it. Over the log of a seat with all parts this is the mark
+-- how many marks of the frame were set in a log and not taken in it. In the log of a seat with all parts this is the mark; in another it is no more than a count, and 0 where more were taken than set
 abbrev pub pending : ℕ → Log → ℕ
 pending frame log = cleared frame log - taken frame log
 
@@ -76,20 +78,23 @@ IsHarvested log = (frame : ℕ) → cleared frame log ≡ taken frame log
 abbrev pub mark : List ℕ → ℕ → ℕ
 mark words frame = bit_at (slice_index words (frame / 64)) (frame % 64)
 
--- Of one frame, over these logs: no mark is lost, and none is taken twice, since the sets that found the frame clear are as many as the harvests that took its mark, and one more where it is marked; and nobody
--- is told that it was marked where nobody had marked it
+-- Of one frame, over these logs. The sets that found it clear are as many as the harvests that took its mark, and one more where it is marked: so no mark is lost, and none is taken twice.
+-- And a set found it marked only where some set had found it clear: so nobody is told of a mark that was never set
 pub record IsBalanced (words : List ℕ) (logs : List Log) (frame : ℕ) : Type 0 where
   pub balance : sum_by (cleared frame) logs ≡ sum_by (taken frame) logs + mark words frame
   pub set_before : 0 < sum_by (found frame) logs → 0 < sum_by (cleared frame) logs
 
+-- of every frame
 abbrev pub AreBalanced : List ℕ → List Log → Type 0
 AreBalanced words logs = (frame : ℕ) → IsBalanced words logs frame
 
 -- ---- how a log goes on
 
+-- a set of this frame, which found this
 abbrev pub setting : ℕ → Found → Setting
 setting frame found = record { frame = frame; found = found }
 
+-- a harvest of this word, which took these bits
 abbrev pub harvest_of : ℕ → ℕ → Harvest
 harvest_of word bits = record { word = word; bits = bits }
 

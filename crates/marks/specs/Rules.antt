@@ -8,7 +8,7 @@ use Rattle.atomic_table.specs.Table.{State, Me, Step}
 use Rattle.marks.specs.declared.log.Log.{Log}
 use Rattle.marks.specs.Logs.{AreBalanced, found_of, pending, fresh, after_set, after_harvest}
 
--- the words, and the log of each seat that ever was
+-- the words, and the log of each seat that there ever was, those that were let go too
 abbrev pub Marking : Type 0
 Marking = State (Unit {0}) Log
 
@@ -16,6 +16,7 @@ Marking = State (Unit {0}) Log
 abbrev pub Seated : Type 0
 Seated = Me (Unit {0}) Log
 
+-- how many parts a log's seat has
 abbrev pub parts_of : Log → ℕ
 parts_of log = log.parts
 
@@ -47,9 +48,9 @@ HarvestsWord st old bits new = (new ≡ (after_harvest st.word bits old.0, old.1
 abbrev pub joined : Log → Log → Log
 joined a b = record { parts = a.parts + b.parts; sets = a.sets ++ b.sets; harvests = a.harvests ++ b.harvests }
 
--- there is a word for each frame, and one at least; there are no slots; and the rule knows how many words there are
+-- what always holds of marks: each frame has its word, there is one word at least, there are no slots, and the rule knows how many words there are
 pub record IsSized (frames words slots key : ℕ) : Type 0 where
   pub each : frames ≤ 64 * words
-  pub some : 0 < words
-  pub none : slots ≡ 0
+  pub not_empty : 0 < words
+  pub no_slots : slots ≡ 0
   pub known : key ≡ words

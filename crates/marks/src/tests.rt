@@ -143,9 +143,9 @@ fn two_seats_see_one_mark(rt: HostRuntime) -> Result<(), Fail> {
     let mut second = marks.seat(&mut first);
     assert_eq!(rt; first.parts(), 4294967295);
     assert_eq!(rt; second.parts(), 1);
-    assert!(rt; marks.set(&mut first, 129) == Found::Clear);
-    assert!(rt; marks.set(&mut second, 129) == Found::Marked);
-    assert!(rt; marks.set(&mut second, 3) == Found::Clear);
+    assert_eq!(rt; marks.set(&mut first, 129), Found::Clear);
+    assert_eq!(rt; marks.set(&mut second, 129), Found::Marked);
+    assert_eq!(rt; marks.set(&mut second, 3), Found::Clear);
     assert_eq!(rt; marks.load(0), 8);
     assert_eq!(rt; marks.harvest(&mut first, 0), 8);
     assert_eq!(rt; marks.load(0), 0);
@@ -182,10 +182,10 @@ fn frames_at_the_ends_of_words(rt: HostRuntime) -> Result<(), Fail> {
     assert_eq!(rt; mark_alone(&marks, &mut seat, 63), 1 << 63);
     assert_eq!(rt; mark_alone(&marks, &mut seat, 64), 1);
     assert_eq!(rt; mark_alone(&marks, &mut seat, 65536), 1);
-    assert!(rt; marks.set(&mut seat, 63) == Found::Clear);
-    assert!(rt; marks.set(&mut seat, 64) == Found::Clear);
-    assert!(rt; marks.set(&mut seat, 65536) == Found::Clear);
-    assert!(rt; marks.set(&mut seat, 63) == Found::Marked);
+    assert_eq!(rt; marks.set(&mut seat, 63), Found::Clear);
+    assert_eq!(rt; marks.set(&mut seat, 64), Found::Clear);
+    assert_eq!(rt; marks.set(&mut seat, 65536), Found::Clear);
+    assert_eq!(rt; marks.set(&mut seat, 63), Found::Marked);
     assert_eq!(rt; marks.load(0), 1 << 63);
     assert_eq!(rt; marks.load(1), 1);
     assert_eq!(rt; marks.load(2), 0);

@@ -4,7 +4,7 @@ use Rattle.marks.proofs.SeatLemmas.{last}
 use Rattle.marks.proofs.marks.Marks.end.Goals as goal
 
 pub invariant_of-result : goal.invariant_of-result
-invariant_of-result c = (c.close_with.ensures.values.0, c.close_with.ensures.counts.1 ∙ c.self.invariant.none)
+invariant_of-result c = (c.close_with.ensures.values.0, c.close_with.ensures.counts.1 ∙ c.self.invariant.no_slots)
 
 pub returns-clause-law : goal.returns-clause-law
 returns-clause-law c =
