@@ -1,0 +1,4 @@
+pub mod LogLemmas
+pub mod WordLemmas
+pub mod SeatLemmas
+pub mod StepLemmas
