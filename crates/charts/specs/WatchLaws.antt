@@ -1,6 +1,6 @@
 -- How rows go on as a run is watched. The laws of a sink take none from `proofs`, so their proofs stand here.
 use Rattle.std.specs.Prelude.{Bool, false}
-use Rattle.std.proofs.Common.{◌≡◌, ℕ, List, [], ◌∷◌, ◌++◌, map, refl, sym, ap, ◌∙◌, append_assoc, append-nil}
+use Rattle.std.proofs.Common.{◌≡◌, ℕ, List, [], ◌++◌, map, refl, sym, ap, ◌∙◌, append_assoc, append-nil}
 use Rattle.std.proofs.lemmas.List.{map-append}
 use Rattle.machine.specs.Call.{Past}
 use Rattle.charts.specs.declared.watching.Shown.{Shown}

@@ -1,13 +1,12 @@
 -- What is shown of groups behind each step of a run.
-use Rattle.std.specs.Prelude.{◌≡◌, ℕ, Bool, true, false, if◌then◌else◌, List, [], ◌∷◌, ◌++◌, map, replicate, Option, Some, None}
-use denote.Ref.{Bor}
+use Rattle.std.specs.Prelude.{◌≡◌, ℕ, Bool, if◌then◌else◌, List, [], ◌∷◌, ◌++◌, map, replicate, None}
 use Rattle.machine.specs.declared.config.Config.{Config}
 use Rattle.machine.specs.declared.command.Step.{Step}
 use Rattle.machine.specs.declared.command.Reply.{Reply}
 use Rattle.machine.specs.Call.{Past}
 use Rattle.block_store.specs.Device.{Disk}
 use Rattle.book.specs.Looks.{look_at, stat_at}
-use Rattle.driver.specs.Schedule.{World, first_world, RunsThrough, Schedules}
+use Rattle.driver.specs.Schedule.{first_world, RunsThrough, Schedules}
 use Rattle.charts.specs.declared.watching.Shown.{Shown}
 use Rattle.charts.specs.declared.watching.Row.{Row}
 

@@ -1,5 +1,6 @@
 //! Scales, and what is written along them.
 
+use machine::bytes::PAGE_BYTES;
 use std::alloc::{AllocError, Global};
 
 /// Where values stand on a line: the least at 0, and the greatest at its end.
@@ -73,6 +74,11 @@ pub fn line_marks(alloc: Global, scale: Scale) -> Result<Vec<u64>, AllocError> {
 /// Round numbers of pages along a scale.
 pub fn page_marks(alloc: Global, scale: Scale) -> Result<Vec<u64>, AllocError> {
     marks(alloc, scale, binary_step(scale.greatest))
+}
+
+/// Pages as bytes.
+pub fn bytes_of(pages: u64) -> u64 {
+    pages.saturating_mul(PAGE_BYTES as u64)
 }
 
 /// Bytes as people write them: in the greatest of the units G, M and K that leaves no rest.

@@ -1,5 +1,6 @@
 pub mod Asked
 pub mod Prints
+pub mod Charted
 pub mod Told
 pub mod SinkLaws
 pub mod Sinks

@@ -1,24 +1,28 @@
 //! Charts and tables of what groups are charged with.
 
-ghost use Rattle.std.specs.Prelude.{◌≡◌, ℕ, true, IsErr, IfErr};
+ghost use Rattle.std.specs.Prelude.{◌≡◌, ℕ, true, List, IsErr, IfOk, IfErr, OnOk, string_bytes};
+ghost use Rattle.std.specs.Io.KnownBytes.{Appends};
 ghost use Rattle.std.specs.Str.Lines.{lines};
-ghost use Rattle.machine.specs.State.{is_config};
+ghost use Rattle.machine.specs.State.{blocks_of, is_config};
+ghost use Rattle.block_store.specs.Device.{new_disk};
 ghost use Rattle.scripts.specs.declared.fault.Cause.{Cause};
 ghost use Rattle.scripts.specs.declared.mode.Mode.TheVariants.{Schedule};
 ghost use Rattle.scripts.specs.Script.{IsFirstFault};
+ghost use Rattle.subcommands.specs.Charted.{ListsRun, ListsScript};
 ghost use Rattle.subcommands.specs.Told.{Explains, IsOfScript, IsRunFault};
 
+use crate::device::new_device;
 use crate::fault::{Fault, Wanted};
 use crate::options::Options;
 use crate::output::write_bytes;
 use crate::source::paths_of;
 use crate::{faulty, unwritten};
-use block_store::MemDevice;
-use charts::{Watched, picture, table, watch};
-use driver::Step;
-use files::blocks_for;
+use block_store::{BlockDevice, MemDevice};
+use charts::{picture, table, watch};
+use driver::{Config, Step};
 use scripts::{Mode, Script, one_answer};
 use std::alloc::{AllocError, Global};
+use std::io;
 use std::io::Write;
 
 /// What is made of a run.
@@ -39,19 +43,41 @@ fn charted_paths(alloc: Global, steps: &[Step]) -> Result<Vec<&str>, AllocError>
     Ok(paths)
 }
 
-/// The text that is written.
-fn drawn(
+/// The text that is written. It fails where memory is wanted and refused.
+fn text_of(
     alloc: Global,
     kind: Drawing,
     title: &str,
+    config: Config,
+    device: &mut MemDevice,
+    steps: &[Step],
     lines: &[usize],
-    paths: &[&str],
-    watched: &Watched,
-) -> Result<String, AllocError> {
+) -> Result<String, AllocError>
+    ensures listed { IfOk result (λ s. kind ≡ Drawing.Table → ListsRun config device.old steps.now lines.now (string_bytes s)) }
+{
+    let paths = charted_paths(alloc, steps)?;
     match kind {
-        Drawing::Picture => picture(alloc, title, lines, paths, watched),
-        Drawing::Table => table(alloc, lines, paths, watched),
+        Drawing::Picture => {
+            let Ok(watched) = watch(alloc, config, device, steps, &paths, false) else {
+                return Err(AllocError);
+            };
+            picture(alloc, title, lines, &paths, &watched)
+        }
+        Drawing::Table => {
+            let Ok(watched) = watch(alloc, config, device, steps, &paths, true) else {
+                return Err(AllocError);
+            };
+            table(alloc, lines, &paths, &watched)
+        }
     }
+}
+
+/// Writes the text, and has the writer pass it on.
+fn write_all<O: Write>(out: &mut O, text: &str) -> io::Result<()>
+    ensures { OnOk result (Appends (O.contents out.old) (O.contents out.new) text.now) }
+{
+    write_bytes(out, text.as_bytes())?;
+    out.flush()
 }
 
 /// Runs the script over a new device, and writes what the groups were charged with.
@@ -64,6 +90,7 @@ fn chart_steps<O: Write>(
 ) -> Result<(), Fault>
     requires limits { is_config script.config ≡ true }
     ensures why { IfErr result IsRunFault }
+    ensures listed { OnOk result (kind ≡ Drawing.Table → (text : List ℕ) × ListsRun script.config (new_disk (blocks_of script.config) script.read_faults.items script.write_faults.items) script.steps.items script.lines.items text × Appends (O.contents out.old) (O.contents out.new) text) }
 {
     let Script {
         config,
@@ -73,28 +100,16 @@ fn chart_steps<O: Write>(
         lines,
         ..
     } = script;
-    let Some(blocks) = blocks_for(&config) else {
-        unreachable!()
+    let mut device = match new_device(alloc, &config, &read_faults, &write_faults) {
+        Ok(device) => device,
+        Err(wanted) => return Err(Fault::Memory(wanted)),
     };
-    let wanted = Wanted::of(&config, blocks);
-    let Ok(mut device) = MemDevice::new(alloc, blocks, &read_faults, &write_faults) else {
-        return Err(Fault::Memory(wanted));
+    let wanted = Wanted::of(&config, device.blocks());
+    let text = match text_of(alloc, kind, title, config, &mut device, &steps, &lines) {
+        Ok(text) => text,
+        Err(_) => return Err(Fault::Memory(wanted)),
     };
-    let Ok(paths) = charted_paths(alloc, &steps) else {
-        return Err(Fault::Memory(wanted));
-    };
-    let is_detailed = kind == Drawing::Table;
-    let Ok(watched) = watch(alloc, config, &mut device, &steps, &paths, is_detailed) else {
-        return Err(Fault::Memory(wanted));
-    };
-    let Ok(text) = drawn(alloc, kind, title, &lines, &paths, &watched) else {
-        return Err(Fault::Memory(wanted));
-    };
-    let written = match write_bytes(out, text.as_bytes()) {
-        Ok(()) => out.flush(),
-        Err(error) => Err(error),
-    };
-    match written {
+    match write_all(out, text.as_str()) {
         Ok(()) => Ok(()),
         Err(error) => Err(unwritten(wanted, error)),
     }
@@ -116,6 +131,8 @@ pub fn chart<O: Write>(
     ensures faulty { (n : ℕ) (cause : Cause) → IsFirstFault Schedule (lines script.now) n cause → IsErr result × (O.contents out.new ≡ O.contents out.old) }
     ensures why { IfErr result (Explains options title.now script.now) }
     ensures unrun { IfErr result (λ why. IsOfScript why → O.contents out.new ≡ O.contents out.old) }
+    // Where it comes to its end, `out` got the table, if that was asked for.
+    ensures listed { OnOk result (kind ≡ Drawing.Table → ListsScript options script.now (O.contents out.old) (O.contents out.new)) }
 {
     one_answer();
     match scripts::read(alloc, script, Mode::Schedule) {

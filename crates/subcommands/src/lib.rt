@@ -5,6 +5,7 @@ mod begun;
 mod charting;
 mod check;
 mod crew;
+mod device;
 mod fault;
 mod judged;
 mod killing;
@@ -36,9 +37,9 @@ ghost use Rattle.subcommands.specs.Told.{plain, placed_text, BeginsSo, Places, I
 use block_store::{BlockDevice, MemDevice};
 pub use charting::{Drawing, chart};
 pub use check::{Checked, check_script, read_and_check};
+use device::new_device;
 use driver::{Config, Step, Stop};
 pub use fault::{Fault, Wanted};
-use files::blocks_for;
 use metered::Metered;
 use observed::Observed;
 pub use options::Options;
@@ -159,14 +160,11 @@ fn run_steps<O: Write, E: Write>(
         lines,
         ..
     } = script;
-    let Some(blocks) = blocks_for(&config) else {
-        unreachable!()
-    };
-    let wanted = Wanted::of(&config, blocks);
-    let device = match MemDevice::new(alloc, blocks, &read_faults, &write_faults) {
+    let device = match new_device(alloc, &config, &read_faults, &write_faults) {
         Ok(device) => device,
-        Err(_) => return Err(Fault::Memory(wanted)),
+        Err(wanted) => return Err(Fault::Memory(wanted)),
     };
+    let wanted = Wanted::of(&config, device.blocks());
     let texts = match texts_for(alloc, options, bytes) {
         Ok(texts) => texts,
         Err(_) => return Err(Fault::Memory(wanted)),

@@ -312,10 +312,10 @@ impl<'o, 'e, 's, 't, 'b, 'g, 'p, 'f, O: Write, E: Write> Printer<'o, 'e, 's, 't,
             Ok(()) => {}
             Err(error) => return Err(Stopped::Unwritten(error)),
         }
-        if let Some(word) = refusal_of(&reply.answer) {
-            self.heed(step, reply.actor, word)?;
+        match refusal_of(&reply.answer) {
+            Some(word) => self.heed(step, reply.actor, word)?,
+            None => self.tell_kill(step, &reply.answer)?,
         }
-        self.tell_kill(step, &reply.answer)?;
         if self.options.progress {
             self.show(step);
         }

@@ -16,12 +16,12 @@ ghost use Rattle.subcommands.specs.Threads.{verdict_line, status_by, PrintsThrea
 ghost use Rattle.subcommands.specs.Rounds.{verdict_by, HiredAll, SetsUp, SaysRows, passes_in, Ran, Concluded, RanAll};
 
 use crate::crew::{Crew, new_pass};
+use crate::device::new_device;
 use crate::fault::{Fault, Wanted};
 use crate::options::Options;
 use crate::output::write_bytes;
 use crate::{faulty, read_script, status_of, unwritten};
 use block_store::{Locked, MemDevice, SharedDevice};
-use files::blocks_for;
 use live::{Live, Opened, Pass, Report, Unfinished, Worker, work_together};
 use machine::command::{Actor, Command, Reply};
 use machine::config::Config;
@@ -388,13 +388,15 @@ fn run_new<R: Threads + Wait + Sync, O: Write>(
     ensures whole { IfOk result (λ verdict. PrintsThreads script.config script.setup.items (shown_rows script.work.items) verdict (O.contents out.old) (O.contents out.new)) }
     ensures why { IfErr result IsRunFault }
 {
-    let Some(blocks) = blocks_for(&script.config) else {
-        unreachable!()
-    };
-    let wanted = Wanted::of(&script.config, blocks);
-    let device = match MemDevice::new(alloc, blocks, &script.read_faults, &script.write_faults) {
+    let made = new_device(
+        alloc,
+        &script.config,
+        &script.read_faults,
+        &script.write_faults,
+    );
+    let device = match made {
         Ok(device) => Locked::new(device),
-        Err(_) => return Err(Fault::Memory(wanted)),
+        Err(wanted) => return Err(Fault::Memory(wanted)),
     };
     run_over::<Brand, Locked<MemDevice>, R, O>(rt, alloc, script, device, Blank::new(PARTS), out)
 }

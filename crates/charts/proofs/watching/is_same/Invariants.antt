@@ -1,4 +1,4 @@
-use Rattle.std.proofs.Common.{◌≡◌, ℕ, List, length, take}
+use Rattle.std.proofs.Common.{◌≡◌, length, take}
 use Rattle.charts.proofs.watching.is_same.Given as goal
 
 abbrev pub invariant-loop-at : goal.invariant-loop-at

@@ -1,0 +1,10 @@
+use Rattle.std.proofs.Common.{◌≡◌, ℕ, ◌++◌, List, map, drop, string_bytes}
+use denote.Ref.{Bor}
+use Rattle.charts.specs.Watched.{expanded}
+use Rattle.charts.specs.Listed.{head, steps_text}
+use Rattle.charts.proofs.listing.table_of.Given as goal
+
+abbrev pub invariant-loop-at : goal.invariant-loop-at
+invariant-loop-at l =
+    head ++ steps_text l.lines (map (λ (p : Bor (List ℕ)). p.now) l.paths) (expanded l.rows)
+    ≡ string_bytes l.text ++ steps_text (drop l.step l.lines) (map (λ (p : Bor (List ℕ)). p.now) l.paths) (expanded (drop l.at l.rows))
