@@ -61,6 +61,27 @@ fn a_picture_has_the_curve_and_the_marks(rt: HostRuntime) -> Result<(), Fail> {
     Ok(())
 }
 
+// Of a max of 1G nothing is drawn, where no more than a page is charged.
+#[test]
+fn a_max_that_is_far_away_is_not_drawn(rt: HostRuntime) -> Result<(), Fail> {
+    let script = "group /a\nset /a memory.max 1G\ntask 1 /a\n1 write 0 0 1\n";
+    let mut out = Vec::new(rt.alloc());
+    let options = Options::default();
+    let ran = chart(
+        rt.alloc(),
+        options,
+        Drawing::Picture,
+        "",
+        script.as_bytes(),
+        &mut out,
+    );
+    assert!(rt; ran.is_ok());
+    let text = str::from_utf8(&out).unwrap_or("");
+    assert!(rt; text.contains("/a, peak 4K"));
+    assert!(rt; !text.contains("stroke-dasharray=\"8 4\""), "{text}");
+    Ok(())
+}
+
 #[test]
 fn a_group_that_is_made_anew_goes_on_where_it_stands(rt: HostRuntime) -> Result<(), Fail> {
     let script = "group /a\ntask 1 /a\n1 write 0 0 1\n1 exit\nrmdir /a\ngroup /a\n";

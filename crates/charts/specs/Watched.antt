@@ -23,7 +23,7 @@ abbrev pub expanded : List Row → List (List Shown)
 expanded [] = []
 expanded (row ∷ rows) = replicate row.steps row.groups.items ++ expanded rows
 
--- the rows say what each of the paths' groups was charged with behind each of the steps, in a run that is the plain machine's. (Excludes numbers of another run, or of another time.)
+-- the rows say what each of the paths' groups was charged with behind each of the steps, in a run that is the plain machine's. (Excludes numbers that no run has, or of another time. Which run it is, where memory may be wanting for a group, it does not say.)
 pub record IsWatched (config : Config) (before : Disk) (steps : List Step) (paths : List (List ℕ)) (detailed : Bool) (rows : List Row) : Type 0 where
   pub answers : List Reply
   pub after : Disk

@@ -254,7 +254,7 @@ impl<'s> Board<'s> {
         LEFT.saturating_add(self.across.place(line))
     }
 
-    /// How low so many pages stand, at the upper edge where they are more than the picture is high.
+    /// How low so many pages stand, which are no more than the picture is high.
     fn down(self, pages: u64) -> u64 {
         BOTTOM.saturating_sub(self.up.place(pages))
     }
@@ -297,8 +297,10 @@ impl<'s> Board<'s> {
                 None => None,
             };
             match height {
-                Some(pages) => pen.go(self.alloc, x, self.down(pages))?,
-                None => pen.lift(self.alloc, x)?,
+                Some(pages) if pages <= self.up.greatest => {
+                    pen.go(self.alloc, x, self.down(pages))?;
+                }
+                _ => pen.lift(self.alloc, x)?,
             }
             step = step.saturating_add(row.steps);
         }

@@ -204,7 +204,7 @@ fn table_of(
 /// The table of what was watched (comma-separated values), with a head. `lines` has for each step the number of its line
 /// of the script; of the steps of one line the last counts. A group that is not there has no line. Amounts are bytes;
 /// `refused`, `oom` and `oom_kill` are what was counted at the group itself so far: charges that were refused at its
-/// max, reliefs that found no page, and tasks of it that were killed.
+/// max, reliefs that killed, or found nobody to kill, and tasks of it that were killed.
 pub fn table(
     alloc: Global,
     lines: &[usize],

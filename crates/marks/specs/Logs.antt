@@ -78,8 +78,8 @@ IsHarvested log = (frame : ℕ) → cleared frame log ≡ taken frame log
 abbrev pub mark : List ℕ → ℕ → ℕ
 mark words frame = bit_at (slice_index words (frame / 64)) (frame % 64)
 
--- Of one frame, over these logs. The sets that found it clear are as many as the harvests that took its mark, and one more where it is marked: so no mark is lost, and none is taken twice.
--- And a set found it marked only where some set had found it clear: so nobody is told of a mark that was never set
+-- Of one frame, over these logs. The sets that found it clear are as many as the harvests that took its mark, and one more where it is marked: so no mark that was made is lost, and none is taken twice.
+-- And a set found it marked only where some set found it clear, earlier or later: so nobody is told of a mark that was never set. (Does not exclude a harvest that takes nothing, nor a set that is told of a mark which was taken before.)
 pub record IsBalanced (words : List ℕ) (logs : List Log) (frame : ℕ) : Type 0 where
   pub balance : sum_by (cleared frame) logs ≡ sum_by (taken frame) logs + mark words frame
   pub set_before : 0 < sum_by (found frame) logs → 0 < sum_by (cleared frame) logs

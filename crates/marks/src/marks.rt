@@ -79,7 +79,8 @@ fn found_at(bits: u64, place: u32) -> Found
 ///
 /// What the seats were told always fits the marks: of each frame, the sets that found it clear are as
 /// many as the harvests that took its mark, and one more where it is marked; and no set found it marked
-/// before one had marked it. This holds between any two steps, and [`Marks::close`] says it of all logs.
+/// before one had marked it. This holds between any two steps, and [`Marks::close`] says it of the
+/// totals of all logs, not of their order.
 #[derive(Drop)]
 pub struct Marks {
     frames: u32,

@@ -128,7 +128,7 @@ fn schedule<'a>(alloc: Global) -> Result<Command<'a>, AllocError> {
     let explain = flag(
         alloc,
         EXPLAIN,
-        "Say why each refused line was refused, on standard error, and more of a faulty line",
+        "Say why each line was refused and each task killed, on standard error, and more of a faulty line",
     );
     let labels = flag(
         alloc,

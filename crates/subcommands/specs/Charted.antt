@@ -20,8 +20,8 @@ pub record ListsRun (config : Config) (before : Disk) (steps : List Step) (numbe
   pub watched : IsWatched config before steps paths true rows
   pub is : text ≡ table_text numbers paths (expanded rows)
 
--- no line of the script is faulty, and a writer got its table, and nothing else. Which paths it has, this does not say.
--- (Excludes a table that is not written, or has numbers of another run or of another line.)
+-- no line of the script is faulty, and a writer got its table, and nothing else. Which paths it has, this does not say: the head alone is the
+-- table of none. (Excludes a table with numbers that no run has, or of another line.)
 pub record ListsScript (options : Options) (script : List ℕ) (old new : Option (List ℕ)) : Type 0 where
   pub faultless : IsFaultless Schedule (lines script)
   pub text : List ℕ

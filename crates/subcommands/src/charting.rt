@@ -119,7 +119,8 @@ fn chart_steps<O: Write>(
 /// that it makes was charged with behind each of its lines: as a picture, or as a table. What a look at the book shows
 /// between two steps is what is drawn (see [`charts::watch`]), and no command is woven in, so the run is the same.
 ///
-/// It fails as `run_script` does, and then `out` may hold the beginning of the picture.
+/// It fails as `run_script` does, and then `out` may hold the beginning of the picture or of the table; of a faulty script
+/// nothing.
 pub fn chart<O: Write>(
     alloc: Global,
     options: Options,
@@ -131,7 +132,7 @@ pub fn chart<O: Write>(
     ensures faulty { (n : ℕ) (cause : Cause) → IsFirstFault Schedule (lines script.now) n cause → IsErr result × (O.contents out.new ≡ O.contents out.old) }
     ensures why { IfErr result (Explains options title.now script.now) }
     ensures unrun { IfErr result (λ why. IsOfScript why → O.contents out.new ≡ O.contents out.old) }
-    // Where it comes to its end, `out` got the table, if that was asked for.
+    // Where it comes to its end, `out` got the table of some paths, if a table was asked for.
     ensures listed { OnOk result (kind ≡ Drawing.Table → ListsScript options script.now (O.contents out.old) (O.contents out.new)) }
 {
     one_answer();

@@ -80,7 +80,9 @@ impl<'s> Observed<'s> {
     pub fn of(alloc: Global, steps: &'s [Step]) -> Result<Observed<'s>, AllocError> {
         let paths = paths_of(alloc, steps)?;
         let mut groups = Vec::new(alloc);
-        groups.push(Seen::new("/", paths.is_empty()))?;
+        if !paths.iter().any(|path| *path == "/") {
+            groups.push(Seen::new("/", paths.is_empty()))?;
+        }
         for path in paths.iter() {
             groups.push(Seen::new(*path, true))?;
         }

@@ -11,7 +11,7 @@ use machine::limit::USUAL_TURNS;
 pub struct Options {
     /// What an audit of the run says, in one line behind the last answer.
     pub audit: bool,
-    /// A line says of each line that is refused why, as it comes. A second line says of a script's fault which word is
+    /// A line says of each line that is refused, and of each task that is killed, why, as it comes. A second line says of a script's fault which word is
     /// wrong, and what its place asks for.
     pub explain: bool,
     /// The number of its line of the script stands before each line of an answer, and that line's words.

@@ -2,7 +2,6 @@ use Rattle.std.proofs.Common.{◌≡◌, ℕ, List, ap, subst, ◌∙◌}
 use Rattle.machine.specs.State.{blocks_of}
 use Rattle.machine.specs.declared.command.Step.{Step}
 use Rattle.block_store.specs.Device.{Disk, new_disk}
-use Rattle.driver.proofs.Runs.{blocks_known}
 use Rattle.subcommands.specs.Prints.{PrintsStart, EndsRun}
 use Rattle.subcommands.proofs.ResultLemmas.{on_err, err_more}
 use Rattle.subcommands.proofs.StartLemmas.{new_fits, nothing_prints}
