@@ -1,6 +1,6 @@
 //! The picture: a curve for each group over the lines of the script.
 
-use crate::scale::{bytes_of, Scale, amount_text, line_marks, page_marks, pixels};
+use crate::scale::{Scale, amount_text, bytes_of, line_marks, page_marks, pixels};
 use crate::watching::{Row, Watched};
 use book::GroupLook;
 use machine::amount::Amount;

@@ -58,7 +58,10 @@ impl Killing<'_> {
             Cause::Charge(_) => write!(f, "at or below {path}, whose memory.max {max} is reached"),
             Cause::Lower(_) => {
                 let usage = Bytes(Amount::Pages(self.usage));
-                write!(f, "at or below {path}, whose {usage} are more than its new memory.max {max}")
+                write!(
+                    f,
+                    "at or below {path}, whose {usage} are more than its new memory.max {max}"
+                )
             }
             Cause::Frame => f.write_str("at or below /, where no frame is free"),
         }

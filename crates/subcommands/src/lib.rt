@@ -119,7 +119,9 @@ fn run_on<O: Write, E: Write>(
     ensures quiet { speaks options ≡ false → E.contents err.new ≡ E.contents err.old }
 {
     let wanted = Wanted::of(&config, device.blocks());
-    let Ended { ran, written } = print_run(alloc, options, config, device, source, observed, out, err);
+    let Ended { ran, written } = print_run(
+        alloc, options, config, device, source, observed, out, err,
+    );
     match ran {
         Ok(_) => match written {
             Ok(()) => Ok(()),
@@ -181,7 +183,16 @@ fn run_steps<O: Write, E: Write>(
         texts: &texts,
         turns: config.turns,
     };
-    run_on(alloc, options, config, &mut device, source, &mut observed, out, err)
+    run_on(
+        alloc,
+        options,
+        config,
+        &mut device,
+        source,
+        &mut observed,
+        out,
+        err,
+    )
 }
 
 /// The lines of a script, where the options ask for them.

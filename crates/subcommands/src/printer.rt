@@ -57,7 +57,18 @@ struct Printer<'o, 'e, 's, 't, 'b, 'g, 'p, 'f, O: Write, E: Write> {
     stopped: &'f mut Option<Stopped>,
 }
 
-impl<'o, 'e, 's, 't, 'b, 'g, 'p, 'f, O: Write, E: Write> Printer<'o, 'e, 's, 't, 'b, 'g, 'p, 'f, O, E> {
+impl<'o, 'e, 's, 't, 'b, 'g, 'p, 'f, O: Write, E: Write> Printer<
+    'o,
+    'e,
+    's,
+    't,
+    'b,
+    'g,
+    'p,
+    'f,
+    O,
+    E,
+> {
     /// The number of the line that was done last.
     fn line_done(&self) -> usize {
         self.source.line_of(self.done.saturating_sub(1))
@@ -517,7 +528,8 @@ fn moved_by(ran: &Result<Trace, Stop>, written: Calls) -> Option<Moved> {
     }
 }
 
-impl<'o, 'e, 's, 't, 'b, 'g, 'p, 'f, O: Write, E: Write> Sink for Printer<'o, 'e, 's, 't, 'b, 'g, 'p, 'f, O, E> {
+impl<'o, 'e, 's, 't, 'b, 'g, 'p, 'f, O: Write, E: Write> Sink
+    for Printer<'o, 'e, 's, 't, 'b, 'g, 'p, 'f, O, E> {
     // What is said of the one and of the other writer, and when a strict run goes on. Both stay the writers that they are.
     ghost took = { λ a b xs. (b.out.ghost_name ≡ a.out.ghost_name) × (b.err.ghost_name ≡ a.err.ghost_name) × (b.options ≡ a.options)
         × OutTakes a.options (O.contents a.out.now) (O.contents b.out.now) xs

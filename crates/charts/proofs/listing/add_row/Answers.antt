@@ -14,8 +14,9 @@ loop-left-preserved c = λ rest.
     c.loop-left.invariant rest
     ∙ ap (λ (xs : List ℕ). string_bytes c.loop-left.text ++ xs) step
     ∙ elim c.if-is_last.branch [
-        then-is_last+in_ok-add_groups w ↦
-            let added : string_bytes c.if-is_last.text ≡ string_bytes c.loop-left.text ++ groups_text number paths c.args.row.now.groups.items =
-            ap string_bytes w.text-is ∙ w.in_ok-add_groups.ensures ∙ ap (λ (groups : List Shown). string_bytes c.loop-left.text ++ groups_text number paths groups) w.deref.ensures.value in
-            then-listed _ _ _ _ _ (sym c.is_last.ensures ∙ w.if-is_last.true) added
-        | else-is_last w ↦ else-listed _ _ _ _ _ (sym c.is_last.ensures ∙ w.if-is_last.false) (ap string_bytes w.text-is) ]
+      | then-is_last+in_ok-add_groups w ↦
+          let added : string_bytes c.if-is_last.text ≡ string_bytes c.loop-left.text ++ groups_text number paths c.args.row.now.groups.items =
+          ap string_bytes w.text-is ∙ w.in_ok-add_groups.ensures ∙ ap (λ (groups : List Shown). string_bytes c.loop-left.text ++ groups_text number paths groups) w.deref.ensures.value in
+          then-listed _ _ _ _ _ (sym c.is_last.ensures ∙ w.if-is_last.true) added
+      | else-is_last w ↦ else-listed _ _ _ _ _ (sym c.is_last.ensures ∙ w.if-is_last.false) (ap string_bytes w.text-is)
+    ]
