@@ -290,7 +290,7 @@ fn a_run_that_is_cut_short_says_how_far_it_came(rt: HostRuntime) {
     let Limited { kept, writes: _ } = out;
     assert_eq!(rt; str::from_utf8(&kept), Ok("killed 1\n1 killed\n"));
     let wanted =
-        "lines: 6\nkills: 1\nrefused: 0\nunfinished: 0\nthe answers can't be written: no storage space\n";
+        "lines: 6\nkills: 1\nrefused: 0\nunfinished: 0\nagings: 0\ngreatest memory.current of /a: 4096\nthe answers can't be written: no storage space\n";
     assert_eq!(rt; str::from_utf8(&err), Ok(wanted));
 }
 
