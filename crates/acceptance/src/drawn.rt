@@ -1,26 +1,32 @@
 //! Charts: what is drawn and listed of a run, worked out by hand.
 
+use std::process::Abort;
 use std::str;
-use std::test::Fail;
 use subcommands::{Drawing, Options, chart};
 
 /// A group has room for two pages. The task's third is refused, and it is killed.
 const KILLED: &str =
     "group /a\nset /a memory.max 8K\ntask 1 /a\n1 write 0 0 1\n1 write 1 0 1\n1 write 2 0 1\n";
 
-#[test]
-fn a_table_has_each_line(rt: HostRuntime) -> Result<(), Fail> {
+/// What a script is drawn as, which can be run.
+fn drawn<R: Abort + AllocGlobal>(rt: &R, kind: Drawing, title: &str, script: &str) -> Vec<u8> {
     let mut out = Vec::new(rt.alloc());
     let options = Options::default();
     let ran = chart(
         rt.alloc(),
         options,
-        Drawing::Table,
-        "",
-        KILLED.as_bytes(),
+        kind,
+        title,
+        script.as_bytes(),
         &mut out,
     );
     assert!(rt; ran.is_ok());
+    out
+}
+
+#[test]
+fn a_table_has_each_line(rt: HostRuntime) {
+    let out = drawn(&rt, Drawing::Table, "", KILLED);
     let table = "\
 line,group,current,anon,file,max,min,refused,oom,oom_kill
 1,/a,0,0,0,max,0,0,0,0
@@ -31,23 +37,11 @@ line,group,current,anon,file,max,min,refused,oom,oom_kill
 6,/a,0,0,0,8192,0,1,1,1
 ";
     assert_eq!(rt; str::from_utf8(&out), Ok(table));
-    Ok(())
 }
 
 #[test]
-fn a_picture_has_the_curve_and_the_marks(rt: HostRuntime) -> Result<(), Fail> {
-    let mut out = Vec::new(rt.alloc());
-    let options = Options::default();
-    let title = "a<b";
-    let ran = chart(
-        rt.alloc(),
-        options,
-        Drawing::Picture,
-        title,
-        KILLED.as_bytes(),
-        &mut out,
-    );
-    assert!(rt; ran.is_ok());
+fn a_picture_has_the_curve_and_the_marks(rt: HostRuntime) {
+    let out = drawn(&rt, Drawing::Picture, "a<b", KILLED);
     let text = str::from_utf8(&out).unwrap_or("");
     assert!(rt; text.contains(">memory.current: a&lt;b</text>"));
     // Six lines stand 174 pixels apart between 70 and 940; two pages are 300 pixels high, from 360 up to 60.
@@ -58,44 +52,22 @@ fn a_picture_has_the_curve_and_the_marks(rt: HostRuntime) -> Result<(), Fail> {
     assert!(rt; text.contains(refused));
     assert!(rt; text.contains("/a, peak 8K"));
     assert!(rt; text.starts_with("<svg ") && text.ends_with("</svg>\n"));
-    Ok(())
 }
 
 // Of a max of 1G nothing is drawn, where no more than a page is charged.
 #[test]
-fn a_max_that_is_far_away_is_not_drawn(rt: HostRuntime) -> Result<(), Fail> {
+fn a_max_that_is_far_away_is_not_drawn(rt: HostRuntime) {
     let script = "group /a\nset /a memory.max 1G\ntask 1 /a\n1 write 0 0 1\n";
-    let mut out = Vec::new(rt.alloc());
-    let options = Options::default();
-    let ran = chart(
-        rt.alloc(),
-        options,
-        Drawing::Picture,
-        "",
-        script.as_bytes(),
-        &mut out,
-    );
-    assert!(rt; ran.is_ok());
+    let out = drawn(&rt, Drawing::Picture, "", script);
     let text = str::from_utf8(&out).unwrap_or("");
     assert!(rt; text.contains("/a, peak 4K"));
     assert!(rt; !text.contains("stroke-dasharray=\"8 4\""), "{text}");
-    Ok(())
 }
 
 #[test]
-fn a_group_that_is_made_anew_goes_on_where_it_stands(rt: HostRuntime) -> Result<(), Fail> {
+fn a_group_that_is_made_anew_goes_on_where_it_stands(rt: HostRuntime) {
     let script = "group /a\ntask 1 /a\n1 write 0 0 1\n1 exit\nrmdir /a\ngroup /a\n";
-    let mut out = Vec::new(rt.alloc());
-    let options = Options::default();
-    let ran = chart(
-        rt.alloc(),
-        options,
-        Drawing::Table,
-        "",
-        script.as_bytes(),
-        &mut out,
-    );
-    assert!(rt; ran.is_ok());
+    let out = drawn(&rt, Drawing::Table, "", script);
     // Behind line 5 no group has the path.
     let table = "\
 line,group,current,anon,file,max,min,refused,oom,oom_kill
@@ -106,11 +78,10 @@ line,group,current,anon,file,max,min,refused,oom,oom_kill
 6,/a,0,0,0,max,0,0,0,0
 ";
     assert_eq!(rt; str::from_utf8(&out), Ok(table));
-    Ok(())
 }
 
 #[test]
-fn a_faulty_script_is_not_drawn(rt: HostRuntime) -> Result<(), Fail> {
+fn a_faulty_script_is_not_drawn(rt: HostRuntime) {
     let mut out = Vec::new(rt.alloc());
     let options = Options::default();
     let ran = chart(
@@ -123,5 +94,4 @@ fn a_faulty_script_is_not_drawn(rt: HostRuntime) -> Result<(), Fail> {
     );
     assert!(rt; ran.is_err());
     assert!(rt; out.is_empty());
-    Ok(())
 }

@@ -1,6 +1,6 @@
 //! The picture: a curve for each group over the lines of the script.
 
-use crate::scale::{Scale, amount_text, bytes_of, line_marks, page_marks, pixels};
+use crate::scale::{Scale, Size, line_marks, page_marks, pixels};
 use crate::watching::{Row, Watched};
 use book::GroupLook;
 use machine::amount::Amount;
@@ -263,7 +263,7 @@ impl<'s> Board<'s> {
     fn grid(self, out: &mut String) -> Result<(), AllocError> {
         for pages in page_marks(self.alloc, self.up)? {
             let y = pixels(self.alloc, self.down(pages))?;
-            let name = amount_text(self.alloc, bytes_of(pages))?;
+            let name = Size(pages);
             out.push_str(&format!(in self.alloc;
                 "<path d=\"M70 {y}H940\" stroke=\"#ddd\"/><text x=\"62\" y=\"{y}\" dy=\"4\" text-anchor=\"end\">{name}</text>\n"
             )?)?;
@@ -408,7 +408,7 @@ fn legend(
     let row = (place / BESIDE) as u64;
     let x = pixels(alloc, LEFT.saturating_add(column.saturating_mul(WIDE)))?;
     let y = pixels(alloc, 4200u64.saturating_add(row.saturating_mul(HIGH)))?;
-    let most = amount_text(alloc, bytes_of(peak))?;
+    let most = Size(peak);
     out.push_str(&format!(in alloc;
         "<g transform=\"translate({x} {y})\"><path d=\"M0 -4h22\" stroke=\"{colour}\" stroke-width=\"3\"/><text x=\"30\">{path}, peak {most}</text></g>\n"
     )?)

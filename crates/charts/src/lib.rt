@@ -11,4 +11,5 @@ mod watching;
 
 pub use drawing::picture;
 pub use listing::table;
+pub use scale::Size;
 pub use watching::{Kill, Row, Shown, Watched, watch};

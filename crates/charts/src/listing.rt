@@ -1,26 +1,18 @@
 //! The table: a line for each line of the script and each group.
 
-ghost use Rattle.std.specs.Prelude.{◌≡◌, ℕ, ◌+◌, ◌*◌, ◌<◌, ◌++◌, [], List, map, drop, get_or, length, replicate, true, IfOk, OnOk, decimal, string_bytes};
-ghost use Rattle.machine.specs.Access.{page_size};
+ghost use Rattle.std.specs.Prelude.{◌≡◌, ℕ, ◌+◌, ◌<◌, ◌++◌, [], List, map, drop, get_or, length, replicate, true, IfOk, OnOk, decimal, string_bytes};
 ghost use Rattle.charts.specs.declared.watching.Shown.{Shown as Shown_at};
 ghost use Rattle.charts.specs.Watched.{expanded};
 ghost use Rattle.charts.specs.Listed.{cell, amount_text, charges_text, counts_text, line_text, look_text, stat_or_none, groups_text, is_last, steps_text, table_text};
 
+use crate::scale::bytes_of;
 use crate::watching::{Row, Shown, Watched};
 use book::GroupLook;
 use machine::amount::Amount;
-use machine::bytes::PAGE_BYTES;
 use machine::record::{EventCounts, MemoryStat};
 use std::alloc::{AllocError, Global};
 
 const HEAD: &str = "line,group,current,anon,file,max,min,refused,oom,oom_kill\n";
-
-/// So many pages in bytes.
-fn bytes_of(pages: u64) -> u128
-    ensures { result ≡ pages * page_size }
-{
-    u128::from(pages) * u128::from(PAGE_BYTES as u64)
-}
 
 /// A setting in bytes, or `max`.
 fn amount_text(alloc: Global, amount: Amount) -> Result<String, AllocError>

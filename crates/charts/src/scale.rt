@@ -1,7 +1,12 @@
 //! Scales, and what is written along them.
 
+ghost use Rattle.std.specs.Prelude.{◌≡◌, ◌*◌};
+ghost use Rattle.machine.specs.Access.{page_size};
+
 use machine::bytes::PAGE_BYTES;
 use std::alloc::{AllocError, Global};
+use std::fmt;
+use std::fmt::{Formatter, Write};
 
 /// Where values stand on a line: the least at 0, and the greatest at its end.
 #[derive(Clone, Copy, Debug, PartialEq, Eq)]
@@ -76,20 +81,27 @@ pub fn page_marks(alloc: Global, scale: Scale) -> Result<Vec<u64>, AllocError> {
     marks(alloc, scale, binary_step(scale.greatest))
 }
 
-/// Pages as bytes.
-pub fn bytes_of(pages: u64) -> u64 {
-    pages.saturating_mul(PAGE_BYTES as u64)
+/// So many pages in bytes.
+pub fn bytes_of(pages: u64) -> u128
+    ensures { result ≡ pages * page_size }
+{
+    u128::from(pages) * u128::from(PAGE_BYTES as u64)
 }
 
-/// Bytes as people write them: in the greatest of the units G, M and K that leaves no rest.
-pub fn amount_text(alloc: Global, bytes: u64) -> Result<String, AllocError> {
-    for (unit, name) in [(1u64 << 30, "G"), (1u64 << 20, "M"), (1u64 << 10, "K")] {
-        if bytes >= unit && bytes % unit == 0 {
-            let count = bytes / unit;
-            return format!(in alloc; "{count}{name}");
+/// So many pages in bytes as people write them: in the greatest of the units G, M and K that leaves no rest.
+#[derive(Clone, Copy, Debug)]
+pub struct Size(pub u64);
+
+impl fmt::Display for Size {
+    fn fmt<W: Write>(&self, f: &mut Formatter<W>) -> fmt::Result {
+        let bytes = bytes_of(self.0);
+        for (unit, name) in [(1u128 << 30, 'G'), (1u128 << 20, 'M'), (1u128 << 10, 'K')] {
+            if bytes >= unit && bytes % unit == 0 {
+                return write!(f, "{}{name}", bytes / unit);
+            }
         }
+        write!(f, "{bytes}")
     }
-    format!(in alloc; "{bytes}")
 }
 
 /// Tenths of a pixel, as pixels.

@@ -1,8 +1,8 @@
 //! Why a task was killed, as people are told.
 
 use book::Victim;
+use charts::Size;
 use machine::amount::Amount;
-use machine::bytes::PAGE_BYTES;
 use machine::event::Cause;
 use std::fmt;
 use std::fmt::{Formatter, Write};
@@ -20,25 +20,6 @@ pub struct Killing<'s> {
     pub usage: u64,
 }
 
-/// An amount in bytes, in the greatest of the units G, M and K that leaves no rest.
-#[derive(Clone, Copy)]
-struct Bytes(Amount);
-
-impl fmt::Display for Bytes {
-    fn fmt<W: Write>(&self, f: &mut Formatter<W>) -> fmt::Result {
-        let Amount::Pages(pages) = self.0 else {
-            return f.write_str("max");
-        };
-        let bytes = pages.saturating_mul(PAGE_BYTES as u64);
-        for (unit, name) in [(1u64 << 30, 'G'), (1u64 << 20, 'M'), (1u64 << 10, 'K')] {
-            if bytes >= unit && bytes % unit == 0 {
-                return write!(f, "{}{name}", bytes / unit);
-            }
-        }
-        write!(f, "{bytes}")
-    }
-}
-
 impl Killing<'_> {
     /// How large the task was, and among how many.
     fn write_choice<W: Write>(&self, f: &mut Formatter<W>) -> fmt::Result {
@@ -53,17 +34,22 @@ impl Killing<'_> {
     /// Where it was, and why room is wanted there.
     fn write_limit<W: Write>(&self, f: &mut Formatter<W>) -> fmt::Result {
         let path = self.path;
-        let max = Bytes(self.max);
-        match self.cause {
-            Cause::Charge(_) => write!(f, "at or below {path}, whose memory.max {max} is reached"),
-            Cause::Lower(_) => {
-                let usage = Bytes(Amount::Pages(self.usage));
+        match (self.cause, self.max) {
+            (Cause::Frame, _) => f.write_str("at or below /, where no frame is free"),
+            // Not reached: a group without a max has room.
+            (_, Amount::Max) => write!(f, "at or below {path}"),
+            (Cause::Charge(_), Amount::Pages(max)) => {
+                let max = Size(max);
+                write!(f, "at or below {path}, whose memory.max {max} is reached")
+            }
+            (Cause::Lower(_), Amount::Pages(max)) => {
+                let max = Size(max);
+                let usage = Size(self.usage);
                 write!(
                     f,
                     "at or below {path}, whose {usage} are more than its new memory.max {max}"
                 )
             }
-            Cause::Frame => f.write_str("at or below /, where no frame is free"),
         }
     }
 }

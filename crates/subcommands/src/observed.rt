@@ -11,9 +11,6 @@ use std::alloc::{AllocError, Global};
 use std::io;
 use std::io::Write;
 
-/// The number of a new group's youngest generation.
-const FIRST_MAX_SEQ: u64 = 3;
-
 /// A path of the script, and what was seen of the groups that had it.
 #[derive(Clone, Copy, Debug)]
 struct Seen<'s> {
@@ -22,7 +19,7 @@ struct Seen<'s> {
     peak: u64,
     /// The number of the group that had the path behind the last step.
     number: Option<u32>,
-    /// The number of its youngest generation there.
+    /// The number of its youngest generation there. No group is aged in the step that makes it, nor the root in the first.
     max_seq: u64,
     /// Whether its peak is told.
     is_told: bool,
@@ -44,7 +41,7 @@ impl<'s> Seen<'s> {
             path,
             peak: 0,
             number: None,
-            max_seq: FIRST_MAX_SEQ,
+            max_seq: 0,
             is_told,
         }
     }
@@ -58,7 +55,7 @@ impl<'s> Seen<'s> {
         self.peak = self.peak.max(look.usage);
         if self.number != Some(look.number) {
             self.number = Some(look.number);
-            self.max_seq = FIRST_MAX_SEQ;
+            self.max_seq = max_seq;
         }
         let agings = max_seq.saturating_sub(self.max_seq);
         self.max_seq = max_seq;
@@ -116,6 +113,7 @@ impl<'s> Observed<'s> {
                         max: look.max,
                         usage: look.usage,
                     });
+                    return;
                 }
             }
         }
