@@ -47,4 +47,6 @@ mod swapped_bytes;
 #[cfg(test)]
 mod transfers;
 #[cfg(test)]
+mod used_pages;
+#[cfg(test)]
 mod write_outs;

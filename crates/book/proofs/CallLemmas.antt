@@ -1,5 +1,5 @@
 -- One call: what it answers, and the book after it.
-use Rattle.std.proofs.Common.{◌≡◌, ℕ, ◌+◌, ◌<◌, ◌≤◌, Bool, true, false, List, [], ◌∷◌, ◌++◌, Option, None, refl, sym, ap, ◌∙◌, subst, arith, Some, length, length-append, add-one}
+use Rattle.std.proofs.Common.{◌≡◌, ℕ, ◌+◌, ◌*◌, ◌<◌, ◌≤◌, Bool, true, false, List, [], ◌∷◌, ◌++◌, Option, None, refl, sym, ap, ◌∙◌, subst, arith, Some, length, length-append, add-one}
 use Rattle.std.specs.Prelude.{slice_index, slice_set, reverse, nat_lt}
 use Rattle.std.proofs.lemmas.List.{reverse-append, length-reverse, length-set}
 use Rattle.std.proofs.lemmas.List.Sums.{length-filter, count_by-le-length}
@@ -22,10 +22,12 @@ use Rattle.machine.specs.State.{Opening, State, page_numbers}
 use Rattle.machine.specs.Slots.{at}
 use Rattle.machine.specs.Refusals.{refusal}
 use Rattle.machine.specs.History.{is_by, entries_by, ticket_given}
-use Rattle.machine.specs.Call.{Past, Caller, took, knows_pass, need, is_trace_full, entry_of, Answers, Answered, Called}
+use Rattle.machine.specs.Call.{Past, Caller, took, knows_pass, need, is_trace_full, leaves_entry, entry_of, Answers, Answered, Called}
 use Rattle.book.specs.declared.book.Book.TheInside.{Inside}
 use Rattle.legal.proofs.CountedLemmas.{few-total}
 use Rattle.page_state.specs.States.{StateOf, AreFew}
+use Rattle.page_state.specs.Changes.{MergesFrames}
+use Rattle.machine.specs.Generations.{Gens, gens_at}
 use Rattle.pages.specs.declared.flight.Flight.{Flight}
 use Rattle.pages.specs.PagesOf.{AreInFlight}
 use Rattle.book.specs.MakesStep.{MakesStep, IsAsked, is_refused, noted, noted_at}
@@ -35,6 +37,8 @@ use Rattle.book.specs.declared.decision.Decision.{Decision}
 use Rattle.book.specs.Decisions.{IsDecided, entries_for}
 use Rattle.book.proofs.NeedLemmas.{entries-needed}
 use Rattle.book.proofs.HistoryLemmas.{Extending, extends}
+use Rattle.book.proofs.PassLemmas.{asked-leaves}
+use Rattle.machine.proofs.EntryLemmas.{entries-one}
 
 -- ---- answers of a call
 
@@ -125,6 +129,7 @@ module _ (b : Inside) (past : Past) (is : IsBook b) (view_is : past_of b ≡ pas
       record {
         told = is.told;
         passed = passed_in;
+        leaves = asked-leaves what asked;
         known = asked-knows b.state.tables (history_of b) (record { worker = worker }) what asked;
         none = none;
         room = subst (λ (p : Past). is_trace_full p what ≡ false) (sym view_is) room;
@@ -134,12 +139,13 @@ module _ (b : Inside) (past : Past) (is : IsBook b) (view_is : past_of b ≡ pas
       }
 
   -- an ending extends the history, as it needs no room but that which was kept for it
-  pub ends : knows_pass past.state past.history (record { worker = worker }) what ≡ true → refusal b.state.tables what ≡ None → need b.state.tables what ≡ 0
+  pub ends : knows_pass past.state past.history (record { worker = worker }) what ≡ true → refusal b.state.tables what ≡ None → need b.state.tables what ≡ 0 → leaves_entry what ≡ true
       → MakesStep b.state what reply.Ok new → Extending b.state new (history_of b) b.counts.items b.takers.items worker what reply.Ok
-  ends known none free makes_step =
+  ends known none free leaves makes_step =
       record {
         told = is.told;
         passed = passed_in;
+        leaves = leaves;
         known = subst (λ (p : Past). knows_pass p.state p.history (record { worker = worker }) what ≡ true) (sym view_is) known;
         none = none;
         room = not_full b.state.tables.opening.trace_limit (length (history_of b) + in_transfer b.state.tables.pages + need b.state.tables what)
@@ -184,6 +190,12 @@ ended-free s In OnBlock ticket = refl
 ended-free s Out InFrame ticket = refl
 ended-free s Out OnBlock ticket = refl
 
+pub ended-leaves : (direction : Direction) (end : End) (ticket : TicketOf) → leaves_entry (ended direction end ticket) ≡ true
+ended-leaves In InFrame ticket = refl
+ended-leaves In OnBlock ticket = refl
+ended-leaves Out InFrame ticket = refl
+ended-leaves Out OnBlock ticket = refl
+
 -- ---- the book after it
 
 noted-length : (flights : List (Option Flight)) (takers : List WorkerId) (worker : ℕ) (given : Option ℕ) → length (noted flights takers worker given) ≡ length takers
@@ -221,7 +233,7 @@ module _ (b c : Inside) (w : WorkerId) (what : Event) (answer : Reply) (is : IsB
       record {
         steps = h.makes_step.steps;
         order = h.makes_step.orders;
-        history = history_is;
+        history = history_is ∙ sym (ap (λ (es : List Entry). es ++ history_of b) (entries-one (record { worker = w.0 }) (history_of b) what answer h.leaves));
         passes = ap length appends.counts ∙ length-set b.counts.items w.0 (slice_index b.counts.items w.0 + 1);
       }
 
@@ -238,3 +250,50 @@ module _ (b c : Inside) (w : WorkerId) (what : Event) (answer : Reply) (is : IsB
         few = (let few = is.few in let kept = ap length appends.counts ∙ length-set b.counts.items w.0 _ in omega (arith, few, kept));
         takers = (let sized = is.takers in let kept = ap length appends.takers ∙ noted-length c.state.flights b.takers.items w.0 (ticket_given answer) in let numbers = ap page_numbers h.makes_step.opening in omega (arith, sized, kept, numbers));
       }
+
+-- ---- marks that are merged
+
+-- the parts change, and nothing else
+abbrev pub with_state : Inside → StateOf → Inside
+with_state b s = record { alloc = b.alloc; state = s; trace = b.trace; counts = b.counts; takers = b.takers }
+
+module _ (b : Inside) (s : StateOf) (word bits : ℕ) (merges : MergesFrames b.state s word bits) (is : IsBook b) where
+  other_order : StateOf
+  other_order = record b.state { order = record { held = s.order.held; cursors = b.state.order.cursors } }
+
+  told_merged : IsHistory s (history_of b) b.counts.items b.takers.items
+  told_merged =
+      let told = is.told in
+      subst (λ (x : StateOf). IsHistory x (history_of b) b.counts.items b.takers.items) (sym merges.others)
+      (record {
+        legal = told.legal;
+        right = told.right;
+        numbered = told.numbered;
+        bytes = told.bytes;
+        taken = told.taken;
+        counted = told.counted;
+        young = λ g. subst (λ (groups : List Gens). (gens_at groups g).max_seq ≤ 3 + 3 * length (history_of b)) (sym merges.merges.groups) (told.young g);
+      })
+
+  same_tables : s.tables ≡ b.state.tables
+  same_tables = ap (λ (x : StateOf). x.tables) merges.others
+
+  pub book-merged : IsBook (with_state b s)
+  book-merged =
+      record {
+        told = told_merged;
+        within = subst (λ (t : State). length b.trace.entries + in_transfer t.pages ≤ t.opening.trace_limit) (sym same_tables) is.within;
+        room = subst (λ (t : State). t.opening.trace_limit ≤ b.trace.limit) (sym same_tables) is.room;
+        few = is.few;
+        takers = subst (λ (t : State). page_numbers t.opening ≤ length b.takers.items) (sym same_tables) is.takers;
+      }
+
+  -- there is room for it in each trace, as it leaves no entry
+  pub called-merged : (caller : Caller) → Called (past_of b) caller (event.MergeMarks word bits) reply.Ok (past_of (with_state b s))
+  called-merged caller =
+      let room : is_trace_full (past_of b) (event.MergeMarks word bits) ≡ false =
+      not_full b.state.tables.opening.trace_limit (length (history_of b) + in_transfer b.state.tables.pages + 0) (let within = is.within in let all = length-reverse b.trace.entries in omega (arith, within, all)) in
+      rw room (record { steps = same_tables; order = (merges.merges, ap (λ (x : StateOf). x.order.cursors) merges.others); history = refl; passes = refl })
+
+  pub past-merged : past_of (with_state b s) ≡ record (past_of b) { order = s.order }
+  past-merged = ap (λ (t : State). let p : Past = record { state = t; history = history_of b; order = s.order; passes = length b.counts.items } in p) same_tables

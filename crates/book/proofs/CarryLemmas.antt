@@ -22,7 +22,6 @@ use Rattle.machine.specs.Tasks.{group_of_task}
 use Rattle.machine.specs.State.{over_in}
 use Rattle.machine.specs.Reclaim.{has_takeable, has_transfer}
 use Rattle.machine.specs.Victim.{IsVictim}
-use Rattle.machine.specs.Lists.{with_mark}
 use Rattle.machine.specs.Step.{shown_of, with_setting}
 use Rattle.machine.specs.History.{InTask}
 use Rattle.files.specs.Files.{FilesOf}
@@ -31,7 +30,7 @@ use Rattle.pages.specs.Tickets.{TicketOf, new_ticket}
 use Rattle.page_state.specs.declared.room.NoRoom.TheVariants as lacks
 use Rattle.page_state.specs.States.{StateOf}
 use Rattle.page_state.specs.Mapped.{AreMapped}
-use Rattle.page_state.specs.Changes.{counts_event, MakesPage, MarksPage, WritesByte, BeginsReadIn, BeginsRead, BeginsWriteOut, DropsClean, StartsTask, ForksTask, MovesTask, Unmaps, EndsTask, AddsGroup, RemovesGroup, sets_limits}
+use Rattle.page_state.specs.Changes.{counts_event, MakesPage, WritesByte, BeginsReadIn, BeginsRead, BeginsWriteOut, DropsClean, StartsTask, ForksTask, MovesTask, Unmaps, EndsTask, AddsGroup, RemovesGroup, sets_limits}
 use Rattle.book.specs.declared.event.Reply.{Reply as Given}
 use Rattle.book.specs.declared.event.Reply.TheVariants as given
 use Rattle.book.specs.declared.decision.Touch.{Touch}
@@ -85,21 +84,20 @@ carries-unmapped s touch listed is meets =
     (makes_step-unmapped s touch.task.0 touch.at touch.offset is.task is.known is.live meets.1 is.within listed))
     tt tt
 
-pub carries-hit_read : (old new : StateOf) (touch : Touch) (page : PageId) (frame : FrameId) (byte : ℕ) → InOrder old → IsTouch old.tables touch → MeetsSo old.tables touch (meeting.Hits page frame) → MarksPage old new page.0
-    → touch.op ≡ Read → byte ≡ byte_in new.bytes page.0 touch.offset → Carries old (decision.Access touch (meeting.Hits page frame)) (given.Done byte (Some frame)) new
-carries-hit_read old new touch page frame byte listed is meets marks read same =
-    carries-access old new touch (meeting.Hits page frame) (given.Done byte (Some frame))
-    (subst (λ (op : Op). MakesStep old (event.Access touch.task (Virtual touch.at touch.offset) op) (reply_of (given.Done byte (Some frame))) new) (sym read)
-    (subst (λ (b : ℕ). MakesStep old (event.Access touch.task (Virtual touch.at touch.offset) Read) (reply_of (given.Done b (Some frame))) new) (sym (same ∙ ap (λ (s : StateOf). byte_in s.bytes page.0 touch.offset) marks))
-    (makes_step-hit_read old new touch.task.0 page.0 frame.0 (Virtual touch.at touch.offset) meets.0 is.task is.known is.live meets.1 meets.2
-    (meets-hit old.tables touch.task.0 touch.at touch.offset page.0 frame.0 meets.0 Read meets.1 meets.2 refl) is.within listed marks)))
+pub carries-hit_read : (old : StateOf) (touch : Touch) (page : PageId) (frame : FrameId) (byte : ℕ) → InOrder old → IsTouch old.tables touch → MeetsSo old.tables touch (meeting.Hits page frame)
+    → touch.op ≡ Read → byte ≡ byte_in old.bytes page.0 touch.offset → Carries old (decision.Access touch (meeting.Hits page frame)) (given.Done byte (Some frame)) old
+carries-hit_read old touch page frame byte listed is meets read same =
+    carries-access old old touch (meeting.Hits page frame) (given.Done byte (Some frame))
+    (subst (λ (op : Op). MakesStep old (event.Access touch.task (Virtual touch.at touch.offset) op) (reply_of (given.Done byte (Some frame))) old) (sym read)
+    (subst (λ (b : ℕ). MakesStep old (event.Access touch.task (Virtual touch.at touch.offset) Read) (reply_of (given.Done b (Some frame))) old) (sym same)
+    (makes_step-hit_read old touch.task.0 page.0 frame.0 (Virtual touch.at touch.offset) meets.0 is.task is.known is.live meets.1 meets.2
+    (meets-hit old.tables touch.task.0 touch.at touch.offset page.0 frame.0 meets.0 Read meets.1 meets.2 refl) is.within listed)))
     tt tt
 
--- the page is marked, and then written
-pub carries-hit_write : (old marked new : StateOf) (touch : Touch) (page : PageId) (frame : FrameId) (byte : ℕ) → InOrder old → AreMapped old.tables.pages old.tables.page_tables → IsTouch old.tables touch
-    → MeetsSo old.tables touch (meeting.Hits page frame) → MarksPage old marked page.0 → touch.op ≡ Write byte → WritesByte marked new page.0 touch.offset byte
+pub carries-hit_write : (old new : StateOf) (touch : Touch) (page : PageId) (frame : FrameId) (byte : ℕ) → InOrder old → AreMapped old.tables.pages old.tables.page_tables → IsTouch old.tables touch
+    → MeetsSo old.tables touch (meeting.Hits page frame) → touch.op ≡ Write byte → WritesByte old new page.0 touch.offset byte
     → Carries old (decision.Access touch (meeting.Hits page frame)) (given.Done byte (Some frame)) new
-carries-hit_write old marked new touch page frame byte listed mapped is meets marks write writes =
+carries-hit_write old new touch page frame byte listed mapped is meets write written =
     carries-access old new touch (meeting.Hits page frame) (given.Done byte (Some frame))
     (subst (λ (op : Op). MakesStep old (event.Access touch.task (Virtual touch.at touch.offset) op) (reply_of (given.Done byte (Some frame))) new) (sym write)
     (makes_step-hit_write old new touch.task.0 page.0 byte frame.0 (Virtual touch.at touch.offset) meets.0 is.task is.known is.live meets.1 meets.2
@@ -109,9 +107,6 @@ carries-hit_write old marked new touch page frame byte listed mapped is meets ma
   where
     alone : is_shared_write old.tables.page_tables page.0 (Write byte) ≡ false
     alone = sym (ap (is_shared_write old.tables.page_tables page.0) write) ∙ meets.3
-
-    written : WritesByte (record old { order = record { held = with_mark (Some page.0) old.order.held; cursors = old.order.cursors } }) new page.0 touch.offset byte
-    written = subst (λ (s : StateOf). WritesByte s new page.0 touch.offset byte) marks writes
 
 pub carries-busy : (s : StateOf) (touch : Touch) → InOrder s → IsTouch s.tables touch → MeetsSo s.tables touch meeting.Transferring
     → Carries s (decision.Access touch meeting.Transferring) given.Busy s
@@ -222,29 +217,26 @@ module _ (old new : StateOf) (touch : FileTouch) where
   carries-file_access : (met : CacheMeeting) (said : Given) → MakesStep old accessed_file (reply_of said) new → GivesTicket new said → IsAccessReply said → Carries old (decision.FileAccess touch met) said new
   carries-file_access met said makes_step gives replies what is = answers-to old new what accessed_file said is.fits (record { makes_step = makes_step; gives = gives; replies = replies })
 
-pub carries-file_read : (old new : StateOf) (touch : FileTouch) (page : PageId) (frame : FrameId) (byte : ℕ) → InOrder old → IsFileTouch old.tables touch → MeetsInCache old.tables touch (cache.Hits page frame)
-    → MarksPage old new page.0 → touch.op ≡ Read → byte ≡ byte_in new.bytes page.0 touch.offset → Carries old (decision.FileAccess touch (cache.Hits page frame)) (given.Done byte (Some frame)) new
-carries-file_read old new touch page frame byte listed is meets marks read same =
-    carries-file_access old new touch (cache.Hits page frame) (given.Done byte (Some frame))
-    (subst (λ (op : Op). MakesStep old (event.Access touch.task (File touch.at.file touch.at.page touch.offset) op) (reply_of (given.Done byte (Some frame))) new) (sym read)
-    (subst (λ (b : ℕ). MakesStep old (event.Access touch.task (File touch.at.file touch.at.page touch.offset) Read) (reply_of (given.Done b (Some frame))) new) (sym (same ∙ ap (λ (s : StateOf). byte_in s.bytes page.0 touch.offset) marks))
-    (makes_step-hit_read old new touch.task.0 page.0 frame.0 (File touch.at.file touch.at.page touch.offset) meets.0 is.task is.known is.live meets.1 meets.2
-    (meets-cached old.tables touch.task.0 touch.at.file touch.at.page touch.offset page.0 frame.0 meets.0 Read meets.1 meets.2) is.within listed marks)))
+pub carries-file_read : (old : StateOf) (touch : FileTouch) (page : PageId) (frame : FrameId) (byte : ℕ) → InOrder old → IsFileTouch old.tables touch → MeetsInCache old.tables touch (cache.Hits page frame)
+    → touch.op ≡ Read → byte ≡ byte_in old.bytes page.0 touch.offset → Carries old (decision.FileAccess touch (cache.Hits page frame)) (given.Done byte (Some frame)) old
+carries-file_read old touch page frame byte listed is meets read same =
+    carries-file_access old old touch (cache.Hits page frame) (given.Done byte (Some frame))
+    (subst (λ (op : Op). MakesStep old (event.Access touch.task (File touch.at.file touch.at.page touch.offset) op) (reply_of (given.Done byte (Some frame))) old) (sym read)
+    (subst (λ (b : ℕ). MakesStep old (event.Access touch.task (File touch.at.file touch.at.page touch.offset) Read) (reply_of (given.Done b (Some frame))) old) (sym same)
+    (makes_step-hit_read old touch.task.0 page.0 frame.0 (File touch.at.file touch.at.page touch.offset) meets.0 is.task is.known is.live meets.1 meets.2
+    (meets-cached old.tables touch.task.0 touch.at.file touch.at.page touch.offset page.0 frame.0 meets.0 Read meets.1 meets.2) is.within listed)))
     tt tt
 
-pub carries-file_write : (old marked new : StateOf) (touch : FileTouch) (page : PageId) (frame : FrameId) (byte : ℕ) → InOrder old → AreMapped old.tables.pages old.tables.page_tables → IsFileTouch old.tables touch
-    → MeetsInCache old.tables touch (cache.Hits page frame) → MarksPage old marked page.0 → touch.op ≡ Write byte → WritesByte marked new page.0 touch.offset byte
+pub carries-file_write : (old new : StateOf) (touch : FileTouch) (page : PageId) (frame : FrameId) (byte : ℕ) → InOrder old → AreMapped old.tables.pages old.tables.page_tables → IsFileTouch old.tables touch
+    → MeetsInCache old.tables touch (cache.Hits page frame) → touch.op ≡ Write byte → WritesByte old new page.0 touch.offset byte
     → Carries old (decision.FileAccess touch (cache.Hits page frame)) (given.Done byte (Some frame)) new
-carries-file_write old marked new touch page frame byte listed mapped is meets marks write writes =
+carries-file_write old new touch page frame byte listed mapped is meets write written =
     carries-file_access old new touch (cache.Hits page frame) (given.Done byte (Some frame))
     (subst (λ (op : Op). MakesStep old (event.Access touch.task (File touch.at.file touch.at.page touch.offset) op) (reply_of (given.Done byte (Some frame))) new) (sym write)
     (makes_step-hit_write old new touch.task.0 page.0 byte frame.0 (File touch.at.file touch.at.page touch.offset) meets.0 is.task is.known is.live meets.1 meets.2
     (meets-cached old.tables touch.task.0 touch.at.file touch.at.page touch.offset page.0 frame.0 meets.0 (Write byte) meets.1 meets.2) (own-cached old touch.at.file touch.at.page touch.offset page.0 mapped meets.1)
     (written.placed _ meets.2) written.tables written.bytes written.flights listed written.order))
     tt tt
-  where
-    written : WritesByte (record old { order = record { held = with_mark (Some page.0) old.order.held; cursors = old.order.cursors } }) new page.0 touch.offset byte
-    written = subst (λ (s : StateOf). WritesByte s new page.0 touch.offset byte) marks writes
 
 pub carries-file_busy : (s : StateOf) (touch : FileTouch) → InOrder s → IsFileTouch s.tables touch → MeetsInCache s.tables touch cache.Transferring
     → Carries s (decision.FileAccess touch cache.Transferring) given.Busy s

@@ -29,7 +29,7 @@ use Rattle.machine.specs.Refusals.{refusal}
 use Rattle.machine.specs.Step.{Step, TaskStep, LifeStep}
 use Rattle.machine.specs.Legal.{Legal}
 use Rattle.machine.specs.History.{IsRight, Spot, InTask, InFile, spot_of, at_offset, Says, Byte, As, Nothing, says, follow, at_first, last, Fetched, HoldsLast, IsHonest, Honest, ticket_given, taker_or, taker, entries_by}
-use Rattle.machine.specs.Call.{is_full_for, knows_pass, entry_of}
+use Rattle.machine.specs.Call.{is_full_for, knows_pass, entry_of, leaves_entry}
 use Rattle.machine.proofs.TreeLemmas.{eq_cases}
 use Rattle.machine.proofs.Values.{some_inj, unlike}
 use Rattle.machine.proofs.FileLemmas.{file_page-there}
@@ -145,6 +145,7 @@ module _ (new : StateOf) (takers : List WorkerId) (worker : ℕ) (in_flight : Ar
 pub record Extending (old new : StateOf) (history : List Entry) (counts : List ℕ) (takers : List WorkerId) (worker : ℕ) (what : Event) (answer : Reply) : Type 0 where
   pub told : IsHistory old history counts takers
   pub passed : worker < length counts
+  pub leaves : leaves_entry what ≡ true
   pub known : knows_pass old.tables history (record { worker = worker }) what ≡ true
   pub none : refusal old.tables what ≡ None
   pub room : is_full_for old.tables history what ≡ false
@@ -168,7 +169,7 @@ module _ (old new : StateOf) (history : List Entry) (counts : List ℕ) (takers 
       ]
 
   pub legal_more : Legal old.tables.opening more new.tables
-  legal_more = (old.tables, h.told.legal, record { known = h.known; unrefused = h.none; room = h.room; steps = h.makes_step.steps })
+  legal_more = (old.tables, h.told.legal, record { kept = h.leaves; known = h.known; unrefused = h.none; room = h.room; steps = h.makes_step.steps })
 
   placed : (p : ℕ) → IfSome (page_at new.tables.pages p) (λ page. p < length takers)
   placed p = by_slot (page_at new.tables.pages p) ((legal-numbered old.tables.opening more new.tables legal_more).below p)

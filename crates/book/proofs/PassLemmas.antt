@@ -1,9 +1,10 @@
 -- Calls with a pass: which are strangers', and what the pass counts.
 use Rattle.std.proofs.Common.{◌≡◌, ℕ, suc, ◌+◌, ◌==◌, ◌&&◌, Bool, true, false, cond, List, [], ◌∷◌, ◌++◌, length, Option, None, Some, eq-eqb, refl, sym, ap, ◌∙◌, add-one, arith}
-use Rattle.std.specs.Prelude.{MatchBool, nat_lt}
+use Rattle.std.specs.Prelude.{MatchBool, nat_lt, not, ◌||◌}
 use Rattle.std.proofs.lemmas.Bool.Decides.{nat_tests}
 use Rattle.std.proofs.lemmas.List.Sums.{sum_by-append, sum_by-cons}
 use Rattle.machine.proofs.SlotLemmas.{one_if}
+use Rattle.machine.proofs.EntryLemmas.{entries-one}
 use Rattle.machine.specs.declared.entry.Entry.{Entry}
 use Rattle.machine.specs.declared.refusal.Refusal.{Refusal}
 use Rattle.machine.specs.declared.refusal.Refusal.TheVariants.{Stranger, TraceFull, NoMemory}
@@ -13,13 +14,13 @@ use Rattle.machine.specs.declared.reply.Reply.{Reply}
 use Rattle.machine.specs.declared.reply.Reply.TheVariants as reply
 use Rattle.machine.specs.History.{is_by, entries_by}
 use Rattle.machine.specs.Refusals.{refusal}
-use Rattle.machine.specs.Call.{Past, Caller, knows_pass, grows, is_trace_full, entry_of, Refuses, Answers, Answered, JudgedBy, Called}
+use Rattle.machine.specs.Call.{Past, Caller, knows_pass, grows, is_trace_full, leaves_entry, entry_of, Refuses, Answers, Answered, JudgedBy, Called}
 use Rattle.book.specs.declared.event.Reply.TheVariants as given
 use Rattle.book.specs.declared.kept.Kept.{Kept}
 use Rattle.book.specs.declared.kept.Kept.TheVariants.{Call, Find}
 use Rattle.book.specs.declared.kept.Asked.TheVariants.{Whole}
 use Rattle.book.specs.MakesStep.{IsAsked, RepliesTo}
-use Rattle.book.specs.Passes.{PassOf, asked_of, call_of, find_of, keeping, is_entry, count_of, is_current, CalledWith}
+use Rattle.book.specs.Passes.{PassOf, asked_of, call_of, find_of, keeping, keeping_call, is_entry, count_of, is_current, may_ask, CalledWith}
 
 -- ---- what is kept of an event
 
@@ -34,6 +35,7 @@ replies-refused (event.Arrived ticket bytes) why asked = absurd asked
 replies-refused (event.FetchFailed ticket) why asked = absurd asked
 replies-refused (event.Left ticket) why asked = absurd asked
 replies-refused (event.LeaveFailed ticket) why asked = absurd asked
+replies-refused (event.MergeMarks word bits) why asked = absurd asked
 replies-refused what why asked = tt
 
 -- ---- the count
@@ -61,7 +63,7 @@ both-more a b = grind (arith, nat_tests)
 
 -- ---- a pass that was current is so after a call, and one that was not is not
 
-module _ (old : Past) (pass : PassOf) (what : Event) (new : Past) where
+module _ (old : Past) (pass : PassOf) (what : Event) (leaves : leaves_entry what ≡ true) (new : Past) where
   refused-on : (answer : Reply) (why : Refusal) → Refuses old why answer new → is_current new (keeping pass (call_of what answer)) ≡ is_current old pass
   refused-on answer why h =
       ap (λ (p : Past). is_current p (keeping pass (call_of what answer))) h.1
@@ -71,7 +73,8 @@ module _ (old : Past) (pass : PassOf) (what : Event) (new : Past) where
   served-on : (answer : Reply) → is_entry (call_of what answer) ≡ true → Answers old pass.caller what answer new → is_current new (keeping pass (call_of what answer)) ≡ is_current old pass
   served-on answer entry h =
       ap (λ (n : ℕ). nat_lt pass.caller.worker n && (count_of (pass.kept ++ call_of what answer ∷ []) == length (entries_by pass.caller.worker new.history))) h.passes
-      ∙ ap (λ (es : List Entry). nat_lt pass.caller.worker old.passes && (count_of (pass.kept ++ call_of what answer ∷ []) == length (entries_by pass.caller.worker es))) h.history
+      ∙ ap (λ (es : List Entry). nat_lt pass.caller.worker old.passes && (count_of (pass.kept ++ call_of what answer ∷ []) == length (entries_by pass.caller.worker es)))
+      (h.history ∙ ap (λ (es : List Entry). es ++ old.history) (entries-one pass.caller old.history what answer leaves))
       ∙ ap (λ (n : ℕ). nat_lt pass.caller.worker old.passes && (count_of (pass.kept ++ call_of what answer ∷ []) == n)) (own-more pass.caller old.history what answer)
       ∙ ap (λ (n : ℕ). nat_lt pass.caller.worker old.passes && (n == length (entries_by pass.caller.worker old.history) + 1))
       (count-more pass.kept (call_of what answer) entry)
@@ -97,7 +100,7 @@ module _ (old : Past) (pass : PassOf) (what : Event) (new : Past) where
       by_ticket false k = refused-on answer Stranger k
 
   pub current-on : (answer : Reply) → CalledWith old pass what answer new → is_current new (keeping pass (call_of what answer)) ≡ is_current old pass
-  current-on answer h = by_pass (is_current old pass) h
+  current-on answer h = by_pass (may_ask old pass what) h
     where
       by_pass : (b : Bool) → MatchBool b (Called old pass.caller what answer new) (Refuses old Stranger answer new) → is_current new (keeping pass (call_of what answer)) ≡ is_current old pass
       by_pass true k = called-on answer k
@@ -109,11 +112,29 @@ find-on past pass path g = ap (λ (n : ℕ). nat_lt pass.caller.worker past.pass
 
 -- ---- calls
 
-pub called-current : (old : Past) (pass : PassOf) (what : Event) (answer : Reply) (new : Past) → is_current old pass ≡ true → Called old pass.caller what answer new → CalledWith old pass what answer new
-called-current old pass what answer new is h = rw is h
+or_true : (b : Bool) → (b || true) ≡ true
+or_true true = refl
+or_true false = refl
 
-pub called-stale : (old : Past) (pass : PassOf) (what : Event) → is_current old pass ≡ false → CalledWith old pass what (reply.Refused Stranger) old
-called-stale old pass what is = rw is (refl, refl)
+-- with a current pass each event may be asked
+pub may_ask-current : (past : Past) (pass : PassOf) (what : Event) → is_current past pass ≡ true → may_ask past pass what ≡ true
+may_ask-current past pass what is = ap (λ (b : Bool). not (leaves_entry what) || b) is ∙ or_true (not (leaves_entry what))
+
+-- an event without a ticket leaves an entry
+pub asked-leaves : (what : Event) → IsAsked what → leaves_entry what ≡ true
+asked-leaves (event.MergeMarks word bits) asked = absurd asked
+asked-leaves what asked = refl
+
+-- what is kept of an event that leaves an entry
+pub keeping_call-kept : (pass : PassOf) (what : Event) (answer : Reply) → leaves_entry what ≡ true → keeping_call pass what answer ≡ keeping pass (call_of what answer)
+keeping_call-kept pass (event.MergeMarks word bits) answer leaves = cc
+keeping_call-kept pass what answer leaves = refl
+
+pub called-current : (old : Past) (pass : PassOf) (what : Event) (answer : Reply) (new : Past) → is_current old pass ≡ true → Called old pass.caller what answer new → CalledWith old pass what answer new
+called-current old pass what answer new is h = rw (may_ask-current old pass what is) h
+
+pub called-stale : (old : Past) (pass : PassOf) (what : Event) → leaves_entry what ≡ true → is_current old pass ≡ false → CalledWith old pass what (reply.Refused Stranger) old
+called-stale old pass what leaves is = rw (ap (λ (b : Bool). not b || is_current old pass) leaves ∙ is) (refl, refl)
 
 -- where memory is wanted and refused
 pub called-short : (old : Past) (caller : Caller) (what : Event) → knows_pass old.state old.history caller what ≡ true → refusal old.state what ≡ None → is_trace_full old what ≡ false → grows old.state what ≡ true

@@ -29,7 +29,7 @@ use Rattle.machine.specs.Access.{Meeting, Hits, Transferring, page_size, is_shar
 use Rattle.machine.specs.Call.{fetches, need}
 use Rattle.machine.specs.Reclaim.{stands, target_of, has_takeable, has_transfer}
 use Rattle.machine.specs.Generations.{Gens, new_gens, gens_at}
-use Rattle.machine.specs.Lists.{HeldLists, Order, ListsHeld, Generation, Youngest, GoesOn, shown_at, with_mark, AddsLists, Orders}
+use Rattle.machine.specs.Lists.{HeldLists, Order, ListsHeld, Generation, Youngest, GoesOn, AddsLists, Orders}
 use Rattle.machine.specs.Victim.{IsVictim}
 use Rattle.machine.specs.Step.{Step, ChargeStep, MeetStep, TaskStep, LifeStep, RelieveStep, ReclaimOneStep, KillStep, new_node, with_setting, shown_of}
 use Rattle.machine.specs.History.{Spot, InTask, InFile, spot_of, Says, Nothing, says, ticket_given}
@@ -38,12 +38,11 @@ use Rattle.machine.specs.declared.record.Direction.TheVariants.{In, Out}
 use Rattle.pages.specs.PagesOf.{Label, labelled, memory_of, byte_in, moving, HasResidence}
 use Rattle.pages.specs.declared.flight.Flight.{Flight}
 use Rattle.page_state.specs.States.{StateOf, byte_shown}
-use Rattle.page_state.specs.Changes.{MarksPage}
 use Rattle.book.specs.Spots.{offset_of, holder, IsThere}
 use Rattle.book.specs.Effects.{byte_at_spot, is_in_memory, is_known, knows, KnowsSpot, ReadsByte, WasByte, IsSaid, Follows, KeepsFlights}
 use Rattle.book.specs.MakesStep.{AgesByThree, MakesStep, is_refused}
 use Rattle.machine.proofs.HeldChanges.{goes-on-same}
-use Rattle.machine.proofs.HeldLemmas.{goes-still, goes-max, held-marked}
+use Rattle.machine.proofs.HeldLemmas.{goes-still, goes-max}
 
 -- ---- where nothing changes that an event may tell of
 
@@ -92,25 +91,13 @@ order-still old new listed pages order =
     (subst (λ (held : HeldLists). GoesOn Youngest old.tables.pages old.order.held new.tables.pages held) (sym (ap (λ (o : Order). o.held) order)) (goes-still Youngest old.tables.pages new.tables.pages old.order.held listed pages))
     (ap (λ (o : Order). o.cursors) order)
 
--- where a page in a frame is marked
-pub order-marked : (old new : StateOf) (p : ℕ) → InOrder old → is_held_in old.tables.pages p ≡ true → ((q : ℕ) → is_held_in new.tables.pages q ≡ is_held_in old.tables.pages q)
-    → new.order ≡ record { held = with_mark (Some p) old.order.held; cursors = old.order.cursors } → GoesOnIn Youngest old (with_mark (Some p) old.order.held) new
-order-marked old new p listed held same order =
-    order-on Youngest old (with_mark (Some p) old.order.held) new refl
-    (subst (λ (lists : HeldLists). GoesOn Youngest old.tables.pages (with_mark (Some p) old.order.held) new.tables.pages lists) (sym (ap (λ (o : Order). o.held) order))
-    (goes-on-same Youngest old.tables.pages new.tables.pages (with_mark (Some p) old.order.held) (held-marked old.tables.pages old.order.held p held listed) same))
+-- where each page that is held is held still
+pub order-written : (old new : StateOf) → InOrder old → ((q : ℕ) → is_held_in new.tables.pages q ≡ is_held_in old.tables.pages q) → new.order ≡ old.order → GoesOnIn Youngest old old.order.held new
+order-written old new listed same order =
+    order-on Youngest old old.order.held new refl
+    (subst (λ (lists : HeldLists). GoesOn Youngest old.tables.pages old.order.held new.tables.pages lists) (sym (ap (λ (o : Order). o.held) order))
+    (goes-on-same Youngest old.tables.pages new.tables.pages old.order.held listed same))
     (ap (λ (o : Order). o.cursors) order)
-
--- the page that an access uses is the one that has its byte
-holder-shown : (s : State) (t : ℕ) (place : Place) → shown_at s t place ≡ holder s (spot_of t place)
-holder-shown s t (Virtual v o) = refl
-holder-shown s t (File f q o) = refl
-
--- an access that finds its page in a frame marks it
-pub hit-marked : (old new : StateOf) (t p byte : ℕ) (place : Place) (frame : FrameId) (op : Op) → holder old.tables (spot_of t place) ≡ Some p → GoesOnIn Youngest old (with_mark (Some p) old.order.held) new
-    → Orders old.tables old.order (event.Access (record { 0 = t }) place op) (reply.Done byte (Some frame)) new.tables new.order × AgesByThree old new
-hit-marked old new t p byte place frame op shown on =
-    ((subst (λ (m : Option ℕ). GoesOn Youngest old.tables.pages (with_mark m old.order.held) new.tables.pages new.order.held) (sym (holder-shown old.tables t place ∙ shown)) on.0.0, on.0.1), on.1)
 
 -- a group that comes begins as what is no group's
 begins-new : (groups : List Gens) (g : ℕ) → gens_at (groups ++ new_gens ∷ []) g ≡ gens_at groups g
@@ -316,29 +303,17 @@ meets-hit s t v o p f label op shown page alone = rw shown (rw page (rw alone re
 pub meets-cached : (s : State) (t file q o p f : ℕ) (label : Label) (op : Op) → file_page s.pages file q ≡ Some p → HasResidence s.pages p label (Held f) → meets s t (File file q o) op ≡ Hits p (labelled label (Held f)) f
 meets-cached s t file q o p f label op cached page = rw cached (rw page refl)
 
-pub makes_step-hit_read : (old new : StateOf) (t p f : ℕ) (place : Place) (label : Label) (task : Task) → task_at old.tables.tasks t ≡ Some task → task.life ≡ Live → holder old.tables (spot_of t place) ≡ Some p
-    → HasResidence old.tables.pages p label (Held f) → meets old.tables t place Read ≡ Hits p (labelled label (Held f)) f → offset_of (spot_of t place) < page_size → InOrder old → MarksPage old new p
-    → MakesStep old (event.Access (record { 0 = t }) place Read) (reply.Done (byte_in old.bytes p (offset_of (spot_of t place))) (Some (record { 0 = f }))) new
-makes_step-hit_read old new t p f place label task is living shown page meeting within listed marks =
-    makes_step-still old new (event.Access (record { 0 = t }) place Read) (reply.Done (byte_in old.bytes p (offset_of (spot_of t place))) (Some (record { 0 = f })))
-    (record {
-      pages = ap (λ (s : StateOf). s.tables.pages) marks;
-      tasks = ap (λ (s : StateOf). s.tables.tasks) marks;
-      page_tables = ap (λ (s : StateOf). s.tables.page_tables) marks;
-      bytes = ap (λ (s : StateOf). s.bytes) marks;
-      flights = ap (λ (s : StateOf). s.flights) marks;
-      opening = ap (λ (s : StateOf). s.tables.opening) marks;
-    })
-    (record { says = λ spot. refl; given = refl })
-    (live_step old.tables _ task _ _ _ is living hits)
-    (hit-marked old new t p (byte_in old.bytes p (offset_of (spot_of t place))) place (record { 0 = f }) Read shown
-    (order-marked old new p listed (ap (there_and is_held) page) (λ q. ap (λ (s : StateOf). is_held_in s.tables.pages q) marks) (ap (λ (s : StateOf). s.order) marks)))
-    (sym (ap (λ m. byte_shown old.bytes m (offset_of (spot_of t place))) shown), (knows-some old (spot_of t place) p shown (ap (there_and (λ (page : Page). is_in_memory page.residence)) page), within)) (access-needs old.tables t place Read)
+pub makes_step-hit_read : (s : StateOf) (t p f : ℕ) (place : Place) (label : Label) (task : Task) → task_at s.tables.tasks t ≡ Some task → task.life ≡ Live → holder s.tables (spot_of t place) ≡ Some p
+    → HasResidence s.tables.pages p label (Held f) → meets s.tables t place Read ≡ Hits p (labelled label (Held f)) f → offset_of (spot_of t place) < page_size → InOrder s
+    → MakesStep s (event.Access (record { 0 = t }) place Read) (reply.Done (byte_in s.bytes p (offset_of (spot_of t place))) (Some (record { 0 = f }))) s
+makes_step-hit_read s t p f place label task is living shown page meeting within listed =
+    makes_step-still s s (event.Access (record { 0 = t }) place Read) (reply.Done (byte_in s.bytes p (offset_of (spot_of t place))) (Some (record { 0 = f }))) (still-self s) (record { says = λ spot. refl; given = refl })
+    (live_step s.tables _ task _ _ _ is living hits) (order-still s s listed refl refl)
+    (sym (ap (λ m. byte_shown s.bytes m (offset_of (spot_of t place))) shown), (knows-some s (spot_of t place) p shown (ap (there_and (λ (page : Page). is_in_memory page.residence)) page), within)) (access-needs s.tables t place Read)
   where
-    hits : MeetStep old.tables t task.group.0 Read (meets old.tables t place Read) (reply.Done (byte_in old.bytes p (offset_of (spot_of t place))) (Some (record { 0 = f }))) new.tables
+    hits : MeetStep s.tables t task.group.0 Read (meets s.tables t place Read) (reply.Done (byte_in s.bytes p (offset_of (spot_of t place))) (Some (record { 0 = f }))) s.tables
     hits =
-        subst (λ (m : Meeting). MeetStep old.tables t task.group.0 Read m (reply.Done (byte_in old.bytes p (offset_of (spot_of t place))) (Some (record { 0 = f }))) new.tables) (sym meeting)
-        (refl, ap (λ (s : StateOf). s.tables) marks)
+        subst (λ (m : Meeting). MeetStep s.tables t task.group.0 Read m (reply.Done (byte_in s.bytes p (offset_of (spot_of t place))) (Some (record { 0 = f }))) s.tables) (sym meeting) (refl, refl)
 
 -- replies to any access that neither reads nor writes
 pub quiet-busy : (t : ℕ) (place : Place) (op : Op) → IsQuiet (event.Access (record { 0 = t }) place op) reply.Busy

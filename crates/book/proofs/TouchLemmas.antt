@@ -15,7 +15,7 @@ use Rattle.machine.specs.Pages.{Content, Memory, OfFile, Held, Page, Pages, page
 use Rattle.machine.specs.Tasks.{PageTables, SetsTask, task_at, is_live_life, is_live_task, lives, group_of, group_of_task, mapped_at, mappers, Shows}
 use Rattle.machine.specs.State.{State, page_numbers, over_in, is_frame_free}
 use Rattle.machine.specs.Access.{Meeting, Hits, meets}
-use Rattle.machine.specs.Lists.{Youngest, with_mark, Orders}
+use Rattle.machine.specs.Lists.{Youngest}
 use Rattle.machine.specs.Step.{MeetStep, MakesPage, IsFreeFrame, new_page, touched, still}
 use Rattle.machine.specs.History.{Spot, InTask, InFile, spot_of, is_spot, Says, Byte, As, Nothing, says_if, says_of_task}
 use Rattle.machine.proofs.Values.{some_inj}
@@ -32,7 +32,7 @@ use Rattle.book.specs.Effects.{byte_at_spot, is_in_memory, is_known, knows, Know
 use Rattle.book.specs.MakesStep.{AgesByThree, MakesStep}
 use Rattle.book.proofs.FlightLemmas.{in_transfer-changes}
 use Rattle.page_state.proofs.DropLemmas.{mapped_stays, moving_alike}
-use Rattle.book.proofs.StepLemmas.{InOrder, order-on, order-still, order-marked, hit-marked, there-same, holder-same, spot-was, stays-was, still-was, flights-kept, live_step, granted_step, access-needs}
+use Rattle.book.proofs.StepLemmas.{InOrder, order-on, order-still, order-written, GoesOnIn, there-same, holder-same, spot-was, stays-was, still-was, flights-kept, live_step, granted_step, access-needs}
 
 -- ---- a write in place
 
@@ -57,13 +57,13 @@ pub makes_step-hit_write : (old new : StateOf) (t p b f : ℕ) (place : Place) (
     → HasResidence old.tables.pages p label (Held f) → meets old.tables t place (Write b) ≡ Hits p (labelled label (Held f)) f → IsOwn old p (spot_of t place)
     → Changes old.tables.pages new.tables.pages p (Some (touched (labelled label (Held f)) (Write b))) → new.tables ≡ record old.tables { pages = new.tables.pages }
     → ((q k : ℕ) → byte_in new.bytes q k ≡ (if (q == p) && (offset_of (spot_of t place) == k) then b else byte_in old.bytes q k)) → new.flights ≡ old.flights
-    → InOrder old → new.order ≡ record { held = with_mark (Some p) old.order.held; cursors = old.order.cursors }
+    → InOrder old → new.order ≡ old.order
     → MakesStep old (event.Access (record { 0 = t }) place (Write b)) (reply.Done b (Some (record { 0 = f }))) new
 makes_step-hit_write old new t p b f place label task is living shown page meeting own placed tables bytes flights listed order =
     record {
       steps = live_step old.tables _ task _ _ _ is living writes;
-      orders = marked.0;
-      ages = marked.1;
+      orders = goes.0;
+      ages = goes.1;
       reads = tt;
       bytes = λ spot there known. inr (at_spot spot (there-same old.tables new.tables spot (ap (λ (s : State). s.tasks) tables) there) known (is_spot (spot_of t place) spot) refl);
       flights = flights-kept old new (reply.Done b (Some (record { 0 = f }))) flights;
@@ -83,8 +83,8 @@ makes_step-hit_write old new t p b f place label task is living shown page meeti
           | inr other ↦ ap (there_and test) (placed.others q other)
         ]
 
-    marked : Orders old.tables old.order (event.Access (record { 0 = t }) place (Write b)) (reply.Done b (Some (record { 0 = f }))) new.tables new.order × AgesByThree old new
-    marked = hit-marked old new t p b place (record { 0 = f }) (Write b) shown (order-marked old new p listed (ap (there_and is_held) page) (alike is_held refl) order)
+    goes : GoesOnIn Youngest old old.order.held new
+    goes = order-written old new listed (alike is_held refl) order
 
     writes : MeetStep old.tables t task.group.0 (Write b) (meets old.tables t place (Write b)) (reply.Done b (Some (record { 0 = f }))) new.tables
     writes =

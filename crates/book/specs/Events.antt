@@ -33,6 +33,7 @@ event_of (event.Mkdir path) = plain.Mkdir path
 event_of (event.Rmdir group) = plain.Rmdir group
 event_of (event.Set group setting) = plain.Set group setting
 event_of (event.Show query) = plain.Show query
+event_of (event.MergeMarks word bits) = plain.MergeMarks word bits
 
 -- and of a reply. Where the ticket of an ending comes back, a refusal stands there
 abbrev pub reply_of : Reply → Plain_reply

@@ -29,7 +29,7 @@ is_refused answer = false
 abbrev pub AgesByThree : StateOf → StateOf → Type 0
 AgesByThree old new = (g : ℕ) → (gens_at new.order.held.groups g).max_seq ≤ (gens_at old.order.held.groups g).max_seq + 3
 
--- the machine's step with this reply; where a page is taken it is the one that is evicted next, and a hit marks its page; a read gives the byte that stood there; and bytes and transfers change as the event says
+-- the machine's step with this reply; where a page is taken it is the one that is evicted next, and only a merge marks pages; a read gives the byte that stood there; and bytes and transfers change as the event says
 pub record MakesStep (old : StateOf) (what : Event) (answer : Reply) (new : StateOf) : Type 0 where
   pub steps : Step old.tables what answer new.tables
   pub orders : Orders old.tables old.order what answer new.tables new.order
@@ -44,12 +44,13 @@ pub record MakesStep (old : StateOf) (what : Event) (answer : Reply) (new : Stat
 
 -- ---- events without a ticket
 
--- the event has no ticket: it ends no transfer
+-- the event has no ticket, so it ends no transfer; and it leaves an entry
 abbrev pub IsAsked : Event → Type 0
 IsAsked (event.Arrived ticket arrived) = ⊥
 IsAsked (event.FetchFailed ticket) = ⊥
 IsAsked (event.Left ticket) = ⊥
 IsAsked (event.LeaveFailed ticket) = ⊥
+IsAsked (event.MergeMarks word bits) = ⊥
 IsAsked what = Unit {0}
 
 abbrev pub RepliesTo : Event → Given → Type 0

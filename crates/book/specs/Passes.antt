@@ -1,5 +1,5 @@
 -- What a contract sees of a pass: whose leave it is, and what was asked with it.
-use Rattle.std.specs.Prelude.{◌≡◌, ℕ, ◌-◌, ◌==◌, ◌&&◌, nat_lt, Bool, true, false, MatchBool, List, [], ◌∷◌, ◌++◌, length, count_by, Option, option_map}
+use Rattle.std.specs.Prelude.{◌≡◌, ℕ, ◌-◌, ◌==◌, ◌&&◌, ◌||◌, not, nat_lt, Bool, true, false, MatchBool, List, [], ◌∷◌, ◌++◌, length, count_by, Option, option_map}
 use Rattle.machine.specs.declared.id.GroupId.{GroupId}
 use Rattle.machine.specs.declared.event.Event.{Event}
 use Rattle.machine.specs.declared.event.Event.TheVariants as event
@@ -7,7 +7,7 @@ use Rattle.machine.specs.declared.reply.Reply.{Reply}
 use Rattle.machine.specs.declared.reply.Reply.TheVariants as reply
 use Rattle.machine.specs.declared.refusal.Refusal.TheVariants.{Stranger}
 use Rattle.machine.specs.History.{entries_by}
-use Rattle.machine.specs.Call.{Past, Caller, Refuses, Called}
+use Rattle.machine.specs.Call.{Past, Caller, leaves_entry, Refuses, Called}
 use Rattle.book.specs.declared.kept.Asked.{Asked}
 use Rattle.book.specs.declared.kept.Asked.TheVariants.{Whole, Arrival}
 use Rattle.book.specs.declared.kept.Kept.{Kept}
@@ -38,6 +38,11 @@ find_of path g = Find path (option_map (λ n. record { 0 = n }) g)
 abbrev pub keeping : PassOf → Kept → PassOf
 keeping pass more = record { caller = pass.caller; kept = pass.kept ++ more ∷ []; room = pass.room - 1 }
 
+-- the pass after an event that was asked with it. A merge of marks is not kept, as it leaves no entry
+abbrev pub keeping_call : PassOf → Event → Reply → PassOf
+keeping_call pass (event.MergeMarks word bits) answer = pass
+keeping_call pass what answer = keeping pass (call_of what answer)
+
 -- ---- its count
 
 -- it stands in the trace: an event that was not refused
@@ -56,6 +61,10 @@ is_current past pass = nat_lt pass.caller.worker past.passes && (count_of pass.k
 
 -- ---- a call with it
 
--- one with a pass that is not current is a stranger's, before all else. (Excludes a book that serves the pass of another book, or one from which replies were lost.)
+-- the event may be asked with this pass: it leaves no entry, or the pass is current
+abbrev pub may_ask : Past → PassOf → Event → Bool
+may_ask past pass what = not (leaves_entry what) || is_current past pass
+
+-- one with a pass that is not current is a stranger's, before all else; marks may be merged with any pass. (Excludes a book that serves the pass of another book, or one from which replies were lost.)
 abbrev pub CalledWith : Past → PassOf → Event → Reply → Past → Type 0
-CalledWith old pass what answer new = MatchBool (is_current old pass) (Called old pass.caller what answer new) (Refuses old Stranger answer new)
+CalledWith old pass what answer new = MatchBool (may_ask old pass what) (Called old pass.caller what answer new) (Refuses old Stranger answer new)

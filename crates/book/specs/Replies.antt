@@ -47,6 +47,11 @@ IsOkReply reply.Ok = Unit {0}
 IsOkReply (reply.Refused why) = Unit {0}
 IsOkReply said = ⊥
 
+-- an event that is never refused
+abbrev pub IsAlwaysOk : Reply → Type 0
+IsAlwaysOk reply.Ok = Unit {0}
+IsAlwaysOk said = ⊥
+
 -- an event of a task, which may have been killed before
 abbrev pub IsTaskReply : Reply → Type 0
 IsTaskReply reply.Ok = Unit {0}
@@ -88,6 +93,7 @@ Replies (event.Mkdir path) said = IsOkReply said
 Replies (event.Rmdir group) said = IsOkReply said
 Replies (event.Set group setting) said = IsOkReply said
 Replies (event.Show query) said = IsShownReply said
+Replies (event.MergeMarks word bits) said = IsAlwaysOk said
 
 -- ---- tickets that are handed back
 

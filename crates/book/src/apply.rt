@@ -144,14 +144,13 @@ fn file_access(
     }
 }
 
-/// An access to a page of a file that is in a frame, which is marked as accessed.
+/// An access to a page of a file that is in a frame.
 fn file_hit(state: &mut State, touch: FileTouch, cached: PageId, frame: FrameId) -> Reply
     requires touch { IsFileTouch state.old.tables touch }
     requires meets { MeetsInCache state.old.tables touch (cache.Hits cached frame) }
     ensures { Carries state.old (decision.FileAccess touch (cache.Hits cached frame)) result state.new }
 {
     state.is_joined();
-    state.mark(cached);
     match touch.op {
         Op::Read => Reply::Done {
             byte: state.pages().read(cached, touch.offset as usize),
@@ -197,14 +196,13 @@ fn take(state: &mut State, target: GroupId, group: GroupId) -> Reply
     }
 }
 
-/// An access to a page in a frame, which is marked as accessed.
+/// An access to a page in a frame.
 fn hit(state: &mut State, touch: Touch, page: PageId, frame: FrameId) -> Reply
     requires touch { IsTouch state.old.tables touch }
     requires meets { MeetsSo state.old.tables touch (meeting.Hits page frame) }
     ensures { Carries state.old (decision.Access touch (meeting.Hits page frame)) result state.new }
 {
     state.is_joined();
-    state.mark(page);
     match touch.op {
         Op::Read => Reply::Done {
             byte: state.pages().read(page, touch.offset as usize),

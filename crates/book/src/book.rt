@@ -2,12 +2,13 @@
 
 ghost use Rattle.std.specs.Prelude.{◌≡◌, ◌⊎◌, ℕ, ◌+◌, ◌<◌, ◌≤◌, ◌++◌, ◌∷◌, List, [], None, true, false, length, reverse, nat_lt, slice_index, slice_set, option_map, IfSome, IfOk, IfErr, OnOk, OnErr};
 ghost use Rattle.machine.specs.Tree.{find_group};
-ghost use Rattle.machine.specs.Pages.{used_frames, in_transfer};
+ghost use Rattle.machine.specs.Pages.{used_frames, is_frame_taken, in_transfer};
 ghost use Rattle.machine.specs.State.{State as Tables, opening_of, is_config};
 ghost use Rattle.machine.specs.Legal.{Legal};
 ghost use Rattle.machine.specs.Lists.{ListsHeld, AreGenerations};
 ghost use Rattle.machine.specs.Slots.{at};
 ghost use Rattle.machine.specs.History.{Right, IsRight, Honest, Numbered, at_first, ticket_given};
+ghost use Rattle.machine.specs.declared.event.Event.TheVariants as plain;
 ghost use Rattle.machine.specs.declared.reply.Reply.TheVariants as said;
 ghost use Rattle.machine.specs.FirstBytes.{first_of};
 ghost use Rattle.machine.specs.Audit.{Passes};
@@ -15,7 +16,7 @@ ghost use Rattle.machine.specs.Transfers.{transfers_begun, transfers_ended};
 ghost use Rattle.machine.specs.Call.{first_past, took, grows, Caller, Called};
 ghost use Rattle.book.specs.Events.{event_of, reply_of, ended, ended_with};
 ghost use Rattle.book.specs.Decisions.{makes};
-ghost use Rattle.book.specs.Passes.{asked_of, call_of, find_of, keeping, is_current, CalledWith};
+ghost use Rattle.book.specs.Passes.{asked_of, call_of, find_of, keeping, keeping_call, is_current, CalledWith};
 ghost use Rattle.book.specs.Replies.{Replies, IsInReply, IsOutReply, IsBack, HandsBack, KeepsTicket, HandsOut};
 ghost use Rattle.book.specs.MakesStep.{IsAsked, RepliesTo, stamped_reply, noted, noted_at};
 
@@ -137,7 +138,10 @@ impl Book {
     /// Either it is refused, for the first cause that stands, and nothing changes but what the pass keeps; or it
     /// is one step of the machine and exactly one entry more, the worker's next. A refused ticket comes back.
     ///
-    /// A pass that is not current is refused as `Stranger`: one that this book did not give out, or one that has
+    /// [`Event::MergeMarks`] is a hint: it is never refused, leaves no entry, is not kept by the pass, and
+    /// changes nothing but which pages are marked.
+    ///
+    /// Else a pass that is not current is refused as `Stranger`: one that this book did not give out, or one that has
     /// not as many answers as its worker has entries. The pass has to have room, which [`Pass::reserve`] makes.
     pub fn call(&mut self, pass: &mut Pass, event: Event) -> Reply
         requires { 0 < pass.old.room }
@@ -146,7 +150,7 @@ impl Book {
         ensures replies { Replies event result }
         ensures gives { HandsOut self.new pass.old.caller.worker result }
         ensures keeps { KeepsTicket pass.old.caller.worker event result }
-        ensures kept { pass.new ≡ keeping pass.old (call_of (event_of event) (reply_of result)) }
+        ensures kept { pass.new ≡ keeping_call pass.old (event_of event) (reply_of result) }
         ensures current { is_current self.new pass.new ≡ is_current self.old pass.old }
         ensures passes { self.new.passes ≡ self.old.passes }
     {
@@ -173,7 +177,18 @@ impl Book {
                 self.serve(pass, PlainEvent::Set { group, setting })
             }
             Event::Show(query) => self.serve(pass, PlainEvent::Show(query)),
+            Event::MergeMarks { word, bits } => self.merge_marks(word, bits),
         }
+    }
+
+    /// The pages that are held in the frames of these bits are marked as used.
+    fn merge_marks(&mut self, word: u32, bits: u64) -> Reply
+        ensures ok { result ≡ Reply.Ok }
+        ensures called { (caller : Caller) → Called self.old caller (plain.MergeMarks word bits) said.Ok self.new }
+        ensures past { self.new ≡ record self.old { order = self.new.order } }
+    {
+        self.state.merge_marks(word, bits);
+        Reply::Ok
     }
 
     /// Whether this book gave out the pass, and has as many entries of its worker as the pass has answers that
@@ -448,7 +463,7 @@ impl Book {
     /// each page that was read in brought what was last written, [`trace::audit`] finds nothing wrong in it. The
     /// pages in transfer are as many as the transfers that began, less those that ended. As to the order,
     /// each held page is on the list of its group and type, once, and no other page is; and each group has
-    /// its lists, two to four generations of a type, and a cursor.
+    /// its lists, two to four generations of a type, and a cursor. A frame that a page has is one of the opening's.
     pub fn history_is_right(&self)
         ensures legal { Legal self.now.state.opening self.now.history self.now.state }
         ensures right { (files : ℕ → ℕ → ℕ → ℕ) → Honest (at_first files) self.now.history → Right (at_first files) self.now.history }
@@ -459,6 +474,7 @@ impl Book {
         ensures generations { AreGenerations self.now.order.held }
         ensures lists { length self.now.order.held.groups ≡ length self.now.state.tree }
         ensures cursors { length self.now.order.cursors ≡ length self.now.state.tree }
+        ensures framed { (f : ℕ) → is_frame_taken self.now.state.pages f ≡ true → f < self.now.state.opening.frames }
     {
         self.state.is_joined();
     }
@@ -629,9 +645,10 @@ fn copy(alloc: Global, event: &PlainEvent) -> Result<PlainEvent, AllocError>
             ticket: _,
             bytes: _,
         } => unreachable!(),
-        PlainEvent::FetchFailed(_) | PlainEvent::Left(_) | PlainEvent::LeaveFailed(_) => {
-            unreachable!()
-        }
+        PlainEvent::FetchFailed(_)
+        | PlainEvent::Left(_)
+        | PlainEvent::LeaveFailed(_)
+        | PlainEvent::MergeMarks { word: _, bits: _ } => unreachable!(),
     }
 }
 

@@ -49,7 +49,8 @@ pub fn decide<'e>(state: &State, event: &'e Event) -> Result<Decision<'e>, Refus
         }
         | Event::FetchFailed(_)
         | Event::Left(_)
-        | Event::LeaveFailed(_) => unreachable!(),
+        | Event::LeaveFailed(_)
+        | Event::MergeMarks { word: _, bits: _ } => unreachable!(),
     }
 }
 

@@ -43,6 +43,8 @@ pub enum Event {
     Set { group: GroupId, setting: Setting },
     /// A control file's numbers are asked for.
     Show(Query),
+    /// The pages that are held in the frames of these bits were used.
+    MergeMarks { word: u32, bits: u64 },
 }
 
 /// The answer to one event. It is a [`machine::reply::Reply`], with the ticket itself where that has

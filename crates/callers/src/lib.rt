@@ -17,9 +17,13 @@ mod cut_short;
 #[cfg(test)]
 mod groups;
 #[cfg(test)]
+mod holder;
+#[cfg(test)]
 mod killed;
 #[cfg(test)]
 mod memory;
+#[cfg(test)]
+mod merged;
 #[cfg(test)]
 mod on_threads;
 #[cfg(test)]

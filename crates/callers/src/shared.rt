@@ -33,7 +33,7 @@ fn open<R: Abort + AllocGlobal>(rt: &R) -> Result<State, AllocError> {
     State::open(rt.alloc(), config)
 }
 
-fn is_alive(state: &State, task: TaskId) -> bool
+pub fn is_alive(state: &State, task: TaskId) -> bool
     ensures { result ≡ lives state.now.tables.tasks task.0 }
 {
     match state.spaces().task(task) {
@@ -61,7 +61,7 @@ fn is_held(state: &State, page: PageId) -> bool
 }
 
 /// The page that the task's first virtual page shows, which is in a frame.
-fn shown<R: Abort>(rt: &R, state: &State, task: TaskId) -> PageId
+pub fn shown<R: Abort>(rt: &R, state: &State, task: TaskId) -> PageId
     ensures shown { mapped_at state.now.tables.page_tables task.0 0 ≡ Some result.0 }
     ensures held { is_held_in state.now.tables.pages result.0 ≡ true }
 {

@@ -1,21 +1,23 @@
--- Examples of whole calls: a charge over a limit, want of memory, and what nothing answers. What is not an answer is shown not to be.
-use Rattle.std.proofs.Common.{◌≡◌, ℕ, zero, suc, ◌<◌, ◌==◌, ◌&&◌, not, Bool, true, false, [], ◌∷◌, ◌++◌, Option, Some, None, refl, ap, ne_eqb, arith, List}
+-- Examples of whole calls: a charge over a limit, want of memory, what nothing answers, and a merge of marks. What is not an answer is shown not to be.
+use Rattle.std.proofs.Common.{◌≡◌, ℕ, zero, suc, ◌<◌, ◌==◌, ◌+◌, ◌&&◌, ◌||◌, not, Bool, true, false, [], ◌∷◌, ◌++◌, length, Option, Some, None, refl, ap, ne_eqb, arith, List}
 use Rattle.std.specs.Prelude.{replicate}
 use Rattle.machine.specs.declared.event.Op.TheVariants.{Write}
 use Rattle.machine.specs.declared.event.Place.TheVariants.{Virtual}
 use Rattle.machine.specs.declared.event.Event.{Event}
 use Rattle.machine.specs.declared.event.Event.TheVariants as event
-use Rattle.machine.specs.declared.record.Key.TheVariants as key
 use Rattle.machine.specs.declared.reply.Reply.{Reply}
 use Rattle.machine.specs.declared.reply.Reply.TheVariants as reply
 use Rattle.machine.specs.declared.refusal.Refusal.TheVariants as why
+use Rattle.machine.specs.declared.entry.Entry.{Entry}
 use Rattle.machine.specs.Tree.{chain_up, chain, under_at}
-use Rattle.machine.specs.Pages.{is_held_in}
+use Rattle.machine.specs.Slots.{there_and}
+use Rattle.machine.specs.Pages.{page_at, is_held_in, in_transfer}
 use Rattle.machine.specs.Counts.{over_at, no_counts}
 use Rattle.machine.specs.State.{State}
+use Rattle.machine.specs.Refusals.{refusal}
 use Rattle.machine.specs.Aging.{is_marked}
-use Rattle.machine.specs.Lists.{Order}
-use Rattle.machine.specs.Call.{Past, Caller, Called, entries_of}
+use Rattle.machine.specs.Lists.{Order, is_in_bits, MergesMarks}
+use Rattle.machine.specs.Call.{Past, Caller, Called, knows_pass, need, entry_of, entries_of}
 use Rattle.computed.proofs.ExampleStates.{group, task, shows, pages, busy, busy_order}
 use Rattle.machine.specs.declared.record.EventCounts.{EventCounts}
 
@@ -25,7 +27,7 @@ caller = record { worker = 1 }
 abbrev pub past : State → Order → Past
 past s order = record { state = s; history = []; order = order; passes = 2 }
 
--- the past after an event that was answered so: its entry, a state and an order
+-- the past after an event that was answered so: the entry that it leaves, a state and an order
 abbrev pub after : Past → Event → Reply → State → Order → Past
 after old what answer new order = record { state = new; history = entries_of caller old.history what answer ++ old.history; order = order; passes = old.passes }
 
@@ -110,3 +112,90 @@ dangling = record busy { page_tables = [] ∷ (None ∷ None ∷ None ∷ None �
 unanswered : (answer : Reply) (new : Past) → Called (past dangling busy_order) caller write answer new → ⊥
 unanswered (reply.Refused reason) new call = let e : false ≡ true = call.1 in cc
 unanswered answer new call = call.steps
+
+-- ---- a merge of marks
+
+-- the bit of frame 5, in which page 1 is held
+abbrev merge : Event
+merge = event.MergeMarks 0 32
+
+-- page 1 is marked, and nothing else changes
+abbrev one_marked : Order
+one_marked = record { held = record { groups = busy_order.held.groups; marks = false ∷ true ∷ replicate 8 false }; cursors = busy_order.cursors }
+
+-- the bit does this
+merges_one : MergesMarks pages 0 32 busy_order.held one_marked.held
+merges_one = record { groups = refl; size = refl; marks = marks }
+  where
+    marks : (p : ℕ) → is_marked one_marked.held.marks p ≡ (is_marked (replicate 10 false) p || there_and (is_in_bits 0 32) (page_at pages p))
+    marks zero = refl
+    marks (suc zero) = refl
+    marks (suc (suc zero)) = refl
+    marks (suc (suc (suc zero))) = refl
+    marks (suc (suc (suc (suc zero)))) = refl
+    marks (suc (suc (suc (suc (suc p))))) = rw (none_marked 5 p) refl
+
+-- it is answered Ok, page 1 is marked, and the history is as it was
+merges : Called (past busy busy_order) caller merge reply.Ok (record { state = busy; history = []; order = one_marked; passes = 2 })
+merges = record { steps = refl; order = (merges_one, refl); history = refl; passes = refl }
+
+-- nothing else is answered
+merges-ok : (answer : Reply) (new : Past) → Called (past busy busy_order) caller merge answer new → answer ≡ reply.Ok
+merges-ok reply.Ok new call = refl
+merges-ok (reply.Refused reason) new call = let e : false ≡ true = call.1 in cc
+merges-ok answer new call = absurd call.steps
+
+-- it is not refused for want of memory
+merges-no_memory : (new : Past) → Called (past busy busy_order) caller merge (reply.Refused why.NoMemory) new → ⊥
+merges-no_memory new call = let e : false ≡ true = call.1 in cc
+
+-- the state does not change
+merges-same : (new : Past) → Called (past busy busy_order) caller merge reply.Ok new → new.state ≡ busy
+merges-same new call = call.steps
+
+-- and no entry is put before those that are there
+merges-not_entry : (entry : Entry) (order : Order) → Called (past busy busy_order) caller merge reply.Ok (record { state = busy; history = entry ∷ []; order = order; passes = 2 }) → ⊥
+merges-not_entry entry order call = let e : entry ∷ [] ≡ [] = call.history in cc
+
+-- no merge leaves one, whoever asks, and whatever is answered
+merge-no_entry : (c : Caller) (history : List Entry) (word bits : ℕ) (answer : Reply) → entries_of c history (event.MergeMarks word bits) answer ≡ []
+merge-no_entry c history word bits answer = refl
+
+-- another event leaves one, also where no room was got
+write-entry : entries_of caller [] write (reply.Over (group 2)) ≡ record { worker = record { 0 = 1 }; count = 1; event = write; reply = reply.Over (group 2) } ∷ []
+write-entry = refl
+
+-- each caller may ask for it, in each state
+merge-known : (s : State) (history : List Entry) (c : Caller) (word bits : ℕ) → knows_pass s history c (event.MergeMarks word bits) ≡ true
+merge-known s history c word bits = refl
+
+-- no cause refuses it, also where no frame has the bits
+merge-unrefused : (s : State) (word bits : ℕ) → refusal s (event.MergeMarks word bits) ≡ None
+merge-unrefused s word bits = refl
+
+-- ---- a merge where the trace is full
+
+-- one entry, two transfers, and room for three entries
+abbrev full : Past
+full = record { state = record busy { opening = record busy.opening { trace_limit = 3 } }; history = entry_of caller [] write (reply.Over (group 2)) ∷ []; order = busy_order; passes = 2 }
+
+-- the entry and the ends of the transfers leave no room
+full-exactly : length full.history + in_transfer full.state.pages ≡ full.state.opening.trace_limit
+full-exactly = refl
+
+-- a merge needs no room
+merge-need : (s : State) (word bits : ℕ) → need s (event.MergeMarks word bits) ≡ 0
+merge-need s word bits = refl
+
+-- a write does, and is refused
+full-write : Called full caller write (reply.Refused why.TraceFull) full
+unfolding chain_up chain under_at over_at
+full-write = (refl, refl)
+
+-- the merge is done
+full-merges : Called full caller merge reply.Ok (record full { order = one_marked })
+full-merges = record { steps = refl; order = (merges_one, refl); history = refl; passes = refl }
+
+-- and is not refused for want of room
+full-not_full : (new : Past) → Called full caller merge (reply.Refused why.TraceFull) new → ⊥
+full-not_full new call = let e : why.TraceFull ≡ why.NoMemory = call.0 in cc

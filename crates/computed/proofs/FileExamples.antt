@@ -22,7 +22,7 @@ use Rattle.machine.specs.Access.{is_place, Hits, Transferring, NeedsRead, Dangli
 use Rattle.machine.specs.Refusals.{refusal}
 use Rattle.machine.specs.Reclaim.{is_takeable, has_takeable}
 use Rattle.machine.specs.Call.{need}
-use Rattle.machine.specs.Lists.{hit_of, shown_at}
+use Rattle.machine.specs.Lists.{shown_at, is_in_bits}
 use Rattle.machine.specs.Step.{in_frame, on_block, touched, shown_of, LeavesFrom, Step}
 use Rattle.machine.proofs.Values.{some_inj}
 use Rattle.computed.proofs.ExampleStates.{group, task, frame, shows, tree, max_of, memory, opening}
@@ -218,17 +218,25 @@ touched-memory = refl
 touched-read : touched (cached 1 0 3 true (Held 2)) Read ≡ cached 1 0 3 true (Held 2)
 touched-read = refl
 
--- a hit marks the page that the place shows
-marks : hit_of caching (at_file 2 0 1 Read) (reply.Done 7 (Some (frame 1))) ≡ Some 1
-marks = refl
+-- the page that a place of a file shows has that page of that file
+shown-page : shown_at caching 1 (File 0 1 5) ≡ Some 1
+shown-page = refl
 
--- and the same one for each task
-marks-same : shown_at caching 1 (File 0 1 0) ≡ shown_at caching 2 (File 0 1 4095)
-marks-same = refl
+-- and is the same one for each task
+shown-same : shown_at caching 1 (File 0 1 0) ≡ shown_at caching 2 (File 0 1 4095)
+shown-same = refl
 
--- a read-in marks none
-marks-none : hit_of caching (at_file 1 0 0 Read) (reply.Fetch (record { 0 = 1 })) ≡ None
-marks-none = refl
+-- where no page has it, none is shown
+shown-none : shown_at caching 1 (File 0 0 0) ≡ None
+shown-none = refl
+
+-- a page of a file is marked by the bit of its frame
+in_bits-file : is_in_bits 0 2 (cached 0 1 2 false (Held 1)) ≡ true
+in_bits-file = refl
+
+-- but not by that of a frame into which it is being read
+in_bits-not_coming : is_in_bits 0 8 (cached 0 2 3 false (Coming 3 6 7)) ≡ false
+in_bits-not_coming = refl
 
 -- ---- reclaim
 

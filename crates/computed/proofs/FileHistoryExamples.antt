@@ -128,18 +128,18 @@ back = cached 1 1 2 false (Held 2)
 
 makes_a : Extends (first_state fixed) [] (entry 0 1 (event.Mkdir (codes "/a")) reply.Ok) with_a
 unfolding chain_up chain
-makes_a = record { known = refl; unrefused = refl; room = refl; steps = refl }
+makes_a = record { kept = refl; known = refl; unrefused = refl; room = refl; steps = refl }
 
 makes_b : Extends with_a (entry 0 1 (event.Mkdir (codes "/a")) reply.Ok ∷ []) (entry 0 2 (event.Mkdir (codes "/b")) reply.Ok) with_both
 unfolding chain_up chain
-makes_b = record { known = refl; unrefused = refl; room = refl; steps = refl }
+makes_b = record { kept = refl; known = refl; unrefused = refl; room = refl; steps = refl }
 
 abbrev h2 : List Entry
 h2 = entry 0 2 (event.Mkdir (codes "/b")) reply.Ok ∷ entry 0 1 (event.Mkdir (codes "/a")) reply.Ok ∷ []
 
 spawns_1 : Extends with_both h2 (entry 0 3 (event.Spawn (task 1) (group 1)) reply.Ok) one_task
 unfolding chain_up chain
-spawns_1 = record { known = refl; unrefused = refl; room = refl; steps = (record { changed = refl; others = others }, record { none = λ v. refl; others = λ u w other. refl }, refl) }
+spawns_1 = record { kept = refl; known = refl; unrefused = refl; room = refl; steps = (record { changed = refl; others = others }, record { none = λ v. refl; others = λ u w other. refl }, refl) }
   where
     others : (m : ℕ) → m ≢ 1 → at one_task.tasks m ≡ None
     others zero other = refl
@@ -148,7 +148,7 @@ spawns_1 = record { known = refl; unrefused = refl; room = refl; steps = (record
 
 spawns_2 : Extends one_task (entry 0 3 (event.Spawn (task 1) (group 1)) reply.Ok ∷ h2) (entry 0 4 (event.Spawn (task 2) (group 2)) reply.Ok) two_tasks
 unfolding chain_up chain
-spawns_2 = record { known = refl; unrefused = refl; room = refl; steps = (record { changed = refl; others = others }, record { none = λ v. refl; others = λ u w other. refl }, refl) }
+spawns_2 = record { kept = refl; known = refl; unrefused = refl; room = refl; steps = (record { changed = refl; others = others }, record { none = λ v. refl; others = λ u w other. refl }, refl) }
   where
     others : (m : ℕ) → m ≢ 2 → at two_tasks.tasks m ≡ at one_task.tasks m
     others zero other = refl
@@ -166,6 +166,7 @@ only before after (suc (suc m)) other = refl
 fetches : Extends two_tasks h4 (entry 0 5 (access 1 Read) (reply.Fetch (ticket 5))) (with_page (Some coming))
 unfolding chain_up chain under_at over_at
 fetches = record {
+  kept = refl;
   known = refl;
   unrefused = refl;
   room = refl;
@@ -185,6 +186,7 @@ fetches = record {
 -- it has arrived
 arrives : Extends (with_page (Some coming)) h5 (entry 0 6 (event.Arrived (ticket 5) before_run) reply.Ok) (with_page (Some clean))
 arrives = record {
+  kept = refl;
   known = refl;
   unrefused = refl;
   room = refl;
@@ -193,19 +195,20 @@ arrives = record {
 
 -- the read, tried again
 reads : Extends (with_page (Some clean)) h6 (entry 0 7 (access 1 Read) (reply.Done 4 (Some (frame 3)))) (with_page (Some clean))
-reads = record { known = refl; unrefused = refl; room = refl; steps = (refl, refl) }
+reads = record { kept = refl; known = refl; unrefused = refl; room = refl; steps = (refl, refl) }
 
 -- the other task's write makes it dirty
 writes : Extends (with_page (Some clean)) h7 (entry 0 8 (access 2 (Write 9)) (reply.Done 9 (Some (frame 3)))) (with_page (Some dirty))
-writes = record { known = refl; unrefused = refl; room = refl; steps = (refl, refl, record { changed = refl; others = only (Some clean) (Some dirty) }, refl) }
+writes = record { kept = refl; known = refl; unrefused = refl; room = refl; steps = (refl, refl, record { changed = refl; others = only (Some clean) (Some dirty) }, refl) }
 
 reads_new : Extends (with_page (Some dirty)) h8 (entry 0 9 (access 1 Read) (reply.Done 9 (Some (frame 3)))) (with_page (Some dirty))
-reads_new = record { known = refl; unrefused = refl; room = refl; steps = (refl, refl) }
+reads_new = record { kept = refl; known = refl; unrefused = refl; room = refl; steps = (refl, refl) }
 
 -- it is written out, to its home
 reclaims : Extends (with_page (Some dirty)) h9 (entry 1 1 (event.ReclaimOne (group 0)) (reply.Out (ticket 6))) (with_page (Some going))
 unfolding chain_up chain under_at chain_below effective_along
 reclaims = record {
+  kept = refl;
   known = refl;
   unrefused = refl;
   room = refl;
@@ -221,6 +224,7 @@ reclaims = record {
 -- and its record goes with its frame
 leaves : Extends (with_page (Some going)) h10 (entry 1 2 (event.Left (ticket 6)) reply.Ok) (with_page None)
 leaves = record {
+  kept = refl;
   known = refl;
   unrefused = refl;
   room = refl;
@@ -231,6 +235,7 @@ leaves = record {
 fetches_again : Extends (with_page None) h11 (entry 0 10 (access 2 Read) (reply.Fetch (ticket 6))) (with_page (Some coming_again))
 unfolding chain_up chain under_at over_at
 fetches_again = record {
+  kept = refl;
   known = refl;
   unrefused = refl;
   room = refl;
@@ -252,6 +257,7 @@ fetches_again = record {
 
 arrives_again : Extends (with_page (Some coming_again)) h12 (entry 0 11 (event.Arrived (ticket 6) changed) reply.Ok) (with_page (Some back))
 arrives_again = record {
+  kept = refl;
   known = refl;
   unrefused = refl;
   room = refl;
@@ -259,7 +265,7 @@ arrives_again = record {
 }
 
 reads_again : Extends (with_page (Some back)) h13 (entry 0 12 (access 2 Read) (reply.Done 9 (Some (frame 2)))) (with_page (Some back))
-reads_again = record { known = refl; unrefused = refl; room = refl; steps = (refl, refl) }
+reads_again = record { kept = refl; known = refl; unrefused = refl; room = refl; steps = (refl, refl) }
 
 -- the whole is legal
 legal : Legal fixed h14 (with_page (Some back))

@@ -1,5 +1,5 @@
 -- Examples: pages of files on generation lists, of the group that is charged for each, and which page is taken where no swap block is free.
-use Rattle.std.proofs.Common.{◌≡◌, ℕ, zero, suc, ◌<◌, ◌&&◌, ◌==◌, false, true, List, [], ◌∷◌, Some, None, refl, sym, arith}
+use Rattle.std.proofs.Common.{◌≡◌, ℕ, zero, suc, ◌<◌, ◌||◌, ◌==◌, false, true, List, [], ◌∷◌, Some, None, refl, sym, arith}
 use Rattle.machine.specs.declared.event.Op.TheVariants.{Read}
 use Rattle.machine.specs.declared.event.Place.TheVariants as place
 use Rattle.machine.specs.declared.event.Event.{Event}
@@ -13,12 +13,12 @@ use Rattle.machine.specs.Pages.{page_at, is_held_in}
 use Rattle.machine.specs.Generations.{Listed, Gens, row_of, has_page, gens_at}
 use Rattle.machine.specs.Aging.{is_marked}
 use Rattle.machine.specs.Eviction.{old_pages, aged_times}
-use Rattle.machine.specs.Lists.{Order, HeldLists, is_held_of, seen_of, PicksOf, ListsHeld, Orders}
+use Rattle.machine.specs.Lists.{Order, HeldLists, is_held_of, seen_of, PicksOf, ListsHeld, is_in_bits, Orders}
 use Rattle.machine.proofs.Values.{unlike}
 use Rattle.computed.proofs.ExampleStates.{task, frame, listed_at, lists_of, no_marks, none_served, ordered}
 use Rattle.computed.proofs.CallExamples.{not_new, none_marked, other_number, stay_unmarked}
 use Rattle.computed.proofs.FileExamples.{kept, caching}
-use Rattle.computed.proofs.HeldExamples.{unlike_mark, set_is_not_clear}
+use Rattle.computed.proofs.HeldExamples.{unlike_mark, set_is_not_clear, clear_is_not_set}
 
 -- ---- just the pages that are held
 
@@ -95,7 +95,7 @@ memory-not_listed h = let e : true ≡ false = h.rows 2 Anon 1 in cc
 user-not_listed : ListsHeld kept (ordered (both_rows 3 0 (listed_at 0 3 ∷ []) 0 []) (both_rows 3 0 [] 0 (listed_at 2 3 ∷ listed_at 1 3 ∷ []))).held → ⊥
 user-not_listed h = let e : false ≡ true = h.rows 2 File 1 in cc
 
--- ---- a hit
+-- ---- a hit, and the merge of its mark
 
 -- task 2 of /p/b reads a byte of page 1 of file 0, which is /p/a's page 1, in frame 1
 abbrev read : Event
@@ -104,21 +104,36 @@ read = event.Access (task 2) (place.File 0 1 0) Read
 abbrev hit : Reply
 hit = reply.Done 12 (Some (frame 1))
 
+-- no list changes, and no page is marked
+hits : Orders caching caching_order read hit caching caching_order
+hits = (record { fresh = None; which = λ p. not_new (is_held_in kept p); groups = refl; size = refl; marks = λ p. stay_unmarked 10 (is_held_in kept p) (is_held_in kept p) p }, refl)
+
 abbrev marked_order : Order
 marked_order = record { held = record { groups = caching_order.held.groups; marks = false ∷ true ∷ false ∷ false ∷ false ∷ false ∷ false ∷ false ∷ false ∷ false ∷ [] }; cursors = none_served }
 
--- it is marked, and stays on the list of /p/a
-hits : Orders caching caching_order read hit caching marked_order
-hits = (record { fresh = None; which = λ p. not_new (is_held_in kept p); groups = refl; size = refl; marks = marks }, refl)
+-- not even the page that was read
+hits-not_marked : Orders caching caching_order read hit caching marked_order → ⊥
+hits-not_marked = unlike_mark caching caching caching_order caching_order marked_order read hit hits 1 clear_is_not_set
+
+-- the bits of frames 1 and 3
+abbrev merge : Event
+merge = event.MergeMarks 0 10
+
+-- page 1 is marked, and stays on the list of /p/a. Page 3, which comes into frame 3, is not marked
+merges : Orders caching caching_order merge reply.Ok caching marked_order
+merges = (record { groups = refl; size = refl; marks = marks }, refl)
   where
-    marks : (p : ℕ) → is_marked marked_order.held.marks p ≡ (is_held_in kept p && is_held_in kept p && is_marked marked_order.held.marks p)
+    marks : (p : ℕ) → is_marked marked_order.held.marks p ≡ (is_marked no_marks p || there_and (is_in_bits 0 10) (page_at kept p))
     marks zero = refl
     marks (suc zero) = refl
-    marks (suc (suc p)) = stay_unmarked 8 (is_held_in kept (suc (suc p))) (is_held_in kept (suc (suc p))) p
+    marks (suc (suc zero)) = refl
+    marks (suc (suc (suc zero))) = refl
+    marks (suc (suc (suc (suc zero)))) = refl
+    marks (suc (suc (suc (suc (suc p))))) = rw (none_marked 5 p) refl
 
 -- it does not stay unmarked, though its group's tasks did not use it
-hits-not_unmarked : Orders caching caching_order read hit caching caching_order → ⊥
-hits-not_unmarked = unlike_mark caching caching caching_order marked_order _ read hit hits 1 set_is_not_clear
+merges-not_unmarked : Orders caching caching_order merge reply.Ok caching caching_order → ⊥
+merges-not_unmarked = unlike_mark caching caching caching_order marked_order _ merge reply.Ok merges 1 set_is_not_clear
 
 -- ---- which page is taken
 

@@ -38,7 +38,7 @@ seq_standing g k held = (standing g k held).seq
 abbrev pub youngest : ℕ → HeldLists → ℕ
 youngest g held = (gens_at held.groups g).max_seq
 
-abbrev marked : ℕ → HeldLists → Bool
+abbrev pub marked : ℕ → HeldLists → Bool
 marked p held = is_marked held.marks p
 
 -- what comes of an event says this, and so nothing that says another thing comes of it
@@ -55,7 +55,7 @@ module _ (old new : State) (order order' other : Order) (what : Event) (answer :
 pub set_is_not_clear : true ≡ false → ⊥
 set_is_not_clear e = cc
 
-clear_is_not_set : false ≡ true → ⊥
+pub clear_is_not_set : false ≡ true → ⊥
 clear_is_not_set e = cc
 
 -- ten page numbers, of which the first two are marked so

@@ -1,4 +1,4 @@
--- An example of a whole history: a page is written, written out, read in and read.
+-- An example of a whole history: a page is written, written out, read in and read. A merge of marks is shown to be no entry of one.
 use Rattle.std.proofs.Common.{◌≡◌, ◌≢◌, ℕ, zero, suc, ◌==◌, ◌&&◌, true, false, List, [], ◌∷◌, Some, None, refl, arith}
 use Rattle.machine.specs.declared.entry.Entry.{Entry}
 use Rattle.machine.specs.declared.event.Op.{Op}
@@ -16,7 +16,10 @@ use Rattle.machine.specs.Counts.{over_at}
 use Rattle.machine.specs.Tasks.{task_of, mapped_at}
 use Rattle.machine.specs.Protection.{effective_along}
 use Rattle.machine.specs.State.{Opening, State, first_state}
-use Rattle.machine.specs.Legal.{Extends, Legal}
+use Rattle.machine.specs.Refusals.{refusal}
+use Rattle.machine.specs.Step.{Step}
+use Rattle.machine.specs.Call.{knows_pass, is_full_for}
+use Rattle.machine.specs.Legal.{caller_of, Extends, Legal}
 use Rattle.computed.proofs.ExampleStates.{group, task, frame, ticket, shows, memory}
 
 -- ---- the history
@@ -89,7 +92,7 @@ back = Held 2
 -- the task begins with nothing mapped
 pub spawns : Extends (first_state (small 7)) [] (entry 0 1 (event.Spawn (task 1) (group 0)) reply.Ok) (spawned 7)
 unfolding chain_up chain
-spawns = record { known = refl; unrefused = refl; room = refl; steps = (record { changed = refl; others = others }, record { none = λ v. refl; others = λ u w other. refl }, refl) }
+spawns = record { kept = refl; known = refl; unrefused = refl; room = refl; steps = (record { changed = refl; others = others }, record { none = λ v. refl; others = λ u w other. refl }, refl) }
   where
     others : (m : ℕ) → m ≢ 1 → at (spawned 7).tasks m ≡ None
     others zero other = refl
@@ -106,6 +109,7 @@ only before after (suc (suc m)) other = refl
 pub writes : Extends (spawned 7) h1 (entry 0 2 (access (Write 5)) (reply.Done 5 None)) (with_page 7 made)
 unfolding chain_up chain under_at over_at
 writes = record {
+  kept = refl;
   known = refl;
   unrefused = refl;
   room = refl;
@@ -139,6 +143,7 @@ writes = record {
 pub reclaims : Extends (with_page 7 made) h2 (entry 1 1 (event.ReclaimOne (group 0)) (reply.Out (ticket 5))) (with_page 7 going)
 unfolding chain_up chain under_at chain_below effective_along
 reclaims = record {
+  kept = refl;
   known = refl;
   unrefused = refl;
   room = refl;
@@ -158,6 +163,7 @@ reclaims = record {
 -- it has left its frame
 pub leaves : Extends (with_page 7 going) h3 (entry 1 2 (event.Left (ticket 5)) reply.Ok) (with_page 7 away)
 leaves = record {
+  kept = refl;
   known = refl;
   unrefused = refl;
   room = refl;
@@ -168,6 +174,7 @@ leaves = record {
 fetches : Extends (with_page 7 away) h4 (entry 0 3 (access Read) (reply.Fetch (ticket 5))) (with_page 7 coming)
 unfolding chain_up chain under_at over_at
 fetches = record {
+  kept = refl;
   known = refl;
   unrefused = refl;
   room = refl;
@@ -185,6 +192,7 @@ fetches = record {
 -- it has arrived
 arrives : Extends (with_page 7 coming) h5 (entry 0 4 (event.Arrived (ticket 5) bytes) reply.Ok) (with_page 7 back)
 arrives = record {
+  kept = refl;
   known = refl;
   unrefused = refl;
   room = refl;
@@ -193,8 +201,30 @@ arrives = record {
 
 -- and the read, tried again, gives the byte and the frame
 reads : Extends (with_page 7 back) h6 (entry 0 5 (access Read) (reply.Done 5 (Some (frame 2)))) (with_page 7 back)
-reads = record { known = refl; unrefused = refl; room = refl; steps = (refl, refl) }
+reads = record { kept = refl; known = refl; unrefused = refl; room = refl; steps = (refl, refl) }
 
 -- the whole is legal
 legal : Legal (small 7) h7 (with_page 7 back)
 legal = (_, (_, (_, (_, (_, (_, (_, refl, spawns), writes), reclaims), leaves), fetches), arrives), reads)
+
+-- ---- a merge of marks is no entry
+
+abbrev merge : Entry
+merge = entry 0 6 (event.MergeMarks 0 4) reply.Ok
+
+-- the page is held in frame 2. The caller may ask for the merge, no cause refuses it, there is room for it, and the step is one
+merge-step : (knows_pass (with_page 7 back) h7 (caller_of merge) merge.event ≡ true) × (refusal (with_page 7 back) merge.event ≡ None) × (is_full_for (with_page 7 back) h7 merge.event ≡ false)
+    × Step (with_page 7 back) merge.event merge.reply (with_page 7 back)
+merge-step = (refl, refl, refl, refl)
+
+-- but it does not extend the history
+merge-not_kept : (after : State) → Extends (with_page 7 back) h7 merge after → ⊥
+merge-not_kept after h = let e : false ≡ true = h.kept in cc
+
+-- and neither does another, in any state
+merge-never : (before after : State) (earlier : List Entry) (worker count word bits : ℕ) (answer : Reply) → Extends before earlier (entry worker count (event.MergeMarks word bits) answer) after → ⊥
+merge-never before after earlier worker count word bits answer h = let e : false ≡ true = h.kept in cc
+
+-- so no history with one in it is legal
+merge-not_legal : (s : State) → Legal (small 8) (merge ∷ h7) s → ⊥
+merge-not_legal s h = let e : false ≡ true = h.2.kept in cc

@@ -1,5 +1,5 @@
--- An example of a history in which marked pages stay: of three pages the one that is taken is not the one that was used, and so it is the next time.
-use Rattle.std.proofs.Common.{◌≡◌, ◌≢◌, ℕ, zero, suc, ◌<◌, ◌==◌, ◌&&◌, Bool, true, false, List, [], ◌∷◌, ◌++◌, length, Option, Some, None, refl, sym, ap, arith}
+-- An example of calls after which marked pages stay: of three pages the one that is taken is not the one whose use was merged, and so it is the next time.
+use Rattle.std.proofs.Common.{◌≡◌, ◌≢◌, ℕ, zero, suc, ◌<◌, ◌==◌, ◌&&◌, ◌||◌, Bool, true, false, List, [], ◌∷◌, ◌++◌, length, Option, Some, None, refl, sym, ap, ◌∙◌, subst, arith}
 use Rattle.std.specs.Prelude.{codes, option_map}
 use Rattle.std.proofs.lemmas.Bool.{eqb-false}
 use Rattle.machine.specs.declared.event.Cause.TheVariants as cause
@@ -10,9 +10,9 @@ use Rattle.machine.specs.declared.event.Event.TheVariants as event
 use Rattle.machine.specs.declared.record.Life.TheVariants.{Live}
 use Rattle.machine.specs.declared.reply.Reply.{Reply}
 use Rattle.machine.specs.declared.reply.Reply.TheVariants as reply
-use Rattle.machine.specs.Slots.{at}
+use Rattle.machine.specs.Slots.{at, there_and}
 use Rattle.machine.specs.Tree.{root, chain_up, chain, under_at, chain_below, preorder_to}
-use Rattle.machine.specs.Pages.{Residence, Held, Going, Away, Page, Pages, is_held_in, is_number}
+use Rattle.machine.specs.Pages.{Residence, Held, Going, Away, Page, Pages, page_at, is_held_in, is_number}
 use Rattle.machine.specs.Counts.{no_limits, over_at, no_counts}
 use Rattle.machine.specs.Tasks.{PageTable, number_of_page, task_of, mapped_at, Shows}
 use Rattle.machine.specs.Protection.{effective_along}
@@ -20,12 +20,12 @@ use Rattle.machine.specs.State.{Opening, State}
 use Rattle.machine.specs.Generations.{Gens, new_gens}
 use Rattle.machine.specs.Aging.{Seen, is_marked}
 use Rattle.machine.specs.Eviction.{old_pages, passed_by, aged_times, Picks}
-use Rattle.machine.specs.Lists.{Order, seen_of, with_seen, is_fresh}
+use Rattle.machine.specs.Lists.{Order, seen_of, with_seen, is_fresh, is_in_bits, Orders}
 use Rattle.machine.specs.Call.{Past, Called}
 use Rattle.machine.proofs.Values.{unlike}
-use Rattle.legal.proofs.OrdersLemmas.{taken_is_picked}
+use Rattle.legal.proofs.OrdersLemmas.{taken_is_picked, orders_alike}
 use Rattle.computed.proofs.ExampleStates.{group, task, frame, ticket, shows, below, max_of, memory, listed_at, young, searched}
-use Rattle.computed.proofs.CallExamples.{caller, past, after, not_new, other_number, stay_unmarked}
+use Rattle.computed.proofs.CallExamples.{caller, past, after, not_new, other_number, none_marked, stay_unmarked}
 
 -- ---- the states
 
@@ -92,6 +92,10 @@ written = reply.Done 7 None
 abbrev hit : ℕ → Reply
 hit f = reply.Done 7 (Some (frame f))
 
+-- the pages that are held in the frames of these bits were used
+abbrev merge : ℕ → Event
+merge bits = event.MergeMarks 0 bits
+
 -- room for one page more is wanted
 abbrev relieve : Event
 relieve = event.Relieve (cause.Charge (group 1))
@@ -109,13 +113,17 @@ wrote_1 = after wrote_0 (write 1) written two (order (young (listed_at 0 3 ∷ l
 abbrev wrote_2 : Past
 wrote_2 = after wrote_1 (write 2) written three (order (young (listed_at 0 3 ∷ listed_at 1 3 ∷ listed_at 2 3 ∷ [])) false false None)
 
--- page 0 is read, and so is marked
+-- page 0 is read, in frame 0
 abbrev read_0 : Past
-read_0 = after wrote_2 (read 0) (hit 0) three (order (young (listed_at 0 3 ∷ listed_at 1 3 ∷ listed_at 2 3 ∷ [])) true false None)
+read_0 = after wrote_2 (read 0) (hit 0) three wrote_2.order
+
+-- and is marked by the bit of that frame
+abbrev merged_0 : Past
+merged_0 = after read_0 (merge 1) reply.Ok three (order (young (listed_at 0 3 ∷ listed_at 1 3 ∷ listed_at 2 3 ∷ [])) true false None)
 
 -- page 1 is taken. The first of two agings brought page 0 to generation 4, and took its mark
 abbrev took_1 : Past
-took_1 = after read_0 relieve (reply.Out (ticket 5)) (with_one (Going 1 0 5)) (order (searched 5 3 (listed_at 2 3 ∷ listed_at 0 4 ∷ [])) false false (Some 1))
+took_1 = after merged_0 relieve (reply.Out (ticket 5)) (with_one (Going 1 0 5)) (order (searched 5 3 (listed_at 2 3 ∷ listed_at 0 4 ∷ [])) false false (Some 1))
 
 abbrev left_1 : Past
 left_1 = after took_1 (event.Left (ticket 5)) reply.Ok (with_one (Away 0)) took_1.order
@@ -124,16 +132,23 @@ left_1 = after took_1 (event.Left (ticket 5)) reply.Ok (with_one (Away 0)) took_
 abbrev wrote_3 : Past
 wrote_3 = after left_1 (write 3) written (with_three (Held 1)) (order (searched 5 3 (listed_at 2 3 ∷ listed_at 0 4 ∷ listed_at 3 5 ∷ [])) false false (Some 1))
 
--- pages 2 and 0 are read, and so are marked
+-- page 2 is read, in frame 2, and is marked by its bit
 abbrev read_2 : Past
-read_2 = after wrote_3 (read 2) (hit 2) (with_three (Held 1)) (order (searched 5 3 (listed_at 2 3 ∷ listed_at 0 4 ∷ listed_at 3 5 ∷ [])) false true (Some 1))
+read_2 = after wrote_3 (read 2) (hit 2) (with_three (Held 1)) wrote_3.order
 
+abbrev merged_2 : Past
+merged_2 = after read_2 (merge 4) reply.Ok (with_three (Held 1)) (order (searched 5 3 (listed_at 2 3 ∷ listed_at 0 4 ∷ listed_at 3 5 ∷ [])) false true (Some 1))
+
+-- page 0 is read again. The bits that are merged are of frames 0 and 2
 abbrev read_0_again : Past
-read_0_again = after read_2 (read 0) (hit 0) (with_three (Held 1)) (order (searched 5 3 (listed_at 2 3 ∷ listed_at 0 4 ∷ listed_at 3 5 ∷ [])) true true (Some 1))
+read_0_again = after merged_2 (read 0) (hit 0) (with_three (Held 1)) merged_2.order
+
+abbrev merged_both : Past
+merged_both = after read_0_again (merge 5) reply.Ok (with_three (Held 1)) (order (searched 5 3 (listed_at 2 3 ∷ listed_at 0 4 ∷ listed_at 3 5 ∷ [])) true true (Some 1))
 
 -- page 3 is taken, the youngest of the three: page 2, which was old, went to the tail, and page 0 to the youngest generation of the first of two agings
 abbrev took_3 : Past
-took_3 = after read_0_again relieve (reply.Out (ticket 6)) (with_three (Going 1 1 6)) (order (searched 7 5 (listed_at 2 5 ∷ listed_at 0 6 ∷ [])) false false (Some 1))
+took_3 = after merged_both relieve (reply.Out (ticket 6)) (with_three (Going 1 1 6)) (order (searched 7 5 (listed_at 2 5 ∷ listed_at 0 6 ∷ [])) false false (Some 1))
 
 -- ---- each is a call
 
@@ -245,10 +260,40 @@ two_stay zero_is two_is before after first third (suc (suc (suc p))) = stay_unma
 reads-0 : Called wrote_2 caller (read 0) (hit 0) read_0
 reads-0 = record {
   steps = (refl, refl);
-  order = (record { fresh = None; which = λ p. not_new (is_held_in three.pages p); groups = refl; size = refl; marks = two_stay true false three.pages three.pages refl refl }, refl);
+  order = (record { fresh = None; which = λ p. not_new (is_held_in three.pages p); groups = refl; size = refl; marks = two_stay false false three.pages three.pages refl refl }, refl);
   history = refl;
   passes = refl;
 }
+
+-- the read marks no page, whatever comes after
+reads-not_marked : (new : Past) (p : ℕ) → is_marked new.order.held.marks p ≡ true → Called wrote_2 caller (read 0) (hit 0) new → ⊥
+reads-not_marked new p is call = unlike _ is (ap (λ (o : Order). is_marked o.held.marks p) (sym same) ∙ none_marked 8 p)
+  where
+    same : wrote_2.order ≡ new.order
+    same = sym (orders_alike three new.state wrote_2.order new.order wrote_2.order (read 0) (hit 0) call.order (subst (λ (s : State). Orders three wrote_2.order (read 0) (hit 0) s wrote_2.order) (sym call.steps.1) reads-0.order))
+
+-- marks of pages 0 and 2 become others by these bits, where no other page is marked before or after
+marks_by : (pages : Pages) (bits : ℕ) (zero_was two_was zero_is two_is : Bool) → zero_is ≡ (zero_was || there_and (is_in_bits 0 bits) (page_at pages 0)) → there_and (is_in_bits 0 bits) (page_at pages 1) ≡ false
+    → two_is ≡ (two_was || there_and (is_in_bits 0 bits) (page_at pages 2)) → there_and (is_in_bits 0 bits) (page_at pages 3) ≡ false → ((p : ℕ) → page_at pages (suc (suc (suc (suc p)))) ≡ None) → (p : ℕ)
+    → is_marked (marks_of zero_is two_is) p ≡ (is_marked (marks_of zero_was two_was) p || there_and (is_in_bits 0 bits) (page_at pages p))
+marks_by pages bits zero_was two_was zero_is two_is at_0 at_1 at_2 at_3 no_more zero = at_0
+marks_by pages bits zero_was two_was zero_is two_is at_0 at_1 at_2 at_3 no_more (suc zero) = sym at_1
+marks_by pages bits zero_was two_was zero_is two_is at_0 at_1 at_2 at_3 no_more (suc (suc zero)) = at_2
+marks_by pages bits zero_was two_was zero_is two_is at_0 at_1 at_2 at_3 no_more (suc (suc (suc zero))) = sym at_3
+marks_by pages bits zero_was two_was zero_is two_is at_0 at_1 at_2 at_3 no_more (suc (suc (suc (suc p)))) = rw (none_marked 4 p) (rw (no_more p) refl)
+
+-- the merge marks page 0
+merges-0 : Called read_0 caller (merge 1) reply.Ok merged_0
+merges-0 = record {
+  steps = refl;
+  order = (record { groups = refl; size = refl; marks = marks_by three.pages 1 false false true false refl refl refl refl (λ p. refl) }, refl);
+  history = refl;
+  passes = refl;
+}
+
+-- and leaves no entry
+merges-no_entry : merged_0.history ≡ read_0.history
+merges-no_entry = refl
 
 -- ---- page 1 is taken
 
@@ -256,10 +301,10 @@ reads-0 = record {
 abbrev looked_1 : Seen
 looked_1 = record { gens = searched 5 3 (listed_at 1 3 ∷ listed_at 2 3 ∷ listed_at 0 4 ∷ []); marks = marks_of false false }
 
-picks-1 : Picks true (seen_of read_0.order.held 1) (Some 1) looked_1
+picks-1 : Picks true (seen_of merged_0.order.held 1) (Some 1) looked_1
 picks-1 = record { times = 2; none_before = too_early; first = listed_at 1 3; others = listed_at 2 3 ∷ []; old = refl; answers = refl; leaves = refl }
   where
-    too_early : (n : ℕ) → n < 2 → old_pages true (aged_times n (passed_by true (seen_of read_0.order.held 1))).gens ≡ []
+    too_early : (n : ℕ) → n < 2 → old_pages true (aged_times n (passed_by true (seen_of merged_0.order.held 1))).gens ≡ []
     too_early zero less = refl
     too_early (suc zero) less = refl
     too_early (suc (suc n)) less = absurd (omega (arith, less))
@@ -270,7 +315,7 @@ only_one residence residence' zero other = refl
 only_one residence residence' (suc zero) other = absurd (other refl)
 only_one residence residence' (suc (suc m)) other = refl
 
-takes-1 : Called read_0 caller relieve (reply.Out (ticket 5)) took_1
+takes-1 : Called merged_0 caller relieve (reply.Out (ticket 5)) took_1
 unfolding chain_up chain under_at chain_below effective_along preorder_to
 takes-1 = record {
   steps = record {
@@ -288,7 +333,7 @@ takes-1 = record {
     g = 1;
     next = refl;
     p = 1;
-    looked = with_seen read_0.order.held 1 looked_1;
+    looked = with_seen merged_0.order.held 1 looked_1;
     picked = record { seen = looked_1; picks = picks-1; lists = refl };
     was = refl;
     taken = refl;
@@ -305,9 +350,18 @@ takes-1 = record {
     which (suc (suc p)) = not_new (is_held_in three.pages (suc (suc p)))
 
 -- not page 0, which came first but is marked, and not page 2, which came later: page 1 leaves, whatever comes after
-takes-not_marked : (new : Past) → is_held_in new.state.pages 1 ≡ true → Called read_0 caller relieve (reply.Out (ticket 5)) new → ⊥
+takes-not_marked : (new : Past) → is_held_in new.state.pages 1 ≡ true → Called merged_0 caller relieve (reply.Out (ticket 5)) new → ⊥
 unfolding chain_up chain under_at chain_below effective_along preorder_to
-takes-not_marked new stays call = unlike (is_held_in new.state.pages 1) stays (taken_is_picked three read_0.order 1 1 1 looked_1 refl picks-1 new.state new.order call.order)
+takes-not_marked new stays call = unlike (is_held_in new.state.pages 1) stays (taken_is_picked three merged_0.order 1 1 1 looked_1 refl picks-1 new.state new.order call.order)
+
+-- had the read not been merged, page 0 would have left, which came first
+picks-not_merged : Picks true (seen_of read_0.order.held 1) (Some 0) (record { gens = searched 5 3 (listed_at 0 3 ∷ listed_at 1 3 ∷ listed_at 2 3 ∷ []); marks = marks_of false false })
+picks-not_merged = record { times = 2; none_before = too_early; first = listed_at 0 3; others = listed_at 1 3 ∷ listed_at 2 3 ∷ []; old = refl; answers = refl; leaves = refl }
+  where
+    too_early : (n : ℕ) → n < 2 → old_pages true (aged_times n (passed_by true (seen_of read_0.order.held 1))).gens ≡ []
+    too_early zero less = refl
+    too_early (suc zero) less = refl
+    too_early (suc (suc n)) less = absurd (omega (arith, less))
 
 -- it is on its block
 leaves-1 : Called took_1 caller (event.Left (ticket 5)) reply.Ok left_1
@@ -361,19 +415,46 @@ writes-3 = record {
     which (suc (suc (suc zero))) = refl
     which (suc (suc (suc (suc p)))) = other_number 3 (suc (suc (suc (suc p)))) (omega arith)
 
--- pages 2 and 0 are used
+-- frame 1 is page 3's now: its bit never marks page 1, which had it before
+marks-not_had : (new : Past) → is_marked new.order.held.marks 1 ≡ true → Called wrote_3 caller (merge 2) reply.Ok new → ⊥
+marks-not_had new is call = unlike (is_marked new.order.held.marks 1) is (call.order.0.marks 1)
+
+-- it marks page 3, whatever else comes of it
+marks-has : (new : Past) → Called wrote_3 caller (merge 2) reply.Ok new → is_marked new.order.held.marks 3 ≡ true
+marks-has new call = call.order.0.marks 3
+
+-- page 2 is used
 reads-2 : Called wrote_3 caller (read 2) (hit 2) read_2
 reads-2 = record {
   steps = (refl, refl);
-  order = (record { fresh = None; which = λ p. not_new (is_held_in wrote_3.state.pages p); groups = refl; size = refl; marks = two_stay false true wrote_3.state.pages wrote_3.state.pages refl refl }, refl);
+  order = (record { fresh = None; which = λ p. not_new (is_held_in wrote_3.state.pages p); groups = refl; size = refl; marks = two_stay false false wrote_3.state.pages wrote_3.state.pages refl refl }, refl);
   history = refl;
   passes = refl;
 }
 
-reads-0_again : Called read_2 caller (read 0) (hit 0) read_0_again
+-- and marked
+merges-2 : Called read_2 caller (merge 4) reply.Ok merged_2
+merges-2 = record {
+  steps = refl;
+  order = (record { groups = refl; size = refl; marks = marks_by read_2.state.pages 4 false false false true refl refl refl refl (λ p. refl) }, refl);
+  history = refl;
+  passes = refl;
+}
+
+-- page 0 is used, and page 2 keeps its mark
+reads-0_again : Called merged_2 caller (read 0) (hit 0) read_0_again
 reads-0_again = record {
   steps = (refl, refl);
-  order = (record { fresh = None; which = λ p. not_new (is_held_in read_2.state.pages p); groups = refl; size = refl; marks = two_stay true true read_2.state.pages read_2.state.pages refl refl }, refl);
+  order = (record { fresh = None; which = λ p. not_new (is_held_in merged_2.state.pages p); groups = refl; size = refl; marks = two_stay false true merged_2.state.pages merged_2.state.pages refl refl }, refl);
+  history = refl;
+  passes = refl;
+}
+
+-- both bits come: page 0 is marked as well
+merges-both : Called read_0_again caller (merge 5) reply.Ok merged_both
+merges-both = record {
+  steps = refl;
+  order = (record { groups = refl; size = refl; marks = marks_by read_0_again.state.pages 5 false true true true refl refl refl refl (λ p. refl) }, refl);
   history = refl;
   passes = refl;
 }
@@ -384,15 +465,15 @@ reads-0_again = record {
 abbrev looked_3 : Seen
 looked_3 = record { gens = searched 7 5 (listed_at 3 5 ∷ listed_at 2 5 ∷ listed_at 0 6 ∷ []); marks = marks_of false false }
 
-picks-3 : Picks true (seen_of read_0_again.order.held 1) (Some 3) looked_3
+picks-3 : Picks true (seen_of merged_both.order.held 1) (Some 3) looked_3
 picks-3 = record { times = 2; none_before = too_early; first = listed_at 3 5; others = listed_at 2 5 ∷ []; old = refl; answers = refl; leaves = refl }
   where
-    too_early : (n : ℕ) → n < 2 → old_pages true (aged_times n (passed_by true (seen_of read_0_again.order.held 1))).gens ≡ []
+    too_early : (n : ℕ) → n < 2 → old_pages true (aged_times n (passed_by true (seen_of merged_both.order.held 1))).gens ≡ []
     too_early zero less = refl
     too_early (suc zero) less = refl
     too_early (suc (suc n)) less = absurd (omega (arith, less))
 
-takes-3 : Called read_0_again caller relieve (reply.Out (ticket 6)) took_3
+takes-3 : Called merged_both caller relieve (reply.Out (ticket 6)) took_3
 unfolding chain_up chain under_at chain_below effective_along preorder_to
 takes-3 = record {
   steps = record {
@@ -410,11 +491,11 @@ takes-3 = record {
     g = 1;
     next = refl;
     p = 3;
-    looked = with_seen read_0_again.order.held 1 looked_3;
+    looked = with_seen merged_both.order.held 1 looked_3;
     picked = record { seen = looked_3; picks = picks-3; lists = refl };
     was = refl;
     taken = refl;
-    leaves = record { fresh = None; which = which; groups = refl; size = refl; marks = λ p. stay_unmarked 8 (is_held_in read_0_again.state.pages p) (is_held_in took_3.state.pages p) p };
+    leaves = record { fresh = None; which = which; groups = refl; size = refl; marks = λ p. stay_unmarked 8 (is_held_in merged_both.state.pages p) (is_held_in took_3.state.pages p) p };
     moves = refl;
   };
   history = refl;
@@ -436,11 +517,17 @@ takes-3 = record {
     which (suc (suc (suc (suc p)))) = refl
 
 -- neither page 2, though it is older, nor page 0: page 3 leaves, whatever comes after
-takes-not_used : (new : Past) → is_held_in new.state.pages 3 ≡ true → Called read_0_again caller relieve (reply.Out (ticket 6)) new → ⊥
+takes-not_used : (new : Past) → is_held_in new.state.pages 3 ≡ true → Called merged_both caller relieve (reply.Out (ticket 6)) new → ⊥
 unfolding chain_up chain under_at chain_below effective_along preorder_to
 takes-not_used new stays call =
-    unlike (is_held_in new.state.pages 3) stays (taken_is_picked read_0_again.state read_0_again.order 1 1 3 looked_3 refl picks-3 new.state new.order call.order)
+    unlike (is_held_in new.state.pages 3) stays (taken_is_picked merged_both.state merged_both.order 1 1 3 looked_3 refl picks-3 new.state new.order call.order)
 
 -- had none been used since, page 2 would have left
 picks-unused : Picks true (seen_of wrote_3.order.held 1) (Some 2) (record { gens = searched 5 3 (listed_at 2 3 ∷ listed_at 0 4 ∷ listed_at 3 5 ∷ []); marks = marks_of false false })
 picks-unused = record { times = 0; none_before = λ n less. absurd (omega (arith, less)); first = listed_at 2 3; others = []; old = refl; answers = refl; leaves = refl }
+
+-- ---- the history
+
+-- of the thirteen calls the three merges left no entry
+entries-all : length took_3.history ≡ 10
+entries-all = refl

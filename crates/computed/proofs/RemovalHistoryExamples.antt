@@ -116,10 +116,10 @@ ended = with_page (root ∷ a_removed ∷ a_removed ∷ []) (no_limits ∷ no_li
 
 makes_group : Extends (first_state (small 12)) [] (entry 0 1 mkdir reply.Ok) first_made
 unfolding chain_up chain
-makes_group = record { known = refl; unrefused = refl; room = refl; steps = refl }
+makes_group = record { kept = refl; known = refl; unrefused = refl; room = refl; steps = refl }
 
 spawns : Extends first_made h1 (entry 0 2 (event.Spawn (task 1) (group 1)) reply.Ok) spawned
-spawns = record { known = refl; unrefused = refl; room = refl; steps = (record { changed = refl; others = others }, record { none = λ v. refl; others = λ u w other. refl }, refl) }
+spawns = record { kept = refl; known = refl; unrefused = refl; room = refl; steps = (record { changed = refl; others = others }, record { none = λ v. refl; others = λ u w other. refl }, refl) }
   where
     others : (m : ℕ) → m ≢ 1 → at spawned.tasks m ≡ None
     others zero other = refl
@@ -129,6 +129,7 @@ spawns = record { known = refl; unrefused = refl; room = refl; steps = (record {
 writes : Extends spawned h2 (entry 0 3 (access (Write 5)) (reply.Done 5 None)) (before 1 made)
 unfolding chain_up chain under_at over_at
 writes = record {
+  kept = refl;
   known = refl;
   unrefused = refl;
   room = refl;
@@ -161,6 +162,7 @@ writes = record {
 reclaims : Extends (before 1 made) h3 (entry 1 1 (event.ReclaimOne (group 1)) (reply.Out (ticket 5))) (before 1 going)
 unfolding chain_up chain under_at chain_below effective_along
 reclaims = record {
+  kept = refl;
   known = refl;
   unrefused = refl;
   room = refl;
@@ -183,7 +185,7 @@ reclaims = record {
     others (suc (suc m)) other = refl
 
 attaches : Extends (before 1 going) h4 (entry 0 4 (event.Attach (task 1) (group 0)) reply.Ok) (before 0 going)
-attaches = record { known = refl; unrefused = refl; room = refl; steps = (record { changed = refl; others = others }, refl) }
+attaches = record { kept = refl; known = refl; unrefused = refl; room = refl; steps = (record { changed = refl; others = others }, refl) }
   where
     others : (m : ℕ) → m ≢ 1 → at (before 0 going).tasks m ≡ at (before 1 going).tasks m
     others zero other = refl
@@ -192,7 +194,7 @@ attaches = record { known = refl; unrefused = refl; room = refl; steps = (record
 
 -- the page is the root's from now on, though it is on its way out
 removes : Extends (before 0 going) h5 (entry 0 5 (event.Rmdir (group 1)) reply.Ok) (between going)
-removes = record { known = refl; unrefused = refl; room = refl; steps = record { parent = 0; below = refl; pages = pages; state = refl } }
+removes = record { kept = refl; known = refl; unrefused = refl; room = refl; steps = record { parent = 0; below = refl; pages = pages; state = refl } }
   where
     pages : (p : ℕ) → page_at (between going).pages p ≡ option_map (regrouped 1 0) (page_at (before 0 going).pages p)
     pages zero = refl
@@ -201,6 +203,7 @@ removes = record { known = refl; unrefused = refl; room = refl; steps = record {
 
 leaves : Extends (between going) h6 (entry 1 2 (event.Left (ticket 5)) reply.Ok) (between away)
 leaves = record {
+  kept = refl;
   known = refl;
   unrefused = refl;
   room = refl;
@@ -214,7 +217,7 @@ leaves = record {
 
 makes_again : Extends (between away) h7 (entry 0 6 mkdir reply.Ok) (again away)
 unfolding chain_up chain
-makes_again = record { known = refl; unrefused = refl; room = refl; steps = refl }
+makes_again = record { kept = refl; known = refl; unrefused = refl; room = refl; steps = refl }
 
 -- nothing but the one page changes
 only : (was is : Residence) (m : ℕ) → m ≢ 1 → at (again is).pages m ≡ at (again was).pages m
@@ -225,6 +228,7 @@ only was is (suc (suc m)) other = refl
 fetches : Extends (again away) h8 (entry 0 7 (access Read) (reply.Fetch (ticket 5))) (again coming)
 unfolding chain_up chain under_at over_at
 fetches = record {
+  kept = refl;
   known = refl;
   unrefused = refl;
   room = refl;
@@ -241,6 +245,7 @@ fetches = record {
 
 arrives : Extends (again coming) h9 (entry 0 8 (event.Arrived (ticket 5) bytes) reply.Ok) (again back)
 arrives = record {
+  kept = refl;
   known = refl;
   unrefused = refl;
   room = refl;
@@ -248,11 +253,11 @@ arrives = record {
 }
 
 reads : Extends (again back) h10 (entry 0 9 (access Read) (reply.Done 5 (Some (frame 2)))) (again back)
-reads = record { known = refl; unrefused = refl; room = refl; steps = (refl, refl) }
+reads = record { kept = refl; known = refl; unrefused = refl; room = refl; steps = (refl, refl) }
 
 -- no page is of group 2, and none changes
 removes_again : Extends (again back) h11 (entry 0 10 (event.Rmdir (group 2)) reply.Ok) ended
-removes_again = record { known = refl; unrefused = refl; room = refl; steps = record { parent = 0; below = refl; pages = pages; state = refl } }
+removes_again = record { kept = refl; known = refl; unrefused = refl; room = refl; steps = record { parent = 0; below = refl; pages = pages; state = refl } }
   where
     pages : (p : ℕ) → page_at ended.pages p ≡ option_map (regrouped 2 0) (page_at (again back).pages p)
     pages zero = refl

@@ -201,7 +201,7 @@ shared residence = (refl, record { changed = refl; others = other_tasks }, recor
 
 -- the fork is an entry
 shares : Extends (with_page 7 made) h2 (entry 0 3 (fork 1 2) reply.Ok) (both made)
-shares = record { known = refl; unrefused = refl; room = refl; steps = shared made }
+shares = record { kept = refl; known = refl; unrefused = refl; room = refl; steps = shared made }
 
 -- the child shows page 0 now, in frame 1
 abbrev apart : State
@@ -211,6 +211,7 @@ apart = two (Some (memory 0 (Held 1)) ∷ Some (memory 0 made) ∷ []) (at_2 1) 
 parts : Extends (both made) born (entry 0 4 (byte 2 (Write 6)) (reply.Done 6 None)) apart
 unfolding chain_up chain under_at over_at
 parts = record {
+  kept = refl;
   known = refl;
   unrefused = refl;
   room = refl;
@@ -249,11 +250,11 @@ h6_read = on h5_read (byte 2 Read) (reply.Done 6 (Some (frame 1)))
 
 -- the parent reads what it wrote, in the frame of the old page
 parent_reads : Extends apart child_wrote (entry 0 5 (byte 1 Read) (reply.Done 5 (Some (frame 3)))) apart
-parent_reads = record { known = refl; unrefused = refl; room = refl; steps = (refl, refl) }
+parent_reads = record { kept = refl; known = refl; unrefused = refl; room = refl; steps = (refl, refl) }
 
 -- and the child what it wrote, in that of the copy
 child_reads : Extends apart h5_read (entry 0 6 (byte 2 Read) (reply.Done 6 (Some (frame 1)))) apart
-child_reads = record { known = refl; unrefused = refl; room = refl; steps = (refl, refl) }
+child_reads = record { kept = refl; known = refl; unrefused = refl; room = refl; steps = (refl, refl) }
 
 -- with the parent's place page 1 goes, which nobody else shows any more
 abbrev alone : State
@@ -264,7 +265,7 @@ h7_freed = on h6_read (free 1 2) reply.Ok
 
 -- the free is an entry
 frees : Extends apart h6_read (entry 0 7 (free 1 2) reply.Ok) alone
-frees = record { known = refl; unrefused = refl; room = refl; steps = record { answers = refl; shown = record { changed = refl; others = shown }; pages = stays; state = refl } }
+frees = record { kept = refl; known = refl; unrefused = refl; room = refl; steps = record { answers = refl; shown = record { changed = refl; others = shown }; pages = stays; state = refl } }
   where
     shown : (u w : ℕ) → ((1 == u) && (2 == w)) ≡ false → mapped_at alone.page_tables u w ≡ mapped_at apart.page_tables u w
     shown zero w other = refl
@@ -387,12 +388,13 @@ only before after (suc (suc m)) other = refl
 
 -- the fork while the page is on its block
 away_shares : Extends (with_page 7 away) h4 (entry 0 3 (fork 1 2) reply.Ok) (both away)
-away_shares = record { known = refl; unrefused = refl; room = refl; steps = shared away }
+away_shares = record { kept = refl; known = refl; unrefused = refl; room = refl; steps = shared away }
 
 -- the read of the child, which begins the read-in
 away_fetches : Extends (both away) away_born (entry 0 4 (byte 2 Read) (reply.Fetch (ticket 5))) (both coming)
 unfolding chain_up chain under_at over_at
 away_fetches = record {
+  kept = refl;
   known = refl;
   unrefused = refl;
   room = refl;
@@ -410,6 +412,7 @@ away_fetches = record {
 -- and its end
 away_arrives : Extends (both coming) by_child (entry 0 5 (arrival bytes) reply.Ok) (both back)
 away_arrives = record {
+  kept = refl;
   known = refl;
   unrefused = refl;
   room = refl;

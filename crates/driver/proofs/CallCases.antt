@@ -1,5 +1,5 @@
 -- What one call of the book leaves, and what a command makes of its reply.
-use Rattle.std.proofs.Common.{◌≡◌, ℕ, ◌-◌, ◌==◌, ◌&&◌, ◌||◌, not, Bool, true, false, List, length, Option, Some, None, refl, sym, ap, ◌∙◌, subst}
+use Rattle.std.proofs.Common.{◌≡◌, ℕ, ◌-◌, ◌==◌, ◌&&◌, ◌||◌, not, Bool, true, false, List, ◌∷◌, ◌++◌, length, Option, Some, None, refl, sym, ap, ◌∙◌, subst}
 use Rattle.std.specs.Prelude.{MatchBool, is_some, nat_le, nat_lt}
 use Rattle.machine.specs.declared.record.Life.{Life}
 use Rattle.machine.specs.declared.record.Life.TheVariants.{Live, Exited, Killed}
@@ -9,6 +9,7 @@ use Rattle.machine.specs.declared.event.Op.{Op}
 use Rattle.machine.specs.declared.event.Op.TheVariants.{Read, Write}
 use Rattle.machine.specs.declared.event.Query.{Query}
 use Rattle.machine.specs.declared.event.Query.TheVariants as query
+use Rattle.machine.specs.declared.entry.Entry.{Entry}
 use Rattle.machine.specs.declared.event.Event.{Event}
 use Rattle.machine.specs.declared.event.Event.TheVariants as event
 use Rattle.machine.specs.declared.reply.Reply.{Reply}
@@ -23,7 +24,7 @@ use Rattle.machine.specs.Tasks.{Tasks, task_at, lives, live_tasks, has_tasks}
 use Rattle.machine.specs.State.{State}
 use Rattle.machine.specs.Access.{is_place, task_pages}
 use Rattle.machine.specs.Refusals.{refusal, first_cause, bars_children, bars_tasks, number_refusal, life_refusal, task_refusal, below_refusal, mkdir_refusal, file_refusal, below_target, show_refusal}
-use Rattle.machine.specs.Call.{Past, Caller, Answers, Refuses, Answered, JudgedBy, Called, knows_pass, is_trace_full}
+use Rattle.machine.specs.Call.{Past, Caller, Answers, Refuses, Answered, JudgedBy, Called, knows_pass, is_trace_full, leaves_entry, entry_of}
 use Rattle.pages.specs.Tickets.{TicketOf}
 use Rattle.book.specs.declared.event.Reply.{Reply as Book_reply}
 use Rattle.book.specs.declared.event.Reply.TheVariants as said
@@ -38,6 +39,7 @@ use Rattle.driver.specs.declared.turn.Transition.{Transition}
 use Rattle.driver.specs.declared.turn.Transition.TheVariants.{Goes}
 use Rattle.driver.specs.Turns.{Tried, MadeRoom, MaxSet, Lowered, Reclaimed, Balanced, Made, TaskDid, WasShown, Closed, Told, ends_with, ends_refused, byte_answer, resumes_at}
 use Rattle.driver.specs.Schedule.{outcome_of, left_of}
+use Rattle.machine.proofs.EntryLemmas.{entries-one}
 use Rattle.driver.proofs.Keeps.{number_at, pages_none, Fine, FineOutcome}
 
 -- ---- no cause is that of a stranger
@@ -106,6 +108,7 @@ refusal_causes s (event.Rmdir g) =
     causes (not (is_live s.tree g.0)) NoEntry _ (λ e. cc) (causes ((g.0 == 0) || (has_children s.tree g.0 || has_tasks s.tasks g.0)) Busy None (λ e. cc) no_cause)
 refusal_causes s (event.Set g setting) = file_causes s.tree g.0
 refusal_causes s (event.Show what) = show_causes s what
+refusal_causes s (event.MergeMarks word bits) = no_cause
 
 -- ---- a call whose ticket is known
 
@@ -118,25 +121,28 @@ pub record IsRefused (old : Past) (answer : Reply) (new : Past) : Type 0 where
 
 -- one entry more
 pub record IsServed (old : Past) (caller : Caller) (what : Event) (answer : Reply) (new : Past) : Type 0 where
+  pub leaves : leaves_entry what ≡ true
   pub unrefused : refusal old.state what ≡ None
   pub room : is_trace_full old what ≡ false
   pub done : (why : Refusal) → answer ≡ reply.Refused why → ⊥
   pub answers : Answers old caller what answer new
+  pub history : new.history ≡ entry_of caller old.history what answer ∷ old.history
 
 pub data Comes (old : Past) (caller : Caller) (what : Event) (answer : Reply) (new : Past) : Type 0 where
   ByRefusal : IsRefused old answer new → Comes old caller what answer new
   ByEntry : IsServed old caller what answer new → Comes old caller what answer new
 
-served_comes : (old new : Past) (caller : Caller) (what : Event) (answer : Reply) → refusal old.state what ≡ None → is_trace_full old what ≡ false → Answered old caller what answer new → Comes old caller what answer new
-served_comes old new caller what (reply.Refused why) none room h = ByRefusal (record { why = why; refused = refl; known = λ e. (let is = h.0 in cc); same = h.2 })
-served_comes old new caller what answer none room h = ByEntry (record { unrefused = none; room = room; done = λ why e. cc; answers = h })
+served_comes : (old new : Past) (caller : Caller) (what : Event) (answer : Reply) → leaves_entry what ≡ true → refusal old.state what ≡ None → is_trace_full old what ≡ false → Answered old caller what answer new → Comes old caller what answer new
+served_comes old new caller what (reply.Refused why) leaves none room h = ByRefusal (record { why = why; refused = refl; known = λ e. (let is = h.0 in cc); same = h.2 })
+served_comes old new caller what answer leaves none room h =
+    ByEntry (record { leaves = leaves; unrefused = none; room = room; done = λ why e. cc; answers = h; history = h.history ∙ ap (λ (es : List Entry). es ++ old.history) (entries-one caller old.history what answer leaves) })
 
-pub called_comes : (old new : Past) (caller : Caller) (what : Event) (answer : Reply) → knows_pass old.state old.history caller what ≡ true → Called old caller what answer new → Comes old caller what answer new
-called_comes old new caller what answer known called = by_known (knows_pass old.state old.history caller what) known called
+pub called_comes : (old new : Past) (caller : Caller) (what : Event) (answer : Reply) → leaves_entry what ≡ true → knows_pass old.state old.history caller what ≡ true → Called old caller what answer new → Comes old caller what answer new
+called_comes old new caller what answer leaves known called = by_known (knows_pass old.state old.history caller what) known called
   where
     by_room : (full : Bool) → is_trace_full old what ≡ full → refusal old.state what ≡ None → MatchBool full (Refuses old TraceFull answer new) (Answered old caller what answer new) → Comes old caller what answer new
     by_room true is none h = ByRefusal (record { why = TraceFull; refused = h.0; known = λ e. cc; same = h.1 })
-    by_room false is none h = served_comes old new caller what answer none is h
+    by_room false is none h = served_comes old new caller what answer leaves none is h
 
     by_cause : (cause : Option Refusal) → refusal old.state what ≡ cause → JudgedBy old caller what cause answer new → Comes old caller what answer new
     by_cause (Some why) is h = ByRefusal (record { why = why; refused = h.0; known = λ e. refusal_causes old.state what (is ∙ ap (λ (w : Refusal). Some w) e); same = h.1 })

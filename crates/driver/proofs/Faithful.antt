@@ -23,7 +23,7 @@ use Rattle.machine.specs.Tasks.{mapped_at}
 use Rattle.machine.specs.State.{Opening, opening_of, blocks_of, is_config}
 use Rattle.machine.specs.Access.{page_size}
 use Rattle.machine.specs.History.{InTask, InFile, Says, follow, at_first, last, Fetched, fetched_by, fetch_of, HoldsLast, IsHonest, Honest, ticket_given}
-use Rattle.machine.specs.Call.{Past, Caller}
+use Rattle.machine.specs.Call.{Past, Caller, Called}
 use Rattle.machine.proofs.Values.{some_inj, never_some, unlike}
 use Rattle.block_store.specs.declared.device.Fault.{Fault}
 use Rattle.block_store.specs.Device.{Disk, bytes_on, KeepsOthers, ReadsBlock, WritesBlock}
@@ -45,18 +45,20 @@ use Rattle.driver.specs.declared.turn.Outcome.{Outcome}
 use Rattle.driver.specs.declared.turn.Seat.{Seat}
 use Rattle.driver.specs.declared.turn.Activity.{Activity}
 use Rattle.driver.specs.declared.turn.Activity.TheVariants.{Rests, Begun, Does}
-use Rattle.driver.specs.Turns.{ReadsIn, WritesOut, after_read, after_write}
+use Rattle.driver.specs.Turns.{ReadsIn, WritesOut, after_read, after_write, Told}
 use Rattle.driver.specs.Tickets.{blocks_in}
-use Rattle.driver.specs.Schedule.{World, first_world, activity_of, with_activity, left_of, Asks, WantTurn, wants_at, StageTurn, Runs, files_on, fits}
+use Rattle.driver.specs.Schedule.{World, first_world, activity_of, with_activity, left_of, WantTurn, wants_at, StageTurn, Runs, files_on, fits}
 use Rattle.machine.proofs.FileLemmas.{file_page-is, home_above, homes_differ}
 use Rattle.legal.proofs.FileSteps.{slot_in, slot_of, slot_of-is, is_home_at, is_home, is_written, LeftHome, home-unwritten, transfer-unwritten}
 use Rattle.legal.proofs.ShownLemmas.{shows_pages-legal}
 use Rattle.legal.proofs.Effects.{ComesFrom, Fetches, ReadsIn as ReadsHome, EndsOnBlock, Stood, InFrame, ItStays, ItFetches, ItReads, ItLeaves, OnBlock, Effect}
 use Rattle.legal.proofs.SharedLemmas.{fetch_other}
 use Rattle.legal.proofs.SoundLemmas.{IsFit, legal-sound, pages_share_no_block, pages_share_no_ticket, block_below, legal-fit, legal-single}
-use Rattle.driver.proofs.Keeps.{number_pending, number_wanted, in_hand, Alike, Same, Ticketless, wants_alike, number_at, is_idle, idle_none, FineOutcome, IsAt, runs_keep}
+use Rattle.driver.proofs.Keeps.{number_pending, number_wanted, in_hand, Alike, Same, Ticketless, wants_alike, number_at, is_idle, idle_none, FineOutcome, OfCommand, of_command-leaves, FineWant, wants_fine, IsAt, runs_keep}
 use Rattle.driver.proofs.CallCases.{IsRefused, IsServed, Comes, ByRefusal, ByEntry, called_comes, Next, Handless, Reads, Writes, told_next}
 use Rattle.driver.proofs.Tickets.{IsGoing, KeepsPending, KeepsWanted, KeepsAt, at_flies, flies_taken, pending_known, not_out, still_known, LegalPast, served_effect, served_legal, Tickets, seats_all, tickets_rest, tickets_turn, tickets_first, own_keeps, others_differ}
+use Rattle.machine.specs.Lists.{Order}
+use Rattle.driver.proofs.MarkLemmas.{marks-stay, stays-as}
 
 -- ---- words
 
@@ -200,7 +202,7 @@ module _ (files : FirstBytes) (caller : Caller) (opening : Opening) (old new : P
   legal_on = served_legal caller opening old new h.legal what answered keeps went
 
   fetch_on : (n : ℕ) → (ticket_given (reply_of answered) ≡ Some n → ⊥) → fetch_of n new.history ≡ fetch_of n old.history
-  fetch_on n other = ap (fetch_of n) went.answers.history ∙ fetch_other n (event_of what) (reply_of answered) old.history (fetch_of n old.history) other
+  fetch_on n other = ap (fetch_of n) went.history ∙ fetch_other n (event_of what) (reply_of answered) old.history (fetch_of n old.history) other
 
   -- the opening is the run's
   opening_is : old.state.opening ≡ opening
@@ -216,12 +218,12 @@ module _ (files : FirstBytes) (caller : Caller) (opening : Opening) (old new : P
 
   -- and has the bytes that were last written there
   came_last : (t v p : ℕ) (from : Came t v p) (o : ℕ) → last (at_first files) new.history (InTask t v o) ≡ last (at_first files) old.history (InTask from.task v o)
-  came_last t v p from o = ap (λ (es : List Entry). last (at_first files) es (InTask t v o)) went.answers.history ∙ from.follows (last (at_first files) old.history) o
+  came_last t v p from o = ap (λ (es : List Entry). last (at_first files) es (InTask t v o)) went.history ∙ from.follows (last (at_first files) old.history) o
 
   -- a page of a file that was not just written to has the bytes that it had
   file_last : (f q o : ℕ) → is_written (slot_of new.state f q) ≡ false → last (at_first files) new.history (InFile f q o) ≡ last (at_first files) old.history (InFile f q o)
   file_last f q o unwritten =
-      ap (λ (es : List Entry). last (at_first files) es (InFile f q o)) went.answers.history ∙ ap (λ (said : Says). follow said (last (at_first files) old.history) (InFile f q o)) (effect.files.silent f q o unwritten)
+      ap (λ (es : List Entry). last (at_first files) es (InFile f q o)) went.history ∙ ap (λ (said : Says). follow said (last (at_first files) old.history) (InFile f q o)) (effect.files.silent f q o unwritten)
 
   -- so it is with one in transfer
   moving_last : (p f q o : ℕ) (page : Page) → page_at new.state.pages p ≡ Some page → page.content ≡ OfFile f q → in_transfer_at page.residence ≡ true
@@ -290,7 +292,7 @@ module _ (files : FirstBytes) (caller : Caller) (opening : Opening) (old new : P
           let block : k.block ≡ b = some_inj (ap block_at both) in
           let number : k.ticket.0 ≡ n = some_inj (ap ticket_at both) in
           let began : fetch_of n new.history ≡ Some (record { spot = InTask k.task.0 k.v k.offset; earlier = old.history }) =
-          ap (fetch_of n) went.answers.history
+          ap (fetch_of n) went.history
           ∙ ap (λ (e : Plain_event). fetched_by n e (reply_of answered) old.history (fetch_of n old.history)) k.is
           ∙ ap (λ (r : Plain_reply). fetched_by n (plain.Access k.task (Virtual k.v k.offset) k.op) r old.history (fetch_of n old.history)) k.answers
           ∙ ap (λ (x : Bool). cond x (Some (record { spot = InTask k.task.0 k.v k.offset; earlier = old.history })) (fetch_of n old.history)) (ap (λ (m : ℕ). m == n) number ∙ eq-eqb n n refl) in
@@ -303,7 +305,7 @@ module _ (files : FirstBytes) (caller : Caller) (opening : Opening) (old new : P
           let block : home_block opening.swap opening.files k.file k.q ≡ b = ap (λ (x : Opening). home_block x.swap x.files k.file k.q) (sym opening_is) ∙ some_inj (ap block_at both) in
           let number : k.ticket.0 ≡ n = some_inj (ap ticket_at both) in
           let began : fetch_of n new.history ≡ Some (record { spot = InFile k.file k.q k.offset; earlier = old.history }) =
-          ap (fetch_of n) went.answers.history
+          ap (fetch_of n) went.history
           ∙ ap (λ (e : Plain_event). fetched_by n e (reply_of answered) old.history (fetch_of n old.history)) k.is
           ∙ ap (λ (r : Plain_reply). fetched_by n (plain.Access k.task (File k.file k.q k.offset) k.op) r old.history (fetch_of n old.history)) k.answers
           ∙ ap (λ (x : Bool). cond x (Some (record { spot = InFile k.file k.q k.offset; earlier = old.history })) (fetch_of n old.history)) (ap (λ (m : ℕ). m == n) number ∙ eq-eqb n n refl) in
@@ -327,7 +329,7 @@ module _ (files : FirstBytes) (caller : Caller) (opening : Opening) (old new : P
   honest_event e kept brought = tt
 
   honest_on : Honest (at_first files) new.history
-  honest_on = rw went.answers.history (h.honest, honest_event what keeps brings)
+  honest_on = rw went.history (h.honest, honest_event what keeps brings)
 
   -- a page was being written out before, and held what it holds
   abbrev WasGoing : ℕ → ℕ → ℕ → ℕ → Page → Type 0
@@ -537,41 +539,77 @@ module _ (files : FirstBytes) (caller : Caller) (opening : Opening) (past : Past
 -- ---- a turn
 
 module _ (files : FirstBytes) (caller : Caller) (opening : Opening) (old new : Past) (disk disk' : Disk) (h : Holds files opening old disk.contents) where
-  asks_faithful : (remembers : Pending) (what : Event) (transition : Transition) → KeepsPending caller old what → BringsPending files old disk.contents what → Asks caller old remembers what transition new
-      → TurnsFaithful files caller opening old disk.contents (want.Call remembers what) transition new disk.contents
-  asks_faithful remembers what transition keeps brings asks = by_comes (called_comes old new caller (event_of what) (reply_of asks.said) (pending_known caller old what keeps) asks.called)
+  asked_faithful : (remembers : Pending) (what : Event) (said : Reply) (transition : Transition) → OfCommand what → KeepsPending caller old what → BringsPending files old disk.contents what → Called old caller (event_of what) (reply_of said) new
+      → HandsOut new caller.worker said → Told remembers said transition → TurnsFaithful files caller opening old disk.contents (want.Call remembers what) transition new disk.contents
+  asked_faithful remembers what said transition fine keeps brings called gives told = by_comes (called_comes old new caller (event_of what) (reply_of said) (of_command-leaves what fine) (pending_known caller old what keeps) called)
     where
-      own : IsRefused old (reply_of asks.said) new → Next asks.said transition → BringsAt files old disk.contents (left_of transition)
+      own : IsRefused old (reply_of said) new → Next said transition → BringsAt files old disk.contents (left_of transition)
       own still (Handless none fine) = brings_none files old disk.contents (left_of transition) none
       own still (Reads access ticket is goes) = subst (λ (t : Transition). BringsAt files old disk.contents (left_of t)) (sym goes) tt
-      own still (Writes on ticket is goes) = absurd (not_out old new asks.said ticket still is)
+      own still (Writes on ticket is goes) = absurd (not_out old new said ticket still is)
 
-      by_comes : Comes old caller (event_of what) (reply_of asks.said) new → TurnsFaithful files caller opening old disk.contents (want.Call remembers what) transition new disk.contents
+      by_comes : Comes old caller (event_of what) (reply_of said) new → TurnsFaithful files caller opening old disk.contents (want.Call remembers what) transition new disk.contents
       by_comes (ByRefusal still) =
           subst (λ (p : Past). TurnsFaithful files caller opening old disk.contents (want.Call remembers what) transition p disk.contents) (sym still.same)
           (record {
             holds = h;
-            own = own still (told_next remembers asks.said transition asks.told (still_known old new asks.said still));
+            own = own still (told_next remembers said transition told (still_known old new said still));
             others = λ at differ kept brought. brought;
           })
       by_comes (ByEntry went) =
-          faithful_on files caller opening old new disk.contents what asks.said h keeps brings went (want.Call remembers what) transition asks.gives (told_next remembers asks.said transition asks.told (went.done Stranger))
+          faithful_on files caller opening old new disk.contents what said h keeps brings went (want.Call remembers what) transition gives (told_next remembers said transition told (went.done Stranger))
 
   ends_faithful : (said : Answer) (transition : Transition) → transition ≡ Ends said → TurnsFaithful files caller opening old disk.contents (want.End said) transition old disk.contents
   ends_faithful said transition ends =
       record { holds = h; own = subst (λ (t : Transition). BringsAt files old disk.contents (left_of t)) (sym ends) tt; others = λ at differ kept brought. brought }
 
-  pub want_faithful : (w : Want) (transition : Transition) → KeepsWanted caller old w → BringsWanted files old disk.contents w → WantTurn caller old disk w transition new disk' → TurnsFaithful files caller opening old disk.contents w transition new disk'.contents
-  want_faithful (want.Call remembers what) transition keeps brings turn =
-      subst (λ (d : Disk). TurnsFaithful files caller opening old disk.contents (want.Call remembers what) transition new d.contents) (sym turn.1) (asks_faithful remembers what transition keeps brings turn.0)
-  want_faithful (want.Read access ticket) transition keeps brings turn =
+-- the marks of a hit are merged: what is known does not ask in which order pages are taken
+module _ (files : FirstBytes) (contents : List (List ℕ)) (past : Past) (order : Order) where
+  page_order : (number : ℕ) (bytes : List ℕ) → PageHolds files past number bytes → PageHolds files (record past { order = order }) number bytes
+  page_order number bytes h = record { places = h.places; of_file = h.of_file }
+
+  pending_order : (what : Event) → BringsPending files past contents what → BringsPending files (record past { order = order }) contents what
+  pending_order (event.Arrived ticket) h = h
+  pending_order (event.Left ticket) h = page_order ticket.number (bytes_on contents ticket.block) h
+  pending_order what h = tt
+
+  wanted_order : (want : Want) → BringsWanted files past contents want → BringsWanted files (record past { order = order }) contents want
+  wanted_order (want.Call remembers what) h = pending_order what h
+  wanted_order (want.Read access ticket) h = tt
+  wanted_order (want.Write on ticket) h = page_order ticket.number ticket.bytes h
+  wanted_order (want.End said) h = tt
+
+  at_order : (at : Activity) → BringsAt files past contents at → BringsAt files (record past { order = order }) contents at
+  at_order Rests h = tt
+  at_order (Begun what) h = tt
+  at_order (Does stage) h = wanted_order (in_hand stage) h
+
+  turn_order : (caller : Caller) (opening : Opening) (old : Past) (before : List (List ℕ)) (want : Want) (transition : Transition) → TurnsFaithful files caller opening old before want transition past contents
+      → TurnsFaithful files caller opening old before want transition (record past { order = order }) contents
+  turn_order caller opening old before want transition h =
+      let holds = h.holds in
+      record {
+        holds = record { legal = holds.legal; honest = holds.honest; room = holds.room; stored = holds.stored; in_files = holds.in_files; fetched = holds.fetched };
+        own = at_order (left_of transition) h.own;
+        others = λ at differ kept brought. at_order at (h.others at differ kept brought);
+      }
+
+module _ (files : FirstBytes) (caller : Caller) (opening : Opening) (old new : Past) (disk disk' : Disk) (h : Holds files opening old disk.contents) where
+  pub want_faithful : (w : Want) (transition : Transition) → FineWant w → KeepsWanted caller old w → BringsWanted files old disk.contents w → WantTurn caller old disk w transition new disk' → TurnsFaithful files caller opening old disk.contents w transition new disk'.contents
+  want_faithful (want.Call remembers what) transition fine keeps brings turn =
+      let asks = turn.0 in
+      let mid = asked_faithful files caller opening old asks.mid disk disk' h remembers what asks.said transition fine.0 keeps brings asks.called asks.gives asks.told in
+      subst (λ (d : Disk). TurnsFaithful files caller opening old disk.contents (want.Call remembers what) transition new d.contents) (sym turn.1)
+      (subst (λ (p : Past). TurnsFaithful files caller opening old disk.contents (want.Call remembers what) transition p disk.contents) (sym (stays-as asks.mid new (marks-stay caller asks.mid new (reply_of asks.said) asks.marks)))
+      (turn_order files disk.contents asks.mid new.order caller opening old disk.contents (want.Call remembers what) transition mid))
+  want_faithful (want.Read access ticket) transition fine keeps brings turn =
       subst (λ (p : Past). TurnsFaithful files caller opening old disk.contents (want.Read access ticket) transition p disk'.contents) (sym turn.1) (reads_faithful files caller opening old disk disk' h access ticket transition turn.0)
-  want_faithful (want.Write on ticket) transition keeps brings turn =
+  want_faithful (want.Write on ticket) transition fine keeps brings turn =
       subst (λ (p : Past). TurnsFaithful files caller opening old disk.contents (want.Write on ticket) transition p disk'.contents) (sym turn.1)
       (writes_faithful files caller opening old disk disk' h on ticket transition keeps brings turn.0)
-  want_faithful (want.End said) transition keeps brings turn =
+  want_faithful (want.End said) transition fine keeps brings turn =
       subst (λ (p : Past). TurnsFaithful files caller opening old disk.contents (want.End said) transition p disk'.contents) (sym turn.1)
-      (subst (λ (d : Disk). TurnsFaithful files caller opening old disk.contents (want.End said) transition old d.contents) (sym turn.2) (ends_faithful said transition turn.0))
+      (subst (λ (d : Disk). TurnsFaithful files caller opening old disk.contents (want.End said) transition old d.contents) (sym turn.2) (ends_faithful files caller opening old new disk disk' h said transition turn.0))
 
 -- ---- worlds
 
@@ -599,7 +637,7 @@ module _ (files : FirstBytes) (opening : Opening) where
   faithful_turn : (old new : World) (who : Actor) (now : Stage) (outcome : Outcome) → IsAt old who now → StageTurn old who now outcome new → Faithful files opening old → Faithful files opening new × FineOutcome outcome
   faithful_turn old new who now outcome at turn h =
       let ticketed = tickets_turn opening old new who now outcome at turn h.tickets in
-      let turns = want_faithful files old.caller opening old.past new.past old.disk new.disk h.holds (wants_at old.past now) turn.transition (own_keeps opening old who now at h.tickets) (own_brings old who now at h) turn.turns in (
+      let turns = want_faithful files old.caller opening old.past new.past old.disk new.disk h.holds (wants_at old.past now) turn.transition (wants_fine old.past now) (own_keeps opening old who now at h.tickets) (own_brings old who now at h) turn.turns in (
         record {
           tickets = ticketed.0;
           holds = turns.holds;

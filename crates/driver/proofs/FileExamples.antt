@@ -1,6 +1,9 @@
 -- Examples of pages of files: a read of one that is not in memory, turn by turn; and what a command makes of a page that is dropped, or in transfer.
-use Rattle.std.proofs.Common.{◌≡◌, ◌≢◌, ℕ, zero, suc, ◌&&◌, true, false, List, [], ◌∷◌, ◌++◌, Some, None, refl, ne_eqb, arith}
-use Rattle.std.specs.Prelude.{Ok, Err, codes}
+use Rattle.std.proofs.Common.{◌≡◌, ◌≢◌, ℕ, zero, suc, ◌/◌, ◌%◌, ◌==◌, ◌&&◌, ◌||◌, Bool, true, false, cond, List, [], ◌∷◌, ◌++◌, Some, None, inl, inr, refl, sym, ap, ◌∙◌, ne_eqb, arith}
+use Rattle.std.specs.Int.{bit_at}
+use Rattle.std.proofs.lemmas.Nat.Bits.{bit_at-pow_other}
+use Rattle.std.proofs.lemmas.Bool.Decides.{eqb_tells}
+use Rattle.std.specs.Prelude.{Ok, Err, codes, if◌then◌else◌}
 use Rattle.machine.specs.declared.amount.Amount.TheVariants as amount
 use Rattle.machine.specs.declared.event.Cause.TheVariants as cause
 use Rattle.machine.specs.declared.config.Watermarks.{Watermarks}
@@ -16,16 +19,16 @@ use Rattle.machine.specs.declared.id.TicketId.{TicketId}
 use Rattle.machine.specs.declared.record.Life.TheVariants.{Live}
 use Rattle.machine.specs.declared.refusal.Refusal.TheVariants.{Invalid}
 use Rattle.machine.specs.declared.reply.Reply.TheVariants as reply
-use Rattle.machine.specs.Slots.{at}
+use Rattle.machine.specs.Slots.{at, there_and}
 use Rattle.machine.specs.Tree.{chain_up, chain, under_at, chain_below, preorder_to}
 use Rattle.machine.specs.Protection.{effective_along}
-use Rattle.machine.specs.Pages.{OfFile, Residence, Held, Coming, Page, Pages, is_held_in, is_number}
+use Rattle.machine.specs.Pages.{OfFile, Residence, Held, Coming, Page, Pages, page_at, is_held_in, is_number}
 use Rattle.machine.specs.Counts.{no_limits, no_counts, over_at}
 use Rattle.machine.specs.Tasks.{task_of}
 use Rattle.machine.specs.State.{State}
 use Rattle.machine.specs.Generations.{Gens, Listed, new_gens}
 use Rattle.machine.specs.Aging.{is_marked}
-use Rattle.machine.specs.Lists.{HeldLists, Youngest, SecondYoungest, GoesOn, is_fresh, with_mark, PicksOf}
+use Rattle.machine.specs.Lists.{HeldLists, Youngest, SecondYoungest, GoesOn, is_fresh, is_in_bits, MergesMarks, PicksOf}
 use Rattle.machine.specs.Call.{Past, entries_of}
 use Rattle.block_store.specs.Device.{Disk}
 use Rattle.pages.specs.Tickets.{TicketOf}
@@ -140,6 +143,7 @@ module _ (bytes : List ℕ) where
     turns = (
       record {
         said = says.Fetch (ticket_with []);
+        mid = once_fetched;
         called = record {
           steps = record {
             page = 0;
@@ -154,6 +158,7 @@ module _ (bytes : List ℕ) where
         gives = record { p = 0; page = cached (Coming 0 0 0); frame = 0; there = refl; coming = refl; own = refl; entry = refl; fresh = refl };
         keeps = tt;
         told = refl;
+        marks = refl;
       },
       refl,
     );
@@ -197,6 +202,7 @@ module _ (bytes : List ℕ) where
     turns = (
       record {
         said = says.Ok;
+        mid = once_arrived;
         called = record {
           steps = record { p = 0; page = cached (Coming 0 0 0); frame = 0; block = 0; there = refl; moves = refl; placed = record { changed = refl; others = stands }; answers = refl; state = refl };
           order = (arrives_listed, refl);
@@ -206,6 +212,7 @@ module _ (bytes : List ℕ) where
         gives = tt;
         keeps = tt;
         told = refl;
+        marks = refl;
       },
       refl,
     );
@@ -215,19 +222,41 @@ module _ (bytes : List ℕ) where
     limit = refl;
   }
 
-  is_used : GoesOn Youngest held (with_mark (Some 0) filed) held (record { groups = filed.groups; marks = true ∷ false ∷ [] })
-  is_used = record { fresh = None; which = which; groups = refl; size = refl; marks = marks }
+  -- the hit leaves the lists as they are
+  is_hit : GoesOn Youngest held filed held filed
+  is_hit = record { fresh = None; which = which; groups = refl; size = refl; marks = marks }
     where
       which : (p : ℕ) → is_number None p ≡ is_fresh held held p
       which zero = refl
       which (suc p) = refl
 
-      marks : (p : ℕ) → is_marked (true ∷ false ∷ []) p ≡ (is_held_in held p && is_held_in held p && is_marked (true ∷ false ∷ []) p)
+      marks : (p : ℕ) → is_marked filed.marks p ≡ (is_held_in held p && is_held_in held p && is_marked filed.marks p)
       marks zero = refl
       marks (suc zero) = refl
       marks (suc (suc p)) = refl
 
-  -- the access is tried again, hits the page, and is told a byte: that it is the home's, a whole run says
+  -- the bit of frame 0 is the first of word 0, and no other frame of the word has one
+  first_bit : (f : ℕ) → f / 64 ≡ 0 → bit_at 1 (f % 64) ≡ (if f == 0 then 1 else 0)
+  first_bit f within =
+      elim (eqb_tells f 0) [
+        | inl same ↦ ap (λ (n : ℕ). bit_at 1 (n % 64)) same.1 ∙ sym (ap (λ (b : Bool). cond b 1 0) same.0)
+        | inr other ↦ bit_at-pow_other 0 (f % 64) (λ e. other.1 (omega (arith, e, within))) ∙ sym (ap (λ (b : Bool). cond b 1 0) other.0)
+      ]
+
+  -- its merge marks the page that is held in frame 0
+  is_marked_now : MergesMarks held 0 1 filed (record { groups = filed.groups; marks = true ∷ false ∷ [] })
+  is_marked_now = record { groups = refl; size = refl; marks = marks }
+    where
+      marks : (p : ℕ) → is_marked (true ∷ false ∷ []) p ≡ (is_marked filed.marks p || there_and (is_in_bits 0 1) (page_at held p))
+      marks zero = refl
+      marks (suc zero) = refl
+      marks (suc (suc p)) = refl
+
+  -- the book once the access was answered, and before its page is marked
+  abbrev once_hit : ℕ → Past
+  once_hit byte = record (once_read byte) { order = once_arrived.order }
+
+  -- the access is tried again, hits the page, and is told a byte: that it is the home's, a whole run says. The page is marked in the same turn
   hits : (byte : ℕ) → Turn (world once_arrived (Does (stage.Try access))) (actor.Task 1) (Ends (answer.Byte byte)) (world (once_read byte) Rests)
   unfolding chain_up chain under_at over_at
   hits byte = record {
@@ -235,10 +264,12 @@ module _ (bytes : List ℕ) where
     turns = (
       record {
         said = says.Done byte (Some (record { 0 = 0 }));
-        called = record { steps = (refl, refl); order = (is_used, refl); history = refl; passes = refl };
+        mid = once_hit byte;
+        called = record { steps = (refl, refl); order = (is_hit, refl); history = refl; passes = refl };
         gives = tt;
         keeps = tt;
         told = refl;
+        marks = record { bits = 1; one = first_bit; merged = record { steps = refl; order = (is_marked_now, refl); history = refl; passes = refl } };
       },
       refl,
     );
@@ -319,6 +350,7 @@ drops = record {
   turns = (
     record {
       said = says.Dropped;
+      mid = once_dropped;
       called = record {
         steps = record { p = 0; page = cached (Held 0); there = refl; takeable = refl; leaves = record { answers = refl; gone = record { changed = refl; others = goes_alone }; state = refl } };
         order = record { g = 1; next = refl; p = 0; looked = old_lists (first_listed ∷ []); picked = picks; was = refl; taken = refl; leaves = leaves_list; moves = refl };
@@ -328,6 +360,7 @@ drops = record {
       gives = tt;
       keeps = tt;
       told = refl;
+      marks = refl;
     },
     refl,
   );
@@ -358,6 +391,7 @@ makes_room = record {
   turns = (
     record {
       said = says.Dropped;
+      mid = once_roomy;
       called = record {
         steps = record { p = 0; page = cached (Held 0); there = refl; takeable = refl; leaves = record { answers = refl; gone = record { changed = refl; others = goes_alone }; state = refl } };
         order = record { g = 1; next = refl; p = 0; looked = old_lists (first_listed ∷ []); picked = picks; was = refl; taken = refl; leaves = leaves_list; moves = refl };
@@ -367,6 +401,7 @@ makes_room = record {
       gives = tt;
       keeps = tt;
       told = refl;
+      marks = refl;
     },
     refl,
   );

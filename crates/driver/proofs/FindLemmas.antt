@@ -10,14 +10,14 @@ use Rattle.machine.specs.declared.event.Event.{Event}
 use Rattle.machine.specs.declared.reply.Reply.{Reply}
 use Rattle.machine.specs.declared.refusal.Refusal.TheVariants.{Stranger}
 use Rattle.machine.specs.Call.{Past, Refuses, Called}
-use Rattle.book.specs.Passes.{PassOf, find_of, keeping, is_current, CalledWith}
-use Rattle.book.proofs.PassLemmas.{find-on}
+use Rattle.book.specs.Passes.{PassOf, find_of, keeping, is_current, may_ask, CalledWith}
+use Rattle.book.proofs.PassLemmas.{find-on, may_ask-current}
 use Rattle.driver.specs.Turns.{shell_paths, paths_of}
 use Rattle.driver.specs.Finds.{looking}
 
 -- it is one by the pass's worker
 pub called-by : (old : Past) (pass : PassOf) (what : Event) (answer : Reply) (new : Past) → is_current old pass ≡ true → CalledWith old pass what answer new → Called old pass.caller what answer new
-called-by old pass what answer new is h = by_pass (is_current old pass) is h
+called-by old pass what answer new is h = by_pass (may_ask old pass what) (may_ask-current old pass what is) h
   where
     by_pass : (b : Bool) → b ≡ true → MatchBool b (Called old pass.caller what answer new) (Refuses old Stranger answer new) → Called old pass.caller what answer new
     by_pass true e k = k

@@ -20,13 +20,14 @@ use Rattle.machine.specs.declared.control.ControlFile.TheVariants as file
 use Rattle.machine.specs.Slots.{at}
 use Rattle.machine.specs.Tree.{Node, find_group}
 use Rattle.machine.specs.State.{free_frames}
-use Rattle.machine.specs.Call.{Past}
+use Rattle.machine.specs.Call.{Past, leaves_entry}
 use Rattle.machine.specs.Control.{file_named, has_file, amount_of}
 use Rattle.book.specs.declared.event.Event.{Event}
 use Rattle.book.specs.declared.event.Event.TheVariants as event
 use Rattle.book.specs.Events.{event_of}
 use Rattle.driver.specs.declared.turn.Stage.{Stage}
 use Rattle.driver.specs.declared.turn.Stage.TheVariants as stage
+use Rattle.driver.specs.declared.turn.Pending.{Pending}
 use Rattle.driver.specs.declared.turn.Pending.TheVariants as pending
 use Rattle.driver.specs.declared.turn.Want.{Want}
 use Rattle.driver.specs.declared.turn.Want.TheVariants as want
@@ -35,7 +36,7 @@ use Rattle.driver.specs.declared.turn.Outcome.TheVariants.{Goes, Kills, Ends}
 use Rattle.driver.specs.declared.turn.Activity.{Activity}
 use Rattle.driver.specs.declared.turn.Activity.TheVariants.{Rests, Begun, Does}
 use Rattle.driver.specs.declared.turn.Seat.{Seat}
-use Rattle.driver.specs.Turns.{wants, wants_pages, wants_balance, wants_watch, done, Judged, paths_of, judged, task_judged, shell_judged, daemon_judged, with_group, with_file, with_amount, reads_file, writes_file, reclaims}
+use Rattle.driver.specs.Turns.{access_event, wants, wants_pages, wants_balance, wants_watch, done, Judged, paths_of, judged, task_judged, shell_judged, daemon_judged, with_group, with_file, with_amount, reads_file, writes_file, reclaims}
 use Rattle.driver.specs.Schedule.{number_of, is_of, activity_of, with_activity, World, wants_at, StageTurn, JudgedTurn, ActivityTurn, said_at, all_said, answer_by, Goings, EndsIn, RunsOut, Begins, Stepped, Runs}
 use Rattle.legal.proofs.Effects.{ends}
 
@@ -146,9 +147,24 @@ abbrev pub AllFine : List Told_by → Type 0
 AllFine [] = Unit {0}
 AllFine (told ∷ later) = Fine told.answer × AllFine later
 
--- a turn that asks nothing says nothing of tickets
+-- a command asks it: it merges no marks
+abbrev pub OfCommand : Event → Type 0
+OfCommand (event.MergeMarks word bits) = ⊥
+OfCommand what = Unit {0}
+
+pub of_command-leaves : (what : Event) → OfCommand what → leaves_entry (event_of what) ≡ true
+of_command-leaves (event.MergeMarks word bits) is = absurd is
+of_command-leaves what is = refl
+
+-- whoever tries an access asks it
+abbrev pub Tries : Pending → Event → Type 0
+Tries (pending.Try access) what = what ≡ access_event access
+Tries remembers what = Unit {0}
+
+-- a turn that asks nothing says nothing of tickets, and none asks for marks to be merged
 abbrev pub FineWant : Want → Type 0
 FineWant (want.End said) = Fine said
+FineWant (want.Call remembers what) = OfCommand what × Tries remembers what
 FineWant wanted = Unit {0}
 
 balance_fine : (marks : Watermarks) (free : ℕ) → FineWant (wants_balance marks free)
@@ -156,7 +172,7 @@ balance_fine marks free = by_test (nat_le marks.high free)
   where
     by_test : (b : Bool) → FineWant (if b then done else want.Call pending.Balance (event.ReclaimOne (record { 0 = 0 })))
     by_test true = λ e. cc
-    by_test false = tt
+    by_test false = (tt, tt)
 
 watch_fine : (marks : Watermarks) (free : ℕ) → FineWant (wants_watch marks free)
 watch_fine marks free = by_test (nat_le marks.low free)
@@ -167,13 +183,16 @@ watch_fine marks free = by_test (nat_le marks.low free)
 
 pages_fine : (g left : ℕ) → FineWant (wants_pages g left)
 pages_fine g zero = λ e. cc
-pages_fine g (suc left) = tt
+pages_fine g (suc left) = (tt, tt)
 
 pub wants_fine : (past : Past) (stage : Stage) → FineWant (wants_at past stage)
 wants_fine past stage.Watch = watch_fine past.state.opening.watermarks (free_frames past.state)
 wants_fine past stage.Balance = balance_fine past.state.opening.watermarks (free_frames past.state)
 wants_fine past (stage.Reclaim g left) = pages_fine g.0 left
-wants_fine past others = tt
+wants_fine past (stage.Try access) = (tt, refl)
+wants_fine past (stage.Read access ticket) = tt
+wants_fine past (stage.Write on ticket) = tt
+wants_fine past others = (tt, tt)
 
 fine-append : (xs ys : List Told_by) → AllFine xs → AllFine ys → AllFine (xs ++ ys)
 fine-append [] ys a b = b

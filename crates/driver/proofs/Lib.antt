@@ -1,8 +1,10 @@
 pub mod ErrorLemmas
 pub mod Keeps
+pub mod MarkLemmas
 pub mod CallCases
 pub mod Tickets
 pub mod Faithful
+pub mod HitLemmas
 pub mod TicketLemmas
 pub mod SeatLists
 pub mod FindLemmas

@@ -97,10 +97,12 @@ asks_removal : Asks caller at_first pending.Make (asks.Rmdir r) (transition.Ends
 unfolding chain_up chain under_at
 asks_removal = record {
   said = says.Ok;
+  mid = once_removed;
   called = record { steps = record { parent = 0; below = refl; pages = removed_pages; state = refl }; order = refl; history = refl; passes = refl };
   gives = tt;
   keeps = tt;
   told = refl;
+  marks = refl;
 }
 
 -- the shell removes the group of a path in one turn
@@ -130,7 +132,7 @@ meets-task : Turn (world actor.Shell peopled (Begun rmdir)) actor.Shell (Ends (a
 unfolding chain_up chain under_at
 meets-task = record {
   transition = transition.Ends (answer.Word (word.Refused Busy));
-  turns = (record { said = says.Refused Busy; called = (refl, refl); gives = tt; keeps = tt; told = refl }, refl);
+  turns = (record { said = says.Refused Busy; mid = peopled; called = (refl, refl); gives = tt; keeps = tt; told = refl; marks = refl }, refl);
   shows = refl;
   leaves = refl;
   same = refl;

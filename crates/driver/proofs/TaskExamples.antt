@@ -132,6 +132,7 @@ forks = record {
   turns = (
     record {
       said = says.Ok;
+      mid = once_forked;
       called = record {
         steps = (refl, record { changed = refl; others = forked_tasks }, record { copied = λ v. refl; others = forked_places }, refl);
         order = (unchanged, refl);
@@ -141,6 +142,7 @@ forks = record {
       gives = tt;
       keeps = tt;
       told = refl;
+      marks = refl;
     },
     refl,
   );
@@ -164,10 +166,12 @@ attaches = record {
   turns = (
     record {
       said = says.Ok;
+      mid = once_moved;
       called = record { steps = (record { changed = refl; others = moved_tasks }, refl); order = (unchanged, refl); history = refl; passes = refl };
       gives = tt;
       keeps = tt;
       told = refl;
+      marks = refl;
     },
     refl,
   );
@@ -195,6 +199,7 @@ frees = record {
   turns = (
     record {
       said = says.Ok;
+      mid = once_freed;
       called = record {
         steps = record { answers = refl; shown = record { changed = refl; others = freed_places }; pages = freed_pages; state = refl };
         order = (unchanged, refl);
@@ -204,6 +209,7 @@ frees = record {
       gives = tt;
       keeps = tt;
       told = refl;
+      marks = refl;
     },
     refl,
   );
@@ -228,10 +234,12 @@ forks-killed = record {
   turns = (
     record {
       said = says.Killed;
+      mid = after killed (event.Fork (task 1) (task 2)) reply.Killed killed.state;
       called = record { steps = (refl, refl); order = (unchanged, refl); history = refl; passes = refl };
       gives = tt;
       keeps = tt;
       told = refl;
+      marks = refl;
     },
     refl,
   );

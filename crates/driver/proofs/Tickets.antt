@@ -14,8 +14,8 @@ use Rattle.machine.specs.Slots.{at, there_and, any_there}
 use Rattle.machine.specs.declared.record.Direction.TheVariants.{In, Out}
 use Rattle.machine.specs.Pages.{Coming, Going, Page, Pages, page_at, ticket_at, is_ticket_taken, is_flying_at, is_in_flight}
 use Rattle.machine.specs.History.{ticket_given, taker_or, taker}
-use Rattle.machine.specs.State.{Opening, opening_of}
-use Rattle.machine.specs.Call.{Past, Caller, is_worker, took, knows_pass}
+use Rattle.machine.specs.State.{Opening, State, opening_of}
+use Rattle.machine.specs.Call.{Past, Caller, is_worker, took, knows_pass, Called}
 use Rattle.machine.specs.Legal.{Legal}
 use Rattle.machine.proofs.Values.{never_some, unlike}
 use Rattle.machine.proofs.TreeLemmas.{eq_cases}
@@ -40,14 +40,15 @@ use Rattle.driver.specs.declared.turn.Outcome.{Outcome}
 use Rattle.driver.specs.declared.turn.Activity.{Activity}
 use Rattle.driver.specs.declared.turn.Activity.TheVariants.{Rests, Begun, Does}
 use Rattle.driver.specs.declared.turn.Seat.{Seat}
-use Rattle.driver.specs.Turns.{ReadsIn, WritesOut, after_read, after_write}
-use Rattle.driver.specs.Schedule.{number_of, activity_of, with_activity, World, first_world, Asks, WantTurn, wants_at, StageTurn, outcome_of, left_of}
+use Rattle.driver.specs.Turns.{ReadsIn, WritesOut, after_read, after_write, Told}
+use Rattle.driver.specs.Schedule.{number_of, activity_of, with_activity, World, first_world, WantTurn, wants_at, StageTurn, outcome_of, left_of}
 use Rattle.legal.proofs.Effects.{ends, Effect, step_effect}
 use Rattle.legal.proofs.SoundLemmas.{legal-files}
 use Rattle.legal.proofs.ShownLemmas.{shows_pages-legal}
 use Rattle.legal.proofs.SharedLemmas.{legal-live, ticket_taken}
-use Rattle.driver.proofs.Keeps.{activity_of-own, activity_of-other, number_pending, number_wanted, in_hand, Alike, Same, Ticketless, wants_alike, wanted_in_hand, number_at, is_idle, idle_none, Fine, FineOutcome, FineWant, wants_fine, IsAt}
+use Rattle.driver.proofs.Keeps.{activity_of-own, activity_of-other, number_pending, number_wanted, in_hand, Alike, Same, Ticketless, wants_alike, wanted_in_hand, number_at, is_idle, idle_none, Fine, FineOutcome, OfCommand, of_command-leaves, FineWant, wants_fine, IsAt}
 use Rattle.driver.proofs.CallCases.{IsRefused, IsServed, Comes, ByRefusal, ByEntry, called_comes, Next, Handless, Reads, Writes, told_next}
+use Rattle.driver.proofs.MarkLemmas.{Stays, marks-stay}
 
 -- ---- words
 
@@ -242,7 +243,7 @@ module _ (caller : Caller) (opening : Opening) (old new : Past) (legal : LegalPa
   -- and the history is legal still
   pub served_legal : (what : Event) (answered : Reply) → KeepsPending caller old what → IsServed old caller (event_of what) (reply_of answered) new → LegalPast opening new
   served_legal what answered keeps h =
-      rw h.answers.history (old.state, legal, record { known = pending_known caller old what keeps; unrefused = h.unrefused; room = h.room; steps = h.answers.steps })
+      rw h.history (old.state, legal, record { kept = h.leaves; known = pending_known caller old what keeps; unrefused = h.unrefused; room = h.room; steps = h.answers.steps })
 
 -- ---- refusals
 
@@ -291,7 +292,7 @@ module _ (caller : Caller) (opening : Opening) (old new : Past) (legal : LegalPa
   goes_of what answer h =
       record {
         stays = (served_effect caller opening old new legal what answer h).pages.stays;
-        taken = λ n e. subst (λ (es : List Entry). taker n es ≡ Some caller.worker) (sym h.answers.history) (taker_entry caller (ticket_given answer) n (taker n old.history) e);
+        taken = λ n e. subst (λ (es : List Entry). taker n es ≡ Some caller.worker) (sym h.history) (taker_entry caller (ticket_given answer) n (taker n old.history) e);
       }
 
   -- the ticket that a reply gave is the turn's new one
@@ -300,7 +301,7 @@ module _ (caller : Caller) (opening : Opening) (old new : Past) (legal : LegalPa
     on_others at other h = at_goes caller old new (ends (event_of what)) (goes_of (event_of what) (reply_of answered) went) at other h
 
     given_taken : (n : ℕ) → ticket_given (reply_of answered) ≡ Some n → taker n new.history ≡ Some caller.worker
-    given_taken n e = subst (λ (es : List Entry). taker n es ≡ Some caller.worker) (sym went.answers.history) (taker_given caller (ticket_given (reply_of answered)) n (taker n old.history) e)
+    given_taken n e = subst (λ (es : List Entry). taker n es ≡ Some caller.worker) (sym went.history) (taker_given caller (ticket_given (reply_of answered)) n (taker n old.history) e)
 
     given_fresh : (n : ℕ) → ticket_given (reply_of answered) ≡ Some n → (at : Activity) → KeepsAt caller old at → number_at at ≡ Some n → ⊥
     given_fresh n e at h number =
@@ -342,12 +343,13 @@ module _ (caller : Caller) (opening : Opening) (old new : Past) (legal : LegalPa
   still_turn remembers what answered transition still (Reads access ticket is goes) = absurd (not_fetch old new answered ticket still is)
   still_turn remembers what answered transition still (Writes on ticket is goes) = absurd (not_out old new answered ticket still is)
 
-  asks_turn : (remembers : Pending) (what : Event) (transition : Transition) → KeepsPending caller old what → Asks caller old remembers what transition new → TurnsWell caller opening old (want.Call remembers what) transition new
-  asks_turn remembers what transition keeps asks = by_comes (called_comes old new caller (event_of what) (reply_of asks.said) (pending_known caller old what keeps) asks.called)
+  pub asked_turn : (remembers : Pending) (what : Event) (said : Reply) (transition : Transition) → OfCommand what → KeepsPending caller old what → Called old caller (event_of what) (reply_of said) new → HandsOut new caller.worker said
+      → Told remembers said transition → TurnsWell caller opening old (want.Call remembers what) transition new
+  asked_turn remembers what said transition fine keeps called gives told = by_comes (called_comes old new caller (event_of what) (reply_of said) (of_command-leaves what fine) (pending_known caller old what keeps) called)
     where
-      by_comes : Comes old caller (event_of what) (reply_of asks.said) new → TurnsWell caller opening old (want.Call remembers what) transition new
-      by_comes (ByRefusal still) = still_turn remembers what asks.said transition still (told_next remembers asks.said transition asks.told (still_known old new asks.said still))
-      by_comes (ByEntry went) = on_turn remembers what asks.said transition went keeps asks.gives (told_next remembers asks.said transition asks.told (went.done Stranger))
+      by_comes : Comes old caller (event_of what) (reply_of said) new → TurnsWell caller opening old (want.Call remembers what) transition new
+      by_comes (ByRefusal still) = still_turn remembers what said transition still (told_next remembers said transition told (still_known old new said still))
+      by_comes (ByEntry went) = on_turn remembers what said transition went keeps gives (told_next remembers said transition told (went.done Stranger))
 
   reads_turn : (disk disk' : Disk) (access : Access) (ticket : TicketOf) (transition : Transition) → IsComing caller old ticket → new ≡ old → ReadsIn disk access ticket transition disk' → TurnsWell caller opening old (want.Read access ticket) transition new
   reads_turn disk disk' access ticket transition coming same reads =
@@ -391,11 +393,33 @@ module _ (caller : Caller) (opening : Opening) (old new : Past) (legal : LegalPa
       (λ n e. never_some (number_at (left_of transition)) (ap (λ (t : Transition). number_at (left_of t)) ends) e)
       (subst (λ (t : Transition). FineOutcome (outcome_of t)) (sym ends) fine)
 
+-- the marks of a hit are merged, and no ticket is touched
+stays_goes : (caller : Caller) (mid new : Past) → Stays mid new → TicketsGoOn caller mid new None
+stays_goes caller mid new stays =
+    record {
+      stays = λ p n page there ticket other. (page, ap (λ (s : State). page_at s.pages p) stays.state ∙ there, refl);
+      taken = λ n e. ap (λ (es : List Entry). taker n es) stays.history ∙ e;
+    }
+
+marks_turn : (caller : Caller) (opening : Opening) (old mid new : Past) (want : Want) (transition : Transition) → Stays mid new → TurnsWell caller opening old want transition mid → TurnsWell caller opening old want transition new
+marks_turn caller opening old mid new want transition stays h =
+    record {
+      legal = rw (stays.history, stays.state) h.legal;
+      own = at_goes caller mid new None (stays_goes caller mid new stays) (left_of transition) (λ n e f. cc) h.own;
+      others = λ at other k. at_goes caller mid new None (stays_goes caller mid new stays) at (λ n e f. cc) (h.others at other k);
+      number = h.number;
+      fine = h.fine;
+    }
+
+module _ (caller : Caller) (opening : Opening) (old new : Past) (legal : LegalPast opening old) where
   pub want_turn : (disk disk' : Disk) (want : Want) (transition : Transition) → FineWant want → KeepsWanted caller old want → WantTurn caller old disk want transition new disk' → TurnsWell caller opening old want transition new
-  want_turn disk disk' (want.Call remembers what) transition fine keeps turn = asks_turn remembers what transition keeps turn.0
-  want_turn disk disk' (want.Read access ticket) transition fine keeps turn = reads_turn disk disk' access ticket transition keeps turn.1 turn.0
-  want_turn disk disk' (want.Write on ticket) transition fine keeps turn = writes_turn disk disk' on ticket transition keeps turn.1 turn.0
-  want_turn disk disk' (want.End said) transition fine keeps turn = ends_turn said transition fine turn.1 turn.0
+  want_turn disk disk' (want.Call remembers what) transition fine keeps turn =
+      let asks = turn.0 in
+      marks_turn caller opening old asks.mid new (want.Call remembers what) transition (marks-stay caller asks.mid new (reply_of asks.said) asks.marks)
+      (asked_turn caller opening old asks.mid legal remembers what asks.said transition fine.0 keeps asks.called asks.gives asks.told)
+  want_turn disk disk' (want.Read access ticket) transition fine keeps turn = reads_turn caller opening old new legal disk disk' access ticket transition keeps turn.1 turn.0
+  want_turn disk disk' (want.Write on ticket) transition fine keeps turn = writes_turn caller opening old new legal disk disk' on ticket transition keeps turn.1 turn.0
+  want_turn disk disk' (want.End said) transition fine keeps turn = ends_turn caller opening old new legal said transition fine turn.1 turn.0
 
 -- ---- worlds
 

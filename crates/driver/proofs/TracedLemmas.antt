@@ -10,7 +10,8 @@ use Rattle.machine.specs.declared.refusal.Refusal.{Refusal}
 use Rattle.machine.specs.declared.refusal.Refusal.TheVariants.{Stranger, TraceFull}
 use Rattle.machine.specs.History.{Spot, IsHonest, Honest}
 use Rattle.machine.specs.Refusals.{refusal}
-use Rattle.machine.specs.Call.{Past, Caller, knows_pass, is_trace_full, entry_of, Refuses, Answered, JudgedBy, Called}
+use Rattle.machine.specs.Call.{Past, Caller, knows_pass, is_trace_full, leaves_entry, entry_of, Refuses, Answered, JudgedBy, Called}
+use Rattle.machine.proofs.EntryLemmas.{entries-one}
 use Rattle.driver.specs.Traced.{is_given_up, AreGivenUp, GivesUp}
 
 pub gives_up-none : (history : List Entry) → GivesUp history history
@@ -28,6 +29,10 @@ gives_up-more old mid new h k =
       is = k.is ∙ ap (λ (es : List Entry). k.ends ++ es) h.is ∙ sym (append_assoc k.ends h.ends old);
     }
 
+given_up-leaves : (what : Event) → is_given_up what ≡ true → leaves_entry what ≡ true
+given_up-leaves (event.MergeMarks word bits) failed = cc
+given_up-leaves what failed = refl
+
 -- a call with the end of a transfer that failed adds that end, or nothing
 module _ (old new : Past) (caller : Caller) (what : Event) (failed : is_given_up what ≡ true) where
   refused : (answer : Reply) (why : Refusal) → Refuses old why answer new → GivesUp old.history new.history
@@ -35,7 +40,8 @@ module _ (old new : Past) (caller : Caller) (what : Event) (failed : is_given_up
 
   answered : (answer : Reply) → Answered old caller what answer new → GivesUp old.history new.history
   answered (reply.Refused why) h = subst (λ (p : Past). GivesUp old.history p.history) (sym h.2) (gives_up-none old.history)
-  answered answer h = record { ends = entry_of caller old.history what answer ∷ []; given_up = (failed, tt); is = h.history }
+  answered answer h =
+      record { ends = entry_of caller old.history what answer ∷ []; given_up = (failed, tt); is = h.history ∙ ap (λ (es : List Entry). es ++ old.history) (entries-one caller old.history what answer (given_up-leaves what failed)) }
 
   judged : (answer : Reply) (why : Option Refusal) → JudgedBy old caller what why answer new → GivesUp old.history new.history
   judged answer (Some why) h = refused answer why h

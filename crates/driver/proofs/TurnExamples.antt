@@ -96,10 +96,12 @@ sets = record {
   turns = (
     record {
       said = says.Ok;
+      mid = once_set;
       called = record { steps = refl; order = (unchanged, refl); history = refl; passes = refl };
       gives = tt;
       keeps = tt;
       told = refl;
+      marks = refl;
     },
     refl,
   );
@@ -117,10 +119,12 @@ lowers = record {
   turns = (
     record {
       said = says.Room;
+      mid = once_lowered;
       called = record { steps = (refl, refl); order = (unchanged, refl); history = refl; passes = refl };
       gives = tt;
       keeps = tt;
       told = refl;
+      marks = refl;
     },
     refl,
   );

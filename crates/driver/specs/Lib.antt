@@ -6,3 +6,4 @@ pub mod Seats
 pub mod Desks
 pub mod Sinks
 pub mod Traced
+pub mod Hits

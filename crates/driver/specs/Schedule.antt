@@ -1,5 +1,6 @@
 -- Schedules: a row of worlds, one step of the schedule between neighbours, over one book and one device. A step takes one actor's turns, or none.
-use Rattle.std.specs.Prelude.{◌≡◌, ◌⊎◌, ℕ, ◌+◌, ◌<◌, ◌==◌, ◌&&◌, nat_le, Bool, true, false, if◌then◌else◌, List, [], ◌∷◌, ◌++◌, length, slice_index, count_by, Ok, Err}
+use Rattle.std.specs.Prelude.{◌≡◌, ◌⊎◌, ℕ, ◌+◌, ◌/◌, ◌%◌, ◌<◌, ◌==◌, ◌&&◌, nat_le, Bool, true, false, if◌then◌else◌, List, [], ◌∷◌, ◌++◌, length, slice_index, count_by, Some, Ok, Err}
+use Rattle.std.specs.Int.{bit_at}
 use Rattle.machine.specs.declared.config.Config.{Config}
 use Rattle.machine.specs.declared.command.Actor.{Actor}
 use Rattle.machine.specs.declared.command.Actor.TheVariants as actor
@@ -10,6 +11,9 @@ use Rattle.machine.specs.declared.command.Word.TheVariants as word
 use Rattle.machine.specs.declared.command.Answer.{Answer}
 use Rattle.machine.specs.declared.command.Answer.TheVariants as answer
 use Rattle.machine.specs.declared.command.Reply.{Reply as Told_by}
+use Rattle.machine.specs.declared.event.Event.TheVariants as event
+use Rattle.machine.specs.declared.reply.Reply.{Reply as Plain_reply}
+use Rattle.machine.specs.declared.reply.Reply.TheVariants as plain
 use Rattle.block_store.specs.Device.{Disk, bytes_on}
 use Rattle.book.specs.declared.event.Event.{Event}
 use Rattle.book.specs.declared.event.Reply.{Reply}
@@ -87,14 +91,28 @@ left_of (transition.Kills t on) = Does (resumes_at on)
 left_of (transition.Waits on) = Rests
 left_of (transition.Ends said) = Rests
 
--- the caller asks the book one event; and what the command makes of the reply. A ticket that is given out is that of a page in transfer, and none is lost.
--- (Excludes a turn without its event, and one with two.)
+-- the bits of the frame's word have this frame's bit and no other, and they are merged. (Excludes a hit whose page is not marked, another page that is marked in its place, and one that
+-- is marked beside it.)
+pub record MarksHit (caller : Caller) (old : Past) (frame : ℕ) (new : Past) : Type 0 where
+  pub bits : ℕ
+  pub one : (f : ℕ) → f / 64 ≡ frame / 64 → bit_at bits (f % 64) ≡ (if f == frame then 1 else 0)
+  pub merged : Called old caller (event.MergeMarks (frame / 64) bits) plain.Ok new
+
+-- what comes of a reply before the turn ends: a page that was hit is marked, and nothing else happens
+abbrev pub MarksAfter : Caller → Past → Plain_reply → Past → Type 0
+MarksAfter caller old (plain.Done byte (Some frame)) new = MarksHit caller old frame.0 new
+MarksAfter caller old said new = new ≡ old
+
+-- the caller asks the book one event; and what the command makes of the reply. A ticket that is given out is that of a page in transfer, and none is lost. A page that was hit is marked
+-- in the same turn. (Excludes a turn without its event, and one with two, but for the merge behind a hit.)
 pub record Asks (caller : Caller) (old : Past) (remembers : Pending) (what : Event) (transition : Transition) (new : Past) : Type 0 where
   pub said : Reply
-  pub called : Called old caller (event_of what) (reply_of said) new
-  pub gives : HandsOut new caller.worker said
+  pub mid : Past
+  pub called : Called old caller (event_of what) (reply_of said) mid
+  pub gives : HandsOut mid caller.worker said
   pub keeps : KeepsTicket caller.worker what said
   pub told : Told remembers said transition
+  pub marks : MarksAfter caller mid (reply_of said) new
 
 -- a turn asks the book or the device, and leaves the other as it was; or it asks neither, and the command ends. (Excludes an EIO without a call of the
 -- device that failed.)

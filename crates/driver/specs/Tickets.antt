@@ -65,12 +65,13 @@ pub record IsOwn (worker blocks : ℕ) (ticket : TicketOf) : Type 0 where
   pub own : ticket.worker ≡ worker
   pub block : ticket.block < blocks
 
--- the ticket in hand is such a one, where there is one
+-- an event that a command asks, so no merge of marks; and the ticket in hand is such a one, where there is one
 abbrev pub OwnEvent : ℕ → ℕ → Event → Type 0
 OwnEvent worker blocks (event.Arrived ticket) = IsOwn worker blocks ticket
 OwnEvent worker blocks (event.FetchFailed ticket) = IsOwn worker blocks ticket
 OwnEvent worker blocks (event.Left ticket) = IsOwn worker blocks ticket
 OwnEvent worker blocks (event.LeaveFailed ticket) = IsOwn worker blocks ticket
+OwnEvent worker blocks (event.MergeMarks word bits) = ⊥
 OwnEvent worker blocks what = Unit {0}
 
 -- one that a reply gives out

@@ -172,7 +172,7 @@ fn never(reply: Reply) -> Transition
 }
 
 /// Spends a reply, whose ticket was handed back.
-pub(crate) fn spend(reply: Reply)
+pub fn spend(reply: Reply)
     requires { IsSpendableReply reply }
 {
     match reply {

@@ -1,6 +1,8 @@
 //! Calls of the book and of the device, with the ticket in hand.
 
 ghost use Rattle.std.specs.Prelude.{◌≡◌, ℕ, ◌+◌, ◌<◌, ◌≤◌, true, length};
+ghost use Rattle.machine.specs.declared.event.Event.TheVariants as event;
+ghost use Rattle.machine.specs.declared.reply.Reply.TheVariants as said;
 ghost use Rattle.machine.specs.Call.{Called};
 ghost use Rattle.book.specs.Passes.{is_current};
 ghost use Rattle.book.specs.Events.{event_of, reply_of};
@@ -8,6 +10,7 @@ ghost use Rattle.book.specs.Replies.{Replies, KeepsTicket, HandsOut};
 ghost use Rattle.driver.specs.Turns.{ReadsIn, WritesOut};
 ghost use Rattle.driver.specs.Tickets.{blocks_in, IsOwn, OwnEvent, OwnReply, OwnTransition, OwnActivity, IsHanded};
 ghost use Rattle.driver.specs.Desks.{IsSame};
+ghost use Rattle.driver.specs.Hits.{HitsWithin};
 ghost use Rattle.driver.specs.Traced.{GivesUp};
 
 use crate::automaton::spend;
@@ -27,6 +30,7 @@ pub fn call(book: &mut Book, pass: &mut Pass, event: Event) -> Reply
     ensures replies { Replies event result }
     ensures own { OwnReply pass.old.caller.worker (blocks_in book.old.state.opening) result }
     ensures handed { IsHanded result }
+    ensures within { HitsWithin book.old.state.opening.frames result }
     ensures pass { pass.new.caller ≡ pass.old.caller }
     ensures current { is_current book.new pass.new ≡ true }
     ensures room { pass.old.room ≤ pass.new.room + 1 }
@@ -35,6 +39,18 @@ pub fn call(book: &mut Book, pass: &mut Pass, event: Event) -> Reply
     let reply = book.call(pass, event);
     book.history_is_right();
     reply
+}
+
+/// The pages that are held in the frames of these bits are marked. It leaves no entry, and the pass keeps
+/// nothing of it.
+pub fn merge(book: &mut Book, pass: &mut Pass, word: u32, bits: u64)
+    requires room { 0 < pass.old.room }
+    ensures called { Called book.old pass.old.caller (event.MergeMarks word bits) said.Ok book.new }
+    ensures pass { pass.new ≡ pass.old }
+    ensures current { is_current book.new pass.old ≡ is_current book.old pass.old }
+    ensures opening { book.new.state.opening ≡ book.old.state.opening }
+{
+    spend(book.call(pass, Event::MergeMarks { word, bits }));
 }
 
 /// Reads the ticket's block.

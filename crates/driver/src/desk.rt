@@ -19,12 +19,13 @@ ghost use Rattle.driver.specs.Sinks.{CutsStep, CutsRun};
 
 use crate::automaton::{ask, told};
 use crate::judge::judge;
+use crate::marked::MarkedBook;
 use crate::seats::Seats;
 use crate::sink::{Closed, Cut, Sink};
 use crate::turn::{Activity, Outcome, Pending, Seat, Stage, Transition, Want};
 use crate::{calls, seats};
 use block_store::BlockDevice;
-use book::{Book, Event, Pass};
+use book::{Event, Pass};
 use machine::command::{Actor, Answer, Command, Reply, Step, Word};
 use machine::config::Config;
 use machine::refusal::Refusal;
@@ -35,7 +36,7 @@ use trace::Trace;
 #[must_use]
 pub struct Desk {
     pub alloc: Global,
-    pub book: Book,
+    pub book: MarkedBook,
     pub pass: Pass,
     pub seats: Seats,
     /// The most turns of a finish.
@@ -51,10 +52,10 @@ impl Desk {
         ensures err { IfErr result (λ cause. (cause ≡ Refusal.Invalid) × (is_config config ≡ false) ⊎ (cause ≡ Refusal.NoMemory) × (is_config config ≡ true)) }
     {
         let turns = config.turns;
-        let mut book = Book::open(alloc, config)?;
+        let mut book = MarkedBook::open(alloc, config)?;
         match book.pass() {
             Err(_) => {
-                let _ = book.close();
+                let _ = book.into_book().close();
                 Err(Refusal::NoMemory)
             }
             Ok(pass) => Ok(Desk {
@@ -70,7 +71,7 @@ impl Desk {
     /// One event of the book, and what the command makes of its reply.
     fn ask_book(&mut self, pending: Pending, event: Event) -> Result<Transition, AllocError>
         requires current { is_current self.old.book self.old.pass ≡ true }
-        requires room { 0 < self.old.pass.room }
+        requires room { 2 ≤ self.old.pass.room }
         requires awaits { AwaitsAll (Want.Call pending event) }
         requires own { OwnEvent (worker_of_desk self.old) (blocks_of_desk self.old) event }
         ensures asks { IfOk result (λ transition. Asks self.old.pass.caller self.old.book pending event transition self.new.book) }
@@ -82,7 +83,7 @@ impl Desk {
         ensures seats { self.new.seats ≡ self.old.seats }
         ensures limit { self.new.turns ≡ self.old.turns }
     {
-        let reply = calls::call(&mut self.book, &mut self.pass, event);
+        let reply = self.book.call(&mut self.pass, event);
         told(self.alloc, pending, reply)
     }
 
@@ -103,7 +104,7 @@ impl Desk {
         stage: Stage,
     ) -> Result<Transition, AllocError>
         requires on { IsOn self.old (D.disk device.old) }
-        requires room { length self.old.seats < self.old.pass.room }
+        requires room { length self.old.seats + 2 ≤ self.old.pass.room }
         requires own { OwnStage (worker_of_desk self.old) (blocks_of_desk self.old) stage }
         ensures turns { IfOk result (λ transition. WantTurn self.old.pass.caller self.old.book (D.disk device.old) (wants_at self.old.book stage) transition self.new.book (D.disk device.new)) }
         ensures own { IfOk result (λ transition. OwnTransition (worker_of_desk self.old) (blocks_of_desk self.old) transition) }
@@ -132,7 +133,7 @@ impl Desk {
         stage: Stage,
     ) -> Result<Outcome, AllocError>
         requires on { IsOn self.old (D.disk device.old) }
-        requires room { length self.old.seats < self.old.pass.room }
+        requires room { length self.old.seats + 2 ≤ self.old.pass.room }
         requires own { OwnStage (worker_of_desk self.old) (blocks_of_desk self.old) stage }
         requires seated { place_of actor self.old.seats < length self.old.seats }
         requires free { is_under_way (activity_of actor self.old.seats) ≡ false }
@@ -147,16 +148,16 @@ impl Desk {
         Ok(outcome)
     }
 
-    /// Room in the pass for all that one turn asks, a path or two and an event, beside the end of each transfer
-    /// whose ticket is in hand, of which a seat has one at most.
+    /// Room in the pass for all that one turn asks, a path or two, an event and the merge of the mark of a page that
+    /// it hit, beside the end of each transfer whose ticket is in hand, of which a seat has one at most.
     fn make_room(&mut self) -> Result<(), AllocError>
-        ensures room { OnOk result (length self.new.seats + 3 ≤ self.new.pass.room) }
+        ensures room { OnOk result (length self.new.seats + 4 ≤ self.new.pass.room) }
         ensures same { (disk : Disk) → world self.new disk ≡ world self.old disk }
         ensures seats { self.new.seats ≡ self.old.seats }
         ensures limit { self.new.turns ≡ self.old.turns }
         ensures on { (disk : Disk) → IsOn self.old disk → IsOn self.new disk }
     {
-        match self.pass.reserve(self.seats.len() + 3) {
+        match self.pass.reserve(self.seats.len() + 4) {
             Ok(()) => Ok(()),
             Err(_) => Err(AllocError),
         }
@@ -186,7 +187,7 @@ impl Desk {
         actor: Actor,
     ) -> Result<Outcome, AllocError>
         requires on { IsOn self.old (D.disk device.old) }
-        requires room { length self.old.seats + 3 ≤ self.old.pass.room }
+        requires room { length self.old.seats + 4 ≤ self.old.pass.room }
         ensures turn { IfOk result (λ outcome. Turn (world self.old (D.disk device.old)) actor outcome (world self.new (D.disk device.new))) }
         ensures on { IsOn self.new (D.disk device.new) }
         ensures same { IsSame (D.disk device.old) (D.disk device.new) }
@@ -195,7 +196,7 @@ impl Desk {
         match self.seats.take(actor) {
             Activity::Rests => Ok(seats::word(Word::Idle)),
             Activity::Begun(command) => {
-                match judge(self.alloc, &self.book, &mut self.pass, actor, command) {
+                match judge(self.alloc, self.book.book(), &mut self.pass, actor, command) {
                     Err(cause) => Ok(seats::word(Word::Refused(cause))),
                     Ok(stage) => Ok(self.turn_stage(device, actor, stage)?),
                 }
@@ -234,7 +235,7 @@ impl Desk {
         ensures unseen { S.saw sink.old sink.new [] }
     {
         if let Some(cause) = self.seats.relief_of(actor) {
-            sink.see_relief(at, &self.book, cause);
+            sink.see_relief(at, self.book.book(), cause);
         }
     }
 
@@ -330,7 +331,7 @@ impl Desk {
     {
         for (at, step) in steps.iter().enumerate() {
             self.step(device, at, step, sink)?;
-            sink.look(at, &self.book);
+            sink.look(at, self.book.book());
         }
         Ok(())
     }
@@ -346,11 +347,12 @@ impl Desk {
     {
         let Desk {
             alloc: _,
-            mut book,
+            book,
             mut pass,
             seats,
             turns: _,
         } = self;
+        let mut book = book.into_book();
         let mut seats = seats.into_list();
         while let Some(seat) = seats.pop() {
             let Seat { actor: _, activity } = seat;

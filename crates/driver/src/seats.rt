@@ -64,7 +64,7 @@ impl Seats {
     /// How many there are.
     pub fn len(&self) -> usize
         ensures len { result ≡ length self.now }
-        ensures few { result + 3 ≤ usize.MAX }
+        ensures few { result + 4 ≤ usize.MAX }
     {
         self.list.len()
     }

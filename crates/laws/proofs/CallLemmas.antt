@@ -1,8 +1,9 @@
 -- What one call leaves of the lists of held pages and of the order in which they leave.
-use Rattle.std.proofs.Common.{◌≡◌, inl, inr, ℕ, ◌+◌, ◌<◌, ◌==◌, ◌&&◌, not, Bool, true, false, List, [], ◌∷◌, ◌++◌, length, Option, Some, None, eqb-true, refl, sym, ap, ◌∙◌, subst, length-append, length-set, get_or-set_other}
+use Rattle.std.proofs.Common.{◌≡◌, inl, inr, ℕ, ◌+◌, ◌<◌, ◌≤◌, ◌==◌, ◌&&◌, ◌||◌, not, Bool, true, false, List, [], ◌∷◌, ◌++◌, length, Option, Some, None, eqb-true, arith, refl, sym, ap, ◌∙◌, subst, length-append, length-set, get_or-set_other}
 use Rattle.std.specs.Prelude.{◌⊎◌, MatchBool, IfSome, slice_set}
 use Rattle.std.specs.List.{AllByRecursion}
 use Rattle.std.proofs.lemmas.Bool.{and_parts, eqb-false, true≢false}
+use Rattle.std.proofs.lemmas.Bool.Decides.{nat_tests}
 use Rattle.std.proofs.lemmas.List.{get_or-set_same, length-replicate}
 use Rattle.machine.specs.declared.id.FrameId.{FrameId}
 use Rattle.machine.specs.declared.id.TaskId.{TaskId}
@@ -18,15 +19,15 @@ use Rattle.machine.specs.declared.reply.Reply.{Reply}
 use Rattle.machine.specs.declared.reply.Reply.TheVariants as reply
 use Rattle.machine.specs.Slots.{there_and}
 use Rattle.machine.specs.Tree.{Node, node_at}
-use Rattle.machine.specs.Pages.{Page, Pages, page_at, is_anon, is_held, is_held_in}
+use Rattle.machine.specs.Pages.{Page, Pages, page_at, is_anon, is_held, is_held_in, in_transfer}
 use Rattle.machine.specs.State.{Opening, State, page_numbers, first_state, is_swap_free}
 use Rattle.machine.specs.Reclaim.{target_of}
 use Rattle.machine.specs.Generations.{Gens, new_gens, of_kind, row_of, gens_at, IsGens}
 use Rattle.machine.specs.Aging.{is_marked, has_mark}
 use Rattle.machine.specs.Eviction.{old_pages}
-use Rattle.machine.specs.Lists.{HeldLists, Order, Orders, first_order, PicksOf, is_held_of, ListsHeld, AreGenerations, Generation, Youngest, generation_for, GoesOn, shown_at, hit_of, with_mark, with_group, TakesNext, AddsLists, RemovesLists, Keeps}
+use Rattle.machine.specs.Lists.{HeldLists, Order, Orders, first_order, PicksOf, is_held_of, ListsHeld, AreGenerations, Generation, Youngest, generation_for, GoesOn, is_in_bits, MergesMarks, with_group, TakesNext, AddsLists, RemovesLists, Keeps}
 use Rattle.machine.specs.Refusals.{refusal}
-use Rattle.machine.specs.Call.{Past, Caller, Answers, Answered, JudgedBy, Called, knows_pass, is_trace_full}
+use Rattle.machine.specs.Call.{Past, Caller, Answers, Refuses, Answered, JudgedBy, Called, knows_pass, is_trace_full}
 use Rattle.machine.specs.Step.{new_node, Removes, Step}
 use Rattle.machine.specs.Legal.{Legal}
 use Rattle.machine.proofs.Values.{some_inj, unlike}
@@ -34,13 +35,15 @@ use Rattle.machine.proofs.TreeLemmas.{eq_cases}
 use Rattle.machine.proofs.CursorLemmas.{cursors-push, cursors-set}
 use Rattle.legal.proofs.Did.{is_rmdir, changes_groups}
 use Rattle.legal.proofs.OpeningLemmas.{tree_after, step_opening, step_tree}
-use Rattle.machine.proofs.HeldLemmas.{held-go_on, held-marked, gens_at-more, held-group, generations-group, goes_length, goes-max, goes-min, generations-go_on, first-held, first-generations}
-use Rattle.legal.proofs.StepLemmas.{step-places, mkdir-pages, legal-lists, legal-numbered, access-hits, step-hit}
+use Rattle.machine.proofs.HeldLemmas.{held-go_on, gens_at-more, held-group, generations-group, goes_length, goes-max, goes-min, generations-go_on, first-held, first-generations}
+use Rattle.legal.proofs.StepLemmas.{step-places, mkdir-pages, legal-lists, legal-numbered}
 use Rattle.legal.proofs.RemovedCounts.{removal, SameNumbers, numbers-handed, length-handed, handed, held-removed, generations-removed}
 use Rattle.legal.proofs.OrdersLemmas.{orders_alike}
 use Rattle.legal.proofs.SoundLemmas.{legal-sound}
 use Rattle.eviction.proofs.SoundLemmas.{picked-length, picked-generations, picked-size, picked-held, picked-of, picked-marked, picked-unmarked}
-use Rattle.laws.specs.Laws.{took_for, TakesUnprotected, ListsGoOn, HeldPagesGoOn, KeepNumbers, OnlyTakesAge, OnlyHitsMark, LeavesInOrder, OrdersAreSettled}
+use Rattle.laws.specs.Laws.{took_for, TakesUnprotected, ListsGoOn, HeldPagesGoOn, KeepNumbers, OnlyTakesAge, OnlyMergesMark, ChangesMarksAlone, MergesChangeMarksAlone, LeavesInOrder, OrdersAreSettled}
+use Rattle.machine.proofs.MergeLemmas.{held-merged, generations-merged}
+use Rattle.legal.proofs.TransferLemmas.{legal-room}
 use Rattle.laws.proofs.LawLemmas.{by_test}
 use Rattle.laws.proofs.ReclaimLemmas.{reclaims_spare_the_protected}
 
@@ -57,7 +60,7 @@ called_or {P} old new caller what answer same answers called = by_test (knows_pa
     by_cause (Some why) h = same h.1
     by_cause None h = by_test (is_trace_full old what) (λ k. same k.1) (served_or old new caller what answer same answers) h
 
-abbrev is_refusal : Reply → Bool
+abbrev pub is_refusal : Reply → Bool
 is_refusal (reply.Refused why) = true
 is_refusal answer = false
 
@@ -77,20 +80,22 @@ module _ (old new : Past) (caller : Caller) (what : Event) (answer : Reply) (ser
       by_cause (Some why) h = not_refused why h.0
       by_cause None h = by_test (is_trace_full old what) (λ k. not_refused TraceFull k.0) (served_answers answer refl) h
 
--- how the order goes on, by whether a page is taken, a group is made, one is removed, or none of these
+-- how the order goes on, by whether a page is taken, a group is made, one is removed, marks are merged, or none of these
 orders_or : {P : Type 0} (old new : State) (order order' : Order) (what : Event) (answer : Reply)
     → ((target : ℕ) → took_for what answer ≡ Some target → changes_groups what ≡ false → TakesNext old order target new order' → P)
     → ((path : List ℕ) → what ≡ event.Mkdir path → AddsLists order order' → P)
     → ((g : GroupId) → what ≡ event.Rmdir g → RemovesLists (node_at old.tree g.0).parent g.0 order order' → P)
+    → ((word bits : ℕ) → what ≡ event.MergeMarks word bits → MergesMarks old.pages word bits order.held order'.held × (order'.cursors ≡ order.cursors) → P)
     → (changes_groups what ≡ false → Keeps old order what answer new order' → P)
     → Orders old order what answer new order' → P
-orders_or old new order order' (event.Relieve cause) (reply.Out ticket) takes adds removes keeps h = takes (target_of cause) refl refl h
-orders_or old new order order' (event.Relieve cause) reply.Dropped takes adds removes keeps h = takes (target_of cause) refl refl h
-orders_or old new order order' (event.ReclaimOne g) (reply.Out ticket) takes adds removes keeps h = takes g.0 refl refl h
-orders_or old new order order' (event.ReclaimOne g) reply.Dropped takes adds removes keeps h = takes g.0 refl refl h
-orders_or old new order order' (event.Mkdir path) answer takes adds removes keeps h = adds path refl h
-orders_or old new order order' (event.Rmdir g) answer takes adds removes keeps h = removes g refl h
-orders_or old new order order' what answer takes adds removes keeps h = keeps refl h
+orders_or old new order order' (event.Relieve cause) (reply.Out ticket) takes adds removes merges keeps h = takes (target_of cause) refl refl h
+orders_or old new order order' (event.Relieve cause) reply.Dropped takes adds removes merges keeps h = takes (target_of cause) refl refl h
+orders_or old new order order' (event.ReclaimOne g) (reply.Out ticket) takes adds removes merges keeps h = takes g.0 refl refl h
+orders_or old new order order' (event.ReclaimOne g) reply.Dropped takes adds removes merges keeps h = takes g.0 refl refl h
+orders_or old new order order' (event.Mkdir path) answer takes adds removes merges keeps h = adds path refl h
+orders_or old new order order' (event.Rmdir g) answer takes adds removes merges keeps h = removes g refl h
+orders_or old new order order' (event.MergeMarks word bits) answer takes adds removes merges keeps h = merges word bits refl h
+orders_or old new order order' what answer takes adds removes merges keeps h = keeps refl h
 
 -- an event that leaves the groups leaves the tree, and removes none
 same-groups : (old : State) (what : Event) → changes_groups what ≡ false → (tree_after old what ≡ old.tree) × (is_rmdir what ≡ false)
@@ -134,14 +139,10 @@ ordered-first opening = record {
   cursors = refl;
 }
 
--- a mark changes no list
-marked-groups : (p : Option ℕ) (held : HeldLists) → (with_mark p held).groups ≡ held.groups
-marked-groups None held = refl
-marked-groups (Some p) held = refl
-
-marked-size : (p : Option ℕ) (held : HeldLists) → length (with_mark p held).marks ≡ length held.marks
-marked-size None held = refl
-marked-size (Some p) held = length-set held.marks p true
+-- a merge that is answered leaves the state
+merge-same : (old new : State) (word bits : ℕ) (answer : Reply) → Step old (event.MergeMarks word bits) answer new → new ≡ old
+merge-same old new word bits reply.Ok step = step
+merge-same old new word bits answer step = absurd step
 
 module _ (opening : Opening) (history : List Entry) (old new : State) (order order' : Order) (what : Event) (answer : Reply) (legal : Legal opening history new) (step : Step old what answer new) where
   -- from lists that are right, those that go on are
@@ -167,14 +168,18 @@ module _ (opening : Opening) (history : List Entry) (old new : State) (order ord
 
   ordered-keeps : changes_groups what ≡ false → Keeps old order what answer new order' → IsInOrder old order → IsInOrder new order'
   ordered-keeps same h was =
-      let held : HeldLists = with_mark (hit_of old what answer) order.held in
-      goes-ordered (generation_for what) held same h.0 (by_hit (hit_of old what answer) refl) (λ g. subst (λ (xs : List Gens). IsGens (gens_at xs g)) (sym (marked-groups (hit_of old what answer) order.held)) (was.sound g))
-      (ap (λ (xs : List Gens). length xs) (marked-groups (hit_of old what answer) order.held) ∙ was.groups) (marked-size (hit_of old what answer) order.held ∙ was.marks)
-      (ap (λ (xs : List (Option ℕ)). length xs) h.1 ∙ was.cursors)
-    where
-      by_hit : (p : Option ℕ) → hit_of old what answer ≡ p → ListsHeld old.pages (with_mark p order.held)
-      by_hit None e = was.listed
-      by_hit (Some p) e = held-marked old.pages order.held p (step-hit old what answer new step p e) was.listed
+      goes-ordered (generation_for what) order.held same h.0 was.listed was.sound was.groups was.marks (ap (λ (xs : List (Option ℕ)). length xs) h.1 ∙ was.cursors)
+
+  ordered-merges : (word bits : ℕ) → what ≡ event.MergeMarks word bits → MergesMarks old.pages word bits order.held order'.held × (order'.cursors ≡ order.cursors) → IsInOrder old order → IsInOrder new order'
+  ordered-merges word bits e h was =
+      subst (λ (s : State). IsInOrder s order') (sym (merge-same old new word bits answer (subst (λ (w : Event). Step old w answer new) e step)))
+      (record {
+        listed = held-merged old.pages word bits order.held order'.held h.0 was.listed;
+        sound = generations-merged old.pages word bits order.held order'.held h.0 was.sound;
+        groups = ap (λ (xs : List Gens). length xs) h.0.groups ∙ was.groups;
+        marks = h.0.size ∙ was.marks;
+        cursors = ap (λ (xs : List (Option ℕ)). length xs) h.1 ∙ was.cursors;
+      })
 
   ordered-adds : (path : List ℕ) → what ≡ event.Mkdir path → AddsLists order order' → IsInOrder old order → IsInOrder new order'
   ordered-adds path e h was =
@@ -207,7 +212,7 @@ module _ (opening : Opening) (history : List Entry) (old new : State) (order ord
 
   ordered-step : Orders old order what answer new order' → IsInOrder old order → IsInOrder new order'
   ordered-step orders was =
-      orders_or old new order order' what answer (λ target took same h. ordered-takes target same h was) (λ path e h. ordered-adds path e h was) (λ g e h. ordered-removes g e h was) (λ same h. ordered-keeps same h was) orders
+      orders_or old new order order' what answer (λ target took same h. ordered-takes target same h was) (λ path e h. ordered-adds path e h was) (λ g e h. ordered-removes g e h was) (λ word bits e h. ordered-merges word bits e h was) (λ same h. ordered-keeps same h was) orders
 
 pub ordered-called : (opening : Opening) (old new : Past) (caller : Caller) (what : Event) (answer : Reply) → Legal opening new.history new.state → Called old caller what answer new → IsOrdered old → IsOrdered new
 ordered-called opening old new caller what answer legal called was =
@@ -223,24 +228,23 @@ lists_go old new (event.ReclaimOne g) (reply.Out ticket) none h = cc
 lists_go old new (event.ReclaimOne g) reply.Dropped none h = cc
 lists_go old new (event.Mkdir path) answer none h = ap (λ (o : Order). o.held) h
 lists_go old new (event.Rmdir g) answer none h = h
+lists_go old new (event.MergeMarks word bits) answer none h = h.0
 lists_go old new what answer none h = h.0
 
 pub held_pages_go_on : HeldPagesGoOn
 held_pages_go_on old new caller what answer none called = called_or old new caller what answer (λ same. inl same) (λ h. inr (lists_go old new what answer none h.order)) called
 
 -- the numbers of generations, over lists that go on
-goes-numbers : (generation : Generation) (before after : Pages) (p : Option ℕ) (held held' : HeldLists) → GoesOn generation before (with_mark p held) after held' → KeepNumbers held held'
-goes-numbers generation before after p held held' goes g = (
-  goes-max generation before after (with_mark p held) held' goes g ∙ ap (λ (xs : List Gens). (gens_at xs g).max_seq) (marked-groups p held),
-  λ kind. goes-min generation before after (with_mark p held) held' goes g kind ∙ ap (λ (xs : List Gens). (row_of kind (gens_at xs g)).min_seq) (marked-groups p held),
-)
+goes-numbers : (generation : Generation) (before after : Pages) (held held' : HeldLists) → GoesOn generation before held after held' → KeepNumbers held held'
+goes-numbers generation before after held held' goes g = (goes-max generation before after held held' goes g, λ kind. goes-min generation before after held held' goes g kind)
 
 keeps-numbers : (old new : Past) (what : Event) (answer : Reply) → ListsGoOn old what answer new → KeepNumbers old.order.held new.order.held
 keeps-numbers old new (event.Mkdir path) answer h = λ g.
     let same : gens_at new.order.held.groups g ≡ gens_at old.order.held.groups g = ap (λ (held : HeldLists). gens_at held.groups g) h ∙ gens_at-more old.order.held.groups g in
     (ap (λ (x : Gens). x.max_seq) same, λ kind. ap (λ (x : Gens). (row_of kind x).min_seq) same)
 keeps-numbers old new (event.Rmdir g) answer h = removes-numbers (node_at old.state.tree g.0).parent g.0 old.order new.order h
-keeps-numbers old new what answer h = goes-numbers (generation_for what) old.state.pages new.state.pages (hit_of old.state what answer) old.order.held new.order.held h
+keeps-numbers old new (event.MergeMarks word bits) answer h = λ g. (ap (λ (xs : List Gens). (gens_at xs g).max_seq) h.groups, λ kind. ap (λ (xs : List Gens). (row_of kind (gens_at xs g)).min_seq) h.groups)
+keeps-numbers old new what answer h = goes-numbers (generation_for what) old.state.pages new.state.pages old.order.held new.order.held h
 
 pub only_takes_age : OnlyTakesAge
 only_takes_age old new caller what answer none called =
@@ -249,51 +253,19 @@ only_takes_age old new caller what answer none called =
 
 -- ---- marks
 
--- the page that a place shows is marked
-pub record Marks (old : Past) (t : TaskId) (place : Place) (new : Past) : Type 0 where
-  pub p : ℕ
-  pub shown : shown_at old.state t.0 place ≡ Some p
-  pub marked : is_marked new.order.held.marks p ≡ true
-
-pub called_marks : (opening : Opening) (old new : Past) (caller : Caller) (t : TaskId) (place : Place) (op : Op) (byte : ℕ) (frame : FrameId) → Legal opening old.history old.state → IsOrdered old
-    → Called old caller (event.Access t place op) (reply.Done byte (Some frame)) new → Marks old t place new
-called_marks opening old new caller t place op byte frame legal was called =
-    let h = called_answers old new caller (event.Access t place op) (reply.Done byte (Some frame)) refl called in
-    let hit = access-hits old.state new.state t place op byte frame h.steps in
-    let shows : Option ℕ = shown_at old.state t.0 place in
-    let below : hit.p < length old.order.held.marks = has_number hit.p hit.before in
-    record {
-      p = hit.p;
-      shown = hit.shown;
-      marked =
-          h.order.0.marks hit.p
-          ∙ ap (λ (b : Bool). b && is_held_in new.state.pages hit.p && is_marked (with_mark shows old.order.held).marks hit.p) hit.before
-          ∙ ap (λ (b : Bool). b && is_marked (with_mark shows old.order.held).marks hit.p) hit.after
-          ∙ ap (λ (q : Option ℕ). is_marked (with_mark q old.order.held).marks hit.p) hit.shown
-          ∙ get_or-set_same old.order.held.marks hit.p true false below;
-    }
-  where
-    -- a page that is held has a number that has a mark
-    has_number : (p : ℕ) → is_held_in old.state.pages p ≡ true → p < length old.order.held.marks
-    has_number p held =
-        let size : length old.order.held.marks ≡ page_numbers opening = was.marks ∙ ap (λ (o : Opening). page_numbers o) (legal-sound opening old.history old.state legal).0 in
-        subst (λ (n : ℕ). p < n) (sym size) (by_slot (page_at old.state.pages p) held ((legal-numbered opening old.history old.state legal).below p))
-      where
-        by_slot : (slot : Option Page) → there_and is_held slot ≡ true → IfSome slot (λ page. p < page_numbers opening) → p < page_numbers opening
-        by_slot None held below = absurd (true≢false (sym held))
-        by_slot (Some page) held below = below
-
 -- a page that is marked after lists go on was marked before
 goes-marked : (generation : Generation) (before after : Pages) (held held' : HeldLists) → GoesOn generation before held after held' → (p : ℕ) → is_marked held'.marks p ≡ true → is_marked held.marks p ≡ true
 goes-marked generation before after held held' goes p m = (and_parts (is_held_in before p && is_held_in after p) (is_marked held.marks p) (sym (goes.marks p) ∙ m)).1
 
-marked-before : (held : HeldLists) (hit : Option ℕ) (p : ℕ) → is_marked (with_mark hit held).marks p ≡ true → (is_marked held.marks p ≡ true) ⊎ (hit ≡ Some p)
-marked-before held None p m = inl m
-marked-before held (Some q) p m = by_page (p == q) refl
+-- one that is marked after a merge was marked before, or the merge names it
+merged-before : (pages : Pages) (word bits : ℕ) (held held' : HeldLists) → MergesMarks pages word bits held held' → (p : ℕ) → is_marked held'.marks p ≡ true → (is_marked held.marks p ≡ true) ⊎ (there_and (is_in_bits word bits) (page_at pages p) ≡ true)
+merged-before pages word bits held held' h p m = by_mark (is_marked held.marks p) (there_and (is_in_bits word bits) (page_at pages p)) refl refl (sym (h.marks p) ∙ m)
   where
-    by_page : (b : Bool) → (p == q) ≡ b → (is_marked held.marks p ≡ true) ⊎ (Some q ≡ Some p)
-    by_page true e = inr (ap (λ (n : ℕ). Some n) (sym (eqb-true p q e)))
-    by_page false e = inl (sym (get_or-set_other held.marks q p true false (λ same. eqb-false p q e same)) ∙ m)
+    by_mark : (a b : Bool) → is_marked held.marks p ≡ a → there_and (is_in_bits word bits) (page_at pages p) ≡ b → (is_marked held.marks p || there_and (is_in_bits word bits) (page_at pages p)) ≡ true
+        → (is_marked held.marks p ≡ true) ⊎ (there_and (is_in_bits word bits) (page_at pages p) ≡ true)
+    by_mark true b was named e = inl was
+    by_mark false true was named e = inr named
+    by_mark false false was named e = absurd (true≢false (sym e ∙ ap (λ (x : Bool). x || there_and (is_in_bits word bits) (page_at pages p)) was ∙ named))
 
 takes-marked : (old new : State) (order order' : Order) (target : ℕ) → TakesNext old order target new order' → (p : ℕ) → is_marked order'.held.marks p ≡ true → is_marked order.held.marks p ≡ true
 takes-marked old new order order' target h p m = by_mark (is_marked order.held.marks p) refl
@@ -305,15 +277,50 @@ takes-marked old new order order' target h p m = by_mark (is_marked order.held.m
     by_mark true e = refl
     by_mark false e = absurd (true≢false (sym looked ∙ picked-unmarked (is_swap_free old) order.held h.g (Some h.p) h.looked h.picked p e))
 
-pub only_hits_mark : OnlyHitsMark
-only_hits_mark old new caller what answer called p m =
+pub only_merges_mark : OnlyMergesMark
+only_merges_mark old new caller what answer called p m =
     called_or old new caller what answer (λ same. inl (ap (λ (x : Past). is_marked x.order.held.marks p) (sym same) ∙ m))
     (λ h.
     orders_or old.state new.state old.order new.order what answer (λ target took same k. inl (takes-marked old.state new.state old.order new.order target k p m))
     (λ path e k. inl (ap (λ (x : Order). is_marked x.held.marks p) (sym k) ∙ m))
     (λ g e k. inl (ap (λ (marks : List Bool). is_marked marks p) (sym (removes-marks (node_at old.state.tree g.0).parent g.0 old.order new.order k)) ∙ m))
-    (λ same k. marked-before old.order.held (hit_of old.state what answer) p (goes-marked (generation_for what) old.state.pages new.state.pages (with_mark (hit_of old.state what answer) old.order.held) new.order.held k.0 p m))
+    (λ word bits e k.
+    elim (merged-before old.state.pages word bits old.order.held new.order.held k.0 p m) [
+      | inl was ↦ inl was
+      | inr named ↦ inr (word, bits, e, named)
+    ])
+    (λ same k. inl (goes-marked (generation_for what) old.state.pages new.state.pages old.order.held new.order.held k.0 p m))
     h.order) called
+
+pub merges_change_marks_alone : MergesChangeMarksAlone
+merges_change_marks_alone old new caller word bits answer called =
+    called_or old new caller (event.MergeMarks word bits) answer
+    (λ same. subst (λ (p : Past). ChangesMarksAlone old p) (sym same) (record { state = refl; history = refl; passes = refl; lists = refl; cursors = refl; kept = λ p e. e }))
+    (λ h.
+    record {
+      state = merge-same old.state new.state word bits answer h.steps;
+      history = h.history;
+      passes = h.passes;
+      lists = h.order.0.groups;
+      cursors = h.order.1;
+      kept = λ p e. h.order.0.marks p ∙ ap (λ (b : Bool). b || there_and (is_in_bits word bits) (page_at old.state.pages p)) e;
+    }) called
+
+-- a merge needs no room but that which each legal past has
+pub merge_served : (opening : Opening) (old new : Past) (caller : Caller) (word bits : ℕ) (answer : Reply) → Legal opening old.history old.state → Called old caller (event.MergeMarks word bits) answer new → Answers old caller (event.MergeMarks word bits) answer new
+merge_served opening old new caller word bits answer legal called = by_room (is_trace_full old (event.MergeMarks word bits)) refl answer called
+  where
+    not_full : is_trace_full old (event.MergeMarks word bits) ≡ true → ⊥
+    not_full full = let room = legal-room opening old.history old.state legal in let wanted : length old.history + in_transfer old.state.pages + 0 ≤ old.state.opening.trace_limit = omega (arith, room) in true≢false (sym full ∙ grind (arith, nat_tests, wanted))
+
+    by_room : (full : Bool) → is_trace_full old (event.MergeMarks word bits) ≡ full → (said : Reply) → MatchBool full (Refuses old TraceFull said new) (Answered old caller (event.MergeMarks word bits) said new) → Answers old caller (event.MergeMarks word bits) said new
+    by_room true is said h = absurd (not_full is)
+    by_room false is (reply.Refused why) h = cc
+    by_room false is said h = h
+
+pub merge_says : (old new : State) (word bits : ℕ) (answer : Reply) → Step old (event.MergeMarks word bits) answer new → answer ≡ reply.Ok
+merge_says old new word bits reply.Ok step = refl
+merge_says old new word bits answer step = absurd step
 
 -- ---- the page that is taken
 

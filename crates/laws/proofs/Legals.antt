@@ -2,6 +2,7 @@
 use Rattle.std.proofs.Common.{ℕ, ◌≡◌, inl, inr, Bool, true, false, List, [], ◌∷◌, Option, Some, None, refl, sym, subst}
 use Rattle.std.specs.Prelude.{◌⊎◌, MatchBool, Ok, Err}
 use Rattle.machine.specs.declared.event.Event.{Event}
+use Rattle.machine.specs.declared.event.Event.TheVariants as event
 use Rattle.machine.specs.declared.refusal.Refusal.{Refusal}
 use Rattle.machine.specs.declared.refusal.Refusal.TheVariants.{Stranger, TraceFull}
 use Rattle.machine.specs.declared.reply.Reply.{Reply}
@@ -26,6 +27,7 @@ use Rattle.machine.specs.Call.{Past, Caller, knows_pass, Refuses, Answered, Judg
 use Rattle.machine.specs.Legal.{Legal}
 use Rattle.driver.specs.Turns.{Judged, judged}
 use Rattle.driver.specs.Schedule.{World, WantTurn, wants_at, first_world, activity_of, StageTurn, JudgedTurn, ActivityTurn, Goings, EndsIn, RunsOut, Begins, Stepped, Runs}
+use Rattle.driver.proofs.MarkLemmas.{marks-stay}
 use Rattle.laws.specs.Laws.{RunsAreLegal}
 
 module _ (opening : Opening) where
@@ -41,9 +43,11 @@ module _ (opening : Opening) where
   legal-served : (old new : Past) (caller : Caller) (what : Event) (answer : Reply) → knows_pass old.state old.history caller what ≡ true → refusal old.state what ≡ None → is_trace_full old what ≡ false
       → Answered old caller what answer new → IsLegal old → IsLegal new
   legal-served old new caller what (reply.Refused why) known none room h legal = legal-same old new h.2 legal
-  legal-served old new caller what answer known none room h legal = rw h.history (old.state, legal, record { known = known; unrefused = none; room = room; steps = h.steps })
+  legal-served old new caller (event.MergeMarks word bits) reply.Ok known none room h legal = rw (h.history, h.steps) legal
+  legal-served old new caller (event.MergeMarks word bits) answer known none room h legal = absurd h.steps
+  legal-served old new caller what answer known none room h legal = rw h.history (old.state, legal, record { kept = refl; known = known; unrefused = none; room = room; steps = h.steps })
 
-  legal-called : (old new : Past) (caller : Caller) (what : Event) (answer : Reply) → Called old caller what answer new → IsLegal old → IsLegal new
+  pub legal-called : (old new : Past) (caller : Caller) (what : Event) (answer : Reply) → Called old caller what answer new → IsLegal old → IsLegal new
   legal-called old new caller what answer called legal = by_ticket (knows_pass old.state old.history caller what) refl called
     where
       by_room : (full : Bool) → knows_pass old.state old.history caller what ≡ true → is_trace_full old what ≡ full → refusal old.state what ≡ None
@@ -62,7 +66,10 @@ module _ (opening : Opening) where
 
   -- a device call leaves the past as it was
   pub legal-want : (caller : Caller) (past past' : Past) (disk disk' : Disk) (wanted : Want) (transition : Transition) → WantTurn caller past disk wanted transition past' disk' → IsLegal past → IsLegal past'
-  legal-want caller past past' disk disk' (want.Call remembers what) transition turn legal = legal-called past past' caller (event_of what) (reply_of turn.0.said) turn.0.called legal
+  legal-want caller past past' disk disk' (want.Call remembers what) transition turn legal =
+      let asks = turn.0 in
+      let stays = marks-stay caller asks.mid past' (reply_of asks.said) asks.marks in
+      rw (stays.history, stays.state) (legal-called past asks.mid caller (event_of what) (reply_of asks.said) asks.called legal)
   legal-want caller past past' disk disk' (want.Read access ticket) transition turn legal = legal-same past past' turn.1 legal
   legal-want caller past past' disk disk' (want.Write on ticket) transition turn legal = legal-same past past' turn.1 legal
   legal-want caller past past' disk disk' (want.End said) transition turn legal = legal-same past past' turn.1 legal

@@ -5,3 +5,4 @@ pub mod RiseLemmas
 pub mod CallLemmas
 pub mod OrderLemmas
 pub mod ShareLemmas
+pub mod TurnLemmas

@@ -1,5 +1,8 @@
 -- In which order pages leave, in runs: the lists are right after every run, and so the page that is taken next is the one that they give.
-use Rattle.std.proofs.Common.{◌≡◌, true, List, sym, subst}
+use Rattle.std.proofs.Common.{◌≡◌, ◌/◌, true, List, Some, sym, subst}
+use Rattle.machine.specs.declared.event.Event.TheVariants as event
+use Rattle.machine.specs.declared.reply.Reply.{Reply}
+use Rattle.machine.specs.declared.reply.Reply.TheVariants as reply
 use Rattle.machine.specs.declared.config.Config.{Config}
 use Rattle.machine.specs.declared.command.Actor.{Actor}
 use Rattle.machine.specs.declared.command.Step.{Step as Line}
@@ -14,12 +17,12 @@ use Rattle.driver.specs.declared.turn.Outcome.{Outcome}
 use Rattle.driver.specs.declared.turn.Transition.{Transition}
 use Rattle.driver.specs.declared.turn.Want.{Want}
 use Rattle.driver.specs.declared.turn.Want.TheVariants as want
-use Rattle.driver.specs.Schedule.{World, first_world, with_activity, WantTurn, wants_at, StageTurn, Runs}
+use Rattle.driver.specs.Schedule.{World, first_world, with_activity, MarksAfter, WantTurn, wants_at, StageTurn, Runs}
 use Rattle.driver.proofs.Keeps.{is_idle, FineOutcome, IsAt, runs_keep}
 use Rattle.driver.proofs.Tickets.{Tickets, tickets_rest, tickets_turn, tickets_first}
-use Rattle.laws.specs.Laws.{HeldPagesAreListed, GenerationsHold, GroupsHaveCursors, HitsMark, PagesLeaveInOrder, MarkedPagesStay}
-use Rattle.laws.proofs.Legals.{IsLegal}
-use Rattle.laws.proofs.CallLemmas.{IsOrdered, ordered-first, ordered-called, called_marks, called_leaves, called_stays}
+use Rattle.laws.specs.Laws.{HeldPagesAreListed, GenerationsHold, GroupsHaveCursors, PagesLeaveInOrder, MarkedPagesStay}
+use Rattle.laws.proofs.Legals.{IsLegal, legal-called}
+use Rattle.laws.proofs.CallLemmas.{IsOrdered, ordered-first, ordered-called, called_leaves, called_stays}
 
 -- ---- runs
 
@@ -31,22 +34,30 @@ module _ (opening : Opening) where
   ordered_rest : (w : World) (who : Actor) (what : Activity) → is_idle what ≡ true → Ordered w → Ordered (record w { seats = with_activity who what w.seats })
   ordered_rest w who what idle h = record { tickets = tickets_rest opening w who what idle h.tickets; order = h.order }
 
-  want_ordered : (caller : Caller) (past past' : Past) (disk disk' : Disk) (wanted : Want) (transition : Transition) → WantTurn caller past disk wanted transition past' disk' → IsLegal opening past' → IsOrdered past → IsOrdered past'
-  want_ordered caller past past' disk disk' (want.Call remembers what) transition turn legal h = ordered-called opening past past' caller (event_of what) (reply_of turn.0.said) legal turn.0.called h
-  want_ordered caller past past' disk disk' (want.Read access ticket) transition turn legal h = subst IsOrdered (sym turn.1) h
-  want_ordered caller past past' disk disk' (want.Write on ticket) transition turn legal h = subst IsOrdered (sym turn.1) h
-  want_ordered caller past past' disk disk' (want.End said) transition turn legal h = subst IsOrdered (sym turn.1) h
+  -- a page that was hit is marked, and the lists are right still
+  marks-ordered : (caller : Caller) (mid new : Past) (said : Reply) → MarksAfter caller mid said new → IsLegal opening new → IsOrdered mid → IsOrdered new
+  marks-ordered caller mid new (reply.Done byte (Some frame)) h legal was = ordered-called opening mid new caller (event.MergeMarks (frame.0 / 64) h.bits) reply.Ok legal h.merged was
+  marks-ordered caller mid new said h legal was = subst IsOrdered (sym h) was
+
+  want_ordered : (caller : Caller) (past past' : Past) (disk disk' : Disk) (wanted : Want) (transition : Transition) → WantTurn caller past disk wanted transition past' disk' → IsLegal opening past → IsLegal opening past' → IsOrdered past → IsOrdered past'
+  want_ordered caller past past' disk disk' (want.Call remembers what) transition turn before legal h =
+      let asks = turn.0 in
+      marks-ordered caller asks.mid past' (reply_of asks.said) asks.marks legal
+      (ordered-called opening past asks.mid caller (event_of what) (reply_of asks.said) (legal-called opening past asks.mid caller (event_of what) (reply_of asks.said) asks.called before) asks.called h)
+  want_ordered caller past past' disk disk' (want.Read access ticket) transition turn before legal h = subst IsOrdered (sym turn.1) h
+  want_ordered caller past past' disk disk' (want.Write on ticket) transition turn before legal h = subst IsOrdered (sym turn.1) h
+  want_ordered caller past past' disk disk' (want.End said) transition turn before legal h = subst IsOrdered (sym turn.1) h
 
   ordered_turn : (old new : World) (who : Actor) (now : Stage) (outcome : Outcome) → IsAt old who now → StageTurn old who now outcome new → Ordered old → Ordered new × FineOutcome outcome
   ordered_turn old new who now outcome at turn h =
       let ticketed = tickets_turn opening old new who now outcome at turn h.tickets in
-      (record { tickets = ticketed.0; order = want_ordered old.caller old.past new.past old.disk new.disk (wants_at old.past now) turn.transition turn.turns ticketed.0.legal h.order }, ticketed.1)
+      (record { tickets = ticketed.0; order = want_ordered old.caller old.past new.past old.disk new.disk (wants_at old.past now) turn.transition turn.turns h.tickets.legal ticketed.0.legal h.order }, ticketed.1)
 
 ordered_first : (config : Config) (disk : Disk) → Ordered (opening_of config) (first_world config disk)
 ordered_first config disk = record { tickets = tickets_first config disk; order = ordered-first (opening_of config) }
 
 module _ (config : Config) (before : Disk) (lines : List Line) (answers : List Told_by) (end : World) (runs : Runs (first_world config before) lines answers end) where
-  runs_ordered : Ordered (opening_of config) end
+  pub runs_ordered : Ordered (opening_of config) end
   runs_ordered = (runs_keep (Ordered (opening_of config)) (ordered_rest (opening_of config)) (ordered_turn (opening_of config)) (first_world config before) end lines answers runs (ordered_first config before)).0
 
 -- ---- what a run leads to
@@ -61,12 +72,6 @@ pub groups_have_cursors : GroupsHaveCursors
 groups_have_cursors config before lines answers end runs = (runs_ordered config before lines answers end runs).order.cursors
 
 -- ---- and the next call
-
-pub hits_mark : HitsMark
-hits_mark config before lines answers end runs after caller t place op byte frame called =
-    let h = runs_ordered config before lines answers end runs in
-    let marks = called_marks (opening_of config) end.past after caller t place op byte frame h.tickets.legal h.order called in
-    (marks.p, marks.shown, marks.marked)
 
 pub pages_leave_in_order : PagesLeaveInOrder
 pages_leave_in_order config before lines answers end runs after caller what answer target took called =

@@ -19,6 +19,7 @@ use Rattle.machine.specs.declared.record.Key.{Key}
 use Rattle.machine.specs.declared.reply.Reply.{Reply}
 use Rattle.machine.specs.declared.reply.Reply.TheVariants as reply
 use Rattle.machine.specs.declared.reply.Shown.TheVariants as shown
+use Rattle.machine.specs.declared.command.Actor.{Actor}
 use Rattle.machine.specs.declared.command.Step.{Step as Line}
 use Rattle.machine.specs.declared.command.Reply.{Reply as Told_by}
 use Rattle.machine.specs.Slots.{there_and}
@@ -32,7 +33,7 @@ use Rattle.machine.specs.Reclaim.{is_idle, target_of}
 use Rattle.machine.specs.Generations.{row_of, listed, gens_at, AreDistinct}
 use Rattle.machine.specs.Aging.{is_marked, has_mark}
 use Rattle.machine.specs.Eviction.{old_pages}
-use Rattle.machine.specs.Lists.{HeldLists, Youngest, served, PicksOf, ListsHeld, AreGenerations, generation_for, GoesOn, shown_at, hit_of, with_mark, with_group, RemovesLists}
+use Rattle.machine.specs.Lists.{HeldLists, Youngest, served, PicksOf, ListsHeld, AreGenerations, generation_for, GoesOn, shown_at, is_in_bits, MergesMarks, with_group, RemovesLists}
 use Rattle.machine.specs.Victim.{is_candidate}
 use Rattle.machine.specs.Step.{Step}
 use Rattle.machine.specs.Call.{Past, Caller, Called, AreAlike}
@@ -46,7 +47,8 @@ use Rattle.machine.specs.declared.command.Answer.TheVariants as answer
 use Rattle.machine.specs.declared.command.Word.TheVariants as word
 use Rattle.machine.specs.declared.refusal.Refusal.TheVariants.{Stranger, NoMemory}
 use Rattle.block_store.specs.Device.{Disk}
-use Rattle.driver.specs.Schedule.{World, first_world, Runs, files_on, fits, errors}
+use Rattle.driver.specs.declared.turn.Outcome.{Outcome}
+use Rattle.driver.specs.Schedule.{World, first_world, Turn, Runs, files_on, fits, errors}
 
 -- the history of every run leads from the opening to the run's state, one step of the machine an entry
 abbrev pub RunsAreLegal : Type 0
@@ -189,13 +191,13 @@ GroupsHaveCursors =
     → length end.past.order.cursors ≡ length end.past.state.tree
 
 -- how the lists go on where no page is taken. A group more begins with no page. The pages of a group that goes are on its parent's lists, in the second youngest generation behind those
--- that are there, the oldest first, and marked as they were. Otherwise a hit marks its page; what is held no more leaves its list, all others stay as they
--- stood, and what comes to be held, one page at most, enters a generation of its group: the second youngest where it was read in, and else the youngest
+-- that are there, the oldest first, and marked as they were. Marks that are merged move no page. Otherwise what is held no more leaves its list, all others stay as they
+-- stood, marked as they were, and what comes to be held, one page at most, enters a generation of its group: the second youngest where it was read in, and else the youngest
 abbrev pub ListsGoOn : Past → Event → Reply → Past → Type 0
 ListsGoOn before (event.Mkdir path) answer after = after.order.held ≡ with_group before.order.held
 ListsGoOn before (event.Rmdir g) answer after = RemovesLists (node_at before.state.tree g.0).parent g.0 before.order after.order
-ListsGoOn before what answer after =
-    GoesOn (generation_for what) before.state.pages (with_mark (hit_of before.state what answer) before.order.held) after.state.pages after.order.held
+ListsGoOn before (event.MergeMarks word bits) answer after = MergesMarks before.state.pages word bits before.order.held after.order.held
+ListsGoOn before what answer after = GoesOn (generation_for what) before.state.pages before.order.held after.state.pages after.order.held
 
 -- so it is in every call that changes anything and takes no page. (Excludes lists whose order is made up anew, a page that comes to be held before another of its generation,
 -- one that comes marked, and one that is on no list when its group has gone.)
@@ -213,18 +215,55 @@ abbrev pub OnlyTakesAge : Type 0
 OnlyTakesAge =
     (before after : Past) (caller : Caller) (what : Event) (answer : Reply) → took_for what answer ≡ None → Called before caller what answer after → KeepNumbers before.order.held after.order.held
 
--- whatever a run led to, an access that is answered by a hit marks the page that its place shows. (Excludes a page that was used and is evicted as if it were not.)
+-- the newest entry of a past says that the task's access to this place used its page as it is, in a frame
+pub record Hits (before after : Past) (t : TaskId) (place : Place) : Type 0 where
+  pub entry : Entry
+  pub newest : after.history ≡ entry ∷ before.history
+  pub op : Op
+  pub asked : entry.event ≡ event.Access t place op
+  pub byte : ℕ
+  pub frame : FrameId
+  pub answered : entry.reply ≡ reply.Done byte (Some frame)
+
+-- whatever a run led to, the turn of an access that is answered by a hit leaves the page that its place shows marked. (Excludes a page that was used and is evicted as if it were not.)
 abbrev pub HitsMark : Type 0
 HitsMark =
     (config : Config) (before : Disk) (steps : List Line) (answers : List Told_by) (end : World) → Runs (first_world config before) steps answers end
-    → (after : Past) (caller : Caller) (t : TaskId) (place : Place) (op : Op) (byte : ℕ) (frame : FrameId) → Called end.past caller (event.Access t place op) (reply.Done byte (Some frame)) after
-    → (p : ℕ) × (shown_at end.past.state t.0 place ≡ Some p) × (is_marked after.order.held.marks p ≡ true)
+    → (who : Actor) (outcome : Outcome) (after : World) → Turn end who outcome after → (t : TaskId) (place : Place) → Hits end.past after.past t place
+    → (p : ℕ) × (shown_at end.past.state t.0 place ≡ Some p) × (is_marked after.past.order.held.marks p ≡ true)
 
--- no call marks a page otherwise. (Excludes a page that is marked as it is made, copied or read in, and one that a search marks.)
+-- and no turn marks a page otherwise. (Excludes a page that is marked as it is made, copied or read in, one that a search marks, and another page of the hit's word.)
 abbrev pub OnlyHitsMark : Type 0
 OnlyHitsMark =
-    (before after : Past) (caller : Caller) (what : Event) (answer : Reply) → Called before caller what answer after
-    → (p : ℕ) → is_marked after.order.held.marks p ≡ true → (is_marked before.order.held.marks p ≡ true) ⊎ (hit_of before.state what answer ≡ Some p)
+    (config : Config) (before : Disk) (steps : List Line) (answers : List Told_by) (end : World) → Runs (first_world config before) steps answers end
+    → (who : Actor) (outcome : Outcome) (after : World) → Turn end who outcome after → (p : ℕ) → is_marked after.past.order.held.marks p ≡ true
+    → (is_marked end.past.order.held.marks p ≡ true) ⊎ ((t : TaskId) × (place : Place) × Hits end.past after.past t place × (shown_at end.past.state t.0 place ≡ Some p))
+
+-- of the calls of a book only a merge marks pages: those held in the frames of its bits. (Excludes an access that marks what it used, and a mark for the page that had a frame before.)
+abbrev pub OnlyMergesMark : Type 0
+OnlyMergesMark =
+    (before after : Past) (caller : Caller) (what : Event) (answer : Reply) → Called before caller what answer after → (p : ℕ) → is_marked after.order.held.marks p ≡ true
+    → (is_marked before.order.held.marks p ≡ true) ⊎ ((word bits : ℕ) × (what ≡ event.MergeMarks word bits) × (there_and (is_in_bits word bits) (page_at before.state.pages p) ≡ true))
+
+-- all but the marks is as it was
+pub record ChangesMarksAlone (before after : Past) : Type 0 where
+  pub state : after.state ≡ before.state
+  pub history : after.history ≡ before.history
+  pub passes : after.passes ≡ before.passes
+  pub lists : after.order.held.groups ≡ before.order.held.groups
+  pub cursors : after.order.cursors ≡ before.order.cursors
+  pub kept : (p : ℕ) → is_marked before.order.held.marks p ≡ true → is_marked after.order.held.marks p ≡ true
+
+-- a merge changes nothing else, and takes no mark. (Excludes one that ages lists, moves a cursor, or leaves an entry.)
+abbrev pub MergesChangeMarksAlone : Type 0
+MergesChangeMarksAlone = (before after : Past) (caller : Caller) (word bits : ℕ) (answer : Reply) → Called before caller (event.MergeMarks word bits) answer after → ChangesMarksAlone before after
+
+-- whatever a run led to, a merge is answered and marks what it names. (Excludes one that is refused for want of room in the trace, or of memory.)
+abbrev pub MergesAreServed : Type 0
+MergesAreServed =
+    (config : Config) (before : Disk) (steps : List Line) (answers : List Told_by) (end : World) → Runs (first_world config before) steps answers end
+    → (after : Past) (caller : Caller) (word bits : ℕ) (answer : Reply) → Called end.past caller (event.MergeMarks word bits) answer after
+    → (answer ≡ reply.Ok) × MergesMarks end.past.state.pages word bits end.past.order.held after.order.held
 
 -- a page was taken for the target, and it was its group's turn to give one, and the page the one of the group's that is evicted next. The lists go on, without it, from what the
 -- search for it left; and the target's cursor then names the group

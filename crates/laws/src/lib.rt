@@ -2,7 +2,7 @@
 //! a function that does nothing.
 #![tactic(auto)]
 
-ghost use Rattle.laws.specs.Laws.{RunsAreLegal, RunsAreHonest, NoStrangers, ErrorsAreFailures, CurrentCountsPages, EventsAreThoseCounted, CountsAreOfTheHistory, ChargesStayWithinMax, OnlyAccessesCharge, KillsComeLast, VictimsHaveTheMostPages, ReadsGiveLastWrites, HonestDevicesPassTheAudit, AuditedReadsGaveLastWrites, PagesShareNoFrame, PagesShareNoBlock, BlocksAreThere, PagesShareNoTicket, FilePagesStayAtHome, FilePagesAreOne, OnlyCleanPagesAreDropped, StatAddsUpToCurrent, MappingsShowPages, MemoryWithoutAMappingIsGone, SharedBytesAgree, ForksShare, MovesTakeNoCharge, RemovalsKeepAncestorsCounts, RemovedGroupsHaveNoPages, TraceHasRoom, TransfersAreBegunLessEnded, TransfersStayCharged, RepliesAreSettled, OrdersAreSettled, WriteOutsStayCharged, ReclaimsSpareTheProtected, ReclaimsGiveUpLast, ReclaimsKillNobody, HeldPagesAreListed, GenerationsHold, GroupsHaveCursors, HeldPagesGoOn, OnlyTakesAge, HitsMark, OnlyHitsMark, PagesLeaveInOrder, MarkedPagesStay, GroupsAreThere};
+ghost use Rattle.laws.specs.Laws.{RunsAreLegal, RunsAreHonest, NoStrangers, ErrorsAreFailures, CurrentCountsPages, EventsAreThoseCounted, CountsAreOfTheHistory, ChargesStayWithinMax, OnlyAccessesCharge, KillsComeLast, VictimsHaveTheMostPages, ReadsGiveLastWrites, HonestDevicesPassTheAudit, AuditedReadsGaveLastWrites, PagesShareNoFrame, PagesShareNoBlock, BlocksAreThere, PagesShareNoTicket, FilePagesStayAtHome, FilePagesAreOne, OnlyCleanPagesAreDropped, StatAddsUpToCurrent, MappingsShowPages, MemoryWithoutAMappingIsGone, SharedBytesAgree, ForksShare, MovesTakeNoCharge, RemovalsKeepAncestorsCounts, RemovedGroupsHaveNoPages, TraceHasRoom, TransfersAreBegunLessEnded, TransfersStayCharged, RepliesAreSettled, OrdersAreSettled, WriteOutsStayCharged, ReclaimsSpareTheProtected, ReclaimsGiveUpLast, ReclaimsKillNobody, HeldPagesAreListed, GenerationsHold, GroupsHaveCursors, HeldPagesGoOn, OnlyTakesAge, HitsMark, OnlyHitsMark, OnlyMergesMark, MergesChangeMarksAlone, MergesAreServed, PagesLeaveInOrder, MarkedPagesStay, GroupsAreThere};
 
 /// The history of every run leads from the opening to the run's state, one step of the plain machine
 /// an entry.
@@ -114,8 +114,8 @@ pub fn groups_have_cursors()
     ensures { GroupsHaveCursors }
 {}
 
-/// A call that changes anything and takes no page lets the lists of held pages go on. A hit marks its
-/// page; what is held no more leaves its list, and all others stay as they stood; and what comes to be
+/// A call that changes anything and takes no page lets the lists of held pages go on. Marks that are merged
+/// move none. What is held no more leaves its list, and all others stay as they stood; and what comes to be
 /// held, one page at most, enters a generation of its group, unmarked: the second youngest where it was
 /// read in, and else the youngest. A group more begins with no page. The pages of a group that goes are
 /// on its parent's lists, behind those of the second youngest generation, the oldest first, and marked as
@@ -129,15 +129,31 @@ pub fn only_takes_age()
     ensures { OnlyTakesAge }
 {}
 
-/// An access that uses a page as it is marks it.
+/// A turn in which an access uses a page as it is marks it.
 pub fn hits_mark()
     ensures { HitsMark }
 {}
 
-/// No call marks a page otherwise: neither one that makes, copies or reads in a page, nor one that takes
+/// No turn marks a page otherwise: neither one that makes, copies or reads in a page, nor one that takes
 /// one. That none comes with an old mark of its number, [`held_pages_go_on`] says.
 pub fn only_hits_mark()
     ensures { OnlyHitsMark }
+{}
+
+/// Of the calls of a book only a merge of marks marks pages: those that are held in the frames of its bits.
+pub fn only_merges_mark()
+    ensures { OnlyMergesMark }
+{}
+
+/// A merge of marks changes nothing else: no page, no list, no cursor, no history.
+pub fn merges_change_marks_alone()
+    ensures { MergesChangeMarksAlone }
+{}
+
+/// After every run a merge of marks is answered, and marks what it names: it is never refused for want of
+/// room or of memory.
+pub fn merges_are_served()
+    ensures { MergesAreServed }
 {}
 
 /// The page that a call takes is the one of its group's that is evicted next, and it was that group's

@@ -133,6 +133,7 @@ step-counted old new (event.Mkdir path) reply.Ok h = ap (λ (s : State). s.count
 step-counted old new (event.Rmdir g) reply.Ok h = ap (λ (s : State). s.counted) h.state
 step-counted old new (event.Set g what) reply.Ok h = ap (λ (s : State). s.counted) h
 step-counted old new (event.Show what) (reply.Shown numbers) h = ap (λ (s : State). s.counted) h.1
+step-counted old new (event.MergeMarks word bits) reply.Ok h = ap (λ (s : State). s.counted) h
 step-counted old new what answer h = absurd h
 
 -- ---- how often at most

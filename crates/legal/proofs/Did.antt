@@ -351,4 +351,5 @@ step_did old new (event.Mkdir path) reply.Ok h = Grown path refl refl h
 step_did old new (event.Rmdir g) reply.Ok h = Removed g refl refl h
 step_did old new (event.Set g what) reply.Ok h = Kept _ old.counted h
 step_did old new (event.Show what) (reply.Shown numbers) h = same old new _ _ h.1
+step_did old new (event.MergeMarks word bits) reply.Ok h = same old new _ _ h
 step_did old new what answer h = absurd h

@@ -795,6 +795,7 @@ module _ (old new : State) (alive : AllLive old.page_tables old.tasks) (shows : 
   step_on_tasks (event.Rmdir g) reply.Ok none h = removes g h
   step_on_tasks (event.Set g setting) reply.Ok none h = quiet (event.Set g setting) reply.Ok h (λ t v o. refl) refl
   step_on_tasks (event.Show what) (reply.Shown numbers) none h = quiet (event.Show what) (reply.Shown numbers) h.1 (λ t v o. refl) refl
+  step_on_tasks (event.MergeMarks word bits) reply.Ok none h = quiet (event.MergeMarks word bits) reply.Ok h (λ t v o. refl) refl
   step_on_tasks what answer none h = absurd h
 
 -- what each step does

@@ -13,7 +13,7 @@ use Rattle.machine.specs.Generations.{Gens}
 use Rattle.machine.specs.Aging.{Seen, is_marked}
 use Rattle.machine.specs.Eviction.{Picks}
 use Rattle.machine.specs.Tree.{node_at}
-use Rattle.machine.specs.Lists.{HeldLists, Order, served, seen_of, with_seen, kept_gens, Generation, Youngest, with_fresh, GoesOn, TakesNext, RemovesLists, Keeps, Orders}
+use Rattle.machine.specs.Lists.{HeldLists, Order, served, seen_of, with_seen, kept_gens, Generation, Youngest, with_fresh, GoesOn, TakesNext, RemovesLists, Keeps, MergesMarks, Orders}
 use Rattle.machine.proofs.Values.{some_inj}
 use Rattle.machine.proofs.PicksLemmas.{picks_alike}
 
@@ -85,6 +85,12 @@ module _ (old new : State) (order order' order'' : Order) where
       let cursors : order'.cursors ≡ order''.cursors = h.1 ∙ sym h'.1 in
       order_same order' order'' held cursors
 
+  -- marks that are merged
+  merges_alike : (word bits : ℕ) → MergesMarks old.pages word bits order.held order'.held × (order'.cursors ≡ order.cursors) → MergesMarks old.pages word bits order.held order''.held × (order''.cursors ≡ order.cursors) → order' ≡ order''
+  merges_alike word bits h h' =
+      let marks : order'.held.marks ≡ order''.held.marks = marks_alike order'.held.marks order''.held.marks (h.0.size ∙ sym h'.0.size) (λ p. h.0.marks p ∙ sym (h'.0.marks p)) in
+      order_same order' order'' (lists_same order'.held order''.held (h.0.groups ∙ sym h'.0.groups) marks) (h.1 ∙ sym h'.1)
+
   -- lists that go over to a parent's
   removes_alike : (parent : Option ℕ) (g : ℕ) → RemovesLists parent g order order' → RemovesLists parent g order order'' → order' ≡ order''
   removes_alike None g h h' = absurd h
@@ -98,4 +104,5 @@ module _ (old new : State) (order order' order'' : Order) where
   orders_alike (event.ReclaimOne g) reply.Dropped h h' = takes_next_alike g.0 h h'
   orders_alike (event.Mkdir path) answer h h' = h ∙ sym h'
   orders_alike (event.Rmdir g) answer h h' = removes_alike (node_at old.tree g.0).parent g.0 h h'
+  orders_alike (event.MergeMarks word bits) answer h h' = merges_alike word bits h h'
   orders_alike what answer h h' = keeps_alike what answer h h'

@@ -318,6 +318,8 @@ module _ (old new new' : State) (order order' order'' : Order) where
   steps_alike (event.Set g setting) reply.Ok answer' on on' h h' = absurd h'
   steps_alike (event.Show asked) (reply.Shown numbers) (reply.Shown numbers') on on' h h' = ap reply.Shown (h.0 ∙ sym h'.0)
   steps_alike (event.Show asked) (reply.Shown numbers) answer' on on' h h' = absurd h'
+  steps_alike (event.MergeMarks word bits) reply.Ok reply.Ok on on' h h' = refl
+  steps_alike (event.MergeMarks word bits) reply.Ok answer' on on' h h' = absurd h'
   steps_alike what answer answer' on on' h h' = absurd h
 
 -- ---- calls

@@ -20,14 +20,14 @@ use Rattle.machine.specs.declared.reply.Reply.{Reply}
 use Rattle.machine.specs.declared.reply.Reply.TheVariants as reply
 use Rattle.machine.specs.Slots.{Changes, there_and}
 use Rattle.machine.specs.Tree.{Node, no_node, is_live}
-use Rattle.machine.specs.Pages.{Residence, Coming, home_block, Page, Pages, page_at, is_held, is_held_at, is_held_in, is_anon, in_transfer_at}
+use Rattle.machine.specs.Pages.{Held, Residence, Coming, home_block, Page, Pages, page_at, is_held, is_held_at, is_held_in, is_anon, in_transfer_at}
 use Rattle.machine.specs.Tasks.{PageTables, mappers, task_at, group_of_task}
 use Rattle.machine.specs.State.{Opening, State, page_numbers, over_in, is_frame_free}
 use Rattle.machine.specs.Access.{Meeting, Unmapped, Hits, Transferring, NeedsPage, NeedsCopy, NeedsSwapIn, NeedsRead, Dangling, meets}
-use Rattle.machine.specs.Step.{ChargeStep, HitStep, UnmappedStep, MeetStep, LifeStep, TaskStep, still, new_page, Step}
+use Rattle.machine.specs.Step.{touched, ChargeStep, HitStep, UnmappedStep, MeetStep, LifeStep, TaskStep, still, new_page, Step}
 use Rattle.machine.specs.Generations.{of_kind}
 use Rattle.machine.specs.Legal.{Legal}
-use Rattle.machine.specs.Lists.{HeldLists, is_held_of, shown_at, hit_of}
+use Rattle.machine.specs.Lists.{HeldLists, is_held_of, shown_at}
 use Rattle.machine.proofs.Values.{some_inj, unlike}
 use Rattle.machine.proofs.TreeLemmas.{eq_cases}
 use Rattle.legal.proofs.MoveLemmas.{Met, met, MetFile, met_file}
@@ -183,48 +183,68 @@ legal-numbered opening (entry ∷ earlier) s legal =
 
 -- ---- a hit
 
-abbrev has_hit : Reply → Bool
-has_hit (reply.Done byte (Some frame)) = true
-has_hit answer = false
+-- the frame that an answer says was hit
+abbrev frame_hit : Reply → Option FrameId
+frame_hit (reply.Done byte hit) = hit
+frame_hit answer = None
 
--- the place shows a page, of a task's memory or of a file, which stands in its frame, before and after
-pub record IsHit (old : State) (t : ℕ) (place : Place) (new : State) : Type 0 where
+-- the place shows a page, of a task's memory or of a file, which stands in this frame, before and after
+pub record IsHit (old : State) (t : ℕ) (place : Place) (frame : FrameId) (new : State) : Type 0 where
   pub p : ℕ
   pub shown : shown_at old t place ≡ Some p
   pub before : is_held_in old.pages p ≡ true
-  pub after : is_held_in new.pages p ≡ true
+  pub page : Page
+  pub there : page_at new.pages p ≡ Some page
+  pub stands : page.residence ≡ Held frame.0
 
-module _ (old new : State) (t : TaskId) (place : Place) (op : Op) (answer : Reply) (hit : has_hit answer ≡ true) where
-  other_answer : {P : Type 0} (said : Reply) → has_hit said ≡ false → answer ≡ said → P
-  other_answer said other e = unlike (has_hit answer) hit (ap has_hit e ∙ other)
+module _ (old new : State) (t : TaskId) (place : Place) (op : Op) (frame : FrameId) (answer : Reply) (hit : frame_hit answer ≡ Some frame) where
+  other_answer : {P : Type 0} (said : Reply) → frame_hit said ≡ None → answer ≡ said → P
+  other_answer said other e = absurd (let wrong : None ≡ Some frame = sym (ap frame_hit e ∙ other) ∙ hit in cc)
 
-  charged : (low : Option ℕ) (free : Bool) (Granted : Type 0) → (Granted → IsHit old t.0 place new) → ChargeStep old low free Granted answer new → IsHit old t.0 place new
+  charged : (low : Option ℕ) (free : Bool) (Granted : Type 0) → (Granted → IsHit old t.0 place frame new) → ChargeStep old low free Granted answer new → IsHit old t.0 place frame new
   charged (Some low) free Granted granted h = other_answer _ refl h.0
   charged None true Granted granted h = granted h
   charged None false Granted granted h = other_answer _ refl h.0
 
-  unmapped : (said : Reply) → answer ≡ said → UnmappedStep old said new → IsHit old t.0 place new
-  unmapped (reply.Done byte frame) e h = other_answer (reply.Done byte None) refl (e ∙ ap (reply.Done byte) h.0)
+  unmapped : (said : Reply) → answer ≡ said → UnmappedStep old said new → IsHit old t.0 place frame new
+  unmapped (reply.Done byte at) e h = other_answer (reply.Done byte None) refl (e ∙ ap (reply.Done byte) h.0)
   unmapped said e h = absurd h
 
-  hits : (p : ℕ) (page : Page) (frame : ℕ) (op : Op) (said : Reply) → shown_at old t.0 place ≡ Some p → page_at old.pages p ≡ Some page → is_held page ≡ true → HitStep old p page frame op said new → IsHit old t.0 place new
-  hits p page frame Read (reply.Done byte at) shown there held h =
-      let was : is_held_in old.pages p ≡ true = ap (there_and is_held) there ∙ held in record { p = p; shown = shown; before = was; after = ap (λ (s : State). is_held_in s.pages p) h.1 ∙ was }
-  hits p page frame (Write b) (reply.Done byte at) shown there held h =
-      record { p = p; shown = shown; before = ap (there_and is_held) there ∙ held; after = ap (there_and is_held) h.2.changed ∙ held }
-  hits p page frame op said shown there held h = absurd h
+  same_frame : (f : ℕ) (at : Option FrameId) → at ≡ Some (record { 0 = f }) → at ≡ Some frame → f ≡ frame.0
+  same_frame f at one two = ap (λ (x : FrameId). x.0) (some_inj (sym one ∙ two))
+
+  hits : (p : ℕ) (page : Page) (f : ℕ) (op : Op) (said : Reply) → answer ≡ said → shown_at old t.0 place ≡ Some p → page_at old.pages p ≡ Some page → page.residence ≡ Held f → HitStep old p page f op said new → IsHit old t.0 place frame new
+  hits p page f Read (reply.Done byte at) e shown there held h =
+      record {
+        p = p;
+        shown = shown;
+        before = ap (there_and is_held) there ∙ ap is_held_at held;
+        page = page;
+        there = ap (λ (s : State). page_at s.pages p) h.1 ∙ there;
+        stands = held ∙ ap Held (same_frame f at h.0 (sym (ap frame_hit e) ∙ hit));
+      }
+  hits p page f (Write b) (reply.Done byte at) e shown there held h =
+      record {
+        p = p;
+        shown = shown;
+        before = ap (there_and is_held) there ∙ ap is_held_at held;
+        page = touched page (Write b);
+        there = h.2.changed;
+        stands = held ∙ ap Held (same_frame f at h.1 (sym (ap frame_hit e) ∙ hit));
+      }
+  hits p page f op said e shown there held h = absurd h
 
   -- a page that it hits is one that the place shows, in its frame
-  shows_hit : (p : ℕ) (page : Page) (frame : ℕ) → meets old t.0 place op ≡ Hits p page frame → (shown_at old t.0 place ≡ Some p) × (page_at old.pages p ≡ Some page) × (is_held page ≡ true)
-  shows_hit p page frame is = by_place place is
+  shows_hit : (p : ℕ) (page : Page) (f : ℕ) → meets old t.0 place op ≡ Hits p page f → (shown_at old t.0 place ≡ Some p) × (page_at old.pages p ≡ Some page) × (page.residence ≡ Held f)
+  shows_hit p page f is = by_place place is
     where
-      by_place : (place : Place) → meets old t.0 place op ≡ Hits p page frame → (shown_at old t.0 place ≡ Some p) × (page_at old.pages p ≡ Some page) × (is_held page ≡ true)
-      by_place (Virtual v o) e = let found : Met old t.0 v op (Hits p page frame) = subst (Met old t.0 v op) e (met old t.0 v o op) in (found.0, found.1, ap is_held_at found.2)
-      by_place (File f q o) e = let found : MetFile old f q (Hits p page frame) = subst (MetFile old f q) e (met_file old t.0 f q o op) in (found.0, found.1, ap is_held_at found.2)
+      by_place : (place : Place) → meets old t.0 place op ≡ Hits p page f → (shown_at old t.0 place ≡ Some p) × (page_at old.pages p ≡ Some page) × (page.residence ≡ Held f)
+      by_place (Virtual v o) e = let found : Met old t.0 v op (Hits p page f) = subst (Met old t.0 v op) e (met old t.0 v o op) in (found.0, found.1, found.2)
+      by_place (File file q o) e = let found : MetFile old file q (Hits p page f) = subst (MetFile old file q) e (met_file old t.0 file q o op) in (found.0, found.1, found.2)
 
-  meeting : (g : ℕ) (met : Meeting) → meets old t.0 place op ≡ met → MeetStep old t.0 g op met answer new → IsHit old t.0 place new
+  meeting : (g : ℕ) (met : Meeting) → meets old t.0 place op ≡ met → MeetStep old t.0 g op met answer new → IsHit old t.0 place frame new
   meeting g Unmapped is h = unmapped answer refl h
-  meeting g (Hits p page frame) is h = let found = shows_hit p page frame is in hits p page frame op answer found.0 found.1 found.2 h
+  meeting g (Hits p page f) is h = let found = shows_hit p page f is in hits p page f op answer refl found.0 found.1 found.2 h
   meeting g Transferring is h = other_answer _ refl h.0
   meeting g (NeedsPage w) is h = charged (over_in old g) (is_frame_free old) _ (λ made. other_answer _ refl made.answers) h
   meeting g (NeedsCopy w) is h = charged (over_in old g) (is_frame_free old) _ (λ made. other_answer _ refl made.answers) h
@@ -232,22 +252,15 @@ module _ (old new : State) (t : TaskId) (place : Place) (op : Op) (answer : Repl
   meeting g (NeedsRead f q) is h = charged (over_in old g) (is_frame_free old) _ (λ begun. other_answer _ refl begun.fetch.answers) h
   meeting g Dangling is h = absurd h
 
-  access : (slot : Option Task) → TaskStep old slot (λ task. MeetStep old t.0 task.group.0 op (meets old t.0 place op) answer new) answer new → IsHit old t.0 place new
+  access : (slot : Option Task) → TaskStep old slot (λ task. MeetStep old t.0 task.group.0 op (meets old t.0 place op) answer new) answer new → IsHit old t.0 place frame new
   access None h = absurd h
   access (Some task) h = by_life task.life h
     where
-      by_life : (life : Life) → LifeStep old life (MeetStep old t.0 task.group.0 op (meets old t.0 place op) answer new) answer new → IsHit old t.0 place new
+      by_life : (life : Life) → LifeStep old life (MeetStep old t.0 task.group.0 op (meets old t.0 place op) answer new) answer new → IsHit old t.0 place frame new
       by_life Live h = meeting task.group.0 (meets old t.0 place op) refl h
       by_life Exited h = absurd h
       by_life Killed h = other_answer _ refl h.0
 
--- an access that is answered by a hit hits the page that its place shows
-pub access-hits : (old new : State) (t : TaskId) (place : Place) (op : Op) (byte : ℕ) (frame : FrameId) → Step old (event.Access t place op) (reply.Done byte (Some frame)) new → IsHit old t.0 place new
-access-hits old new t place op byte frame step = access old new t place op (reply.Done byte (Some frame)) refl (task_at old.tasks t.0) step
-
--- and so the page that a hit marks is held
-pub step-hit : (old : State) (what : Event) (answer : Reply) (new : State) → Step old what answer new → (p : ℕ) → hit_of old what answer ≡ Some p → is_held_in old.pages p ≡ true
-step-hit old (event.Access t place op) (reply.Done byte (Some frame)) new step p e =
-    let hit = access-hits old new t place op byte frame step in
-    ap (is_held_in old.pages) (some_inj (sym e ∙ hit.shown)) ∙ hit.before
-step-hit old what answer new step p e = cc
+-- an access that is answered by a hit hits the page that its place shows, in the frame that the answer says
+pub access-hits : (old new : State) (t : TaskId) (place : Place) (op : Op) (byte : ℕ) (frame : FrameId) → Step old (event.Access t place op) (reply.Done byte (Some frame)) new → IsHit old t.0 place frame new
+access-hits old new t place op byte frame step = access old new t place op frame (reply.Done byte (Some frame)) refl (task_at old.tasks t.0) step

@@ -23,7 +23,7 @@ use Rattle.machine.specs.Tasks.{PageTables, mappers, task_at}
 use Rattle.machine.specs.State.{Opening, State, over_in, is_frame_free}
 use Rattle.machine.specs.Access.{Meeting, Unmapped, Hits, Transferring, NeedsPage, NeedsCopy, NeedsSwapIn, NeedsRead, Dangling, charges, is_fetch, meets}
 use Rattle.machine.specs.Reclaim.{has_takeable, has_transfer, stands, target_of}
-use Rattle.machine.specs.Call.{is_granted, meeting_fetches, life_fetches, task_fetches, fetches, need}
+use Rattle.machine.specs.Call.{is_granted, meeting_fetches, life_fetches, task_fetches, fetches, need, leaves_entry}
 use Rattle.machine.specs.Step.{ChargeStep, TriesCharge, MakesPage, StartsFetch, ReadsFile, HitStep, UnmappedStep, MeetStep, LifeStep, TaskStep, StartsLeave, Drops, LeavesBy, LeavesFrom, Takes, ReclaimStep, KillStep, RelieveStep, still, EndsTransfer, touched, Step}
 use Rattle.machine.proofs.SlotLemmas.{one_if, count_there-changes}
 use Rattle.machine.proofs.TestLemmas.{count-less}
@@ -43,7 +43,7 @@ by_test false f g h = g h
 -- the step leaves so many transfers in flight, and its need was that of its entry and of the end of what it began
 record Flies (old : State) (what : Event) (answer : Reply) (new : State) : Type 0 where
   pub counts : in_transfer new.pages + one_if (ends_transfer what) ≡ in_transfer old.pages + one_if (begins_transfer answer)
-  pub room : 1 + one_if (begins_transfer answer) ≤ need old what + one_if (ends_transfer what)
+  pub room : one_if (leaves_entry what) + one_if (begins_transfer answer) ≤ need old what + one_if (ends_transfer what)
 
 -- what stands at a number adds this
 abbrev flying : Option Page → ℕ
@@ -57,8 +57,8 @@ need-either : (b : Bool) → 1 ≤ (if b then 2 else 1)
 need-either true = omega arith
 need-either false = omega arith
 
--- an entry is needed for all but the end of a transfer
-need-some : (s : State) (what : Event) → ends_transfer what ≡ false → 1 ≤ need s what
+-- an entry is needed for all that leave one but the end of a transfer
+need-some : (s : State) (what : Event) → ends_transfer what ≡ false → one_if (leaves_entry what) ≤ need s what
 need-some s (event.Access t place op) e = need-either (fetches s t.0 place op)
 need-some s (event.Relieve why) e = need-either (stands s why && has_takeable s (target_of why))
 need-some s (event.ReclaimOne g) e = need-either (has_takeable s g.0)
@@ -66,6 +66,7 @@ need-some s (event.Arrived ticket bytes) e = cc
 need-some s (event.FetchFailed ticket) e = cc
 need-some s (event.Left ticket) e = cc
 need-some s (event.LeaveFailed ticket) e = cc
+need-some s (event.MergeMarks word bits) e = omega arith
 need-some s what e = omega arith
 
 -- a page in transfer outlives the end of a task
@@ -104,7 +105,8 @@ module _ (old new : State) where
   may_begin what answer other needs more =
       let no_end : one_if (ends_transfer what) ≡ 0 = ap one_if other in
       let most = one_if-most (begins_transfer answer) in
-      record { counts = omega (arith, more, no_end); room = omega (arith, needs, most) }
+      let entry = one_if-most (leaves_entry what) in
+      record { counts = omega (arith, more, no_end); room = omega (arith, needs, most, entry) }
 
   -- ---- accesses
 
@@ -290,7 +292,8 @@ module _ (old new : State) where
       ] in
       let end : one_if (ends_transfer what) ≡ 1 = ap one_if ends in
       let no_begin : one_if (begins_transfer answer) ≡ 0 = ap (λ a. one_if (begins_transfer a)) h.answers in
-      record { counts = omega (arith, one, flew, rests, end, no_begin); room = omega (arith, end, no_begin) }
+      let entry = one_if-most (leaves_entry what) in
+      record { counts = omega (arith, one, flew, rests, end, no_begin); room = omega (arith, end, no_begin, entry) }
 
 step_flies : (old new : State) (what : Event) (answer : Reply) → Step old what answer new → Flies old what answer new
 step_flies old new (event.Access t place op) answer h = accesses old new t place op answer h
@@ -313,6 +316,7 @@ step_flies old new (event.Mkdir path) reply.Ok h = same_pages old new _ reply.Ok
 step_flies old new (event.Rmdir g) reply.Ok h = quiet old new (event.Rmdir g) reply.Ok refl refl (in_transfer-removed old new g.0 h)
 step_flies old new (event.Set g what) reply.Ok h = same_pages old new _ reply.Ok refl refl (ap (λ (s : State). s.pages) h)
 step_flies old new (event.Show what) (reply.Shown numbers) h = same_pages old new _ (reply.Shown numbers) refl refl (ap (λ (s : State). s.pages) h.1)
+step_flies old new (event.MergeMarks word bits) reply.Ok h = same_pages old new (event.MergeMarks word bits) reply.Ok refl refl (ap (λ (s : State). s.pages) h)
 step_flies old new what answer h = absurd h
 
 -- ---- legal histories
@@ -325,7 +329,8 @@ legal-room opening (entry ∷ earlier) s legal =
     let flies = step_flies before s entry.event entry.reply legal.2.steps in
     let limit : s.opening.trace_limit ≡ before.opening.trace_limit = ap (λ (o : Opening). o.trace_limit) (step_opening before entry.event entry.reply s legal.2.steps) in
     let room : length earlier + in_transfer before.pages + need before entry.event ≤ before.opening.trace_limit = within (length earlier + in_transfer before.pages + need before entry.event) before.opening.trace_limit legal.2.room in
-    omega (arith, flies.counts, flies.room, limit, room)
+    let entry : one_if (leaves_entry entry.event) ≡ 1 = ap one_if legal.2.kept in
+    omega (arith, flies.counts, flies.room, limit, room, entry)
   where
     within : (n most : ℕ) → nat_lt most n ≡ false → n ≤ most
     within n most e = grind (arith, nat_tests, e)

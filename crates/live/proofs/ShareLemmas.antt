@@ -11,7 +11,9 @@ use Rattle.machine.specs.declared.refusal.Refusal.TheVariants.{Stranger, TraceFu
 use Rattle.machine.specs.Refusals.{refusal}
 use Rattle.machine.specs.State.{Opening}
 use Rattle.machine.specs.Transfers.{begins_transfer, ends_transfer}
-use Rattle.machine.specs.Call.{Past, Caller, entry_of, Answers, Refuses, Answered, JudgedBy, Called, knows_pass, is_trace_full}
+use Rattle.machine.specs.Call.{Past, Caller, entry_of, Answers, Refuses, Answered, JudgedBy, Called, knows_pass, is_trace_full, leaves_entry}
+use Rattle.machine.specs.declared.entry.Entry.{Entry}
+use Rattle.machine.proofs.EntryLemmas.{entries-one}
 use Rattle.legal.proofs.OpeningLemmas.{called_opening}
 use Rattle.book.specs.declared.event.Event.{Event}
 use Rattle.book.specs.declared.event.Event.TheVariants as event
@@ -21,7 +23,7 @@ use Rattle.book.specs.declared.kept.Asked.{Asked}
 use Rattle.book.specs.declared.kept.Kept.{Kept}
 use Rattle.book.specs.declared.kept.Kept.TheVariants.{Call, Find}
 use Rattle.book.specs.Events.{event_of, reply_of}
-use Rattle.book.specs.Passes.{PassOf, asked_of, call_of, find_of, is_entry, count_of, is_current, keeping, CalledWith}
+use Rattle.book.specs.Passes.{PassOf, asked_of, call_of, find_of, is_entry, count_of, may_ask, keeping, CalledWith}
 use Rattle.book.specs.Replies.{Replies, IsInReply, IsOutReply}
 use Rattle.driver.specs.Tickets.{is_ending, gives_ticket}
 use Rattle.driver.specs.Turns.{Judged, paths_of}
@@ -168,7 +170,7 @@ keeps-share old new h same = omega (arith, h.balance, same)
 abbrev GrownBy : Past → Plain_event → Past → Plain_reply → Type 0
 GrownBy old what new answer = length new.history ≡ length old.history + one_if (is_entry (call_of what answer))
 
-module _ (old : Past) (pass : PassOf) (what : Plain_event) (new : Past) where
+module _ (old : Past) (pass : PassOf) (what : Plain_event) (leaves : leaves_entry what ≡ true) (new : Past) where
   refused-grown : (answer : Plain_reply) (why : Refusal) → Refuses old why answer new → GrownBy old what new answer
   refused-grown answer why h =
       let none : one_if (is_entry (call_of what answer)) ≡ 0 = ap (λ (a : Plain_reply). one_if (is_entry (call_of what a))) h.0 in
@@ -178,7 +180,7 @@ module _ (old : Past) (pass : PassOf) (what : Plain_event) (new : Past) where
   served-grown : (answer : Plain_reply) → is_entry (call_of what answer) ≡ true → Answers old pass.caller what answer new → GrownBy old what new answer
   served-grown answer entry h =
       let one = ap one_if entry in
-      let all = ap length h.history in
+      let all = ap length (h.history ∙ ap (λ (es : List Entry). es ++ old.history) (entries-one pass.caller old.history what answer leaves)) in
       omega (arith, one, all)
 
   answered-grown : (answer : Plain_reply) → Answered old pass.caller what answer new → GrownBy old what new answer
@@ -202,7 +204,7 @@ module _ (old : Past) (pass : PassOf) (what : Plain_event) (new : Past) where
 
   -- the trace is one longer where the answer stands in it
   pub grown : (answer : Plain_reply) → CalledWith old pass what answer new → length new.history ≡ length old.history + one_if (is_entry (call_of what answer))
-  grown answer h = by_pass (is_current old pass) h
+  grown answer h = by_pass (may_ask old pass what) h
     where
       by_pass : (b : Bool) → MatchBool b (Called old pass.caller what answer new) (Refuses old Stranger answer new) → GrownBy old what new answer
       by_pass true k = called-grown answer k
@@ -210,7 +212,7 @@ module _ (old : Past) (pass : PassOf) (what : Plain_event) (new : Past) where
 
   -- the opening stays
   pub opened : (answer : Plain_reply) → CalledWith old pass what answer new → new.state.opening ≡ old.state.opening
-  opened answer h = by_pass (is_current old pass) h
+  opened answer h = by_pass (may_ask old pass what) h
     where
       by_pass : (b : Bool) → MatchBool b (Called old pass.caller what answer new) (Refuses old Stranger answer new) → new.state.opening ≡ old.state.opening
       by_pass true k = called_opening old new pass.caller what answer k
@@ -218,14 +220,25 @@ module _ (old : Past) (pass : PassOf) (what : Plain_event) (new : Past) where
 
 -- ---- the count of a pass
 
-module _ (old : Past) (pass next : PassOf) (what : Plain_event) (new : Past) (answer : Plain_reply) where
+-- it rises by one, where it does not stay
+pub count-rises : (pass next : PassOf) (k : Kept) → next ≡ keeping pass k → (count_of next.kept ≡ count_of pass.kept → ⊥) → count_of next.kept ≡ count_of pass.kept + 1
+count-rises pass next k kept apart = by (is_entry k) refl
+  where
+    all : count_of next.kept ≡ count_of pass.kept + one_if (is_entry k)
+    all = ap (λ (p : PassOf). count_of p.kept) kept ∙ one-more is_entry pass.kept k
+
+    by : (b : Bool) → is_entry k ≡ b → count_of next.kept ≡ count_of pass.kept + 1
+    by true is = let one : one_if (is_entry k) ≡ 1 = ap one_if is in omega (arith, all, one)
+    by false is = let none : one_if (is_entry k) ≡ 0 = ap one_if is in absurd (apart (omega (arith, all, none)))
+
+module _ (old : Past) (pass next : PassOf) (what : Plain_event) (leaves : leaves_entry what ≡ true) (new : Past) (answer : Plain_reply) where
   counted-as : (b : Bool) → is_entry (call_of what answer) ≡ b → CalledWith old pass what answer new → next ≡ keeping pass (call_of what answer)
       → (count_of next.kept ≡ count_of pass.kept + one_if b) × (length new.history ≡ length old.history + one_if b)
   counted-as b is h kept =
       let one : one_if (is_entry (call_of what answer)) ≡ one_if b = ap one_if is in
       let all : count_of next.kept ≡ count_of pass.kept + one_if (is_entry (call_of what answer)) =
       ap (λ (p : PassOf). count_of p.kept) kept ∙ one-more is_entry pass.kept (call_of what answer) in
-      let long = grown old pass what new answer h in
+      let long = grown old pass what leaves new answer h in
       (omega (arith, one, all), omega (arith, one, long))
 
   -- where the count rises, the trace is one longer

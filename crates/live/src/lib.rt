@@ -9,6 +9,7 @@
 #![tactic(auto)]
 
 mod crew;
+mod hand;
 mod live;
 mod matching;
 mod opened;

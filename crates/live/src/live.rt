@@ -12,6 +12,7 @@ ghost use Rattle.driver.specs.Tickets.{blocks_in};
 ghost use Rattle.live.specs.Matching.{Matches, has_share};
 ghost use Rattle.live.specs.Reports.{IsLegal, HasOut, IsMissing};
 
+use crate::hand::First;
 use crate::matching::replies_match;
 use crate::opened::Opened;
 use crate::pass::Pass;
@@ -22,7 +23,7 @@ use block_store::SharedDevice;
 use book::Book;
 use machine::config::{Config, Watermarks};
 use machine::refusal::Refusal;
-use std::alloc::Global;
+use std::alloc::{AllocError, Global};
 use std::sync::ledger::{Blank, Ledger};
 use std::sync::{Condvar, Mutex, Wait};
 use trace::audit;
@@ -33,6 +34,8 @@ use trace::audit;
 /// or [`Live::give_up`].
 pub struct Live<L: Ledger + Opened, D: SharedDevice> {
     pub(crate) shared: Mutex<SharedBook<L>>,
+    /// The first seat of the marks of frames. Its lock and the book's are never held together.
+    pub(crate) first: Mutex<First>,
     /// A transfer has ended, or the daemon is wanted.
     pub(crate) moved: Condvar,
     pub(crate) device: D,
@@ -62,10 +65,19 @@ impl<L: Ledger + Opened, D: SharedDevice> Live<L, D> {
         ensures back { IfErr result (λ e. e.0 ≡ device) }
     {
         let marks = config.watermarks;
-        match Book::open(alloc, config) {
-            Err(cause) => Err((device, cause)),
-            Ok(book) => Ok(Live {
+        let frames = config.frames;
+        let book = match Book::open(alloc, config) {
+            Err(cause) => return Err((device, cause)),
+            Ok(book) => book,
+        };
+        match First::open(alloc, frames) {
+            Err(AllocError) => {
+                let _ = book.close();
+                Err((device, Refusal::NoMemory))
+            }
+            Ok(first) => Ok(Live {
                 shared: Mutex::new(SharedBook::new(book, blank)),
+                first: Mutex::new(first),
                 moved: Condvar::new(),
                 device,
                 marks,
@@ -147,6 +159,7 @@ impl<L: Ledger + Opened, D: SharedDevice + Drop> Live<L, D> {
     {
         let Live {
             shared,
+            first,
             moved,
             device,
             marks,
@@ -157,6 +170,7 @@ impl<L: Ledger + Opened, D: SharedDevice + Drop> Live<L, D> {
             Err(cause) => {
                 let live = Live {
                     shared: Mutex::new(shared),
+                    first,
                     moved,
                     device,
                     marks,
@@ -180,6 +194,7 @@ impl<L: Ledger + Opened, D: SharedDevice + Drop> Live<L, D> {
     pub fn give_up(self) {
         let Live {
             shared,
+            first: _,
             moved: _,
             device: _,
             marks: _,

@@ -1,13 +1,16 @@
 //! The workers' passes.
 
-ghost use Rattle.std.specs.Prelude.{◌≡◌, ◌<◌, ◌≤◌, [], length, OnOk, IfOk, false};
+ghost use Rattle.std.specs.Prelude.{◌≡◌, ◌<◌, ◌≤◌, [], length, OnOk, IfOk, true, false};
+ghost use Rattle.machine.specs.Call.{leaves_entry};
 ghost use Rattle.book.specs.Events.{event_of, reply_of};
 ghost use Rattle.book.specs.Passes.{count_of, call_of, keeping};
 ghost use Rattle.book.specs.Replies.{Replies, KeepsTicket, HandsOut};
 ghost use Rattle.driver.specs.Tickets.{holds};
 ghost use Rattle.live.specs.Runs.{Looked};
 
+use crate::hand::Hand;
 use book::{Book, Event, Kept, Reply};
+use driver::automaton::spend;
 use driver::judge::judge;
 use driver::turn::Stage;
 use machine::command::{Actor, Command};
@@ -27,6 +30,8 @@ pub struct Pass<L: Ledger> {
     share: Share<L>,
     /// How many transfers had ended when it last asked.
     seen: u64,
+    /// A seat of the marks of frames, while it works.
+    hand: Option<Hand>,
 }
 
 impl<L: Ledger> Model for Pass<L> {
@@ -50,6 +55,7 @@ impl<L: Ledger> Pass<L> {
             pass,
             share,
             seen: 0,
+            hand: None,
         }
     }
 
@@ -76,6 +82,70 @@ impl<L: Ledger> Pass<L> {
         self.seen = ended;
     }
 
+    /// It has this seat of the marks from now on, or none.
+    pub(crate) fn sit(&mut self, hand: Option<Hand>)
+        ensures { self.new ≡ self.old }
+    {
+        self.hand = hand;
+    }
+
+    /// The page that was hit, if one was, is marked (kernel: the processor's set of the accessed bit).
+    pub(crate) fn mark(&mut self, reply: &Reply)
+        ensures { self.new ≡ self.old }
+    {
+        if let (
+            Some(hand),
+            Reply::Done {
+                byte: _,
+                hit: Some(frame),
+            },
+        ) = (&mut self.hand, reply)
+        {
+            hand.set(frame.0);
+        }
+    }
+
+    /// All marks that were set are merged into the book (kernel: a walk of `walk_mm`). It takes no memory, and waits
+    /// for nobody.
+    pub(crate) fn gather(&mut self, book: &mut Book)
+        requires room { 0 < self.old.room }
+        ensures pass { self.new ≡ self.old }
+        ensures book { book.new ≡ record book.old { order = book.new.order } }
+    {
+        for word in 0..self.words() {
+            self.gather_word(book, word);
+        }
+    }
+
+    fn words(&self) -> u32 {
+        match &self.hand {
+            Some(hand) => hand.words(),
+            None => 0,
+        }
+    }
+
+    /// The same of one word.
+    fn gather_word(&mut self, book: &mut Book, word: u32)
+        requires room { 0 < self.old.room }
+        ensures pass { self.new ≡ self.old }
+        ensures book { book.new ≡ record book.old { order = book.new.order } }
+    {
+        let bits = self.take(word);
+        if bits != 0 {
+            spend(book.call(&mut self.pass, Event::MergeMarks { word, bits }));
+        }
+    }
+
+    /// The marks of a word, if it has a seat.
+    fn take(&mut self, word: u32) -> u64
+        ensures { self.new ≡ self.old }
+    {
+        match &mut self.hand {
+            Some(hand) => hand.harvest(word),
+            None => 0,
+        }
+    }
+
     /// Memory for so many events or paths more.
     pub(crate) fn reserve(&mut self, more: usize) -> Result<(), AllocError>
         ensures room { OnOk result (more ≤ self.new.room) }
@@ -96,6 +166,7 @@ impl<L: Ledger> Pass<L> {
         event: Event,
     ) -> Reply
         requires room { 0 < self.old.room }
+        requires leaves { leaves_entry (event_of event) ≡ true }
         requires counted { entries.old.total ≡ length book.old.history }
         ensures counted { entries.new.total ≡ length book.new.history }
         ensures kept { self.new ≡ keeping self.old (call_of (event_of event) (reply_of result)) }
@@ -138,6 +209,7 @@ impl<L: Ledger> Pass<L> {
             pass: _,
             share,
             seen: _,
+            hand: _,
         } = self;
         share
     }

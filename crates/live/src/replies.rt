@@ -66,6 +66,13 @@ fn is_whole(kept: &Event, event: &Event) -> bool
             },
         ) => group == other_group && setting == other_setting,
         (Event::Show(query), Event::Show(other)) => query == other,
+        (
+            Event::MergeMarks { word, bits },
+            Event::MergeMarks {
+                word: other_word,
+                bits: other_bits,
+            },
+        ) => word == other_word && bits == other_bits,
         _ => false,
     }
 }

@@ -61,6 +61,11 @@ fn is_end(event: &Event) -> bool {
     )
 }
 
+/// Whether a page may be taken.
+fn takes(event: &Event) -> bool {
+    matches!(event, Event::Relieve(_) | Event::ReclaimOne(_))
+}
+
 fn is_strange(reply: &Reply) -> bool {
     matches!(reply, Reply::StrangeIn(_) | Reply::StrangeOut(_))
 }
@@ -93,7 +98,7 @@ impl<L: Ledger + Opened> SharedBook<L> {
         Ok(Pass::new(pass, share))
     }
 
-    /// One event.
+    /// One event. Before a page is taken all marks that were set are merged.
     pub fn call(&mut self, pass: &mut Pass<L>, event: Event) -> Reply
         requires room { 0 < pass.old.room }
         requires own { OwnEvent pass.old.caller.worker (blocks_in L.opening) event }
@@ -103,6 +108,9 @@ impl<L: Ledger + Opened> SharedBook<L> {
         ensures handed { IsHanded result }
     {
         let ends = is_end(&event);
+        if takes(&event) {
+            pass.gather(&mut self.book);
+        }
         let reply = self.ask(pass, event);
         if ends && !is_strange(&reply) {
             self.ended = self.ended.wrapping_add(1);

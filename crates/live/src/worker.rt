@@ -11,6 +11,7 @@ ghost use Rattle.live.specs.Works.{Reads, Writes, Worked, Repeated, no_memory};
 ghost use Rattle.live.specs.Shares.{one_if, Carries, KeepsShare};
 ghost use Rattle.live.specs.Runs.{CallMade, CallWants, Made, Wants, Linked, Closed, Ran, Looked, Judging, Did, Done};
 
+use crate::hand::Hand;
 use crate::live::Live;
 use crate::opened::Opened;
 use crate::pass::Pass;
@@ -47,8 +48,22 @@ fn is_end(event: &Event) -> bool
 }
 
 impl<L: Ledger + Opened, D: SharedDevice> Live<L, D> {
-    /// One event, under the lock.
+    /// One event. A page that it hits is marked once the lock is let go of.
     fn call<R: Wait>(&self, rt: &R, pass: &mut Pass<L>, event: Event) -> Reply
+        requires room { 0 < pass.old.room }
+        requires own { OwnEvent pass.old.caller.worker (blocks_in L.opening) event }
+        ensures kept { pass.new ≡ keeping pass.old (call_of (event_of event) (reply_of result)) }
+        ensures replies { Replies event result }
+        ensures own { OwnReply pass.old.caller.worker (blocks_in L.opening) result }
+        ensures handed { IsHanded result }
+    {
+        let reply = self.call_locked(rt, pass, event);
+        pass.mark(&reply);
+        reply
+    }
+
+    /// One event, under the lock.
+    fn call_locked<R: Wait>(&self, rt: &R, pass: &mut Pass<L>, event: Event) -> Reply
         requires room { 0 < pass.old.room }
         requires own { OwnEvent pass.old.caller.worker (blocks_in L.opening) event }
         ensures kept { pass.new ≡ keeping pass.old (call_of (event_of event) (reply_of result)) }
@@ -344,6 +359,11 @@ impl<L: Ledger + Opened, D: SharedDevice> Live<L, D> {
         }
     }
 
+    /// A seat of the marks, for a worker who begins. The book's lock is not held meanwhile.
+    fn seat<R: Wait>(&self, rt: &R) -> Option<Hand> {
+        self.first.lock(rt).hand()
+    }
+
     /// All commands, in order.
     pub(crate) fn work<R: Wait>(
         &self,
@@ -364,10 +384,12 @@ impl<L: Ledger + Opened, D: SharedDevice> Live<L, D> {
         {
             return Err(Refusal::NoMemory);
         }
+        pass.sit(self.seat(rt));
         for (at, command) in commands.iter().enumerate() {
             let spare = commands.len() - at - 1;
             self.one(rt, pass, actor, command, &mut answers, spare);
         }
+        pass.sit(None);
         Ok(answers)
     }
 
@@ -413,10 +435,12 @@ impl<L: Ledger + Opened, D: SharedDevice> Live<L, D> {
         ensures share { KeepsShare pass.old.kept pass.new.kept }
         ensures worker { pass.new.caller ≡ pass.old.caller }
     {
+        pass.sit(self.seat(rt));
         for _run in rt.forever() {
             let is_last = self.doze(rt);
             self.balance(rt, pass);
             if is_last {
+                pass.sit(None);
                 return;
             }
         }

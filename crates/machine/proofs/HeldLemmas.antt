@@ -12,7 +12,7 @@ use Rattle.machine.specs.Pages.{Content, Memory, OfFile, Page, Pages, page_at, i
 use Rattle.machine.specs.Generations.{Listed, Row, Gens, new_gens, of_kind, row_of, has_page, is_listed, entered, added, gens_at, with_gens, IsRow, IsGens}
 use Rattle.machine.specs.Aging.{is_marked}
 use Rattle.machine.specs.State.{Opening}
-use Rattle.machine.specs.Lists.{HeldLists, first_order, kind_at, is_held_of, ListsHeld, AreGenerations, is_fresh, kept_row, kept_gens, Generation, Youngest, SecondYoungest, seq_in, with_page, with_fresh, GoesOn, with_mark, with_group}
+use Rattle.machine.specs.Lists.{HeldLists, first_order, kind_at, is_held_of, ListsHeld, AreGenerations, is_fresh, kept_row, kept_gens, Generation, Youngest, SecondYoungest, seq_in, with_page, with_fresh, GoesOn, with_group}
 use Rattle.machine.proofs.ListedLemmas.{each-filter, each-weaker, each-has, has-entered, has-filter, none-filter, rising-filter, distinct-filter, distinct-front, distinct-back, distinct-apart, distinct-append, each-entered, rising-entered, distinct-entered}
 
 -- a page that is held before and after keeps its group and its type
@@ -209,14 +209,7 @@ goes-still generation pages pages' held were same = subst (λ (after : Pages). G
         unmarked true = refl
         unmarked false = refl
 
--- ---- a page that is marked, and a group more
-
-pub held-marked : (pages : Pages) (held : HeldLists) (p : ℕ) → is_held_in pages p ≡ true → ListsHeld pages held → ListsHeld pages (with_mark (Some p) held)
-held-marked pages held p here were = record { rows = were.rows; marked = λ q h. by_page q h (eqb q p) refl }
-  where
-    by_page : (q : ℕ) → is_marked (slice_set held.marks p true) q ≡ true → (b : Bool) → eqb q p ≡ b → is_held_in pages q ≡ true
-    by_page q h true e = subst (λ (i : ℕ). is_held_in pages i ≡ true) (sym (eqb-true q p e)) here
-    by_page q h false e = were.marked q (sym (get_or-set_other held.marks p q true false (λ same. eqb-false q p e same)) ∙ h)
+-- ---- a group more
 
 pub gens_at-more : (groups : List Gens) (g : ℕ) → gens_at (groups ++ new_gens ∷ []) g ≡ gens_at groups g
 gens_at-more [] zero = refl

@@ -13,3 +13,5 @@ pub mod HeldChanges
 pub mod HeldLemmas
 pub mod HandedLemmas
 pub mod PicksLemmas
+pub mod EntryLemmas
+pub mod MergeLemmas

@@ -92,6 +92,7 @@ need s (event.Arrived ticket bytes) = 0
 need s (event.FetchFailed ticket) = 0
 need s (event.Left ticket) = 0
 need s (event.LeaveFailed ticket) = 0
+need s (event.MergeMarks word bits) = 0
 need s what = 1
 
 -- the entries, those kept for the ends of transfers, and the need pass the limit. (Excludes a machine that answers TraceFull while there is room.)
@@ -118,9 +119,14 @@ abbrev pub entry_of : Caller → List Entry → Event → Reply → Entry
 entry_of caller history what answer =
     record { worker = record { 0 = caller.worker }; count = length (entries_by caller.worker history) + 1; event = what; reply = answer }
 
--- the entries that an event and its reply make: one
+-- the event stands in the history where it is answered. A merge of marks does not: it is a hint. (Excludes a history that fills up with hits.)
+abbrev pub leaves_entry : Event → Bool
+leaves_entry (event.MergeMarks word bits) = false
+leaves_entry what = true
+
+-- the entries that an event and its reply make: one, or none
 abbrev pub entries_of : Caller → List Entry → Event → Reply → List Entry
-entries_of caller history what answer = entry_of caller history what answer ∷ []
+entries_of caller history what answer = if leaves_entry what then entry_of caller history what answer ∷ [] else []
 
 -- a step, the page in order where one is taken, and the entries that it makes. Which byte a read gives is not the step's to say: IsRight stands beside it
 pub record Answers (old : Past) (caller : Caller) (what : Event) (answer : Reply) (new : Past) : Type 0 where

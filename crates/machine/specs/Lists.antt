@@ -1,5 +1,6 @@
 -- The pages that are held, in generation lists by group, and the page that a reclaim takes of them (mm/vmscan.c: shrink_node_memcgs; mm/multigen_lru).
-use Rattle.std.specs.Prelude.{◌≡◌, ℕ, ◌-◌, ◌==◌, ◌&&◌, not, Bool, true, false, List, [], ◌∷◌, ◌++◌, length, map, filter, replicate, slice_set, Option, Some, None}
+use Rattle.std.specs.Prelude.{◌≡◌, ℕ, ◌-◌, ◌/◌, ◌%◌, ◌==◌, ◌&&◌, ◌||◌, not, Bool, true, false, List, [], ◌∷◌, ◌++◌, length, map, filter, replicate, slice_set, Option, Some, None}
+use Rattle.std.specs.Int.{bit_at}
 use Rattle.machine.specs.declared.record.Direction.{Direction}
 use Rattle.machine.specs.declared.record.Direction.TheVariants.{In, Out}
 use Rattle.machine.specs.declared.record.Kind.{Kind}
@@ -11,7 +12,7 @@ use Rattle.machine.specs.declared.event.Event.TheVariants as event
 use Rattle.machine.specs.declared.reply.Reply.{Reply}
 use Rattle.machine.specs.declared.reply.Reply.TheVariants as reply
 use Rattle.machine.specs.Slots.{there_and, any_there}
-use Rattle.machine.specs.Pages.{Content, Memory, OfFile, Page, Pages, page_at, is_anon, is_held, is_held_in, is_number, file_page}
+use Rattle.machine.specs.Pages.{Content, Memory, OfFile, Residence, Held, Page, Pages, page_at, is_anon, is_held, is_held_in, is_number, file_page}
 use Rattle.machine.specs.Tasks.{mapped_at}
 use Rattle.machine.specs.Order.{served_by, cursor_at}
 use Rattle.machine.specs.State.{Opening, State, page_numbers, is_swap_free}
@@ -139,15 +140,29 @@ abbrev pub shown_at : State → ℕ → Place → Option ℕ
 shown_at s t (place.Virtual v offset) = mapped_at s.page_tables t v
 shown_at s t (place.File file q offset) = file_page s.pages file q
 
--- the page that an access used as it was. (Excludes a page that counts as used since it was made or copied. One that was read in is used by the access that wanted it, which is tried again.)
-abbrev pub hit_of : State → Event → Reply → Option ℕ
-hit_of s (event.Access t at op) (reply.Done byte (Some frame)) = shown_at s t.0 at
-hit_of s what answer = None
+-- ---- marks that come by frame
 
--- this page, if there is one, is marked
-abbrev pub with_mark : Option ℕ → HeldLists → HeldLists
-with_mark None held = held
-with_mark (Some p) held = record { groups = held.groups; marks = slice_set held.marks p true }
+-- the bit of a frame is set among the bits of this word. (Excludes the bits of one word read as another's.)
+abbrev pub has_bit : ℕ → ℕ → ℕ → Bool
+has_bit word bits frame = (frame / 64 == word) && (bit_at bits (frame % 64) == 1)
+
+-- a page is held in a frame whose bit is set
+abbrev pub is_in_bits_at : ℕ → ℕ → Residence → Bool
+is_in_bits_at word bits (Held frame) = has_bit word bits frame
+is_in_bits_at word bits residence = false
+
+abbrev pub is_in_bits : ℕ → ℕ → Page → Bool
+is_in_bits word bits page = is_in_bits_at word bits page.residence
+
+-- the pages that pass the test are marked, and nothing else changes. (Excludes a mark that is lost.)
+pub record MarksThose (test : Page → Bool) (pages : Pages) (held held' : HeldLists) : Type 0 where
+  pub groups : held'.groups ≡ held.groups
+  pub size : length held'.marks ≡ length held.marks
+  pub marks : (p : ℕ) → is_marked held'.marks p ≡ (is_marked held.marks p || there_and test (page_at pages p))
+
+-- the pages held in the frames of these bits are marked. (Excludes a page in transfer that is marked, and a mark for the page that had the frame before.)
+abbrev pub MergesMarks : Pages → ℕ → ℕ → HeldLists → HeldLists → Type 0
+MergesMarks pages word bits held held' = MarksThose (is_in_bits word bits) pages held held'
 
 -- a group more, with no page
 abbrev pub with_group : HeldLists → HeldLists
@@ -177,11 +192,11 @@ abbrev pub RemovesLists : Option ℕ → ℕ → Order → Order → Type 0
 RemovesLists None g order order' = ⊥
 RemovesLists (Some parent) g order order' = order' ≡ record { held = record { groups = handed_over g parent order.held.groups; marks = order.held.marks }; cursors = slice_set order.cursors g None }
 
--- no list is aged, a hit marks its page, and no cursor moves. (Excludes lists that age though no page is taken.)
+-- no list is aged, no page is marked, and no cursor moves. (Excludes lists that age though no page is taken, and an access that marks what it used.)
 abbrev pub Keeps : State → Order → Event → Reply → State → Order → Type 0
-Keeps old order what answer new order' = GoesOn (generation_for what) old.pages (with_mark (hit_of old what answer) order.held) new.pages order'.held × (order'.cursors ≡ order.cursors)
+Keeps old order what answer new order' = GoesOn (generation_for what) old.pages order.held new.pages order'.held × (order'.cursors ≡ order.cursors)
 
--- only a page that is taken ages lists and moves a cursor
+-- only a page that is taken ages lists and moves a cursor, and only marks that are merged mark pages
 abbrev pub Orders : State → Order → Event → Reply → State → Order → Type 0
 Orders old order (event.Relieve cause) (reply.Out ticket) new order' = TakesNext old order (target_of cause) new order'
 Orders old order (event.Relieve cause) reply.Dropped new order' = TakesNext old order (target_of cause) new order'
@@ -189,4 +204,5 @@ Orders old order (event.ReclaimOne g) (reply.Out ticket) new order' = TakesNext 
 Orders old order (event.ReclaimOne g) reply.Dropped new order' = TakesNext old order g.0 new order'
 Orders old order (event.Rmdir g) answer new order' = RemovesLists (node_at old.tree g.0).parent g.0 order order'
 Orders old order (event.Mkdir path) answer new order' = AddsLists order order'
+Orders old order (event.MergeMarks word bits) answer new order' = MergesMarks old.pages word bits order.held order'.held × (order'.cursors ≡ order.cursors)
 Orders old order what answer new order' = Keeps old order what answer new order'

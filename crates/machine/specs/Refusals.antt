@@ -105,3 +105,4 @@ refusal s (event.Mkdir path) = mkdir_refusal s.tree (bars_children s.tasks) path
 refusal s (event.Rmdir g) = rmdir_refusal s g.0
 refusal s (event.Set g setting) = file_refusal s.tree g.0
 refusal s (event.Show what) = show_refusal s what
+refusal s (event.MergeMarks word bits) = None

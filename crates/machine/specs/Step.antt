@@ -314,5 +314,6 @@ Step old (event.Mkdir path) reply.Ok new = new ≡ record old { tree = old.tree 
 Step old (event.Rmdir g) reply.Ok new = Removes old g.0 new
 Step old (event.Set g what) reply.Ok new = new ≡ record old { limits = slice_set old.limits g.0 (with_setting (limits_at old.limits g.0) what) }
 Step old (event.Show what) (reply.Shown numbers) new = (numbers ≡ shown_of old what) × (new ≡ old)
+Step old (event.MergeMarks word bits) reply.Ok new = new ≡ old
 -- no other reply is given
 Step old event answer new = ⊥

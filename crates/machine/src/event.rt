@@ -1,4 +1,5 @@
-//! What is asked of the machine, as it stands in a history.
+//! What is asked of the machine: events as they stand in a history, and the merge of marks, which stands in
+//! none.
 
 use crate::amount::Amount;
 use crate::bytes::PageBytes;
@@ -101,4 +102,8 @@ pub enum Event {
     Set { group: GroupId, setting: Setting },
     /// A control file's numbers are asked for.
     Show(Query),
+    /// The pages that are held in frames of this word were used, where the frame's bit is set: bit
+    /// `frame % 64` of word `frame / 64` (kernel: a walk over the accessed bits, `walk_mm`). No history
+    /// has one: it is a hint, and leaves no entry.
+    MergeMarks { word: u32, bits: u64 },
 }

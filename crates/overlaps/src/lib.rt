@@ -11,4 +11,6 @@ mod gate;
 #[cfg(test)]
 mod stops;
 #[cfg(test)]
+mod used;
+#[cfg(test)]
 mod workers;

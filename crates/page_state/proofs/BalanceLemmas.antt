@@ -4,6 +4,7 @@ use Rattle.std.proofs.lemmas.Bool.{cases_lt}
 use Rattle.machine.specs.Slots.{at, Changes, there_and, any_there, count_there}
 use Rattle.machine.specs.Pages.{Page, Pages, page_at}
 use Rattle.machine.proofs.SlotLemmas.{one_if, any_there-none, count_there-some, count_there-changes}
+use Rattle.machine.proofs.Values.{unlike}
 use Rattle.counts.specs.Numbers.{times}
 use Rattle.page_state.specs.Owned.{IsBalanced}
 
@@ -29,6 +30,14 @@ module _ (this : ℕ → Page → Bool) (has : Page → Bool) where
         none_beyond = λ n le. (let c = changed-count (this n) pages pages' p from to stood changes in let k = trades.counts n in let b = balanced.none_beyond n le in omega (arith, c, k, b));
         all = (let c = changed-count has pages pages' p from to stood changes in let k = trades.len in let b = balanced.all in omega (arith, c, k, b));
       }
+
+  -- a number that a page has is one of so many
+  pub taken-within : (total : ℕ) (free : List ℕ) (pages : Pages) (f : ℕ) → IsBalanced this has total free pages → any_there (this f) pages ≡ true → f < total
+  taken-within total free pages f balanced taken =
+      elim (cases_lt f total) [
+        | inl lt ↦ lt
+        | inr le ↦ unlike (any_there (this f) pages) taken (any_there-none (this f) pages (let beyond = balanced.none_beyond f le in omega (arith, beyond)))
+      ]
 
   -- what was free is no page's
   pub taken-in : (total : ℕ) (free free' : List ℕ) (pages : Pages) (f : ℕ) → ((n : ℕ) → times free n ≡ times free' n + one_if (f == n)) → IsBalanced this has total free pages

@@ -81,3 +81,7 @@ module _ (h : Inside) (is : IsHolding h) where
   module _ (counters' : Counts) (pool' : PoolOf) (g f charge : ℕ) (room : TakesRoom h.counters counters' h.pool pool' g f charge) where
     pub granted-frame : (f < h.pool.frames) × (is_frame_taken h.pages.pages f ≡ false)
     granted-frame = taken-in has_this_frame has_frame h.pool.frames h.pool.free pool'.free h.pages.pages f room.frame.counts is.kept.frames
+
+    -- and a page can be told by it
+    pub granted-framed : f < h.pages.frames
+    granted-framed = let within = granted-frame.0 in let same = is.page_frames in omega (arith, within, same)

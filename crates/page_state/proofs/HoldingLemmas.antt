@@ -217,6 +217,7 @@ pub record Stays (h h' : Inside) : Type 0 where
   pub blocks : h'.slots.blocks ≡ h.slots.blocks
   pub numbers : h'.pages.numbers ≡ h.pages.numbers
   pub page_groups : h'.pages.groups ≡ h.pages.groups
+  pub page_frames : h'.pages.frames ≡ h.pages.frames
   pub page_room : h'.pages.room ≡ h.pages.room
   pub held_numbers : h'.held.numbers ≡ h.held.numbers
   pub held_room : h'.held.room ≡ h.held.room
@@ -270,6 +271,7 @@ holding-step h h' p from to moves is =
       held_groups = goes_length moves.generation h.pages.pages h'.pages.pages h.held.lists h'.held.lists moves.goes ∙ is.held_groups ∙ sym (ap length moves.stays.groups.tree);
       held_numbers = moves.stays.held_numbers ∙ is.held_numbers ∙ sym moves.stays.numbers;
       page_groups = moves.stays.page_groups ∙ is.page_groups ∙ sym (ap length moves.stays.groups.tree);
+      page_frames = moves.stays.page_frames ∙ is.page_frames ∙ sym frames;
       moving_room = (let room = moves.stays.moving_room in let fit = is.moving_room in omega (arith, room, fit, frames));
       numbers = (let fit = is.numbers in omega (arith, fit, frames, blocks, numbers));
       homes = ap (λ (files : FilesOf). files.first) moves.stays.files ∙ is.homes ∙ sym blocks;
@@ -437,6 +439,7 @@ holding-counted h d held groups room counted lists sized many numbers is =
       moving_room = is.moving_room;
       held_groups = sized;
       page_groups = many;
+      page_frames = is.page_frames;
       held_numbers = numbers ∙ is.held_numbers;
       numbers = is.numbers;
       homes = is.homes;

@@ -26,3 +26,4 @@ pub mod GoneLemmas
 pub mod LeaveLemmas
 pub mod AccessLemmas
 pub mod StatLemmas
+pub mod MergeLemmas

@@ -281,6 +281,7 @@ module _ (h : Inside) (is : IsHolding h) (g parent : ℕ) (d e : Counts) (pages 
         moving_room = is.moving_room;
         held_groups = lists ∙ is.held_groups ∙ sym size;
         page_groups = groups ∙ is.page_groups ∙ sym size;
+        page_frames = ap (λ (t : PagesOf). t.frames) others ∙ is.page_frames;
         held_numbers = is.held_numbers ∙ sym numbers;
         homes = ap (λ (t : PagesOf). t.files.first) others ∙ is.homes;
         spares = (let was = is.spares in omega (arith, was, going));

@@ -203,7 +203,7 @@ module _ (h h' : Inside) (is : IsHolding h) (p : ℕ) (label : Label) (f b n : �
   )
 
   stays-landed : (end : End) → Lands h h' p label f b n d end entry → Stays h h'
-  stays-landed end lands = record { groups = lands.groups; frames = lands.frames; most_spares = lands.most_spares; blocks = lands.blocks; numbers = lands.ended.numbers; page_groups = lands.ended.groups; page_room = lands.ended.room; held_numbers = (held-lands end lands).1; held_room = (held-lands end lands).2; moving_room = lands.moving.room; files = lands.ended.files }
+  stays-landed end lands = record { groups = lands.groups; frames = lands.frames; most_spares = lands.most_spares; blocks = lands.blocks; numbers = lands.ended.numbers; page_groups = lands.ended.groups; page_frames = lands.ended.frames; page_room = lands.ended.room; held_numbers = (held-lands end lands).1; held_room = (held-lands end lands).2; moving_room = lands.moving.room; files = lands.ended.files }
 
   pub holding-lands : (end : End) → Lands h h' p label f b n d end entry → IsHolding h'
   holding-lands end lands =

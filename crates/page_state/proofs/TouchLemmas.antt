@@ -67,6 +67,7 @@ module _ (h : Inside) (is : IsHolding h) (pages : PagesOf) (same : (q : ℕ) →
         moving_room = is.moving_room;
         held_groups = is.held_groups;
         page_groups = ap (λ (t : PagesOf). t.groups) others ∙ is.page_groups;
+        page_frames = ap (λ (t : PagesOf). t.frames) others ∙ is.page_frames;
         held_numbers = is.held_numbers ∙ sym numbers;
         homes = ap (λ (t : PagesOf). t.files.first) others ∙ is.homes;
         spares = (let was = is.spares in omega (arith, was, going));

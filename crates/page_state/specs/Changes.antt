@@ -14,7 +14,7 @@ use Rattle.machine.specs.State.{State, page_numbers, over_in, is_frame_free}
 use Rattle.machine.specs.Access.{page_size}
 use Rattle.machine.specs.Reclaim.{is_takeable}
 use Rattle.machine.specs.Generations.{gens_at}
-use Rattle.machine.specs.Lists.{Generation, Youngest, entry_after, with_mark, GoesOn, TakesNext, AddsLists, RemovesLists}
+use Rattle.machine.specs.Lists.{Generation, Youngest, entry_after, MergesMarks, GoesOn, TakesNext, AddsLists, RemovesLists}
 use Rattle.machine.specs.Step.{IsFreeFrame, IsFreeBlock, touched, still, in_frame, on_block, new_node, new_page, regrouped}
 use Rattle.pages.specs.declared.end.End.{End}
 use Rattle.pages.specs.declared.end.End.TheVariants.{InFrame, OnBlock}
@@ -71,9 +71,10 @@ pub record MakesPage (old new : StateOf) (t v g o byte : ℕ) : Type 0 where
   pub held : KeepsLists Youngest old new
   pub cursors : new.order.cursors ≡ old.order.cursors
 
--- a page in a frame is marked as accessed, and all else is as it was
-abbrev pub MarksPage : StateOf → StateOf → ℕ → Type 0
-MarksPage old new p = new ≡ record old { order = record { held = with_mark (Some p) old.order.held; cursors = old.order.cursors } }
+-- the pages held in the frames of these bits are marked as accessed, and all else is as it was
+pub record MergesFrames (old new : StateOf) (word bits : ℕ) : Type 0 where
+  pub merges : MergesMarks old.tables.pages word bits old.order.held new.order.held
+  pub others : new ≡ record old { order = record { held = new.order.held; cursors = old.order.cursors } }
 
 -- a byte of a page in a frame is written, and a page of a file is dirty then
 pub record WritesByte (old new : StateOf) (p o byte : ℕ) : Type 0 where

@@ -9,3 +9,4 @@ pub mod Mapped
 pub mod States
 pub mod Changes
 pub mod Joined
+pub mod Merging

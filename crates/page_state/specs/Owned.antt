@@ -75,6 +75,8 @@ pub record IsHolding (h : Inside) : Type 0 where
   -- each group has its lists and its pages, and each page number its links and its mark
   pub held_groups : length h.held.lists.groups ≡ length h.counters.tree
   pub page_groups : h.pages.groups ≡ length h.counters.tree
+  -- a page can be told by each frame
+  pub page_frames : h.pages.frames ≡ h.pool.frames
   pub held_numbers : h.held.numbers ≡ h.pages.numbers
   -- a page that is being written out has a spare, of as many as there can be: each has a frame, and a swap block or its home
   pub spares : h.pool.spares + count_there is_going h.pages.pages ≡ h.pool.most_spares

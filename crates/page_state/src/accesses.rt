@@ -7,7 +7,7 @@ ghost use Rattle.machine.specs.Pages.{file_page, is_held_in};
 ghost use Rattle.machine.specs.Tasks.{lives, mapped_at};
 ghost use Rattle.machine.specs.Access.{page_size, task_pages};
 ghost use Rattle.pages.specs.PagesOf.{memory_of, HasResidence};
-ghost use Rattle.page_state.specs.Changes.{HasRoom, LacksRoom, SharesPage, MakesPage, WritesByte, MarksPage, BeginsReadIn, BeginsRead};
+ghost use Rattle.page_state.specs.Changes.{HasRoom, LacksRoom, SharesPage, MakesPage, WritesByte, MergesFrames, BeginsReadIn, BeginsRead};
 
 use crate::joined::State;
 use crate::room::NoRoom;
@@ -76,12 +76,12 @@ impl State {
         self.holdings.write(page, offset as usize, byte);
     }
 
-    /// A page in a frame is marked as accessed (kernel: the accessed bit of its mapping). Takes no memory.
-    pub fn mark(&mut self, page: PageId)
-        requires { is_held_in self.old.tables.pages page.0 ≡ true }
-        ensures { MarksPage self.old self.new page.0 }
+    /// The pages that are held in the frames of these bits are marked as accessed: bit b is that of frame
+    /// `64 * word + b` (kernel: a walk over the accessed bits of page tables, `walk_mm`). Takes no memory.
+    pub fn merge_marks(&mut self, word: u32, bits: u64)
+        ensures { MergesFrames self.old self.new word bits }
     {
-        self.holdings.mark(page);
+        self.holdings.merge_marks(word, bits);
     }
 
     /// Begins to read in memory that is on its block. It is charged to its group, which has room for it.

@@ -1,9 +1,9 @@
 //! The pages that are held: their generation lists, and which of them are marked as accessed.
 
-ghost use Rattle.std.specs.Prelude.{◌≡◌, ◌≢◌, ℕ, ◌+◌, ◌-◌, ◌<◌, ◌≤◌, ◌^◌, ◌∷◌, [], true, false, Some, None, IfOk, OnOk, length, replicate};
+ghost use Rattle.std.specs.Prelude.{◌≡◌, ◌≢◌, ℕ, ◌+◌, ◌-◌, ◌<◌, ◌≤◌, ◌^◌, ◌∷◌, [], true, false, Some, None, IfOk, OnOk, length, replicate, slice_set};
 ghost use Rattle.machine.specs.Generations.{new_gens, gens_at, handed_over, is_listed, is_listed_in};
 ghost use Rattle.machine.specs.Eviction.{has_usable};
-ghost use Rattle.machine.specs.Lists.{entry_after, with_mark, with_group, AreGenerations, PicksOf, Youngest};
+ghost use Rattle.machine.specs.Lists.{entry_after, with_group, AreGenerations, PicksOf, Youngest};
 ghost use Rattle.page_state.specs.Held.{HeldOf, entered, left, KeepsRows};
 
 use aging::MarkSet;
@@ -145,7 +145,8 @@ impl HeldPages {
     /// The page is marked as accessed.
     pub fn mark(&mut self, page: PageId)
         requires { page.0 < self.old.numbers }
-        ensures { self.new ≡ record self.old { lists = with_mark (Some page.0) self.old.lists } }
+        ensures marked { self.new ≡ record self.old { lists = record { groups = self.old.lists.groups; marks = slice_set self.old.lists.marks page.0 true } } }
+        ensures size { length self.old.lists.marks ≡ self.old.numbers }
     {
         self.marks.set(page);
     }

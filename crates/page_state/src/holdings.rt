@@ -4,7 +4,7 @@ ghost use Rattle.std.specs.Prelude.{◌≡◌, ◌≢◌, ℕ, ◌+◌, ◌<◌,
 ghost use Rattle.machine.specs.Slots.{Changes, any_there};
 ghost use Rattle.machine.specs.Tree.{Node, node_at, is_live, has_children, under};
 ghost use Rattle.machine.specs.Pages as residence;
-ghost use Rattle.machine.specs.Pages.{Page, page_at, file_page, is_anon, is_in_transfer, is_held_in, in_transfer, charged, charged_file, used_frames, used_swap};
+ghost use Rattle.machine.specs.Pages.{Page, page_at, file_page, is_anon, is_in_transfer, is_held_in, is_frame_taken, in_transfer, charged, charged_file, used_frames, used_swap};
 ghost use Rattle.machine.specs.declared.event.Op.TheVariants.{Write};
 ghost use Rattle.machine.specs.Counts.{no_limits, limits_at};
 ghost use Rattle.machine.specs.Protection.{effective, min_of};
@@ -16,12 +16,13 @@ ghost use Rattle.pages.specs.PagesOf.{pages_there, byte_in, Label, memory_of, of
 ghost use Rattle.pages.specs.Transfers.{page_after};
 ghost use Rattle.machine.specs.declared.record.Direction.TheVariants.{In, Out};
 ghost use Rattle.machine.specs.Generations.{new_gens, gens_at};
-ghost use Rattle.machine.specs.Lists.{ListsHeld, AreGenerations, with_mark, with_group};
+ghost use Rattle.machine.specs.Lists.{ListsHeld, AreGenerations, MergesMarks, with_group};
 ghost use Rattle.page_state.specs.States.{byte_shown};
 ghost use Rattle.page_state.specs.Holdings.{with_stored, IsGranted, Lacks, AddsPage, BeginsIn, BeginsInFile, BeginsOut, LeavesSo, Settles, DropsPage, may_take, gives_of, IsTurn, PicksPage, HandsUp};
 
 use crate::held::HeldPages;
 use crate::lookup::{file_usage, group_of, is_any_under, kind_of};
+use crate::merging::merge_marks;
 use crate::queue::Queue;
 use crate::release::{release, release_last};
 use crate::removal::hand_up;
@@ -95,7 +96,7 @@ impl Holdings {
             slots.close();
             return Err(AllocError);
         };
-        let Ok(pages) = Pages::new(alloc, frames + swap, frames, files) else {
+        let Ok(pages) = Pages::new(alloc, frames + swap, frames, frames, files) else {
             pool.close();
             slots.close();
             return Err(AllocError);
@@ -241,13 +242,12 @@ impl Holdings {
         self.held.pick(group, swap_free)
     }
 
-    /// The page, which is in a frame and in no transfer, is marked as accessed. Takes no memory.
-    pub fn mark(&mut self, page: PageId)
-        requires { is_held_in self.old.stored.pages page.0 ≡ true }
-        ensures { self.new ≡ record self.old { held = with_mark (Some page.0) self.old.held } }
+    /// The pages that are held in the frames of these bits are marked as accessed. Takes no memory.
+    pub fn merge_marks(&mut self, word: u32, bits: u64)
+        ensures merged { MergesMarks self.old.stored.pages word bits self.old.held self.new.held }
+        ensures others { self.new ≡ record self.old { held = self.new.held } }
     {
-        self.pages.are_numbered();
-        self.held.mark(page);
+        merge_marks(&self.pages, &mut self.held, word, bits);
     }
 
     /// Asks for the memory of one group more.
@@ -303,6 +303,7 @@ impl Holdings {
         ensures held { ListsHeld self.now.stored.pages self.now.held }
         ensures generations { AreGenerations self.now.held }
         ensures groups_listed { length self.now.held.groups ≡ length self.now.kin }
+        ensures framed { (f : ℕ) → is_frame_taken self.now.stored.pages f ≡ true → f < self.now.frames }
     {
         self.counters.are_counted();
         self.pages.are_in_flight();
@@ -574,6 +575,8 @@ fn make_page(
     requires held { IfSome from (λ page. is_held_in pages.old.pages page.0 ≡ true) }
     requires room { pages_there pages.old.pages < pages.old.numbers }
     requires group { charge < pages.old.groups }
+    requires unused { is_frame_taken pages.old.pages frame.number ≡ false }
+    requires framed { frame.number < pages.old.frames }
     requires within { offset < page_size }
     ensures within { result.0 < pages.old.numbers }
     ensures free { page_at pages.old.pages result.0 ≡ None }

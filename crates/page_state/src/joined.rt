@@ -3,7 +3,7 @@
 ghost use Rattle.std.specs.Prelude.{◌≡◌, ℕ, ◌+◌, ◌<◌, ◌≤◌, [], true, Some, IfSome, IfOk, length};
 ghost use Rattle.machine.specs.Tree.{is_live};
 ghost use Rattle.machine.specs.State.{first_state, opening_of, is_config};
-ghost use Rattle.machine.specs.Pages.{page_at, used_frames, in_transfer};
+ghost use Rattle.machine.specs.Pages.{page_at, is_frame_taken, used_frames, in_transfer};
 ghost use Rattle.machine.specs.Tasks.{lives, group_of_task, mapped_at};
 ghost use Rattle.machine.specs.Access.{task_pages};
 ghost use Rattle.machine.specs.Lists.{first_order, ListsHeld, AreGenerations};
@@ -145,7 +145,8 @@ impl State {
     /// task and of each page; the pages that are mapped are there, live tasks map them, and no page of a
     /// file is mapped; the transfers in flight are those of the pages in transfer; no page of a file is
     /// there twice, and each is at home; each held page is on the list of its group and type, once, and no
-    /// other page is; and each group has its lists, two to four generations of a type, and its cursor.
+    /// other page is; each group has its lists, two to four generations of a type, and its cursor; and each
+    /// frame that a page has is one of the opening's.
     pub fn is_joined(&self)
         ensures limit { self.now.tables.opening.trace_limit ≤ 1048576 }
         ensures root { is_live self.now.tables.tree 0 ≡ true }
@@ -160,6 +161,7 @@ impl State {
         ensures generations { AreGenerations self.now.order.held }
         ensures lists { length self.now.order.held.groups ≡ length self.now.tables.tree }
         ensures cursors { length self.now.order.cursors ≡ length self.now.tables.tree }
+        ensures framed { (f : ℕ) → is_frame_taken self.now.tables.pages f ≡ true → f < self.now.tables.opening.frames }
     {
         self.holdings.are_counted();
         self.spaces.owners();

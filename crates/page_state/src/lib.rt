@@ -17,6 +17,7 @@ mod held;
 mod holdings;
 mod joined;
 mod lookup;
+mod merging;
 mod queue;
 mod reclaims;
 mod release;

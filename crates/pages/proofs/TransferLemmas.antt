@@ -1,13 +1,14 @@
 -- Pages after the change of what one of them owns, as transfers begin and end.
-use Rattle.std.proofs.Common.{◌≡◌, ◌≢◌, ℕ, ◌+◌, ◌<◌, ◌==◌, Bool, true, List, [], ◌∷◌, ◌++◌, length, map, set, Option, Some, None, is_some, refl, sym, ap, ◌∙◌, subst, inl, inr, arith}
+use Rattle.std.proofs.Common.{◌≡◌, ◌≢◌, ℕ, ◌+◌, ◌<◌, ◌==◌, Bool, true, false, List, [], ◌∷◌, ◌++◌, length, map, set, Option, Some, None, is_some, refl, sym, ap, ◌∙◌, subst, inl, inr, arith}
 use Rattle.std.specs.Prelude.{option_map, IfSome, IsSome, slice_index}
+use Rattle.std.proofs.lemmas.Bool.{eqb-true}
 use Rattle.std.proofs.lemmas.Bool.Decides.{eqb_tells}
 use Rattle.std.proofs.lemmas.List.{length-map, length-set}
 use Rattle.slab.specs.Slab.{Slab, get, slab_len, HasRoomFor, Updates}
 use Rattle.machine.specs.Slots.{at, there_and, Changes}
-use Rattle.machine.specs.Pages.{Content, Memory, OfFile, Residence, Held, Page, Pages, page_at, is_held, in_transfer_at, frame_at, block_at, is_page_of, IsFiled}
+use Rattle.machine.specs.Pages.{Content, Memory, OfFile, Residence, Held, Page, Pages, page_at, is_held, in_transfer_at, frame_at, block_at, is_number, is_frame_taken, is_page_of, IsFiled}
 use Rattle.machine.specs.declared.id.PageId.{PageId}
-use Rattle.machine.proofs.Values.{some_inj}
+use Rattle.machine.proofs.Values.{some_inj, unlike}
 use Rattle.machine.proofs.FileLemmas.{holds_page}
 use Rattle.pages.specs.declared.end.End.{End}
 use Rattle.pages.specs.declared.end.End.TheVariants.{InFrame, OnBlock}
@@ -24,11 +25,12 @@ use Rattle.pages.specs.PagesOf.{Label, label_of, labelled, of_file, moving, flig
 use Rattle.pages.specs.Tickets.{new_ticket}
 use Rattle.pages.specs.Transfers.{Starts, Ends, on_block_as, page_after, IsFreed}
 use Rattle.rings.specs.Rings.{RingsOf, list_at, without}
-use Rattle.pages.specs.Records.{page_of, bytes_of, label_holding, file_at, place_in, is_of, AreMembers, AreCached, AreHome, view_of, ArePages}
+use Rattle.pages.specs.Records.{page_of, bytes_of, label_holding, file_at, place_in, is_of, AreMembers, AreCached, AreHome, AreFramed, view_of, ArePages}
 use Rattle.pages.proofs.TableLemmas.{at-map, is_some-map, map-set, place_within, Changes-map, Changes-set, taken-changes, free-page}
 use Rattle.pages.proofs.FlightLemmas.{under, under-moving, IsSettled, IsSettled-is, AreInFlight-begun, AreInFlight-ended}
 use Rattle.pages.proofs.MemberLemmas.{AreMembers-kept, AreMembers-gone, AreMembers-added}
 use Rattle.pages.proofs.CacheLemmas.{AreHome-changes, AreCached-kept, AreCached-left, filed-after}
+use Rattle.pages.proofs.FrameLemmas.{frames_page, AreFramed-kept, AreFramed-comes}
 
 abbrev pub pages_of : List (Option OwnedPage) → Pages
 pages_of owned = map (option_map page_of) owned
@@ -115,6 +117,38 @@ module _ (old new : List (Option OwnedPage)) (p : ℕ) (to : Option OwnedPage) (
             )
         | inr apart ↦ changed-byte-apart q o apart.1
       ]
+
+-- ---- the frames
+
+-- what is owned, by its frame
+pub owned-frame : (owned : List (Option OwnedPage)) (p : ℕ) (k : OwnedPage) (frame f : ℕ) → at owned p ≡ Some k → frame_at (page_of k).residence ≡ Some frame → frames_page f (page_at (pages_of owned) p) ≡ (frame == f)
+owned-frame owned p k frame f was own = ap (frames_page f) (page-stands owned p k was) ∙ ap (λ at. is_number at f) own
+
+module _ (by_frame : List (Option PageId)) (old new : List (Option OwnedPage)) (p : ℕ) (to : Option OwnedPage) (changes : Changes old new p to) (are : AreFramed by_frame (pages_of old)) where
+  -- a page stays where it is
+  pub framed-same : (from : OwnedPage) → at old p ≡ Some from → (k : OwnedPage) → to ≡ Some k → (page_of k).residence ≡ (page_of from).residence → AreFramed by_frame (pages_of new)
+  framed-same from was k is same =
+      AreFramed-kept by_frame (pages_of old) (pages_of new) p (option_map page_of to) (Changes-map page_of old new p to changes) are
+      (λ f has. ap (frames_page f) (page-stands old p from was) ∙ ap (λ r. is_number (frame_at r) f) (sym same) ∙ sym (ap (λ slot. frames_page f (option_map page_of slot)) is) ∙ has)
+
+  -- a page has the frame that it had, or none
+  pub framed-kept : (from : OwnedPage) (frame : ℕ) → at old p ≡ Some from → frame_at (page_of from).residence ≡ Some frame → ((f : ℕ) → frames_page f (option_map page_of to) ≡ true → (frame == f) ≡ true) → AreFramed by_frame (pages_of new)
+  framed-kept from frame was own stays =
+      AreFramed-kept by_frame (pages_of old) (pages_of new) p (option_map page_of to) (Changes-map page_of old new p to changes) are
+      (λ f has. owned-frame old p from frame f was own ∙ stays f has)
+
+  -- a page goes
+  pub framed-gone : to ≡ None → AreFramed by_frame (pages_of new)
+  framed-gone none =
+      AreFramed-kept by_frame (pages_of old) (pages_of new) p (option_map page_of to) (Changes-map page_of old new p to changes) are
+      (λ f has. unlike (frames_page f (option_map page_of to)) has (ap (λ slot. frames_page f (option_map page_of slot)) none))
+
+  -- a page comes into a frame that none had
+  pub framed-comes : (k : OwnedPage) (frame : ℕ) → to ≡ Some k → frame_at (page_of k).residence ≡ Some frame → is_frame_taken (pages_of old) frame ≡ false
+      → (later : List (Option PageId)) → Changes by_frame later frame (Some (record { 0 = p })) → AreFramed later (pages_of new)
+  framed-comes k frame is own unused later noted =
+      AreFramed-comes by_frame (pages_of old) (pages_of new) p (option_map page_of to) (Changes-map page_of old new p to changes) are frame
+      (λ f has. eqb-true frame f (sym (ap (λ slot. frames_page f (option_map page_of slot)) is ∙ ap (λ at. is_number at f) own) ∙ has)) unused later noted
 
 pub own-byte : (old : List (Option OwnedPage)) (p : ℕ) (from : OwnedPage) → at old p ≡ Some from → (o : ℕ) → byte_in (bytes_in old) p o ≡ slice_index (bytes_of from) o
 own-byte old p from was o = ap (λ bytes. byte_of bytes o) (at-map bytes_of old p ∙ ap (option_map bytes_of) was)
@@ -235,6 +269,15 @@ moving-frame : (d : Direction) (f b n : ℕ) → frame_at (moving d f b n) ≡ S
 moving-frame In f b n = refl
 moving-frame Out f b n = refl
 
+-- a page whose transfer has ended has its frame, or none
+frames-after : (end : End) (label : Label) (f b g : ℕ) → frames_page g (page_after end label f b) ≡ true → (f == g) ≡ true
+frames-after InFrame label f b g has = has
+frames-after OnBlock label f b g has = by_content label.content has
+  where
+    by_content : (content : Content) → frames_page g (on_block_as content label b) ≡ true → (f == g) ≡ true
+    by_content Memory has = cc
+    by_content (OfFile file q) has = cc
+
 moving-block : (d : Direction) (f b n : ℕ) → block_at (moving d f b n) ≡ Some b
 moving-block In f b n = refl
 moving-block Out f b n = refl
@@ -274,6 +317,12 @@ module _ {T : Type 0} {numbers numbers' : Slab T} {old new : List (Option OwnedP
       (AreInFlight-ended (pages_of old) (pages_of new) number.0 (option_map page_of to) landed flights.slots later.slots n is.in_flight (flight-under old flights.slots n number is.in_flight landing.page) landing.unlisted (IsSettled-is _ _ landing.after (settled-after end label frame block)))
       (AreHome-changes files (pages_of old) (pages_of new) number.0 (option_map page_of to) landed after_filed is.filed)
 
+  -- the page has its frame still, or none
+  pub Landing-framed : (by_frame : List (Option PageId)) → AreFramed by_frame (pages_of old) → AreFramed by_frame (pages_of new)
+  Landing-framed by_frame are =
+      framed-kept by_frame old new number.0 to landing.changes are from frame landing.was landing.own_frame
+      (λ g has. frames-after end label frame block g (sym (ap (frames_page g) landing.after) ∙ has))
+
   module _ (d : Direction) (p : ℕ) (l : Label) (f b : ℕ) (stands : HasResidence (pages_of old) p l (moving d f b n)) where
     -- the page of the ticket is the one that is in transfer under it
     Landing-page : number.0 ≡ p
@@ -291,8 +340,8 @@ module _ {T : Type 0} {numbers numbers' : Slab T} {old new : List (Option OwnedP
     Landing-block : block ≡ b
     Landing-block = some_inj (sym landing.own_block ∙ ap (λ page. block_at page.residence) from_is ∙ moving-block d f b n)
 
-    pub Landing-ends : Ends (view_of numbers old flights members files) (view_of numbers' new later members' files) p l f b n end
-    Landing-ends =
+    pub Landing-ends : (frames : ℕ) → Ends (view_of numbers old flights members files frames) (view_of numbers' new later members' files frames) p l f b n end
+    Landing-ends frames =
         let is = landing.after ∙ ap (λ x. page_after end x frame block) Landing-label ∙ ap (λ x. page_after end l x block) Landing-frame ∙ ap (λ x. page_after end l f x) Landing-block in
         record {
           placed = changed-page old new number.0 to landing.changes p _ Landing-page is;
@@ -302,6 +351,7 @@ module _ {T : Type 0} {numbers numbers' : Slab T} {old new : List (Option OwnedP
           groups = landing.beside.same_groups;
           room = rw (landing.beside.same_room, landing.beside.same_groups) refl;
           files = refl;
+          frames = refl;
           bytes = λ in_frame. changed-byte-kept old new number.0 to landing.changes from landing.was (landing.kept in_frame);
           others = λ k o apart. changed-byte-apart old new number.0 to landing.changes k o (λ same. apart (same ∙ Landing-page));
         }
@@ -335,9 +385,22 @@ module _ {T : Type 0} {numbers numbers' : Slab T} {old new : List (Option OwnedP
       (AreInFlight-begun (pages_of old) (pages_of new) p (Some (page_of to)) placed flights.slots later.slots n direction label frame block (ap Some takeoff.moves) is.in_flight takeoff.settled takeoff.free takeoff.listed)
       (AreHome-changes files (pages_of old) (pages_of new) p (Some (page_of to)) placed takeoff.filed is.filed)
 
-  pub Takeoff-starts : (l : Label) (f b : ℕ) (bytes : List ℕ) → page_of to ≡ labelled l (moving direction f b n)
-      → Starts (view_of numbers old flights members files) (view_of numbers' new later members' files) p l direction f b (new_ticket n b bytes)
-  Takeoff-starts l f b bytes is = record {
+  own_frame : frame_at (page_of to).residence ≡ Some frame
+  own_frame = ap (λ page. frame_at page.residence) takeoff.moves ∙ moving-frame direction frame block n
+
+  -- the page has the frame that it had
+  pub Takeoff-framed : (by_frame : List (Option PageId)) → AreFramed by_frame (pages_of old) → (from : OwnedPage) → at old p ≡ Some from → frame_at (page_of from).residence ≡ Some frame → AreFramed by_frame (pages_of new)
+  Takeoff-framed by_frame are from was own =
+      framed-kept by_frame old new p (Some to) takeoff.changes are from frame was own (λ f has. sym (ap (λ at. is_number at f) own_frame) ∙ has)
+
+  -- it comes into one that none had
+  pub Takeoff-comes : (by_frame : List (Option PageId)) → AreFramed by_frame (pages_of old) → is_frame_taken (pages_of old) frame ≡ false
+      → (noted : List (Option PageId)) → Changes by_frame noted frame (Some (record { 0 = p })) → AreFramed noted (pages_of new)
+  Takeoff-comes by_frame are unused noted changes = framed-comes by_frame old new p (Some to) takeoff.changes are to frame refl own_frame unused noted changes
+
+  pub Takeoff-starts : (l : Label) (f b : ℕ) (bytes : List ℕ) → page_of to ≡ labelled l (moving direction f b n) → (frames frames' : ℕ) → frames' ≡ frames
+      → Starts (view_of numbers old flights members files frames) (view_of numbers' new later members' files frames') p l direction f b (new_ticket n b bytes)
+  Takeoff-starts l f b bytes is frames frames' many = record {
     free = takeoff.free;
     listed = takeoff.listed;
     placed = changed-page old new p (Some to) takeoff.changes p _ refl (ap Some is);
@@ -347,6 +410,7 @@ module _ {T : Type 0} {numbers numbers' : Slab T} {old new : List (Option OwnedP
     groups = takeoff.beside.same_groups;
     room = rw (takeoff.beside.same_room, takeoff.beside.same_groups) refl;
     files = refl;
+    frames = many;
   }
 
   pub Takeoff-apart : (q o : ℕ) → q ≢ p → byte_in (bytes_in new) q o ≡ byte_in (bytes_in old) q o
@@ -388,8 +452,11 @@ module _ {T : Type 0} (numbers : Slab T) (flights : Slab Flight) (members : Ring
     homes = is.homes;
   }
 
-  pub Rewrites-others : view_of numbers (set owned p after) flights members files ≡ record (view_of numbers owned flights members files) { bytes = bytes_in (set owned p after) }
-  Rewrites-others = ap (λ pages. record (view_of numbers (set owned p after) flights members files) { pages = pages }) same_pages
+  pub Rewrites-others : (frames : ℕ) → view_of numbers (set owned p after) flights members files frames ≡ record (view_of numbers owned flights members files frames) { bytes = bytes_in (set owned p after) }
+  Rewrites-others frames = ap (λ pages. record (view_of numbers (set owned p after) flights members files frames) { pages = pages }) same_pages
+
+  pub Rewrites-framed : (by_frame : List (Option PageId)) → AreFramed by_frame (pages_of owned) → AreFramed by_frame (pages_of (set owned p after))
+  Rewrites-framed by_frame are = subst (AreFramed by_frame) (sym same_pages) are
 
   pub Rewrites-bytes : Changes (bytes_in owned) (bytes_in (set owned p after)) p (option_map bytes_of after)
   Rewrites-bytes = Changes-map bytes_of _ _ p after (Changes-set owned p after rewrites.within)

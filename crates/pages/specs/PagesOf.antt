@@ -1,7 +1,7 @@
 -- What a contract sees of `Pages`.
-use Rattle.std.specs.Prelude.{◌≡◌, ℕ, Bool, true, false, if◌then◌else◌, List, Option, Some, None, IfSome, option_map, slice_index}
+use Rattle.std.specs.Prelude.{◌≡◌, ℕ, ◌&&◌, Bool, true, false, if◌then◌else◌, List, position, Option, Some, None, IfSome, option_map, slice_index}
 use Rattle.machine.specs.Slots.{at, there_and, count_there}
-use Rattle.machine.specs.Pages.{Content, Memory, OfFile, Residence, Held, Coming, Going, Away, Page, Pages, page_at, file_page, is_in_transfer, is_number, ticket_at, IsFiled}
+use Rattle.machine.specs.Pages.{Content, Memory, OfFile, Residence, Held, Coming, Going, Away, Page, Pages, page_at, file_page, is_held, is_in_transfer, has_this_frame, is_number, ticket_at, IsFiled}
 use Rattle.files.specs.Files.{FilesOf}
 use Rattle.pages.specs.declared.residence.Residence.{Residence as Code_residence}
 use Rattle.pages.specs.declared.residence.Residence.TheVariants as code
@@ -12,7 +12,8 @@ use Rattle.pages.specs.declared.way.WayOut.{WayOut}
 use Rattle.pages.specs.declared.way.WayOut.TheVariants as way
 
 -- the pages and their bytes, both by the page's number; how many page numbers there are; by ticket number the transfers in flight;
--- for how many transfers more there is memory; how many groups there are; for how many groups more there is memory; and the files
+-- for how many transfers more there is memory; how many groups there are; for how many groups more there is memory; the files; and of how
+-- many frames pages can be told by the frame
 pub record PagesOf : Type 0 where
   pub pages : Pages
   pub bytes : List (Option (List ℕ))
@@ -22,6 +23,15 @@ pub record PagesOf : Type 0 where
   pub groups : ℕ
   pub room : ℕ
   pub files : FilesOf
+  pub frames : ℕ
+
+-- the page is held in this frame
+abbrev pub is_held_frame : ℕ → Page → Bool
+is_held_frame f page = is_held page && has_this_frame f page
+
+-- the page that is held in this frame, if one is (kernel: pfn_folio)
+abbrev pub frame_holder : Pages → ℕ → Option ℕ
+frame_holder pages f = position (there_and (is_held_frame f)) pages
 
 -- how many pages there are
 abbrev pub pages_there : Pages → ℕ

@@ -1,10 +1,10 @@
 -- What a contract sees of pages, by what they are made of: the numbers that pages have, what the pages own, the transfers in flight, and
 -- the lists of the groups' pages.
-use Rattle.std.specs.Prelude.{◌≡◌, ◌≢◌, ℕ, ◌-◌, ◌^◌, ◌<◌, ◌==◌, Bool, List, [], length, min, sum, slice_index, Option, Some, None, IfSome, map, option_map, is_some}
+use Rattle.std.specs.Prelude.{◌≡◌, ◌≢◌, ℕ, ◌-◌, ◌^◌, ◌<◌, ◌==◌, Bool, true, List, [], length, min, sum, slice_index, Option, Some, None, IfSome, map, option_map, is_some}
 use Rattle.slab.specs.Slab.{Slab, get, slab_len}
 use Rattle.rings.specs.Rings.{RingsOf, list_at, has}
 use Rattle.machine.specs.Slots.{at, there_and}
-use Rattle.machine.specs.Pages.{Content, Memory, OfFile, Held, Coming, Going, Away, Page, Pages, page_at, is_page_of, home_block, IsFiled}
+use Rattle.machine.specs.Pages.{Content, Memory, OfFile, Held, Coming, Going, Away, Page, Pages, page_at, has_this_frame, is_page_of, home_block, IsFiled}
 use Rattle.machine.specs.declared.id.PageId.{PageId}
 use Rattle.pages.specs.declared.flight.Flight.{Flight}
 use Rattle.pages.specs.declared.owned_page.OwnedPage.{OwnedPage}
@@ -83,10 +83,14 @@ AreCached files cache pages = (file q p : ℕ) → q < slice_index files.sizes f
 abbrev pub AreHome : FilesOf → Pages → Type 0
 AreHome files pages = (p : ℕ) → IfSome (page_at pages p) (IsFiled files.first files.sizes)
 
+-- each page that has a frame is told by its frame; where no page has it, what stands there says nothing
+abbrev pub AreFramed : List (Option PageId) → Pages → Type 0
+AreFramed by_frame pages = (p f : ℕ) → there_and (has_this_frame f) (page_at pages p) ≡ true → at by_frame f ≡ Some (record { 0 = p })
+
 module _ {T : Type 0} where
-  -- the numbers, what the pages own, the transfers, the groups' lists, and the files
-  abbrev pub view_of : Slab T → List (Option OwnedPage) → Slab Flight → RingsOf → FilesOf → PagesOf
-  view_of numbers owned transfers members files = record {
+  -- the numbers, what the pages own, the transfers, the groups' lists, the files, and of how many frames pages are told
+  abbrev pub view_of : Slab T → List (Option OwnedPage) → Slab Flight → RingsOf → FilesOf → ℕ → PagesOf
+  view_of numbers owned transfers members files frames = record {
     pages = map (option_map page_of) owned;
     bytes = map (option_map bytes_of) owned;
     numbers = numbers.capacity;
@@ -95,6 +99,7 @@ module _ {T : Type 0} where
     groups = length members.lists;
     room = room_of members.room (length members.lists);
     files = files;
+    frames = frames;
   }
 
   -- a number is taken exactly where a page owns something at its place, and there is memory for the place of each number;

@@ -23,6 +23,7 @@ pub record Starts (old new : PagesOf) (p : ℕ) (label : Label) (direction : Dir
   pub groups : new.groups ≡ old.groups
   pub room : new.room ≡ old.room
   pub files : new.files ≡ old.files
+  pub frames : new.frames ≡ old.frames
 
 -- a page is read from its block into a frame
 pub record StartsIn (old new : PagesOf) (p : ℕ) (label : Label) (frame block : ℕ) (ticket : TicketOf) : Type 0 where
@@ -61,3 +62,4 @@ pub record Ends (old new : PagesOf) (p : ℕ) (label : Label) (frame block n : �
   pub files : new.files ≡ old.files
   pub bytes : end ≡ InFrame → (q o : ℕ) → byte_in new.bytes q o ≡ byte_in old.bytes q o
   pub others : (q o : ℕ) → q ≢ p → byte_in new.bytes q o ≡ byte_in old.bytes q o
+  pub frames : new.frames ≡ old.frames

@@ -6,18 +6,20 @@
 //!
 //! A page holds memory of tasks, or a page of a file, which is found by the file and its place there. Its
 //! number is free again once the page is gone, and the number of a ticket once its transfer has ended.
+//!
+//! Which page is held in a frame is found by one look, at what stands at the frame's number.
 #![tactic(auto)]
 
 ghost use Rattle.std.specs.Prelude.{◌≡◌, ◌≢◌, ℕ, ◌+◌, ◌<◌, ◌≤◌, ◌==◌, ◌&&◌, [], Some, None, OnOk, IsOk, IsSome, IfOk, IfSome, slice_index, true, false, map, option_map, if◌then◌else◌};
-ghost use Rattle.machine.specs.Slots.{at, Changes};
-ghost use Rattle.machine.specs.Pages.{Residence as PageResidence, Held, Coming, Away, Page, page_at, file_page, home_block, has_frame, is_held_in, is_in_flight};
+ghost use Rattle.machine.specs.Slots.{at, there_and, Changes};
+ghost use Rattle.machine.specs.Pages.{Residence as PageResidence, Held, Coming, Away, Page, page_at, file_page, home_block, has_frame, is_frame_taken, is_held_in, is_in_flight, is_number};
 ghost use Rattle.machine.specs.Tree.{node_at};
 ghost use Rattle.page_counter.specs.Counts.{IsOut, MovesUp, SameGroups};
 ghost use Rattle.machine.specs.Access.{page_size};
 ghost use Rattle.machine.specs.declared.event.Op.TheVariants.{Write};
 ghost use Rattle.machine.specs.Lists.{kind_at};
 ghost use Rattle.machine.specs.Step.{new_page, touched};
-ghost use Rattle.pages.specs.PagesOf.{pages_there, byte_in, Label, memory_of, of_file, HasResidence, residence_of, moving, is_moving_in, is_flight_to, IsInTransfer, AreInFlight, AreFiled, way_of};
+ghost use Rattle.pages.specs.PagesOf.{is_held_frame, frame_holder, pages_there, byte_in, Label, memory_of, of_file, HasResidence, residence_of, moving, is_moving_in, is_flight_to, IsInTransfer, AreInFlight, AreFiled, way_of};
 ghost use Rattle.pages.specs.Transfers.{StartsIn, StartsOut, Ends, IsFreed};
 ghost use Rattle.machine.specs.declared.record.Direction.{Direction};
 ghost use Rattle.pages.specs.Records.{page_of};
@@ -49,9 +51,9 @@ use std::alloc::{AllocError, Global};
 use std::marker::Model;
 use table::{
     bytes_at, divide, file_of, file_page_of, fill_at, group_of, home, home_place, into_away,
-    into_held, into_moving, kind_of, land, leave, list, open_cache, open_members, open_numbers,
-    owned_at, page_under, place, read_at, regrouped, residence_of, set_bytes_but, set_zeros_but,
-    take_at, unlist, write_at,
+    into_held, into_moving, is_in_frame, kind_of, land, leave, list, note, open_members,
+    open_numbers, open_places, owned_at, page_under, place, read_at, regrouped, residence_of,
+    set_bytes_but, set_zeros_but, take_at, told_at, unlist, write_at,
 };
 
 // Each group has a list, and lists are counted in 31 bits.
@@ -72,6 +74,8 @@ pub struct Pages {
     // The files, and by home block, from the first on, the page that holds the page at home there.
     files: Files,
     cache: Vec<Option<PageId>>,
+    // By frame number the page that has the frame, if one has; where none has, it may name any.
+    by_frame: Vec<Option<PageId>>,
 }
 
 impl Model for Pages {
@@ -79,22 +83,23 @@ impl Model for Pages {
 
     ghost Value = { PagesOf };
 
-    ghost use Rattle.std.specs.Prelude.{vec_capacity};
-    ghost use Rattle.pages.specs.Records.{view_of, ArePages};
+    ghost use Rattle.std.specs.Prelude.{vec_capacity, length, map, option_map};
+    ghost use Rattle.pages.specs.Records.{page_of, view_of, ArePages, AreFramed};
 
-    ghost view = { λ s. view_of s.numbers s.owned.items s.flights s.members s.files };
+    ghost view = { λ s. view_of s.numbers s.owned.items s.flights s.members s.files (length s.by_frame.items) };
 
-    ghost invariant = { λ s. ArePages s.numbers s.owned.items (vec_capacity s.owned) s.flights s.members s.files s.cache.items };
+    ghost invariant = { λ s. ArePages s.numbers s.owned.items (vec_capacity s.owned) s.flights s.members s.files s.cache.items × AreFramed s.by_frame.items (map (option_map page_of) s.owned.items) };
 }
 
 impl Pages {
     /// No page, so many page numbers, the root as the only group, memory for so many transfers in flight at
-    /// once, and the files. `AllocError` where there is no memory, or where there are 2^31 page numbers or
-    /// more.
+    /// once, the frames of the numbers below so many, and the files. `AllocError` where there is no memory,
+    /// or where there are 2^31 page numbers or more.
     pub fn new(
         alloc: Global,
         numbers: u32,
         transfers: u32,
+        frames: u32,
         files: Files,
     ) -> Result<Self, AllocError>
         ensures pages { IfOk result (λ t. t.pages ≡ []) }
@@ -104,8 +109,10 @@ impl Pages {
         ensures tickets { IfOk result (λ t. transfers ≤ t.tickets) }
         ensures groups { IfOk result (λ t. t.groups ≡ 1) }
         ensures files { IfOk result (λ t. t.files ≡ files) }
+        ensures frames { IfOk result (λ t. t.frames ≡ frames) }
     {
-        let cache = open_cache(alloc, files.pages())?;
+        let cache = open_places(alloc, files.pages())?;
+        let by_frame = open_places(alloc, frames)?;
         let members = open_members(alloc, numbers)?;
         let numbers = open_numbers(alloc, numbers)?;
         let flights = open_numbers(alloc, transfers)?;
@@ -117,6 +124,7 @@ impl Pages {
             members,
             files,
             cache,
+            by_frame,
         })
     }
 
@@ -158,6 +166,8 @@ impl Pages {
     pub fn hold(&mut self, mut frame: Frame, charge: Charge, offset: usize, byte: u8) -> PageId
         requires room { pages_there self.old.pages < self.old.numbers }
         requires group { charge < self.old.groups }
+        requires unused { is_frame_taken self.old.pages frame.number ≡ false }
+        requires framed { frame.number < self.old.frames }
         requires within { offset < page_size }
         ensures within { result.0 < self.old.numbers }
         ensures free { page_at self.old.pages result.0 ≡ None }
@@ -182,6 +192,8 @@ impl Pages {
     ) -> PageId
         requires room { pages_there self.old.pages < self.old.numbers }
         requires group { charge < self.old.groups }
+        requires unused { is_frame_taken self.old.pages frame.number ≡ false }
+        requires framed { frame.number < self.old.frames }
         requires within { offset < page_size }
         requires held { is_held_in self.old.pages from.0 ≡ true }
         ensures within { result.0 < self.old.numbers }
@@ -199,6 +211,8 @@ impl Pages {
     fn insert(&mut self, frame: Frame, charge: Charge) -> PageId
         requires room { pages_there self.old.pages < self.old.numbers }
         requires group { charge < self.old.groups }
+        requires unused { is_frame_taken self.old.pages frame.number ≡ false }
+        requires framed { frame.number < self.old.frames }
         ensures within { result.0 < self.old.numbers }
         ensures free { page_at self.old.pages result.0 ≡ None }
         ensures placed { Changes self.old.pages self.new.pages result.0 (Some (new_page charge frame.number)) }
@@ -206,6 +220,7 @@ impl Pages {
         ensures others { self.new ≡ record self.old { pages = self.new.pages; bytes = self.new.bytes } }
     {
         let page = PageId(self.numbers.insert_reserved(()) as u32);
+        note(&mut self.by_frame, frame.number(), page);
         let group = charge.group();
         let content = Content::Memory;
         place(
@@ -258,6 +273,33 @@ impl Pages {
         ensures { option_map (λ page. page.0) result ≡ file_page self.now.pages file page }
     {
         self.cache[home_place(&self.files, file, page)]
+    }
+
+    /// The page that is held in the frame of this number, if one is (kernel: pfn_folio). A page in transfer
+    /// is not, and no other page is held there.
+    pub fn holder(&self, frame: usize) -> Option<PageId>
+        ensures holder { option_map (λ page. page.0) result ≡ frame_holder self.now.pages frame }
+        ensures alone { (p : ℕ) → is_number (option_map (λ page. page.0) result) p ≡ there_and (is_held_frame frame) (page_at self.now.pages p) }
+        ensures within { IfSome result (λ page. page.0 < self.now.numbers) }
+    {
+        self.are_numbered();
+        self.find_holder(frame)
+    }
+
+    fn find_holder(&self, frame: usize) -> Option<PageId>
+        ensures holder { option_map (λ page. page.0) result ≡ frame_holder self.now.pages frame }
+        ensures alone { (p : ℕ) → is_number (option_map (λ page. page.0) result) p ≡ there_and (is_held_frame frame) (page_at self.now.pages p) }
+    {
+        match told_at(&self.by_frame, frame) {
+            Some(page) => {
+                if is_in_frame(&self.owned, page, frame) {
+                    Some(page)
+                } else {
+                    None
+                }
+            }
+            None => None,
+        }
     }
 
     /// How the page, which is in a frame, would leave it.
@@ -316,8 +358,11 @@ impl Pages {
     ) -> InTicket
         requires away { (block : ℕ) × HasResidence self.old.pages page.0 (memory_of charge) (Away block) }
         requires room { 0 < self.old.tickets }
+        requires unused { is_frame_taken self.old.pages frame.number ≡ false }
+        requires framed { frame.number < self.old.frames }
         ensures { (block : ℕ) → HasResidence self.old.pages page.0 (memory_of charge) (Away block) → StartsIn self.old self.new page.0 (memory_of charge) frame.number block result }
     {
+        note(&mut self.by_frame, frame.number(), page);
         let slot = into_away(take_at(&mut self.owned, page));
         let block = slot.block();
         let ticket = list(
@@ -350,6 +395,8 @@ impl Pages {
         requires none { file_page self.old.pages at.file at.page ≡ None }
         requires room { pages_there self.old.pages < self.old.numbers }
         requires group { charge < self.old.groups }
+        requires unused { is_frame_taken self.old.pages frame.number ≡ false }
+        requires framed { frame.number < self.old.frames }
         requires tickets { 0 < self.old.tickets }
         ensures within { result.0.0 < self.old.numbers }
         ensures free { page_at self.old.pages result.0.0 ≡ None }
@@ -359,6 +406,7 @@ impl Pages {
         let index = home_place(&self.files, at.file, at.page);
         let block = home(&self.files, at.file, at.page);
         let page = PageId(self.numbers.insert_reserved(()) as u32);
+        note(&mut self.by_frame, frame.number(), page);
         let group = charge.group();
         let ticket = list(
             &mut self.flights,
@@ -565,6 +613,7 @@ impl Pages {
             members: _,
             files: _,
             cache: _,
+            by_frame: _,
         } = self;
         owned
     }

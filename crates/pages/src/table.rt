@@ -9,7 +9,7 @@ ghost use Rattle.machine.specs.Tree.{node_at};
 ghost use Rattle.page_counter.specs.Counts.{IsOut, MovesUp, SameGroups};
 ghost use Rattle.machine.specs.Access.{page_size};
 ghost use Rattle.pages.specs.PagesOf as pages;
-ghost use Rattle.pages.specs.PagesOf.{Label, label_of, labelled};
+ghost use Rattle.pages.specs.PagesOf.{is_held_frame, Label, label_of, labelled};
 ghost use Rattle.pages.specs.Transfers.{page_after, IsFreed};
 ghost use Rattle.pages.specs.declared.end.End.TheVariants as end_of;
 ghost use Rattle.pages.specs.Records.{page_of, bytes_of, label_holding, label_backed, block_of, file_at, place_in, WritesByte};
@@ -26,7 +26,7 @@ use crate::way::WayOut;
 use block_store::Slot;
 use files::Files;
 use frames::{FRAME_BYTES, Frame};
-use machine::id::{GroupId, PageId, TicketId};
+use machine::id::{FrameId, GroupId, PageId, TicketId};
 use machine::record::Kind;
 use page_counter::{Charge, Counters};
 use rings::Rings;
@@ -478,16 +478,45 @@ pub(crate) fn home_place(files: &Files, file: u32, page: u32) -> usize
     (home(files, file, page) - files.first()) as usize
 }
 
-/// So many places of the cache, with no page. `AllocError` where there is no memory.
-pub(crate) fn open_cache(alloc: Global, places: u32) -> Result<Vec<Option<PageId>>, AllocError>
-    ensures len { IfOk result (λ c. vec_len c ≡ places) }
+/// So many places, with no page. `AllocError` where there is no memory.
+pub(crate) fn open_places(alloc: Global, many: u32) -> Result<Vec<Option<PageId>>, AllocError>
+    ensures len { IfOk result (λ c. vec_len c ≡ many) }
     ensures empty { IfOk result (λ c. (n : ℕ) → at c.items n ≡ None) }
 {
-    let mut cache = Vec::with_capacity(alloc, places as usize)?;
-    for _ in 0..places {
-        cache.push_reserved(None);
+    let mut places = Vec::with_capacity(alloc, many as usize)?;
+    for _ in 0..many {
+        places.push_reserved(None);
     }
-    Ok(cache)
+    Ok(places)
+}
+
+/// The page has this frame from now on.
+pub(crate) fn note(by_frame: &mut Vec<Option<PageId>>, frame: FrameId, page: PageId)
+    requires { frame.0 < length by_frame.old.items }
+    ensures noted { Changes by_frame.old.items by_frame.new.items frame.0 (Some page) }
+    ensures len { length by_frame.new.items ≡ length by_frame.old.items }
+{
+    by_frame[frame.0 as usize] = Some(page);
+}
+
+/// The page that is told by the frame of this number, if one is.
+pub(crate) fn told_at(by_frame: &[Option<PageId>], number: usize) -> Option<PageId>
+    ensures { result ≡ at by_frame.now number }
+{
+    match by_frame.get(number) {
+        Some(Some(page)) => Some(*page),
+        _ => None,
+    }
+}
+
+/// Whether the page is held in the frame of this number.
+pub(crate) fn is_in_frame(slots: &[Option<OwnedPage>], page: PageId, number: usize) -> bool
+    ensures { result ≡ there_and (is_held_frame number) (option_map page_of (at slots.now page.0)) }
+{
+    match owned_at(slots, page) {
+        Some(OwnedPage::Held { frame, .. }) => frame.number().0 as usize == number,
+        _ => false,
+    }
 }
 
 /// The page of a file that the page holds, if it holds one.

@@ -1,4 +1,4 @@
-use Rattle.laws.proofs.OrderLemmas.{hits_mark}
+use Rattle.laws.proofs.TurnLemmas.{hits_mark}
 use Rattle.laws.proofs.hits_mark.Goals as goal
 
 pub returns : goal.returns

@@ -11,10 +11,10 @@ returns c =
     let requires = rw (← c.self.view_is) at c.requires in
     let files = c.self.inside.files in
     let cache = c.self.inside.cache.items in
-    let homes = c.self.invariant.homes in
+    let homes = c.self.invariant.0.homes in
     let within = c.home_place.ensures.within in
     let read = get_or_read cache c.home_place.result c.index.result.now (omega (arith, homes, within)) c.index.ensures None in
     rw (← c.self.view_is) (
     ap (option_map (λ (page : PageId). page.0)) read
     ∙ ap (λ m. option_map (λ (page : PageId). page.0) (at cache m)) c.home_place.ensures.place
-    ∙ cached-page files cache _ c.self.invariant.cached c.args.file c.args.page requires)
+    ∙ cached-page files cache _ c.self.invariant.0.cached c.args.file c.args.page requires)

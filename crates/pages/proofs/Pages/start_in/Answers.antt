@@ -1,4 +1,4 @@
-use Rattle.std.proofs.Common.{vec_capacity, ◌≡◌, ℕ, Some, None, ap, sym, refl, ◌∙◌, arith}
+use Rattle.std.proofs.Common.{vec_capacity, ◌≡◌, ℕ, Some, None, ap, sym, refl, subst, ◌∙◌, arith}
 use Rattle.machine.specs.Slots.{Changes}
 use Rattle.machine.specs.Pages.{Coming, Away}
 use Rattle.pages.specs.declared.owned_page.OwnedPage.{OwnedPage}
@@ -10,7 +10,7 @@ use Rattle.pages.specs.Tickets.{new_ticket}
 use Rattle.pages.specs.Records.{page_of}
 use Rattle.pages.proofs.TableLemmas.{Changes-twice}
 use Rattle.pages.proofs.FlightLemmas.{IsSettled-is}
-use Rattle.pages.proofs.TransferLemmas.{owned-stands, page-stands, Fits-stays, Takeoff, Takeoff-are, Takeoff-starts, Takeoff-apart, part-slot}
+use Rattle.pages.proofs.TransferLemmas.{owned-stands, page-stands, Fits-stays, Takeoff, Takeoff-are, Takeoff-comes, Takeoff-starts, Takeoff-apart, part-slot}
 use Rattle.pages.proofs.Pages.start_in.Goals as goal
 
 was_away : (c : goal.After-new) (block : ℕ) → HasResidence c.args.self.now.pages c.args.page.0 (memory_of c.args.charge) (Away block) → page_of c.take_at.result ≡ labelled (memory_of c.args.charge) (Away block)
@@ -27,7 +27,7 @@ takeoff c =
     let requires = rw (← c.self.view_is) at c.requires in
     let was = was_away c c.requires.away.0 c.requires.away.1 in
     record {
-      are = c.self.invariant;
+      are = c.self.invariant.0;
       free = c.list-ticket.ensures.free;
       listed = c.list-ticket.ensures.listed;
       len = c.list-ticket.ensures.len;
@@ -38,11 +38,13 @@ takeoff c =
       settled = IsSettled-is _ _ (page-stands c.self.inside.owned.items c.args.page.0 _ c.take_at.ensures.owned ∙ ap Some was) (λ n. refl);
       moves = refl;
       filed = refl;
-      beside = Fits-stays c.self.inside.numbers _ _ _ c.self.inside.flights c.self.inside.members c.self.inside.files c.self.inside.cache.items c.self.invariant c.args.page.0 c.take_at.result c.take_at.ensures.owned (coming c) (changes c) (sym (ap (λ page. page.group) was)) (sym (ap (λ page. page.content) was));
+      beside = Fits-stays c.self.inside.numbers _ _ _ c.self.inside.flights c.self.inside.members c.self.inside.files c.self.inside.cache.items c.self.invariant.0 c.args.page.0 c.take_at.result c.take_at.ensures.owned (coming c) (changes c) (sym (ap (λ page. page.group) was)) (sym (ap (λ page. page.content) was));
     }
 
 pub invariant_of-self : goal.invariant_of-self
-invariant_of-self c = Takeoff-are (takeoff c)
+invariant_of-self c =
+    let unused = rw (← c.self.view_is) at c.requires.unused in
+    (Takeoff-are (takeoff c), Takeoff-comes (takeoff c) c.self.inside.by_frame.items c.self.invariant.1 unused c.note.new.by_frame.items (subst (λ f. Changes c.self.inside.by_frame.items c.note.new.by_frame.items f (Some c.args.page)) c.number.ensures c.note.ensures.noted))
 
 pub returns : goal.returns
 returns c = λ block stands.
@@ -50,6 +52,6 @@ returns c = λ block stands.
     let ticket = c.new.ensures ∙ ap (λ b. new_ticket c.list-ticket.result.0 b c.args.buffer.value) (c.block-block.ensures ∙ slot) in
     rw (ticket, ← c.self.view_is) (
     record {
-      starts = Takeoff-starts (takeoff c) (memory_of c.args.charge) c.args.frame.number block c.args.buffer.value (ap (λ b. labelled (memory_of c.args.charge) (Coming c.args.frame.number b c.list-ticket.result.0)) slot);
+      starts = Takeoff-starts (takeoff c) (memory_of c.args.charge) c.args.frame.number block c.args.buffer.value (ap (λ b. labelled (memory_of c.args.charge) (Coming c.args.frame.number b c.list-ticket.result.0)) slot) _ _ c.note.ensures.len;
       bytes = Takeoff-apart (takeoff c);
     })

@@ -14,17 +14,17 @@ use Rattle.pages.proofs.TableLemmas.{Changes-map, Changes-set, free-page, taken-
 use Rattle.pages.proofs.FlightLemmas.{IsSettled-is}
 use Rattle.pages.proofs.MemberLemmas.{unlisted}
 use Rattle.pages.proofs.CacheLemmas.{AreCached-added}
-use Rattle.pages.proofs.TransferLemmas.{pages_of, Fits, Fits-added, Takeoff, Takeoff-are, Takeoff-starts, Takeoff-apart}
+use Rattle.pages.proofs.TransferLemmas.{pages_of, Fits, Fits-added, Takeoff, Takeoff-are, Takeoff-comes, Takeoff-starts, Takeoff-apart}
 use Rattle.pages.proofs.Pages.start_in_file.Goals as goal
 
 pub insert_reserved-requires : goal.insert_reserved-requires
 insert_reserved-requires c =
     let room = rw (← c.self.view_is) at c.requires.room in
-    let taken = taken-there page_of c.self.inside.numbers c.self.inside.owned.items c.self.invariant.taken in
+    let taken = taken-there page_of c.self.inside.numbers c.self.inside.owned.items c.self.invariant.0.taken in
     omega (arith, room, taken)
 
 pub push_back-requires-clause-unlisted : goal.push_back-requires-clause-unlisted
-push_back-requires-clause-unlisted c = unlisted c.self.inside.members.lists _ c.self.invariant.listed c.insert_reserved.result (free-page page_of c.self.inside.numbers _ c.insert_reserved.result c.self.invariant.taken c.insert_reserved.ensures.was_vacant)
+push_back-requires-clause-unlisted c = unlisted c.self.inside.members.lists _ c.self.invariant.0.listed c.insert_reserved.result (free-page page_of c.self.inside.numbers _ c.insert_reserved.result c.self.invariant.0.taken c.insert_reserved.ensures.was_vacant)
 
 abbrev coming : (c : goal.After-new-ticket) → OwnedPage
 coming c = owned_page.Coming c.args.frame c.args.charge (backing.Home c.args.at c.home-block.result false) c.list-ticket.result
@@ -33,13 +33,13 @@ abbrev found : (c : goal.After-new-ticket) → PageId
 found c = record { 0 = c.insert_reserved.result }
 
 vacant : (c : goal.After-new-ticket) → page_at (pages_of c.self.inside.owned.items) c.insert_reserved.result ≡ None
-vacant c = free-page page_of c.self.inside.numbers _ c.insert_reserved.result c.self.invariant.taken c.insert_reserved.ensures.was_vacant
+vacant c = free-page page_of c.self.inside.numbers _ c.insert_reserved.result c.self.invariant.0.taken c.insert_reserved.ensures.was_vacant
 
 swaps : (c : goal.After-new-ticket) → Changes c.self.inside.cache.items (set c.self.inside.cache.items c.home_place-index.result (Some (found c))) (place_in c.self.inside.files c.args.at.file c.args.at.page) (Some (found c))
 swaps c =
     let cache = c.self.inside.cache.items in
     let index = c.home_place-index.result in
-    let homes = c.self.invariant.homes in
+    let homes = c.self.invariant.0.homes in
     let within = c.home_place-index.ensures.within in
     subst (λ m. Changes cache (set cache index (Some (found c))) m (Some (found c))) c.home_place-index.ensures.place (Changes-set cache index (Some (found c)) (omega (arith, homes, within)))
 
@@ -47,21 +47,21 @@ cached : (c : goal.After-new-ticket) → AreCached c.self.inside.files (set c.se
 cached c =
     let requires = rw (← c.self.view_is) at c.requires in
     let files = c.self.inside.files in
-    AreCached-added files (pages_of c.self.inside.owned.items) (pages_of c.place.new.slots.items) c.insert_reserved.result (Some (page_of (coming c))) (Changes-map page_of _ _ _ (Some (coming c)) c.place.ensures.placed) c.self.inside.cache.items c.self.invariant.cached
+    AreCached-added files (pages_of c.self.inside.owned.items) (pages_of c.place.new.slots.items) c.insert_reserved.result (Some (page_of (coming c))) (Changes-map page_of _ _ _ (Some (coming c)) c.place.ensures.placed) c.self.inside.cache.items c.self.invariant.0.cached
     (set c.self.inside.cache.items c.home_place-index.result (Some (found c))) c.args.at.file c.args.at.page requires.inside (Some (found c)) (swaps c) (page_of (coming c)) refl refl (vacant c) requires.none refl
 
 beside : (c : goal.After-new-ticket) → Fits c.self.inside.numbers c.insert_reserved.new.self c.place.new.slots.items c.self.inside.members c.push_back.new.self c.self.inside.files c.self.inside.cache.items (set c.self.inside.cache.items c.home_place-index.result (Some (found c)))
 beside c =
     let room = rw (← c.self.view_is) at c.requires.group in
     let group = c.group-group.ensures in
-    Fits-added c.self.inside.numbers _ _ _ _ c.self.inside.flights c.self.inside.members _ c.self.inside.files c.self.inside.cache.items _ c.self.invariant c.insert_reserved.result (coming c) tt c.insert_reserved.ensures.was_vacant c.place.ensures.placed c.insert_reserved.ensures.updates c.insert_reserved.ensures.capacity
+    Fits-added c.self.inside.numbers _ _ _ _ c.self.inside.flights c.self.inside.members _ c.self.inside.files c.self.inside.cache.items _ c.self.invariant.0 c.insert_reserved.result (coming c) tt c.insert_reserved.ensures.was_vacant c.place.ensures.placed c.insert_reserved.ensures.updates c.insert_reserved.ensures.capacity
     c.group-group.result.0 (omega (arith, room, group)) (sym group) (rw (← c.push_back.ensures.lists) c.push_back.ensures.others) (cached c) (length-set c.self.inside.cache.items c.home_place-index.result (Some (found c)))
 
 takeoff : (c : goal.After-new-ticket) → Takeoff c.self.inside.numbers c.insert_reserved.new.self c.self.inside.owned.items c.place.new.slots.items (vec_capacity c.self.inside.owned) (vec_capacity c.place.new.slots) c.self.inside.flights c.list-ticket.new.flights c.self.inside.members c.push_back.new.self c.self.inside.files c.self.inside.cache.items (set c.self.inside.cache.items c.home_place-index.result (Some (found c))) c.list-ticket.result.0 c.insert_reserved.result In (of_file c.args.at.file c.args.at.page c.args.charge false) c.args.frame.number c.home-block.result (coming c)
 takeoff c =
     let requires = rw (← c.self.view_is) at c.requires in
     record {
-      are = c.self.invariant;
+      are = c.self.invariant.0;
       free = c.list-ticket.ensures.free;
       listed = c.list-ticket.ensures.listed;
       len = c.list-ticket.ensures.len;
@@ -76,7 +76,9 @@ takeoff c =
     }
 
 pub invariant_of-self : goal.invariant_of-self
-invariant_of-self c = Takeoff-are (takeoff c)
+invariant_of-self c =
+    let unused = rw (← c.self.view_is) at c.requires.unused in
+    (Takeoff-are (takeoff c), Takeoff-comes (takeoff c) c.self.inside.by_frame.items c.self.invariant.1 unused c.note.new.by_frame.items (subst (λ f. Changes c.self.inside.by_frame.items c.note.new.by_frame.items f (Some (found c))) c.number.ensures c.note.ensures.noted))
 
 pub returns-clause-free : goal.returns-clause-free
 returns-clause-free c = rw (← c.self.view_is) (vacant c)
@@ -89,6 +91,6 @@ returns-clause-starts c =
     rw (ticket, ← c.self.view_is) (
     record {
       starts = Takeoff-starts (takeoff c) (of_file c.args.at.file c.args.at.page c.args.charge false) c.args.frame.number (home_block files.first files.sizes c.args.at.file c.args.at.page) c.args.buffer.value
-          (ap (λ b. page_of (owned_page.Coming c.args.frame c.args.charge (backing.Home c.args.at b false) c.list-ticket.result)) c.home-block.ensures);
+          (ap (λ b. page_of (owned_page.Coming c.args.frame c.args.charge (backing.Home c.args.at b false) c.list-ticket.result)) c.home-block.ensures) _ _ c.note.ensures.len;
       bytes = Takeoff-apart (takeoff c);
     })

@@ -11,7 +11,7 @@ use Rattle.pages.specs.Tickets.{new_ticket}
 use Rattle.pages.specs.Records.{page_of}
 use Rattle.pages.proofs.TableLemmas.{Changes-twice}
 use Rattle.pages.proofs.FlightLemmas.{IsSettled-is}
-use Rattle.pages.proofs.TransferLemmas.{owned-stands, page-stands, own-byte, Fits-stays, Takeoff, Takeoff-are, Takeoff-starts, Takeoff-kept, part-frame, holding-group}
+use Rattle.pages.proofs.TransferLemmas.{owned-stands, page-stands, own-byte, Fits-stays, Takeoff, Takeoff-are, Takeoff-framed, Takeoff-starts, Takeoff-kept, part-frame, holding-group}
 use Rattle.pages.proofs.Pages.start_out.Goals as goal
 
 was_held : (c : goal.After-new) (g f : ℕ) → HasResidence c.args.self.now.pages c.args.page.0 (memory_of g) (Held f) → page_of c.take_at.result ≡ labelled (memory_of g) (Held f)
@@ -31,7 +31,7 @@ takeoff c =
     let requires = rw (← c.self.view_is) at c.requires in
     let was = was_held c c.requires.held.0 c.requires.held.1 c.requires.held.2 in
     record {
-      are = c.self.invariant;
+      are = c.self.invariant.0;
       free = c.list-ticket.ensures.free;
       listed = c.list-ticket.ensures.listed;
       len = c.list-ticket.ensures.len;
@@ -42,11 +42,11 @@ takeoff c =
       settled = IsSettled-is _ _ (page-stands c.self.inside.owned.items c.args.page.0 _ c.take_at.ensures.owned ∙ ap Some was) (λ n. refl);
       moves = refl;
       filed = refl;
-      beside = Fits-stays c.self.inside.numbers _ _ _ c.self.inside.flights c.self.inside.members c.self.inside.files c.self.inside.cache.items c.self.invariant c.args.page.0 c.take_at.result c.take_at.ensures.owned (going c) (changes c) (own_charge c) (sym (ap (λ page. page.content) was));
+      beside = Fits-stays c.self.inside.numbers _ _ _ c.self.inside.flights c.self.inside.members c.self.inside.files c.self.inside.cache.items c.self.invariant.0 c.args.page.0 c.take_at.result c.take_at.ensures.owned (going c) (changes c) (own_charge c) (sym (ap (λ page. page.content) was));
     }
 
 pub invariant_of-self : goal.invariant_of-self
-invariant_of-self c = Takeoff-are (takeoff c)
+invariant_of-self c = (Takeoff-are (takeoff c), Takeoff-framed (takeoff c) c.self.inside.by_frame.items c.self.invariant.1 c.take_at.result c.take_at.ensures.owned c.into_held-frame.ensures.frame)
 
 pub returns : goal.returns
 returns c = λ g f stands.
@@ -58,7 +58,7 @@ returns c = λ g f stands.
     let ticket = c.new.ensures ∙ ap (λ b. new_ticket n b c.fill.new.self) c.block-block.ensures in
     rw (ticket, ← c.self.view_is) (
     record {
-      starts = Takeoff-starts (takeoff c) (memory_of g) f c.args.slot c.fill.new.self (ap (λ x. labelled (memory_of x) (Going c.into_held-frame.result.0.number c.args.slot n)) charge ∙ ap (λ x. labelled (memory_of g) (Going x c.args.slot n)) frame);
+      starts = Takeoff-starts (takeoff c) (memory_of g) f c.args.slot c.fill.new.self (ap (λ x. labelled (memory_of x) (Going c.into_held-frame.result.0.number c.args.slot n)) charge ∙ ap (λ x. labelled (memory_of g) (Going x c.args.slot n)) frame) _ _ refl;
       holds = λ o within. ap (λ b. slice_index b o) copied ∙ sym (own-byte c.self.inside.owned.items c.args.page.0 _ c.take_at.ensures.owned o);
       bytes = Takeoff-kept (takeoff c) c.take_at.result c.take_at.ensures.owned (sym c.into_held-frame.ensures.bytes);
     })

@@ -10,7 +10,7 @@ use Rattle.pages.specs.Records.{page_of, bytes_of, WritesByte}
 use Rattle.pages.proofs.TableLemmas.{at-map, Changes-set, Changes-map, byte_in-written}
 use Rattle.pages.proofs.FlightLemmas.{AreInFlight-same}
 use Rattle.pages.proofs.CacheLemmas.{AreHome-changes, touched-filed}
-use Rattle.pages.proofs.TransferLemmas.{pages_of, page-stands, owned-stands, own-filed, Fits-are, Fits-stays, held-within, held-there, touched-there}
+use Rattle.pages.proofs.TransferLemmas.{pages_of, page-stands, owned-stands, own-filed, framed-same, Fits-are, Fits-stays, held-within, held-there, touched-there}
 use Rattle.pages.proofs.Pages.write.Goals as goal
 
 -- the page's place, and what it owns before and after
@@ -37,18 +37,20 @@ changes c = subst (Changes c.self.inside.owned.items (set c.self.inside.owned.it
 
 pub invariant_of-self : goal.invariant_of-self
 invariant_of-self c =
-    let is = c.self.invariant in
+    let is = c.self.invariant.0 in
     let files = c.self.inside.files in
     let owned = c.self.inside.owned.items in
     let p = c.args.page.0 in
     let it = writes c in
     let page = Changes-map page_of _ _ p _ (changes c) in
-    let filed = subst (IsFiled files.first files.sizes) (sym it.page) (touched-filed files.first files.sizes (page_of it.from) c.args.byte (own-filed files owned p it.from is.filed it.was)) in
-    Fits-are
-    (Fits-stays c.self.inside.numbers _ _ _ c.self.inside.flights c.self.inside.members files c.self.inside.cache.items is p it.from it.was it.to (changes c) (ap (λ x. x.group) it.page) (ap (λ x. x.content) it.page))
-    is refl refl
-    (AreInFlight-same _ _ p (page_of it.from) (page_of it.to) (page-stands owned p it.from it.was) page (ap (λ x. x.residence) it.page) c.self.inside.flights.slots is.in_flight)
-    (AreHome-changes files _ _ p (Some (page_of it.to)) page filed is.filed)
+    let filed = subst (IsFiled files.first files.sizes) (sym it.page) (touched-filed files.first files.sizes (page_of it.from) c.args.byte (own-filed files owned p it.from is.filed it.was)) in (
+      Fits-are
+          (Fits-stays c.self.inside.numbers _ _ _ c.self.inside.flights c.self.inside.members files c.self.inside.cache.items is p it.from it.was it.to (changes c) (ap (λ x. x.group) it.page) (ap (λ x. x.content) it.page))
+          is refl refl
+          (AreInFlight-same _ _ p (page_of it.from) (page_of it.to) (page-stands owned p it.from it.was) page (ap (λ x. x.residence) it.page) c.self.inside.flights.slots is.in_flight)
+          (AreHome-changes files _ _ p (Some (page_of it.to)) page filed is.filed),
+      framed-same c.self.inside.by_frame.items _ _ p _ (changes c) c.self.invariant.1 it.from it.was it.to refl (ap (λ x. x.residence) it.page),
+    )
 
 pub returns-clause-placed : goal.returns-clause-placed
 returns-clause-placed c = λ x stands.

@@ -17,3 +17,6 @@ returns-clause-passes c =
     (λ files honest.
     let first = honest-first c.self.inside.state.tables.opening history c.self.inside.state.tables c.self.invariant.told.legal files honest in
     (first, c.self.invariant.told.right (files_of history) first))
+
+pub returns-clause-framed : goal.returns-clause-framed
+returns-clause-framed c = rw (← c.self.view_is) c.is_joined.ensures.framed

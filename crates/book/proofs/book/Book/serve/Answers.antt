@@ -6,7 +6,7 @@ use Rattle.book.specs.declared.kept.Asked.TheVariants.{Whole}
 use Rattle.book.specs.declared.kept.Kept.TheVariants.{Call}
 use Rattle.book.specs.Events.{reply_of}
 use Rattle.book.specs.Passes.{PassOf, call_of, keeping, is_current}
-use Rattle.book.proofs.PassLemmas.{asked-whole, called-current, current-on}
+use Rattle.book.proofs.PassLemmas.{asked-whole, asked-leaves, called-current, current-on}
 use Rattle.book.proofs.book.Book.serve.Goals as goal
 
 pub returns-in-Ok-clause-current : goal.returns-in-Ok-clause-current
@@ -19,4 +19,4 @@ returns-in-Ok-clause-current c =
     ∙ ap (λ (r : Reply). keeping pass (Call (Whole c.args.event) r)) c.plain.ensures
     ∙ ap (λ (a : Asked). keeping pass (Call a said)) (sym (asked-whole c.args.event c.requires.asked)) in
     let called = called-current c.args.self.now pass c.args.event said c.ask-reply.new.self (sym c.if-not-is_current.ensures) (rw c.worker.ensures at c.ask-reply.ensures.called) in
-    ap (λ (p : PassOf). is_current c.ask-reply.new.self p) kept ∙ current-on c.args.self.now pass c.args.event c.ask-reply.new.self said called
+    ap (λ (p : PassOf). is_current c.ask-reply.new.self p) kept ∙ current-on c.args.self.now pass c.args.event (asked-leaves c.args.event c.requires.asked) c.ask-reply.new.self said called

@@ -9,7 +9,7 @@ use Rattle.book.specs.declared.book.Book.TheInside.{Inside}
 use Rattle.book.specs.Events.{ended, ended_with}
 use Rattle.book.proofs.FlightLemmas.{flying-stands}
 use Rattle.book.proofs.MoveLemmas.{filed-single, makes_step-settled_out}
-use Rattle.book.proofs.CallLemmas.{called-stranger, ended-known, ended-none, ended-free, ends, has_room, few_of, Appends, called_more, book_more}
+use Rattle.book.proofs.CallLemmas.{called-stranger, ended-known, ended-none, ended-free, ended-leaves, ends, has_room, few_of, Appends, called_more, book_more}
 use Rattle.book.proofs.book.Book.settle_out.Goals as goal
 
 pub returns-then-not-is_own-clause-called : goal.returns-then-not-is_own-clause-called
@@ -23,7 +23,7 @@ append-requires-clause-room c =
     let stood = flying-stands b.state.tables.pages Out c.args.ticket.number (ap (λ (p : Past). is_in_flight Out p.state.pages c.args.ticket.number) c.self.view_is ∙ (and_parts _ _ (sym (ended-known c.args.self.now (record { worker = c.args.worker.0 }) Out c.args.end c.args.ticket) ∙ known)).0) in
     let single = filed-single (record { first = b.state.tables.opening.swap; sizes = b.state.tables.opening.files }) b.state.tables.pages c.is_joined.ensures.filed in
     let makes_step = makes_step-settled_out b.state c.settle_out.new.self stood.0 stood.2 stood.3 stood.1 c.args.ticket c.args.end single stood.4 (c.settle_out.ensures.ends stood.0 stood.1 stood.2 stood.3 stood.4) (c.settle_out.ensures.stays stood.0 stood.1 stood.2 stood.3 stood.4) in
-    let extending = ends b c.args.self.now c.self.invariant c.self.view_is c.settle_out.new.self c.is_joined-2.ensures.flights c.args.worker.0 c.requires (ended Out c.args.end c.args.ticket) known (ended-none b.state.tables Out c.args.end c.args.ticket) (ended-free b.state.tables Out c.args.end c.args.ticket) makes_step in
+    let extending = ends b c.args.self.now c.self.invariant c.self.view_is c.settle_out.new.self c.is_joined-2.ensures.flights c.args.worker.0 c.requires (ended Out c.args.end c.args.ticket) known (ended-none b.state.tables Out c.args.end c.args.ticket) (ended-free b.state.tables Out c.args.end c.args.ticket) (ended-leaves Out c.args.end c.args.ticket) makes_step in
     has_room b c.settle_out.new.self c.args.worker.0 (ended Out c.args.end c.args.ticket) reply.Ok extending c.self.invariant
 
 pub append-requires-clause-few : goal.append-requires-clause-few
@@ -36,7 +36,7 @@ invariant_of-self c =
     let stood = flying-stands b.state.tables.pages Out c.args.ticket.number (ap (λ (p : Past). is_in_flight Out p.state.pages c.args.ticket.number) c.self.view_is ∙ (and_parts _ _ (sym (ended-known c.args.self.now (record { worker = c.args.worker.0 }) Out c.args.end c.args.ticket) ∙ known)).0) in
     let single = filed-single (record { first = b.state.tables.opening.swap; sizes = b.state.tables.opening.files }) b.state.tables.pages c.is_joined.ensures.filed in
     let makes_step = makes_step-settled_out b.state c.settle_out.new.self stood.0 stood.2 stood.3 stood.1 c.args.ticket c.args.end single stood.4 (c.settle_out.ensures.ends stood.0 stood.1 stood.2 stood.3 stood.4) (c.settle_out.ensures.stays stood.0 stood.1 stood.2 stood.3 stood.4) in
-    let extending = ends b c.args.self.now c.self.invariant c.self.view_is c.settle_out.new.self c.is_joined-2.ensures.flights c.args.worker.0 c.requires (ended Out c.args.end c.args.ticket) known (ended-none b.state.tables Out c.args.end c.args.ticket) (ended-free b.state.tables Out c.args.end c.args.ticket) makes_step in
+    let extending = ends b c.args.self.now c.self.invariant c.self.view_is c.settle_out.new.self c.is_joined-2.ensures.flights c.args.worker.0 c.requires (ended Out c.args.end c.args.ticket) known (ended-none b.state.tables Out c.args.end c.args.ticket) (ended-free b.state.tables Out c.args.end c.args.ticket) (ended-leaves Out c.args.end c.args.ticket) makes_step in
     let after : Inside = record { alloc = b.alloc; state = c.settle_out.new.self; trace = c.append.new.trace; counts = c.append.new.counts; takers = b.takers } in
     let appends = subst (λ (what : Event). Appends b after c.args.worker what reply.Ok)
     (c.out_ended.ensures c.args.ticket.bytes ∙ ap (λ (n : ℕ). ended_with Out c.args.end n c.args.ticket.bytes) c.number-number.ensures)
@@ -50,7 +50,7 @@ returns-clause-called c =
     let stood = flying-stands b.state.tables.pages Out c.args.ticket.number (ap (λ (p : Past). is_in_flight Out p.state.pages c.args.ticket.number) c.self.view_is ∙ (and_parts _ _ (sym (ended-known c.args.self.now (record { worker = c.args.worker.0 }) Out c.args.end c.args.ticket) ∙ known)).0) in
     let single = filed-single (record { first = b.state.tables.opening.swap; sizes = b.state.tables.opening.files }) b.state.tables.pages c.is_joined.ensures.filed in
     let makes_step = makes_step-settled_out b.state c.settle_out.new.self stood.0 stood.2 stood.3 stood.1 c.args.ticket c.args.end single stood.4 (c.settle_out.ensures.ends stood.0 stood.1 stood.2 stood.3 stood.4) (c.settle_out.ensures.stays stood.0 stood.1 stood.2 stood.3 stood.4) in
-    let extending = ends b c.args.self.now c.self.invariant c.self.view_is c.settle_out.new.self c.is_joined-2.ensures.flights c.args.worker.0 c.requires (ended Out c.args.end c.args.ticket) known (ended-none b.state.tables Out c.args.end c.args.ticket) (ended-free b.state.tables Out c.args.end c.args.ticket) makes_step in
+    let extending = ends b c.args.self.now c.self.invariant c.self.view_is c.settle_out.new.self c.is_joined-2.ensures.flights c.args.worker.0 c.requires (ended Out c.args.end c.args.ticket) known (ended-none b.state.tables Out c.args.end c.args.ticket) (ended-free b.state.tables Out c.args.end c.args.ticket) (ended-leaves Out c.args.end c.args.ticket) makes_step in
     let after : Inside = record { alloc = b.alloc; state = c.settle_out.new.self; trace = c.append.new.trace; counts = c.append.new.counts; takers = b.takers } in
     let appends = subst (λ (what : Event). Appends b after c.args.worker what reply.Ok)
     (c.out_ended.ensures c.args.ticket.bytes ∙ ap (λ (n : ℕ). ended_with Out c.args.end n c.args.ticket.bytes) c.number-number.ensures)

@@ -30,12 +30,13 @@ pub loop-seat-init : goal.loop-seat-init
 loop-seat-init c =
     let desk = c.args.self in
     let Own : List Seat → Type 0 = λ ss. OwnSeats desk.pass.caller.worker (blocks_in desk.book.state.opening) ss in
-    record {
+    rw c.into_book-book.ensures
+    (record {
       current = c.requires.current;
       room = (let same = ap (λ (ss : List Seat). length ss) c.into_list-seats.ensures in omega (arith, same, c.requires.room));
       given_up = gives_up-none desk.book.history;
       own = subst Own (sym c.into_list-seats.ensures) c.requires.own;
-    }
+    })
 
 pub returns-clause-passes : goal.returns-clause-passes
 returns-clause-passes c = rw c.close.ensures c.history_is_right.ensures.passes

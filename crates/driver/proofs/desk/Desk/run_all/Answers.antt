@@ -25,7 +25,7 @@ loop-at-preserved g c =
         ran.0 ++ went.0,
         ran.1 ++ (c.step.new.self).book ∷ [],
         took_none g.S.Sink.took g.met.S.Sink.more _ _ _ _ (g.met.S.Sink.more _ _ _ _ _ ran.2 went.1) c.look.ensures.quiet,
-        g.met.S.Sink.further _ _ _ _ _ ran.3 (g.met.S.Sink.further _ _ _ _ _ c.in_ok-step.ensures.unseen c.look.ensures.saw),
+        g.met.S.Sink.further _ _ _ _ _ ran.3 (g.met.S.Sink.further _ _ _ _ _ c.in_ok-step.ensures.unseen (rw c.book.ensures at c.look.ensures.saw)),
         rw more (RunsThrough-more _ _ _ _ _ _ _ went.0 ran.4 went.2),
       );
     }

@@ -12,13 +12,13 @@ use Rattle.driver.proofs.desk.Desk.take_turn.Goals as goal
 
 pub turn_stage-requires-clause-on : goal.turn_stage-requires-clause-on
 turn_stage-requires-clause-on g c =
-    let looked = looked-up c.args.self.now.book c.args.actor c.in-Begun.command c.args.self.now.pass c.judge.new.pass c.judge.ensures.looked in
+    let looked = looked-up c.args.self.now.book c.args.actor c.in-Begun.command c.args.self.now.pass c.judge.new.pass (rw c.book.ensures at c.judge.ensures.looked) in
     on_with c.args.self.now c.judge.new.pass c.take.new.self (g.D.BlockDevice.disk c.args.device.now) looked.caller (looked.current ∙ c.requires.on.current) (omega (arith, looked.room, c.take.ensures.len, c.requires.room)) c.requires.on
     (c.take.ensures.own (worker_of_desk c.args.self.now) (blocks_of_desk c.args.self.now) c.requires.on.own)
 
 pub turn_stage-requires-clause-room : goal.turn_stage-requires-clause-room
 turn_stage-requires-clause-room g c =
-    let looked = looked-up c.args.self.now.book c.args.actor c.in-Begun.command c.args.self.now.pass c.judge.new.pass c.judge.ensures.looked in
+    let looked = looked-up c.args.self.now.book c.args.actor c.in-Begun.command c.args.self.now.pass c.judge.new.pass (rw c.book.ensures at c.judge.ensures.looked) in
     omega (arith, looked.room, c.take.ensures.len, c.requires.room)
 
 pub turn_stage-requires-in-Does-clause-on : goal.turn_stage-requires-in-Does-clause-on
@@ -35,7 +35,7 @@ turn_stage-requires-in-Does-clause-own g c = c.in-Does.ensures.held (worker_of_d
 
 pub returns-in-Err-clause-on : goal.returns-in-Err-clause-on
 returns-in-Err-clause-on g c =
-    let looked = looked-up c.args.self.now.book c.args.actor c.in-Begun.command c.args.self.now.pass c.judge.new.pass c.judge.ensures.looked in
+    let looked = looked-up c.args.self.now.book c.args.actor c.in-Begun.command c.args.self.now.pass c.judge.new.pass (rw c.book.ensures at c.judge.ensures.looked) in
     on_with c.args.self.now c.judge.new.pass c.take.new.self (g.D.BlockDevice.disk c.args.device.now) looked.caller (looked.current ∙ c.requires.on.current) (omega (arith, looked.room, c.take.ensures.len, c.requires.room)) c.requires.on
     (c.take.ensures.own (worker_of_desk c.args.self.now) (blocks_of_desk c.args.self.now) c.requires.on.own)
 
@@ -54,9 +54,9 @@ pub returns-in-Err-clause-turn : goal.returns-in-Err-clause-turn
 returns-in-Err-clause-turn g c =
     let old : World = world c.args.self.now (g.D.BlockDevice.disk c.args.device.now) in
     let within : place_of c.args.actor old.seats < length old.seats = seated c.args.actor old.seats (λ rests. let wrong : Begun c.in-Begun.command ≡ Rests = c.in-Begun.ensures.was ∙ rests in cc) in
-    let looked = looked-up c.args.self.now.book c.args.actor c.in-Begun.command c.args.self.now.pass c.judge.new.pass c.judge.ensures.looked in
+    let looked = looked-up c.args.self.now.book c.args.actor c.in-Begun.command c.args.self.now.pass c.judge.new.pass (rw c.book.ensures at c.judge.ensures.looked) in
     rw c.word-in-Err.ensures
-    (turn_refused old _ c.args.actor c.in-Begun.command c.in-Err.cause (sym c.in-Begun.ensures.was) (sym c.in-Err.ensures.judged)
+    (turn_refused old _ c.args.actor c.in-Begun.command c.in-Err.cause (sym c.in-Begun.ensures.was) (sym (rw c.book.ensures at c.in-Err.ensures.judged))
     (ap (λ (k : Caller). record old { caller = k; seats = c.take.new.self }) looked.caller ∙ ap (λ (ss : List Seat). record old { seats = ss }) (c.take.ensures.taken.rests within)))
 
 pub returns-in_ok-turn_stage-in-Ok-clause-turn : goal.returns-in_ok-turn_stage-in-Ok-clause-turn
@@ -64,8 +64,8 @@ returns-in_ok-turn_stage-in-Ok-clause-turn g c =
     let old : World = world c.args.self.now (g.D.BlockDevice.disk c.args.device.now) in
     let new : World = world c.turn_stage.new.self (g.D.BlockDevice.disk c.turn_stage.new.device) in
     let within : place_of c.args.actor old.seats < length old.seats = seated c.args.actor old.seats (λ rests. let wrong : Begun c.in-Begun.command ≡ Rests = c.in-Begun.ensures.was ∙ rests in cc) in
-    let looked = looked-up c.args.self.now.book c.args.actor c.in-Begun.command c.args.self.now.pass c.judge.new.pass c.judge.ensures.looked in
-    turn_begun old new c.args.actor c.in-Begun.command c.in-Ok.stage c.in_ok-turn_stage-in-Ok.field-0 (sym c.in-Begun.ensures.was) (sym c.in-Ok.ensures.judged)
+    let looked = looked-up c.args.self.now.book c.args.actor c.in-Begun.command c.args.self.now.pass c.judge.new.pass (rw c.book.ensures at c.judge.ensures.looked) in
+    turn_begun old new c.args.actor c.in-Begun.command c.in-Ok.stage c.in_ok-turn_stage-in-Ok.field-0 (sym c.in-Begun.ensures.was) (sym (rw c.book.ensures at c.in-Ok.ensures.judged))
     (turn_taken old c.judge.new.pass.caller c.take.new.self new c.args.actor c.in-Ok.stage c.in_ok-turn_stage-in-Ok.field-0 looked.caller (c.take.ensures.taken.others within) c.in_ok-turn_stage-in-Ok.ensures.turn)
 
 pub returns-in_ok-turn_stage-in-Does-clause-turn : goal.returns-in_ok-turn_stage-in-Does-clause-turn

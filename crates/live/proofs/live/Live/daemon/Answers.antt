@@ -4,7 +4,7 @@ use Rattle.live.proofs.ShareLemmas.{carries-both}
 use Rattle.live.proofs.live.Live.daemon.Goals as goal
 
 pub returns-then-is_last-clause-works : goal.returns-then-is_last-clause-works
-returns-then-is_last-clause-works g c = repeated_more _ _ _ _ _ _ c.loop-run.invariant.repeated c.balance.ensures.done
+returns-then-is_last-clause-works g c = rw c.sit-then-is_last.ensures (repeated_more _ _ _ _ _ _ c.loop-run.invariant.repeated c.balance.ensures.done)
 
 pub loop-run-preserved : goal.loop-run-preserved
 loop-run-preserved g c = record {

@@ -22,6 +22,7 @@ stays c = record {
   blocks = c.release.ensures.blocks;
   numbers = ap (λ (t : PagesOf). t.numbers) c.drop_page-owned.ensures.others;
   page_groups = ap (λ (t : PagesOf). t.groups) c.drop_page-owned.ensures.others;
+  page_frames = ap (λ (t : PagesOf). t.frames) c.drop_page-owned.ensures.others;
   page_room = ap (λ (t : PagesOf). t.room) c.drop_page-owned.ensures.others;
   held_numbers = (goes c).1;
   held_room = (goes c).2;

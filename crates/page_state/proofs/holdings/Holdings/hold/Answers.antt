@@ -9,7 +9,7 @@ use Rattle.page_state.specs.Holdings.{HoldingsOf, IsGranted}
 use Rattle.page_state.specs.Held.{HeldOf, entered}
 use Rattle.page_state.proofs.CountLemmas.{charge-usage}
 use Rattle.page_state.proofs.HoldingLemmas.{Stays, kept-step, holding-step, relists-same, same-view, absent-unlisted, goes-in}
-use Rattle.page_state.proofs.GrantLemmas.{group-listed, number-free, few-charged, granted-over, granted-some, granted-frame}
+use Rattle.page_state.proofs.GrantLemmas.{group-listed, number-free, few-charged, granted-over, granted-some, granted-frame, granted-framed}
 use Rattle.page_state.proofs.holdings.Holdings.hold.Goals as goal
 
 pub take_room-frame-requires-clause-few : goal.take_room-frame-requires-clause-few
@@ -40,6 +40,12 @@ make_page-page-requires-clause-room c =
     let some = granted-some c.self.inside c.self.invariant c.args.group.0 (subst (λ (h : HoldingsOf). IsGranted h c.args.group.0) (sym c.self.view_is) c.requires.granted) in
     number-free c.self.inside c.self.invariant c.are_filed.ensures some
 
+pub make_page-page-requires-clause-unused : goal.make_page-page-requires-clause-unused
+make_page-page-requires-clause-unused c = (granted-frame c.self.inside c.self.invariant c.take_room-frame.new.counters c.take_room-frame.new.pool _ _ _ c.take_room-frame.ensures).1
+
+pub make_page-page-requires-clause-framed : goal.make_page-page-requires-clause-framed
+make_page-page-requires-clause-framed c = granted-framed c.self.inside c.self.invariant c.take_room-frame.new.counters c.take_room-frame.new.pool _ _ _ c.take_room-frame.ensures
+
 stays : (c : goal.After-enter) → Stays c.self.inside (record (c.self.inside) { pages = c.make_page-page.new.pages; counters = c.take_room-frame.new.counters; pool = c.take_room-frame.new.pool; held = c.enter.new.self })
 stays c = record {
   groups = c.take_room-frame.ensures.charged.groups;
@@ -48,6 +54,7 @@ stays c = record {
   blocks = refl;
   numbers = ap (λ (t : PagesOf). t.numbers) c.make_page-page.ensures.others;
   page_groups = ap (λ (t : PagesOf). t.groups) c.make_page-page.ensures.others;
+  page_frames = ap (λ (t : PagesOf). t.frames) c.make_page-page.ensures.others;
   page_room = ap (λ (t : PagesOf). t.room) c.make_page-page.ensures.others;
   held_numbers = ap (λ (held : HeldOf). held.numbers) c.enter.ensures;
   held_room = ap (λ (held : HeldOf). held.room) c.enter.ensures;

@@ -40,6 +40,7 @@ invariant_of-result c =
       held_groups = ap length c.in_ok-held.ensures.groups ∙ sym (ap length c.in_ok-counters.ensures.tree);
       held_numbers = c.in_ok-held.ensures.numbers ∙ sym numbers;
       page_groups = c.in-Ok-new.ensures.groups ∙ sym (ap length c.in_ok-counters.ensures.tree);
+      page_frames = c.in-Ok-new.ensures.frames ∙ sym frames;
       numbers = omega (arith, frames, blocks, numbers);
       homes = ap (λ (files : FilesOf). files.first) c.in-Ok-new.ensures.files ∙ c.requires.homes ∙ sym blocks;
       spares = omega (arith, spares, most, going);

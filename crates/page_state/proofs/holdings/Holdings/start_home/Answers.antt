@@ -52,14 +52,15 @@ goes c file q g f to stood gone changes =
     (sym (ap (λ (held : HeldOf). held.lists) (c.leave.ensures g (stands-listed h.pages.pages h.held.lists c.self.invariant.held c.args.page.0 (of_file file q g true) f stood))))
     (goes-out h.pages.pages h.held.lists c.self.invariant.held c.args.page.0 Youngest c.start_home-ticket.new.self.pages (Some to) (of_file file q g true) f stood changes gone)
 
-stays : (c : goal.After-push) → c.start_home-ticket.new.self.numbers ≡ c.self.inside.pages.numbers → c.start_home-ticket.new.self.groups ≡ c.self.inside.pages.groups → c.start_home-ticket.new.self.room ≡ c.self.inside.pages.room → c.start_home-ticket.new.self.files ≡ c.self.inside.pages.files → Stays c.self.inside (record (c.self.inside) { pages = c.start_home-ticket.new.self; pool = c.take_spare-spare.new.pool; held = c.leave.new.self; moving = c.push.new.self })
-stays c numbers groups room files = record {
+stays : (c : goal.After-push) → c.start_home-ticket.new.self.numbers ≡ c.self.inside.pages.numbers → c.start_home-ticket.new.self.groups ≡ c.self.inside.pages.groups → c.start_home-ticket.new.self.room ≡ c.self.inside.pages.room → c.start_home-ticket.new.self.files ≡ c.self.inside.pages.files → c.start_home-ticket.new.self.frames ≡ c.self.inside.pages.frames → Stays c.self.inside (record (c.self.inside) { pages = c.start_home-ticket.new.self; pool = c.take_spare-spare.new.pool; held = c.leave.new.self; moving = c.push.new.self })
+stays c numbers groups room files frames = record {
   groups = record { tree = refl; limits = refl; room = refl };
   frames = sym (ap (λ (q : PoolOf). q.frames) c.take_spare-spare.ensures);
   most_spares = sym (ap (λ (q : PoolOf). q.most_spares) c.take_spare-spare.ensures);
   blocks = refl;
   numbers = numbers;
   page_groups = groups;
+  page_frames = frames;
   page_room = room;
   held_numbers = ap (λ (held : HeldOf). held.numbers) (leaves c);
   held_room = ap (λ (held : HeldOf). held.room) (leaves c);
@@ -97,7 +98,7 @@ invariant_of-self c =
           (record { counts = λ m. refl; len = refl })
           (record { tree = refl; usage = λ a lt. refl; live = stands-live h.counters h.pages.pages p (of_file file q g true) (Held f) w.4 c.self.invariant.kept.counted })
           c.self.invariant.kept;
-      stays = stays c starts.numbers starts.groups starts.room starts.files;
+      stays = stays c starts.numbers starts.groups starts.room starts.files starts.frames;
       generation = Youngest;
       goes = goes c file q g f (labelled (of_file file q g true) (Going f b c.start_home-ticket.result.number)) w.4 refl starts.placed;
       apart = λ was now. absurd cc;
@@ -124,7 +125,7 @@ returns c =
       bytes = begins.bytes;
       listed = begins.starts.listed;
       order = goes c file q g f _ stood refl begins.starts.placed;
-      others = same-view h _ (stays c begins.starts.numbers begins.starts.groups begins.starts.room begins.starts.files);
+      others = same-view h _ (stays c begins.starts.numbers begins.starts.groups begins.starts.room begins.starts.files begins.starts.frames);
     })
 
 pub leave-requires : goal.leave-requires

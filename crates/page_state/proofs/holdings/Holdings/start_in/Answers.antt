@@ -6,7 +6,7 @@ use Rattle.pages.specs.PagesOf.{HasResidence, memory_of, labelled}
 use Rattle.pages.specs.Transfers.{StartsIn}
 use Rattle.page_state.proofs.CountLemmas.{charge-usage}
 use Rattle.page_state.proofs.HoldingLemmas.{Stays, kept-step, holding-step, relists-in, same-view, ticket-free, goes-at}
-use Rattle.page_state.proofs.GrantLemmas.{stands-live, room-free, few-charged, granted-over, granted-some, granted-frame}
+use Rattle.page_state.proofs.GrantLemmas.{stands-live, room-free, few-charged, granted-over, granted-some, granted-frame, granted-framed}
 use Rattle.page_state.proofs.holdings.Holdings.start_in.Goals as goal
 
 pub take_room-frame-requires-clause-few : goal.take_room-frame-requires-clause-few
@@ -29,19 +29,26 @@ start_in-ticket-requires-clause-room c =
     let away = rw (← c.self.view_is) at c.requires.away in
     (room-free c.self.inside c.self.invariant (granted-some c.self.inside c.self.invariant away.0 away.3)).1
 
+pub start_in-ticket-requires-clause-unused : goal.start_in-ticket-requires-clause-unused
+start_in-ticket-requires-clause-unused c = (granted-frame c.self.inside c.self.invariant c.take_room-frame.new.counters c.take_room-frame.new.pool _ _ _ c.take_room-frame.ensures).1
+
+pub start_in-ticket-requires-clause-framed : goal.start_in-ticket-requires-clause-framed
+start_in-ticket-requires-clause-framed c = granted-framed c.self.inside c.self.invariant c.take_room-frame.new.counters c.take_room-frame.new.pool _ _ _ c.take_room-frame.ensures
+
 pub push-requires : goal.push-requires
 push-requires c =
     let away = rw (← c.self.view_is) at c.requires.away in
     record { room = (room-free c.self.inside c.self.invariant (granted-some c.self.inside c.self.invariant away.0 away.3)).0 }
 
-stays : (c : goal.After-push) → c.start_in-ticket.new.self.numbers ≡ c.self.inside.pages.numbers → c.start_in-ticket.new.self.groups ≡ c.self.inside.pages.groups → c.start_in-ticket.new.self.room ≡ c.self.inside.pages.room → c.start_in-ticket.new.self.files ≡ c.self.inside.pages.files → Stays c.self.inside (record (c.self.inside) { pages = c.start_in-ticket.new.self; counters = c.take_room-frame.new.counters; pool = c.take_room-frame.new.pool; moving = c.push.new.self })
-stays c numbers groups room files = record {
+stays : (c : goal.After-push) → c.start_in-ticket.new.self.numbers ≡ c.self.inside.pages.numbers → c.start_in-ticket.new.self.groups ≡ c.self.inside.pages.groups → c.start_in-ticket.new.self.room ≡ c.self.inside.pages.room → c.start_in-ticket.new.self.files ≡ c.self.inside.pages.files → c.start_in-ticket.new.self.frames ≡ c.self.inside.pages.frames → Stays c.self.inside (record (c.self.inside) { pages = c.start_in-ticket.new.self; counters = c.take_room-frame.new.counters; pool = c.take_room-frame.new.pool; moving = c.push.new.self })
+stays c numbers groups room files frames = record {
   groups = c.take_room-frame.ensures.charged.groups;
   frames = c.take_room-frame.ensures.frame.frames;
   most_spares = c.take_room-frame.ensures.frame.most_spares;
   blocks = refl;
   numbers = numbers;
   page_groups = groups;
+  page_frames = frames;
   page_room = room;
   held_numbers = refl;
   held_room = refl;
@@ -80,7 +87,7 @@ invariant_of-self c =
             live = stands-live h.counters h.pages.pages p (memory_of g) (Away b) stood c.self.invariant.kept.counted;
           })
           c.self.invariant.kept;
-      stays = stays c starts.numbers starts.groups starts.room starts.files;
+      stays = stays c starts.numbers starts.groups starts.room starts.files starts.frames;
       generation = Youngest;
       goes = goes-at h.pages.pages h.held.lists c.self.invariant.held p Youngest pages from to stood starts.placed refl;
       apart = λ was now. absurd cc;
@@ -112,5 +119,5 @@ returns-clause-begins c =
       bytes = begins.bytes;
       listed = begins.starts.listed;
       order = goes-at h.pages.pages h.held.lists c.self.invariant.held p Youngest c.start_in-ticket.new.self.pages _ _ stood begins.starts.placed refl;
-      others = same-view h _ (stays c begins.starts.numbers begins.starts.groups begins.starts.room begins.starts.files);
+      others = same-view h _ (stays c begins.starts.numbers begins.starts.groups begins.starts.room begins.starts.files begins.starts.frames);
     })

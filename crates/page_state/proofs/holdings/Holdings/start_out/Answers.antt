@@ -55,14 +55,15 @@ goes c g f to stood gone changes =
     (sym (ap (λ (held : HeldOf). held.lists) (c.leave.ensures g (stands-listed h.pages.pages h.held.lists c.self.invariant.held c.args.page.0 (memory_of g) f stood))))
     (goes-out h.pages.pages h.held.lists c.self.invariant.held c.args.page.0 Youngest c.start_out-ticket.new.self.pages (Some to) (memory_of g) f stood changes gone)
 
-stays : (c : goal.After-push) → c.start_out-ticket.new.self.numbers ≡ c.self.inside.pages.numbers → c.start_out-ticket.new.self.groups ≡ c.self.inside.pages.groups → c.start_out-ticket.new.self.room ≡ c.self.inside.pages.room → c.start_out-ticket.new.self.files ≡ c.self.inside.pages.files → Stays c.self.inside (record (c.self.inside) { pages = c.start_out-ticket.new.self; pool = c.take_spare-spare.new.pool; slots = c.take_slot-slot.new.slots; held = c.leave.new.self; moving = c.push.new.self })
-stays c numbers groups room files = record {
+stays : (c : goal.After-push) → c.start_out-ticket.new.self.numbers ≡ c.self.inside.pages.numbers → c.start_out-ticket.new.self.groups ≡ c.self.inside.pages.groups → c.start_out-ticket.new.self.room ≡ c.self.inside.pages.room → c.start_out-ticket.new.self.files ≡ c.self.inside.pages.files → c.start_out-ticket.new.self.frames ≡ c.self.inside.pages.frames → Stays c.self.inside (record (c.self.inside) { pages = c.start_out-ticket.new.self; pool = c.take_spare-spare.new.pool; slots = c.take_slot-slot.new.slots; held = c.leave.new.self; moving = c.push.new.self })
+stays c numbers groups room files frames = record {
   groups = record { tree = refl; limits = refl; room = refl };
   frames = sym (ap (λ (q : PoolOf). q.frames) c.take_spare-spare.ensures);
   most_spares = sym (ap (λ (q : PoolOf). q.most_spares) c.take_spare-spare.ensures);
   blocks = c.take_slot-slot.ensures.blocks;
   numbers = numbers;
   page_groups = groups;
+  page_frames = frames;
   page_room = room;
   held_numbers = ap (λ (held : HeldOf). held.numbers) (leaves c);
   held_room = ap (λ (held : HeldOf). held.room) (leaves c);
@@ -99,7 +100,7 @@ invariant_of-self c =
           (record { counts = λ m. (let k = slots.counts m in omega (arith, k)); len = (let k = slots.fewer in omega (arith, k)) })
           (record { tree = refl; usage = λ a lt. refl; live = stands-live h.counters h.pages.pages p (memory_of g) (Held f) w.2 c.self.invariant.kept.counted })
           c.self.invariant.kept;
-      stays = stays c starts.numbers starts.groups starts.room starts.files;
+      stays = stays c starts.numbers starts.groups starts.room starts.files starts.frames;
       generation = Youngest;
       goes = goes c g f (labelled (memory_of g) (Going f b c.start_out-ticket.result.number)) w.2 refl starts.placed;
       apart = λ was now. absurd cc;
@@ -128,7 +129,7 @@ returns c =
       bytes = begins.bytes;
       listed = begins.starts.listed;
       order = goes c g f _ stood refl begins.starts.placed;
-      others = same-view h _ (stays c begins.starts.numbers begins.starts.groups begins.starts.room begins.starts.files);
+      others = same-view h _ (stays c begins.starts.numbers begins.starts.groups begins.starts.room begins.starts.files begins.starts.frames);
     })
 
 pub leave-requires : goal.leave-requires

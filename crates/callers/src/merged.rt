@@ -1,0 +1,234 @@
+//! A caller of `book` that merges marks by frame.
+
+ghost use Rattle.std.specs.Prelude.{◌≡◌, ◌<◌};
+
+use book::{Book, Event, Pass, Reply};
+use driver::automaton::spend;
+use machine::config::{Config, FileList, Watermarks};
+use machine::event::{Op, Place};
+use machine::id::{GroupId, TaskId};
+use machine::refusal::Refusal;
+use std::alloc::Global;
+use std::test::Fail;
+
+/// Three frames, four swap blocks, and room for so many entries; task 1 is in the root.
+fn open(alloc: Global, trace: u32) -> Result<Book, Refusal> {
+    Book::open(
+        alloc,
+        Config {
+            frames: 3,
+            swap: 4,
+            files: FileList::new(alloc),
+            watermarks: Watermarks { low: 0, high: 0 },
+            trace,
+            turns: 1000,
+        },
+    )
+}
+
+fn spawn(book: &mut Book, pass: &mut Pass) {
+    if pass.reserve(1).is_ok() {
+        spend(book.call(
+            pass,
+            Event::Spawn {
+                task: TaskId(1),
+                group: GroupId::ROOT,
+            },
+        ));
+    }
+}
+
+/// An access to a page of task 1: the byte, and the frame that was hit. None where the page is not there, or where it is refused.
+fn access(book: &mut Book, pass: &mut Pass, page: u32, op: Op) -> Option<(u8, Option<u32>)> {
+    pass.reserve(2).ok()?;
+    let place = Place::Virtual { page, offset: 0 };
+    let asked = Event::Access {
+        task: TaskId(1),
+        place,
+        op,
+    };
+    match book.call(pass, asked) {
+        Reply::Done { byte, hit } => Some((byte, hit.map(|frame| frame.0))),
+        Reply::Fetch(ticket) => {
+            match book.call(pass, Event::FetchFailed(ticket)) {
+                Reply::StrangeIn(ticket) => ticket.discard(),
+                other => spend(other),
+            }
+            None
+        }
+        other => {
+            spend(other);
+            None
+        }
+    }
+}
+
+fn read(book: &mut Book, pass: &mut Pass, page: u32) -> Option<(u8, Option<u32>)> {
+    access(book, pass, page, Op::Read)
+}
+
+fn write(book: &mut Book, pass: &mut Pass, page: u32, byte: u8) -> Option<(u8, Option<u32>)> {
+    access(book, pass, page, Op::Write(byte))
+}
+
+/// Marks the frame. Whether that was answered Ok.
+fn merge(book: &mut Book, pass: &mut Pass, frame: u32) -> bool {
+    if pass.reserve(1).is_err() {
+        return false;
+    }
+    let merged = Event::MergeMarks {
+        word: frame / 64,
+        bits: 1 << (frame % 64),
+    };
+    match book.call(pass, merged) {
+        Reply::Ok => true,
+        other => {
+            spend(other);
+            false
+        }
+    }
+}
+
+/// One page is written out.
+fn evict(book: &mut Book, pass: &mut Pass) {
+    if pass.reserve(2).is_err() {
+        return;
+    }
+    match book.call(pass, Event::ReclaimOne(GroupId::ROOT)) {
+        Reply::Out(ticket) => match book.call(pass, Event::Left(ticket)) {
+            Reply::StrangeOut(ticket) => ticket.discard(),
+            other => spend(other),
+        },
+        other => spend(other),
+    }
+}
+
+/// Which of the pages 0 to 2 are in frames.
+fn held(book: &mut Book, pass: &mut Pass) -> [bool; 3] {
+    [
+        read(book, pass, 0).is_some(),
+        read(book, pass, 1).is_some(),
+        read(book, pass, 2).is_some(),
+    ]
+}
+
+/// Pages 0 to 2 with the bytes 10 to 12, and the frame of each.
+fn fill(book: &mut Book, pass: &mut Pass) -> [Option<u32>; 3] {
+    let mut frames = [None; 3];
+    spawn(book, pass);
+    for (page, frame) in frames.iter_mut().enumerate() {
+        let number = page as u32;
+        write(book, pass, number, 10 + page as u8);
+        if let Some((_, hit)) = read(book, pass, number) {
+            *frame = hit;
+        }
+    }
+    frames
+}
+
+/// What comes of it at a new book.
+fn at_book<T, F: FnOnce(&mut Book, &mut Pass) -> T>(
+    alloc: Global,
+    trace: u32,
+    body: F,
+) -> Result<T, Fail> {
+    let mut book = open(alloc, trace)?;
+    let done = match book.pass() {
+        Ok(mut pass) => Some(body(&mut book, &mut pass)),
+        Err(_) => None,
+    };
+    let _ = book.close();
+    match done {
+        Some(done) => Ok(done),
+        None => Err("no pass".into()),
+    }
+}
+
+/// Which pages stay where nothing is merged.
+fn unmerged(book: &mut Book, pass: &mut Pass) -> [bool; 3] {
+    fill(book, pass);
+    evict(book, pass);
+    held(book, pass)
+}
+
+#[test]
+fn a_hit_marks_nothing_by_itself(rt: HostRuntime) -> Result<(), Fail> {
+    let found = at_book(rt.alloc(), 1000, unmerged)?;
+    assert_eq!(rt; found, [false, true, true]);
+    Ok(())
+}
+
+/// Which stay where page 0 is marked; and how much more the pass keeps, and stands in the trace, for that.
+fn merged(book: &mut Book, pass: &mut Pass) -> ([bool; 3], usize, usize) {
+    let frames = fill(book, pass);
+    let kept = pass.kept().len();
+    let entries = book.trace().len();
+    if let Some(frame) = frames[0] {
+        merge(book, pass, frame);
+    }
+    let more = pass.kept().len().wrapping_sub(kept);
+    let longer = book.trace().len().wrapping_sub(entries);
+    evict(book, pass);
+    (held(book, pass), more, longer)
+}
+
+#[test]
+fn a_merge_marks_the_page_of_its_frame(rt: HostRuntime) -> Result<(), Fail> {
+    let found = at_book(rt.alloc(), 1000, merged)?;
+    assert_eq!(rt; found, ([true, false, true], 0, 0));
+    Ok(())
+}
+
+/// Page 3 is in the frame that page 0 had, when that is marked. Then two pages leave. Whether page 3 was there, and what
+/// is read then.
+fn given_again(book: &mut Book, pass: &mut Pass) -> (bool, [Option<u8>; 3]) {
+    let frames = fill(book, pass);
+    if pass.reserve(1).is_ok() {
+        spend(book.call(
+            pass,
+            Event::Free {
+                task: TaskId(1),
+                page: 0,
+            },
+        ));
+    }
+    write(book, pass, 3, 13);
+    let again = read(book, pass, 3) == Some((13, frames[0]));
+    if let Some(frame) = frames[0] {
+        merge(book, pass, frame);
+    }
+    evict(book, pass);
+    evict(book, pass);
+    let bytes = [
+        byte(book, pass, 1),
+        byte(book, pass, 2),
+        byte(book, pass, 3),
+    ];
+    (again, bytes)
+}
+
+fn byte(book: &mut Book, pass: &mut Pass, page: u32) -> Option<u8> {
+    read(book, pass, page).map(|found| found.0)
+}
+
+#[test]
+fn a_frame_that_is_given_out_again_marks_its_new_page(rt: HostRuntime) -> Result<(), Fail> {
+    let found = at_book(rt.alloc(), 1000, given_again)?;
+    assert_eq!(rt; found, (true, [None, None, Some(13)]));
+    Ok(())
+}
+
+/// The trace is full. What is answered to a read; and to merges, of a frame, and of none.
+fn full(book: &mut Book, pass: &mut Pass) -> (bool, [bool; 2], usize) {
+    fill(book, pass);
+    let refused = read(book, pass, 0).is_none();
+    let merges = [merge(book, pass, 0), merge(book, pass, u32::MAX)];
+    (refused, merges, book.trace().len())
+}
+
+#[test]
+fn a_merge_is_answered_where_the_trace_is_full(rt: HostRuntime) -> Result<(), Fail> {
+    let found = at_book(rt.alloc(), 7, full)?;
+    assert_eq!(rt; found, (true, [true, true], 7));
+    Ok(())
+}

@@ -1,0 +1,39 @@
+//! Marks that come by frame.
+
+ghost use Rattle.std.specs.Prelude.{◌≡◌, ◌<◌};
+ghost use Rattle.machine.specs.Lists.{MarksThose, MergesMarks};
+ghost use Rattle.page_state.specs.Merging.{is_at_place};
+
+use crate::held::HeldPages;
+use pages::Pages;
+
+/// The pages that are held in the frames of these bits are marked as accessed: bit b is that of frame
+/// `64 * word + b`. Takes no memory.
+pub(crate) fn merge_marks(pages: &Pages, held: &mut HeldPages, word: u32, bits: u64)
+    requires { held.old.numbers ≡ pages.now.numbers }
+    ensures merged { MergesMarks pages.now.pages word bits held.old.lists held.new.lists }
+    ensures others { held.new ≡ record held.old { lists = held.new.lists } }
+{
+    for place in bits.trailing_zeros()..64 {
+        if bits >> place == 0 {
+            return;
+        }
+        merge_mark(pages, held, word, bits, place);
+    }
+}
+
+/// The same of the frame at one place of the word alone.
+fn merge_mark(pages: &Pages, held: &mut HeldPages, word: u32, bits: u64, place: u32)
+    requires place { place < 64 }
+    requires numbers { held.old.numbers ≡ pages.now.numbers }
+    ensures merged { MarksThose (is_at_place word bits place) pages.now.pages held.old.lists held.new.lists }
+    ensures others { held.new ≡ record held.old { lists = held.new.lists } }
+{
+    if (bits >> place) & 1 == 0 {
+        return;
+    }
+    let frame = word as usize * 64 + place as usize;
+    if let Some(page) = pages.holder(frame) {
+        held.mark(page);
+    }
+}
