@@ -112,36 +112,16 @@ fn held(book: &mut Book, pass: &mut Pass) -> [bool; 3] {
     ]
 }
 
-/// Pages 0 to 2 with the bytes 10 to 12, and the frame of each.
-fn fill(book: &mut Book, pass: &mut Pass) -> [Option<u32>; 3] {
-    let mut frames = [None; 3];
+/// Pages 0 to 2 with the bytes 10 to 12. The frame of page 0.
+fn fill(book: &mut Book, pass: &mut Pass) -> Option<u32> {
     spawn(book, pass);
-    for (page, frame) in frames.iter_mut().enumerate() {
-        let number = page as u32;
-        write(book, pass, number, 10 + page as u8);
-        if let Some((_, hit)) = read(book, pass, number) {
-            *frame = hit;
-        }
-    }
-    frames
-}
-
-/// What comes of it at a new book.
-fn at_book<T, F: FnOnce(&mut Book, &mut Pass) -> T>(
-    alloc: Global,
-    trace: u32,
-    body: F,
-) -> Result<T, Fail> {
-    let mut book = open(alloc, trace)?;
-    let done = match book.pass() {
-        Ok(mut pass) => Some(body(&mut book, &mut pass)),
-        Err(_) => None,
-    };
-    let _ = book.close();
-    match done {
-        Some(done) => Ok(done),
-        None => Err("no pass".into()),
-    }
+    write(book, pass, 0, 10);
+    write(book, pass, 1, 11);
+    write(book, pass, 2, 12);
+    let first = read(book, pass, 0)?;
+    read(book, pass, 1);
+    read(book, pass, 2);
+    first.1
 }
 
 /// Which pages stay where nothing is merged.
@@ -153,17 +133,22 @@ fn unmerged(book: &mut Book, pass: &mut Pass) -> [bool; 3] {
 
 #[test]
 fn a_hit_marks_nothing_by_itself(rt: HostRuntime) -> Result<(), Fail> {
-    let found = at_book(rt.alloc(), 1000, unmerged)?;
-    assert_eq!(rt; found, [false, true, true]);
+    let mut book = open(rt.alloc(), 1000)?;
+    let found = match book.pass() {
+        Ok(mut pass) => Some(unmerged(&mut book, &mut pass)),
+        Err(_) => None,
+    };
+    let _ = book.close();
+    assert_eq!(rt; found, Some([false, true, true]));
     Ok(())
 }
 
 /// Which stay where page 0 is marked; and how much more the pass keeps, and stands in the trace, for that.
 fn merged(book: &mut Book, pass: &mut Pass) -> ([bool; 3], usize, usize) {
-    let frames = fill(book, pass);
+    let first = fill(book, pass);
     let kept = pass.kept().len();
     let entries = book.trace().len();
-    if let Some(frame) = frames[0] {
+    if let Some(frame) = first {
         merge(book, pass, frame);
     }
     let more = pass.kept().len().wrapping_sub(kept);
@@ -174,15 +159,20 @@ fn merged(book: &mut Book, pass: &mut Pass) -> ([bool; 3], usize, usize) {
 
 #[test]
 fn a_merge_marks_the_page_of_its_frame(rt: HostRuntime) -> Result<(), Fail> {
-    let found = at_book(rt.alloc(), 1000, merged)?;
-    assert_eq!(rt; found, ([true, false, true], 0, 0));
+    let mut book = open(rt.alloc(), 1000)?;
+    let found = match book.pass() {
+        Ok(mut pass) => Some(merged(&mut book, &mut pass)),
+        Err(_) => None,
+    };
+    let _ = book.close();
+    assert_eq!(rt; found, Some(([true, false, true], 0, 0)));
     Ok(())
 }
 
 /// Page 3 is in the frame that page 0 had, when that is marked. Then two pages leave. Whether page 3 was there, and what
 /// is read then.
 fn given_again(book: &mut Book, pass: &mut Pass) -> (bool, [Option<u8>; 3]) {
-    let frames = fill(book, pass);
+    let first = fill(book, pass);
     if pass.reserve(1).is_ok() {
         spend(book.call(
             pass,
@@ -193,8 +183,8 @@ fn given_again(book: &mut Book, pass: &mut Pass) -> (bool, [Option<u8>; 3]) {
         ));
     }
     write(book, pass, 3, 13);
-    let again = read(book, pass, 3) == Some((13, frames[0]));
-    if let Some(frame) = frames[0] {
+    let again = read(book, pass, 3) == Some((13, first));
+    if let Some(frame) = first {
         merge(book, pass, frame);
     }
     evict(book, pass);
@@ -213,8 +203,13 @@ fn byte(book: &mut Book, pass: &mut Pass, page: u32) -> Option<u8> {
 
 #[test]
 fn a_frame_that_is_given_out_again_marks_its_new_page(rt: HostRuntime) -> Result<(), Fail> {
-    let found = at_book(rt.alloc(), 1000, given_again)?;
-    assert_eq!(rt; found, (true, [None, None, Some(13)]));
+    let mut book = open(rt.alloc(), 1000)?;
+    let found = match book.pass() {
+        Ok(mut pass) => Some(given_again(&mut book, &mut pass)),
+        Err(_) => None,
+    };
+    let _ = book.close();
+    assert_eq!(rt; found, Some((true, [None, None, Some(13)])));
     Ok(())
 }
 
@@ -228,7 +223,12 @@ fn full(book: &mut Book, pass: &mut Pass) -> (bool, [bool; 2], usize) {
 
 #[test]
 fn a_merge_is_answered_where_the_trace_is_full(rt: HostRuntime) -> Result<(), Fail> {
-    let found = at_book(rt.alloc(), 7, full)?;
-    assert_eq!(rt; found, (true, [true, true], 7));
+    let mut book = open(rt.alloc(), 7)?;
+    let found = match book.pass() {
+        Ok(mut pass) => Some(full(&mut book, &mut pass)),
+        Err(_) => None,
+    };
+    let _ = book.close();
+    assert_eq!(rt; found, Some((true, [true, true], 7)));
     Ok(())
 }
