@@ -57,26 +57,16 @@ impl<L: Ledger + Opened, D: SharedDevice> Live<L, D> {
         ensures own { OwnReply pass.old.caller.worker (blocks_in L.opening) result }
         ensures handed { IsHanded result }
     {
-        let reply = self.call_locked(rt, pass, event);
-        pass.mark(&reply);
-        reply
-    }
-
-    /// One event, under the lock.
-    fn call_locked<R: Wait>(&self, rt: &R, pass: &mut Pass<L>, event: Event) -> Reply
-        requires room { 0 < pass.old.room }
-        requires own { OwnEvent pass.old.caller.worker (blocks_in L.opening) event }
-        ensures kept { pass.new ≡ keeping pass.old (call_of (event_of event) (reply_of result)) }
-        ensures replies { Replies event result }
-        ensures own { OwnReply pass.old.caller.worker (blocks_in L.opening) result }
-        ensures handed { IsHanded result }
-    {
         let ends = is_end(&event);
-        let mut shared = self.shared.lock(rt);
-        let reply = shared.call(pass, event);
-        if ends || shared.wants_daemon() {
-            self.moved.notify_all();
-        }
+        let reply = {
+            let mut shared = self.shared.lock(rt);
+            let reply = shared.call(pass, event);
+            if ends || shared.wants_daemon() {
+                self.moved.notify_all();
+            }
+            reply
+        };
+        pass.mark(&reply);
         reply
     }
 
