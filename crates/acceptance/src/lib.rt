@@ -9,6 +9,8 @@
 #[cfg(test)]
 mod amounts;
 #[cfg(test)]
+mod between;
+#[cfg(test)]
 mod case;
 #[cfg(test)]
 mod daemon_turns;

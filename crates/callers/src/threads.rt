@@ -57,10 +57,12 @@ fn an_empty_script_is_audited(rt: HostRuntime) -> Result<(), Fail> {
 
 #[test]
 fn a_faulty_line_is_told(rt: HostRuntime) -> Result<(), Fail> {
-    let (out, err, status) = printed(&rt, rt.alloc(), "group /a\nstep 1\n")?;
-    assert!(rt; out.is_empty());
-    assert_eq!(rt; err.as_slice(), b"line 2: only in schedule\n".as_slice());
-    assert_eq!(rt; status, 1);
+    for script in ["group /a\nstep 1\n", "go\nstep 1\n"] {
+        let (out, err, status) = printed(&rt, rt.alloc(), script)?;
+        assert!(rt; out.is_empty());
+        assert_eq!(rt; err.as_slice(), b"line 2: only in schedule\n".as_slice());
+        assert_eq!(rt; status, 1);
+    }
     Ok(())
 }
 

@@ -18,6 +18,10 @@ pub enum Manner {
     HoldsReads,
     /// The first write, likewise.
     HoldsWrites,
+    /// The first read is held until a second one has begun, and fails where one has.
+    FailsHeldRead,
+    /// The first write, likewise.
+    FailsHeldWrite,
     /// A third read is held until a third write has begun, and a second write until a third read has.
     HoldsAcross,
     /// Each write is held until it is let go.
@@ -114,6 +118,7 @@ impl Gate {
     fn hold_read(&self, before: u64) -> bool {
         match self.manner {
             Manner::HoldsReads => reaches(&self.signals.reads, 2),
+            Manner::FailsHeldRead if before == 0 => !reaches(&self.signals.reads, 2),
             Manner::HoldsAcross if before == 2 => reaches(&self.signals.writes, 3),
             _ => true,
         }
@@ -123,6 +128,7 @@ impl Gate {
     fn hold_write(&self, before: u64) -> bool {
         match self.manner {
             Manner::HoldsWrites => reaches(&self.signals.writes, 2),
+            Manner::FailsHeldWrite if before == 0 => !reaches(&self.signals.writes, 2),
             Manner::HoldsAcross if before == 1 => reaches(&self.signals.reads, 3),
             Manner::HoldsUntilLetGo => self.signals.wait_until_let_go(),
             _ => true,

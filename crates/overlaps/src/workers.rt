@@ -42,6 +42,53 @@ fn writes_overlap(rt: HostRuntime) -> Result<(), Fail> {
 }
 
 #[test]
+fn one_of_two_reads_fails(rt: HostRuntime) -> Result<(), Fail> {
+    // The read that is held fails once the other has begun: a lock held over it would let it go well. Which task's it is,
+    // is left open. Behind that a third task has all frames and blocks, and no more.
+    let before = format!(in rt.alloc(); "frames 2\n{SWAPPED}")?;
+    let rows = ["1 read 0 0\n", "2 read 0 0\n"];
+    let behind =
+        "cat /a memory.current\n1 read 0 0\n2 read 0 0\ncat /a memory.current\n1 exit\n2 exit\ntask 3 /a\n3 write 0 0 1\n3 write 1 0 1\n3 write 2 0 1\n3 write 3 0 1\ncat /a memory.current\n3 write 4 0 1\n";
+    let ended = crowd(
+        &rt,
+        rt.alloc(),
+        Manner::FailsHeldRead,
+        &before,
+        &rows,
+        behind,
+    )?;
+    let of_first = ended.row(0) == Some("1 EIO\n") && ended.row(1) == Some("2 6\n");
+    let of_second = ended.row(0) == Some("1 5\n") && ended.row(1) == Some("2 EIO\n");
+    assert!(rt; of_first || of_second);
+    assert_eq!(rt;
+        ended.behind.as_str(),
+        "4096\n1 5\n2 6\n8192\n8192\nkilled 3\n3 killed\n"
+    );
+    assert!(rt; is_fine(&ended));
+    Ok(())
+}
+
+#[test]
+fn one_of_two_writes_fails(rt: HostRuntime) -> Result<(), Fail> {
+    // The page whose write failed stays in its frame, and leaves when it is asked for again.
+    let before = "swap 2\ngroup /a\ngroup /b\ntask 1 /a\ntask 2 /b\n1 write 0 0 5\n2 write 0 0 6\n";
+    let rows = [
+        "set /a memory.reclaim 4096\n",
+        "set /b memory.reclaim 4096\n",
+    ];
+    let behind =
+        "set / memory.reclaim 4096\ncat /a memory.current\ncat /b memory.current\n1 read 0 0\n2 read 0 0\n";
+    let manner = Manner::FailsHeldWrite;
+    let ended = crowd(&rt, rt.alloc(), manner, before, &rows, behind)?;
+    let of_first = ended.row(0) == Some("error EIO\n") && ended.row(1) == Some("");
+    let of_second = ended.row(0) == Some("") && ended.row(1) == Some("error EIO\n");
+    assert!(rt; of_first || of_second);
+    assert_eq!(rt; ended.behind.as_str(), "0\n0\n1 5\n2 6\n");
+    assert!(rt; is_fine(&ended));
+    Ok(())
+}
+
+#[test]
 fn a_page_that_is_shared_comes_once(rt: HostRuntime) -> Result<(), Fail> {
     // Both show one page. Whoever is second finds it in transfer, and waits.
     let before =
