@@ -10,6 +10,9 @@ use std::sync::{Arc, Mutex, Wait};
 /// For so many turns of its loop a call is held at most.
 const MOST_TURNS: u64 = 100_000_000;
 
+/// For so many turns a call is held where another worker is to come meanwhile and wait for it.
+const A_WHILE: u64 = 1_000_000;
+
 /// What the device does beside reading and writing.
 #[derive(Clone, Copy, Debug, PartialEq, Eq)]
 pub enum Manner {
@@ -22,6 +25,10 @@ pub enum Manner {
     FailsHeldRead,
     /// The first write, likewise.
     FailsHeldWrite,
+    /// The first read is held for a while, and fails.
+    FailsReadLate,
+    /// The first write, likewise.
+    FailsWriteLate,
     /// A third read is held until a third write has begun, and a second write until a third read has.
     HoldsAcross,
     /// Each write is held until it is let go.
@@ -66,7 +73,12 @@ impl Signals {
 
 /// Waits until so many calls have begun. Whether they have.
 fn reaches(begun: &AtomicU64, calls: u64) -> bool {
-    for _turn in 0..MOST_TURNS {
+    reaches_within(MOST_TURNS, begun, calls)
+}
+
+/// The same, for so many turns of the loop at most.
+fn reaches_within(turns: u64, begun: &AtomicU64, calls: u64) -> bool {
+    for _turn in 0..turns {
         if begun.load(Ordering::SeqCst) >= calls {
             return true;
         }
@@ -119,6 +131,10 @@ impl Gate {
         match self.manner {
             Manner::HoldsReads => reaches(&self.signals.reads, 2),
             Manner::FailsHeldRead if before == 0 => !reaches(&self.signals.reads, 2),
+            Manner::FailsReadLate if before == 0 => {
+                let _ = reaches_within(A_WHILE, &self.signals.reads, 2);
+                false
+            }
             Manner::HoldsAcross if before == 2 => reaches(&self.signals.writes, 3),
             _ => true,
         }
@@ -129,6 +145,10 @@ impl Gate {
         match self.manner {
             Manner::HoldsWrites => reaches(&self.signals.writes, 2),
             Manner::FailsHeldWrite if before == 0 => !reaches(&self.signals.writes, 2),
+            Manner::FailsWriteLate if before == 0 => {
+                let _ = reaches_within(A_WHILE, &self.signals.writes, 2);
+                false
+            }
             Manner::HoldsAcross if before == 1 => reaches(&self.signals.reads, 3),
             Manner::HoldsUntilLetGo => self.signals.wait_until_let_go(),
             _ => true,

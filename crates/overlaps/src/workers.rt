@@ -102,6 +102,45 @@ fn a_page_that_is_shared_comes_once(rt: HostRuntime) -> Result<(), Fail> {
 }
 
 #[test]
+fn who_waits_for_a_page_goes_on_where_its_read_fails(rt: HostRuntime) -> Result<(), Fail> {
+    // Both show one page. Whoever is first is told that its read has failed. The other, who waited for it, reads it in.
+    let before =
+        "swap 1\ngroup /a\ntask 1 /a\n1 write 0 0 7\n1 fork 2\nset / memory.reclaim 4096\n";
+    let rows = ["1 read 0 0\n", "2 read 0 0\n"];
+    let behind = "1 read 0 0\n2 read 0 0\n";
+    for _round in 0..10 {
+        let manner = Manner::FailsReadLate;
+        let ended = crowd(&rt, rt.alloc(), manner, before, &rows, behind)?;
+        let of_first = ended.row(0) == Some("1 EIO\n") && ended.row(1) == Some("2 7\n");
+        let of_second = ended.row(0) == Some("1 7\n") && ended.row(1) == Some("2 EIO\n");
+        assert!(rt; of_first || of_second);
+        assert_eq!(rt; ended.behind.as_str(), "1 7\n2 7\n");
+        assert!(rt; is_fine(&ended));
+    }
+    Ok(())
+}
+
+#[test]
+fn who_waits_for_room_goes_on_where_the_write_fails(rt: HostRuntime) -> Result<(), Fail> {
+    // There is one page in /a, and room for no other. Whoever takes it first is told that its write has failed. The other,
+    // who waited for that, takes it then: the shell, or task 2, whose own page is made.
+    let before = "swap 2\ngroup /a\nset /a memory.max 4096\ntask 1 /a\ntask 2 /a\n1 write 0 0 7\n";
+    let rows = ["2 write 0 0 8\n", "set /a memory.reclaim 4096\n"];
+    let behind = "1 read 0 0\n2 read 0 0\n";
+    for _round in 0..10 {
+        let manner = Manner::FailsWriteLate;
+        let ended = crowd(&rt, rt.alloc(), manner, before, &rows, behind)?;
+        let of_task = ended.row(0) == Some("2 EIO\n") && ended.row(1) == Some("");
+        let of_shell = ended.row(0) == Some("") && ended.row(1) == Some("error EIO\n");
+        assert!(rt; of_task || of_shell);
+        let bytes = if of_task { "1 7\n2 0\n" } else { "1 7\n2 8\n" };
+        assert_eq!(rt; ended.behind.as_str(), bytes);
+        assert!(rt; is_fine(&ended));
+    }
+    Ok(())
+}
+
+#[test]
 fn a_changed_byte_is_the_devices(rt: HostRuntime) -> Result<(), Fail> {
     let before =
         "swap 1\ngroup /a\ntask 1 /a\n1 write 0 0 5\nset / memory.reclaim 4096\n1 read 0 0\n";
