@@ -31,6 +31,8 @@ pub enum Manner {
     FailsWriteLate,
     /// A third read is held until a third write has begun, and a second write until a third read has.
     HoldsAcross,
+    /// Likewise, and the third read fails where the third write has begun.
+    FailsAcross,
     /// Each write is held until it is let go.
     HoldsUntilLetGo,
     /// Each byte that is read is one more than it was written.
@@ -136,6 +138,7 @@ impl Gate {
                 false
             }
             Manner::HoldsAcross if before == 2 => reaches(&self.signals.writes, 3),
+            Manner::FailsAcross if before == 2 => !reaches(&self.signals.writes, 3),
             _ => true,
         }
     }
@@ -149,7 +152,10 @@ impl Gate {
                 let _ = reaches_within(A_WHILE, &self.signals.writes, 2);
                 false
             }
-            Manner::HoldsAcross if before == 1 => reaches(&self.signals.reads, 3),
+            Manner::HoldsAcross | Manner::FailsAcross if before == 1 => reaches(
+                &self.signals.reads,
+                3,
+            ),
             Manner::HoldsUntilLetGo => self.signals.wait_until_let_go(),
             _ => true,
         }

@@ -161,3 +161,10 @@ fn the_daemon_ends_its_work_where_it_is_told_meanwhile(rt: HostRuntime) -> Resul
     assert_eq!(rt; answers.as_str(), "4096\n1 1\n");
     Ok(())
 }
+
+#[test]
+fn the_daemon_ends_its_run_where_a_write_fails(rt: HostRuntime) -> Result<(), Fail> {
+    let answers = stopped(&rt, rt.alloc(), Manner::FailsAll, When::Before, LOOKS)?;
+    assert_eq!(rt; answers.as_str(), "12288\n1 1\n");
+    Ok(())
+}

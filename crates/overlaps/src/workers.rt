@@ -211,22 +211,38 @@ fn a_killed_task_is_told(rt: HostRuntime) -> Result<(), Fail> {
     Ok(())
 }
 
+/// Task 1 has two pages that are charged to /b, and one on swap, which will be to /a. Swap is full, so /b can't give its
+/// pages; files can be written home.
+const MOVED: &str =
+    "swap 1\nfile f 2\ngroup /a\ngroup /b\ngroup /c\ntask 1 /b\ntask 2 /c\n1 write 1 0 1\n1 write 2 0 1\nattach 1 /a\n1 write 0 0 5\n2 fwrite f 0 0 9\n2 fwrite f 1 0 9\nset /a memory.reclaim 4096\n";
+
+/// Task 1 reads its page in. The shell's first write to the device is held until then, and that read until the shell writes
+/// once more, so that task 1 is moved to /b and killed there while its page comes in for /a.
+const KILLED: [&str; 2] = [
+    "1 read 0 0\n",
+    "set /c memory.reclaim 4096\nattach 1 /b\nset /b memory.max 4096\nset /c memory.reclaim 4096\n",
+];
+
+/// Nothing is charged any more.
+const GONE: &str =
+    "cat /a memory.current\ncat /b memory.current\ncat /c memory.current\n1 read 0 0\n";
+
 #[test]
 fn a_task_is_killed_in_a_transfer(rt: HostRuntime) -> Result<(), Fail> {
-    // Two pages of task 1 are charged to /b, and one, which is on swap, will be to /a. Swap is full, so /b can't give its
-    // pages; files can be written home. The shell's first write to the device is held until task 1 reads, and that read
-    // until the shell writes once more, so that task 1 is moved to /b and killed there while its page comes in for /a.
-    let before =
-        "swap 1\nfile f 2\ngroup /a\ngroup /b\ngroup /c\ntask 1 /b\ntask 2 /c\n1 write 1 0 1\n1 write 2 0 1\nattach 1 /a\n1 write 0 0 5\n2 fwrite f 0 0 9\n2 fwrite f 1 0 9\nset /a memory.reclaim 4096\n";
-    let rows = [
-        "1 read 0 0\n",
-        "set /c memory.reclaim 4096\nattach 1 /b\nset /b memory.max 4096\nset /c memory.reclaim 4096\n",
-    ];
-    let behind =
-        "cat /a memory.current\ncat /b memory.current\ncat /c memory.current\n1 read 0 0\n";
-    let ended = crowd(&rt, rt.alloc(), Manner::HoldsAcross, before, &rows, behind)?;
+    let ended = crowd(&rt, rt.alloc(), Manner::HoldsAcross, MOVED, &KILLED, GONE)?;
     assert_eq!(rt; ended.before.as_str(), "");
     assert_eq!(rt; ended.row(0), Some("1 killed\n"));
+    assert_eq!(rt; ended.row(1), Some("killed 1\n"));
+    assert_eq!(rt; ended.behind.as_str(), "0\n0\n0\n1 killed\n");
+    assert!(rt; is_fine(&ended));
+    Ok(())
+}
+
+#[test]
+fn a_task_that_is_killed_is_told_that_its_read_failed(rt: HostRuntime) -> Result<(), Fail> {
+    let ended = crowd(&rt, rt.alloc(), Manner::FailsAcross, MOVED, &KILLED, GONE)?;
+    assert_eq!(rt; ended.before.as_str(), "");
+    assert_eq!(rt; ended.row(0), Some("1 EIO\n"));
     assert_eq!(rt; ended.row(1), Some("killed 1\n"));
     assert_eq!(rt; ended.behind.as_str(), "0\n0\n0\n1 killed\n");
     assert!(rt; is_fine(&ended));
