@@ -1,6 +1,7 @@
 //! Looks at a book, which are no events: nothing is asked, and nothing changes.
 
-ghost use Rattle.std.specs.Prelude.{◌≡◌, option_map, IfSome};
+ghost use Rattle.std.specs.Prelude.{◌≡◌, ◌+◌, length, option_map, IfSome};
+ghost use Rattle.machine.specs.Pages.{used_frames, used_swap, in_transfer};
 ghost use Rattle.machine.specs.Reclaim.{target_of};
 ghost use Rattle.machine.specs.Tasks.{size_of};
 ghost use Rattle.machine.specs.Victim.{IsVictim};
@@ -42,6 +43,19 @@ pub struct Victim {
     pub limit: GroupId,
 }
 
+/// What is free and what is under way in a whole machine.
+#[derive(Clone, Copy, Debug, PartialEq, Eq)]
+pub struct Tally {
+    /// Frames that no page has.
+    pub free_frames: u32,
+    /// Swap blocks that no page has.
+    pub free_blocks: u32,
+    /// Pages that are being read in or written out.
+    pub in_transfer: u32,
+    /// Entries of the trace, without the room that is kept for the ends of transfers.
+    pub entries: u32,
+}
+
 /// How many tasks live in a group at or under the limit.
 fn candidates(state: &State, limit: GroupId) -> u32
     ensures { result ≡ candidates state.now.tables.tree state.now.tables.tasks limit.0 }
@@ -68,6 +82,22 @@ impl Book {
             min: self.state.min(group),
             local: self.state.local_events(group),
         })
+    }
+
+    /// How many frames and swap blocks are free, how many pages are in transfer, and how many entries the trace has.
+    pub fn tally(&self) -> Tally
+        ensures frames { result.free_frames + used_frames self.now.state.pages ≡ self.now.state.opening.frames }
+        ensures blocks { result.free_blocks + used_swap self.now.state.pages ≡ self.now.state.opening.swap }
+        ensures in_transfer { result.in_transfer ≡ in_transfer self.now.state.pages }
+        ensures entries { result.entries ≡ length self.now.history }
+    {
+        self.state.is_joined();
+        Tally {
+            free_frames: self.state.free_frames(),
+            free_blocks: self.state.free_blocks(),
+            in_transfer: self.state.transfers(),
+            entries: self.trace().len() as u32,
+        }
     }
 
     /// What the pages of the group that has this path now hold (`memory.stat`, in pages). It goes over all page

@@ -39,6 +39,7 @@ use Rattle.driver.specs.declared.turn.Transition.{Transition}
 use Rattle.driver.specs.declared.turn.Transition.TheVariants.{Goes}
 use Rattle.driver.specs.Turns.{Tried, MadeRoom, MaxSet, Lowered, Reclaimed, Balanced, Made, TaskDid, WasShown, Closed, Told, ends_with, ends_refused, byte_answer, resumes_at}
 use Rattle.driver.specs.Schedule.{outcome_of, left_of}
+use Rattle.driver.specs.Tickets.{gives_ticket}
 use Rattle.machine.proofs.EntryLemmas.{entries-one}
 use Rattle.driver.proofs.Keeps.{number_at, pages_none, Fine, FineOutcome}
 
@@ -156,19 +157,19 @@ called_comes old new caller what answer leaves known called = by_known (knows_pa
 
 -- a ticket is taken up only from the reply that gave it
 pub data Next (answered : Book_reply) (transition : Transition) : Type 0 where
-  Handless : number_at (left_of transition) ≡ None → FineOutcome (outcome_of transition) → Next answered transition
+  Handless : gives_ticket answered ≡ false → number_at (left_of transition) ≡ None → FineOutcome (outcome_of transition) → Next answered transition
   Reads : (access : Access) (ticket : TicketOf) → answered ≡ said.Fetch ticket → transition ≡ Goes (stage.Read access ticket) → Next answered transition
   Writes : (on : Resume) (ticket : TicketOf) → answered ≡ said.Out ticket → transition ≡ Goes (stage.Write on ticket) → Next answered transition
 
 module _ (answered : Book_reply) (transition : Transition) where
-  handless : (is : Transition) → transition ≡ is → number_at (left_of is) ≡ None → FineOutcome (outcome_of is) → Next answered transition
-  handless is e none fine = Handless (ap (λ (t : Transition). number_at (left_of t)) e ∙ none) (subst (λ (t : Transition). FineOutcome (outcome_of t)) (sym e) fine)
+  handless : (is : Transition) → transition ≡ is → gives_ticket answered ≡ false → number_at (left_of is) ≡ None → FineOutcome (outcome_of is) → Next answered transition
+  handless is e quiet none fine = Handless quiet (ap (λ (t : Transition). number_at (left_of t)) e ∙ none) (subst (λ (t : Transition). FineOutcome (outcome_of t)) (sym e) fine)
 
-  says_word : (what : Word) → transition ≡ ends_with what → (what ≡ word.Refused Stranger → ⊥) → Next answered transition
-  says_word what e fine = handless (ends_with what) e refl (λ f. fine (cc))
+  says_word : (what : Word) → transition ≡ ends_with what → gives_ticket answered ≡ false → (what ≡ word.Refused Stranger → ⊥) → Next answered transition
+  says_word what e quiet fine = handless (ends_with what) e quiet refl (λ f. fine (cc))
 
-  says_refused : (why : Refusal) → reply_of answered ≡ reply.Refused why → (reply_of answered ≡ reply.Refused Stranger → ⊥) → transition ≡ ends_refused why → Next answered transition
-  says_refused why is known e = says_word (word.Refused why) e (λ f. known (is ∙ refusal_is f))
+  says_refused : (why : Refusal) → reply_of answered ≡ reply.Refused why → gives_ticket answered ≡ false → (reply_of answered ≡ reply.Refused Stranger → ⊥) → transition ≡ ends_refused why → Next answered transition
+  says_refused why is quiet known e = says_word (word.Refused why) e quiet (λ f. known (is ∙ refusal_is f))
     where
       refusal_is : word.Refused why ≡ word.Refused Stranger → reply.Refused why ≡ reply.Refused Stranger
       refusal_is f = cc
@@ -188,74 +189,74 @@ abbrev KnownReply : Book_reply → Type 0
 KnownReply answered = reply_of answered ≡ reply.Refused Stranger → ⊥
 
 tried_next : (access : Access) (answered : Book_reply) (transition : Transition) → Tried access answered transition → KnownReply answered → Next answered transition
-tried_next access (said.Done byte hit) transition h known = handless _ transition _ h refl (fine_byte access.op byte)
+tried_next access (said.Done byte hit) transition h known = handless _ transition _ h refl refl (fine_byte access.op byte)
 tried_next access (said.Fetch ticket) transition h known = Reads access ticket refl h
-tried_next access (said.Over g) transition h known = handless _ transition _ h refl tt
-tried_next access said.NoFrame transition h known = handless _ transition _ h refl tt
-tried_next access said.Busy transition h known = handless _ transition _ h refl (λ e. cc)
-tried_next access said.Killed transition h known = says_word _ transition word.Killed h (λ e. cc)
-tried_next access (said.Refused why) transition h known = says_refused _ transition why refl known h
+tried_next access (said.Over g) transition h known = handless _ transition _ h refl refl tt
+tried_next access said.NoFrame transition h known = handless _ transition _ h refl refl tt
+tried_next access said.Busy transition h known = handless _ transition _ h refl refl (λ e. cc)
+tried_next access said.Killed transition h known = says_word _ transition word.Killed h refl (λ e. cc)
+tried_next access (said.Refused why) transition h known = says_refused _ transition why refl refl known h
 tried_next access answered transition h known = absurd h
 
 room_next : (access : Access) (why : Cause) (answered : Book_reply) (transition : Transition) → MadeRoom access why answered transition → KnownReply answered → Next answered transition
-room_next access why said.Room transition h known = handless _ transition _ h refl tt
-room_next access why said.Dropped transition h known = handless _ transition _ h refl tt
+room_next access why said.Room transition h known = handless _ transition _ h refl refl tt
+room_next access why said.Dropped transition h known = handless _ transition _ h refl refl tt
 room_next access why (said.Out ticket) transition h known = Writes (resume.Try access) ticket refl h
-room_next access why said.Wait transition h known = handless _ transition _ h refl (λ e. cc)
-room_next access why (said.KilledTask t) transition h known = handless _ transition _ h refl tt
-room_next access why said.NoVictim transition h known = says_word _ transition word.OutOfMemory h (λ e. cc)
-room_next access why (said.Refused refused) transition h known = says_refused _ transition refused refl known h
+room_next access why said.Wait transition h known = handless _ transition _ h refl refl (λ e. cc)
+room_next access why (said.KilledTask t) transition h known = handless _ transition _ h refl refl tt
+room_next access why said.NoVictim transition h known = says_word _ transition word.OutOfMemory h refl (λ e. cc)
+room_next access why (said.Refused refused) transition h known = says_refused _ transition refused refl refl known h
 room_next access why answered transition h known = absurd h
 
 set_next : (g : ℕ) (answered : Book_reply) (transition : Transition) → MaxSet g answered transition → KnownReply answered → Next answered transition
-set_next g said.Ok transition h known = handless _ transition _ h refl tt
-set_next g (said.Refused why) transition h known = says_refused _ transition why refl known h
+set_next g said.Ok transition h known = handless _ transition _ h refl refl tt
+set_next g (said.Refused why) transition h known = says_refused _ transition why refl refl known h
 set_next g answered transition h known = absurd h
 
 lower_next : (g : ℕ) (answered : Book_reply) (transition : Transition) → Lowered g answered transition → KnownReply answered → Next answered transition
-lower_next g said.Room transition h known = handless _ transition _ h refl (λ e. cc)
-lower_next g said.Dropped transition h known = handless _ transition _ h refl tt
+lower_next g said.Room transition h known = handless _ transition _ h refl refl (λ e. cc)
+lower_next g said.Dropped transition h known = handless _ transition _ h refl refl tt
 lower_next g (said.Out ticket) transition h known = Writes _ ticket refl h
-lower_next g said.Wait transition h known = handless _ transition _ h refl (λ e. cc)
-lower_next g (said.KilledTask t) transition h known = handless _ transition _ h refl tt
-lower_next g said.NoVictim transition h known = handless _ transition _ h refl (λ e. cc)
-lower_next g (said.Refused why) transition h known = says_refused _ transition why refl known h
+lower_next g said.Wait transition h known = handless _ transition _ h refl refl (λ e. cc)
+lower_next g (said.KilledTask t) transition h known = handless _ transition _ h refl refl tt
+lower_next g said.NoVictim transition h known = handless _ transition _ h refl refl (λ e. cc)
+lower_next g (said.Refused why) transition h known = says_refused _ transition why refl refl known h
 lower_next g answered transition h known = absurd h
 
 reclaimed_next : (g left : ℕ) (answered : Book_reply) (transition : Transition) → Reclaimed g left answered transition → KnownReply answered → Next answered transition
-reclaimed_next g left said.Dropped transition h known = handless _ transition _ h (pages_none g (left - 1)) tt
+reclaimed_next g left said.Dropped transition h known = handless _ transition _ h refl (pages_none g (left - 1)) tt
 reclaimed_next g left (said.Out ticket) transition h known = Writes _ ticket refl h
-reclaimed_next g left said.Wait transition h known = handless _ transition _ h refl (λ e. cc)
-reclaimed_next g left said.Nothing transition h known = says_word _ transition word.Again h (λ e. cc)
-reclaimed_next g left (said.Refused why) transition h known = says_refused _ transition why refl known h
+reclaimed_next g left said.Wait transition h known = handless _ transition _ h refl refl (λ e. cc)
+reclaimed_next g left said.Nothing transition h known = says_word _ transition word.Again h refl (λ e. cc)
+reclaimed_next g left (said.Refused why) transition h known = says_refused _ transition why refl refl known h
 reclaimed_next g left answered transition h known = absurd h
 
 balanced_next : (answered : Book_reply) (transition : Transition) → Balanced answered transition → KnownReply answered → Next answered transition
-balanced_next said.Dropped transition h known = handless _ transition _ h refl tt
+balanced_next said.Dropped transition h known = handless _ transition _ h refl refl tt
 balanced_next (said.Out ticket) transition h known = Writes _ ticket refl h
-balanced_next said.Wait transition h known = handless _ transition _ h refl (λ e. cc)
-balanced_next said.Nothing transition h known = handless _ transition _ h refl (λ e. cc)
-balanced_next (said.Refused why) transition h known = says_refused _ transition why refl known h
+balanced_next said.Wait transition h known = handless _ transition _ h refl refl (λ e. cc)
+balanced_next said.Nothing transition h known = handless _ transition _ h refl refl (λ e. cc)
+balanced_next (said.Refused why) transition h known = says_refused _ transition why refl refl known h
 balanced_next answered transition h known = absurd h
 
 made_next : (answered : Book_reply) (transition : Transition) → Made answered transition → KnownReply answered → Next answered transition
-made_next said.Ok transition h known = handless _ transition _ h refl (λ e. cc)
-made_next (said.Refused why) transition h known = says_refused _ transition why refl known h
+made_next said.Ok transition h known = handless _ transition _ h refl refl (λ e. cc)
+made_next (said.Refused why) transition h known = says_refused _ transition why refl refl known h
 made_next answered transition h known = absurd h
 
 did_next : (answered : Book_reply) (transition : Transition) → TaskDid answered transition → KnownReply answered → Next answered transition
-did_next said.Ok transition h known = handless _ transition _ h refl (λ e. cc)
-did_next said.Killed transition h known = says_word _ transition word.Killed h (λ e. cc)
-did_next (said.Refused why) transition h known = says_refused _ transition why refl known h
+did_next said.Ok transition h known = handless _ transition _ h refl refl (λ e. cc)
+did_next said.Killed transition h known = says_word _ transition word.Killed h refl (λ e. cc)
+did_next (said.Refused why) transition h known = says_refused _ transition why refl refl known h
 did_next answered transition h known = absurd h
 
 shown_next : (answered : Book_reply) (transition : Transition) → WasShown answered transition → KnownReply answered → Next answered transition
-shown_next (said.Shown numbers) transition h known = handless _ transition _ h refl (λ e. cc)
-shown_next (said.Refused why) transition h known = says_refused _ transition why refl known h
+shown_next (said.Shown numbers) transition h known = handless _ transition _ h refl refl (λ e. cc)
+shown_next (said.Refused why) transition h known = says_refused _ transition why refl refl known h
 shown_next answered transition h known = absurd h
 
 closed_next : (resumed : Transition) (answered : Book_reply) (transition : Transition) → number_at (left_of resumed) ≡ None → FineOutcome (outcome_of resumed) → Closed resumed answered transition → KnownReply answered → Next answered transition
-closed_next resumed said.Ok transition none fine h known = handless _ transition resumed h none fine
+closed_next resumed said.Ok transition none fine h known = handless _ transition resumed h refl none fine
 closed_next resumed (said.StrangeIn ticket) transition none fine h known = absurd (known refl)
 closed_next resumed (said.StrangeOut ticket) transition none fine h known = absurd (known refl)
 closed_next resumed answered transition none fine h known = absurd h

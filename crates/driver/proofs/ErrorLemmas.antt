@@ -1,5 +1,5 @@
--- Each error of the device that is answered is a call of it that failed.
-use Rattle.std.proofs.Common.{◌≡◌, inl, inr, ℕ, zero, suc, ◌+◌, ◌≤◌, Bool, true, false, List, [], ◌∷◌, ◌++◌, Option, Some, None, refl, ap, arith}
+-- Each call of the device that failed is answered by one error, or is owed one.
+use Rattle.std.proofs.Common.{◌≡◌, inl, inr, ℕ, zero, suc, ◌+◌, ◌≤◌, Bool, true, false, List, [], ◌∷◌, ◌++◌, Option, Some, None, refl, ap, ◌∙◌, subst, arith}
 use Rattle.std.specs.Prelude.{◌⊎◌, if◌then◌else◌, nat_le, map, Result, Ok, Err}
 use Rattle.std.proofs.lemmas.List.Sums.{sum_by-append}
 use Rattle.machine.specs.declared.amount.Amount.{Amount}
@@ -20,11 +20,11 @@ use Rattle.machine.specs.declared.command.Word.TheVariants as word
 use Rattle.machine.specs.declared.command.Reply.{Reply as Told_by}
 use Rattle.machine.specs.declared.control.ControlFile.{ControlFile}
 use Rattle.machine.specs.declared.control.ControlFile.TheVariants as file
-use Rattle.machine.specs.declared.refusal.Refusal.TheVariants.{NoEntry}
+use Rattle.machine.specs.declared.refusal.Refusal.TheVariants.{NoEntry, Stranger}
 use Rattle.machine.specs.Slots.{at}
 use Rattle.machine.specs.Tree.{Node, find_group}
 use Rattle.machine.specs.Control.{file_named, has_file, amount_of}
-use Rattle.machine.specs.State.{free_frames}
+use Rattle.machine.specs.State.{free_frames, opening_of}
 use Rattle.machine.specs.Call.{Past, Caller}
 use Rattle.block_store.specs.declared.device.Fault.{Fault}
 use Rattle.block_store.specs.Device.{Disk, ReadsBlock, WritesBlock}
@@ -44,29 +44,25 @@ use Rattle.driver.specs.declared.turn.Want.TheVariants as want
 use Rattle.driver.specs.declared.turn.Transition.{Transition}
 use Rattle.driver.specs.declared.turn.Transition.TheVariants.{Goes, Kills, Waits, Ends}
 use Rattle.driver.specs.declared.turn.Outcome.{Outcome}
+use Rattle.driver.specs.declared.turn.Outcome.TheVariants as outcome
 use Rattle.driver.specs.declared.turn.Activity.{Activity}
 use Rattle.driver.specs.declared.turn.Activity.TheVariants.{Rests, Begun, Does}
 use Rattle.driver.specs.declared.turn.Seat.{Seat}
-use Rattle.driver.specs.Turns.{wants_pages, wants_balance, wants_watch, done, byte_answer, resumes_at, Tried, MadeRoom, MaxSet, Lowered, Reclaimed, Balanced, Made, TaskDid, WasShown, Closed, Told, ReadsIn, WritesOut, after_read, after_write, Judged, with_group, with_file, with_amount, reads_file, writes_file, reclaims, task_judged, shell_judged, daemon_judged, paths_of, judged}
+use Rattle.driver.specs.Turns.{wants_pages, wants_balance, wants_watch, done, byte_answer, ends_refused, resumes_at, Tried, MadeRoom, MaxSet, Lowered, Reclaimed, Balanced, Made, TaskDid, WasShown, Closed, Told, ReadsIn, WritesOut, after_read, after_write, Judged, with_group, with_file, with_amount, reads_file, writes_file, reclaims, task_judged, shell_judged, daemon_judged, paths_of, judged}
 use Rattle.driver.specs.Schedule.{World, first_world, is_of, activity_of, with_activity, outcome_of, left_of, WantTurn, wants_at, StageTurn, JudgedTurn, ActivityTurn, said_at, all_said, Goings, EndsIn, RunsOut, Begins, Stepped, Runs, is_error, errors}
+use Rattle.driver.specs.Hands.{owes_at, owes, errors_owed}
 use Rattle.machine.proofs.SlotLemmas.{one_if}
+use Rattle.driver.proofs.SeatCounts.{count-with_activity}
+use Rattle.driver.proofs.Keeps.{Fine, FineOutcome, AllFine, runs_keep}
+use Rattle.driver.proofs.Tickets.{Tickets, tickets_rest, tickets_turn, tickets_first}
 
 -- ---- what is owed
 
--- a failed call of the device that is not answered yet
 abbrev owed_at : Stage → ℕ
-owed_at (stage.FetchFail ticket) = 1
-owed_at (stage.LeaveFail ticket) = 1
-owed_at others = 0
+owed_at now = one_if (owes_at now)
 
 abbrev owed : Activity → ℕ
-owed Rests = 0
-owed (Begun what) = 0
-owed (Does stage) = owed_at stage
-
-abbrev all_owed : List Seat → ℕ
-all_owed [] = 0
-all_owed (seat ∷ seats) = owed seat.activity + all_owed seats
+owed what = one_if (owes what)
 
 -- what a turn leaves owed, or answers
 abbrev cost : Transition → ℕ
@@ -160,43 +156,47 @@ shown-cost (reply.Shown numbers) transition h = rw h refl
 shown-cost (reply.Refused why) transition h = rw h refl
 shown-cost said transition h = absurd h
 
-closed-cost : (resumed : Transition) (said : Reply) (transition : Transition) → Closed resumed said transition → cost transition ≤ cost resumed
-closed-cost resumed reply.Ok transition h = rw h (omega arith)
-closed-cost resumed (reply.StrangeIn ticket) transition h = rw h (omega arith)
-closed-cost resumed (reply.StrangeOut ticket) transition h = rw h (omega arith)
-closed-cost resumed said transition h = absurd h
+-- nobody is told that a ticket is none of its own: no failure is swallowed so
+not_strange : (transition : Transition) → transition ≡ ends_refused Stranger → FineOutcome (outcome_of transition) → ⊥
+not_strange transition h fine = strange (subst (λ (t : Transition). FineOutcome (outcome_of t)) h fine)
+  where
+    strange : Fine (answer.Word (word.Refused Stranger)) → ⊥
+    strange f = f refl
 
-none-cost : (transition : Transition) → cost transition ≡ 0 → cost transition ≤ 0
-none-cost transition e = omega (arith, e)
+closed-cost : (resumed : Transition) (said : Reply) (transition : Transition) → Closed resumed said transition → FineOutcome (outcome_of transition) → cost transition ≡ cost resumed
+closed-cost resumed reply.Ok transition h fine = rw h refl
+closed-cost resumed (reply.StrangeIn ticket) transition h fine = absurd (not_strange transition h fine)
+closed-cost resumed (reply.StrangeOut ticket) transition h fine = absurd (not_strange transition h fine)
+closed-cost resumed said transition h fine = absurd h
 
-told-cost : (remembers : Pending) (said : Reply) (transition : Transition) → Told remembers said transition → cost transition ≤ owed_pending remembers
-told-cost (pending.Try access) said transition h = none-cost transition (tried-cost access said transition h)
-told-cost (pending.MakeRoom access why) said transition h = none-cost transition (room-cost access why said transition h)
-told-cost (pending.SetMax g) said transition h = none-cost transition (max-cost g.0 said transition h)
-told-cost (pending.Lower g) said transition h = none-cost transition (lowered-cost g.0 said transition h)
-told-cost (pending.Reclaim g left) said transition h = none-cost transition (reclaimed-cost g.0 left said transition h)
-told-cost pending.Balance said transition h = none-cost transition (balanced-cost said transition h)
-told-cost pending.Make said transition h = none-cost transition (made-cost said transition h)
-told-cost pending.OfTask said transition h = none-cost transition (did-cost said transition h)
-told-cost pending.Show said transition h = none-cost transition (shown-cost said transition h)
-told-cost (pending.Arrive access) said transition h = closed-cost (Goes (stage.Try access)) said transition h
-told-cost pending.FetchFail said transition h = closed-cost (Ends (answer.Word word.Io)) said transition h
-told-cost (pending.Leave on) said transition h = let none = on-cost on in let most = closed-cost (Goes (resumes_at on)) said transition h in omega (arith, none, most)
-told-cost pending.LeaveFail said transition h = closed-cost (Ends (answer.Word word.Io)) said transition h
+told-cost : (remembers : Pending) (said : Reply) (transition : Transition) → Told remembers said transition → FineOutcome (outcome_of transition) → cost transition ≡ owed_pending remembers
+told-cost (pending.Try access) said transition h fine = tried-cost access said transition h
+told-cost (pending.MakeRoom access why) said transition h fine = room-cost access why said transition h
+told-cost (pending.SetMax g) said transition h fine = max-cost g.0 said transition h
+told-cost (pending.Lower g) said transition h fine = lowered-cost g.0 said transition h
+told-cost (pending.Reclaim g left) said transition h fine = reclaimed-cost g.0 left said transition h
+told-cost pending.Balance said transition h fine = balanced-cost said transition h
+told-cost pending.Make said transition h fine = made-cost said transition h
+told-cost pending.OfTask said transition h fine = did-cost said transition h
+told-cost pending.Show said transition h fine = shown-cost said transition h
+told-cost (pending.Arrive access) said transition h fine = closed-cost (Goes (stage.Try access)) said transition h fine
+told-cost pending.FetchFail said transition h fine = closed-cost (Ends (answer.Word word.Io)) said transition h fine
+told-cost (pending.Leave on) said transition h fine = closed-cost (Goes (resumes_at on)) said transition h fine ∙ on-cost on
+told-cost pending.LeaveFail said transition h fine = closed-cost (Ends (answer.Word word.Io)) said transition h fine
 
 -- ---- the device's answer
 
-read-cost : (old new : Disk) (access : Access) (ticket : TicketOf) (transition : Transition) → ReadsIn old access ticket transition new → cost transition + old.failures ≤ new.failures
+read-cost : (old new : Disk) (access : Access) (ticket : TicketOf) (transition : Transition) → ReadsIn old access ticket transition new → cost transition + old.failures ≡ new.failures
 read-cost old new access ticket transition h = by_answer h.answered h.reads h.goes
   where
-    by_answer : (answered : Result (Unit {0}) Fault) → ReadsBlock old ticket.block answered h.filled.bytes new → transition ≡ Goes (after_read access answered h.filled) → cost transition + old.failures ≤ new.failures
+    by_answer : (answered : Result (Unit {0}) Fault) → ReadsBlock old ticket.block answered h.filled.bytes new → transition ≡ Goes (after_read access answered h.filled) → cost transition + old.failures ≡ new.failures
     by_answer (Ok done) reads e = let same : new.failures ≡ old.failures = ap (λ (d : Disk). d.failures) reads.counts in rw e (omega (arith, same))
     by_answer (Err fault) reads e = let more : new.failures ≡ old.failures + 1 = ap (λ (d : Disk). d.failures) reads.counts in rw e (omega (arith, more))
 
-write-cost : (old new : Disk) (on : Resume) (ticket : TicketOf) (transition : Transition) → WritesOut old on ticket transition new → cost transition + old.failures ≤ new.failures
+write-cost : (old new : Disk) (on : Resume) (ticket : TicketOf) (transition : Transition) → WritesOut old on ticket transition new → cost transition + old.failures ≡ new.failures
 write-cost old new on ticket transition h = by_answer h.answered h.writes h.goes
   where
-    by_answer : (answered : Result (Unit {0}) Fault) → WritesBlock old ticket.block ticket.bytes answered new → transition ≡ Goes (after_write on answered ticket) → cost transition + old.failures ≤ new.failures
+    by_answer : (answered : Result (Unit {0}) Fault) → WritesBlock old ticket.block ticket.bytes answered new → transition ≡ Goes (after_write on answered ticket) → cost transition + old.failures ≡ new.failures
     by_answer (Ok done) writes e = let same : new.failures ≡ old.failures = ap (λ (d : Disk). d.failures) writes.sets in rw e (omega (arith, same))
     by_answer (Err fault) writes e = let more = writes.counts in rw e (omega (arith, more))
 
@@ -208,18 +208,18 @@ owed_of (want.Call remembers what) = owed_pending remembers
 owed_of (want.End said) = one_if (is_error said)
 owed_of wanted = 0
 
-want-cost : (caller : Caller) (past past' : Past) (old new : Disk) (wanted : Want) (transition : Transition) (most : ℕ) → owed_of wanted ≤ most
-    → WantTurn caller past old wanted transition past' new → cost transition + old.failures ≤ most + new.failures
-want-cost caller past past' old new (want.Call remembers what) transition most within turn =
-    let told : cost transition ≤ owed_pending remembers = told-cost remembers turn.0.said transition turn.0.told in
+want-cost : (caller : Caller) (past past' : Past) (old new : Disk) (wanted : Want) (transition : Transition) (owing : ℕ) → owed_of wanted ≡ owing
+    → FineOutcome (outcome_of transition) → WantTurn caller past old wanted transition past' new → cost transition + old.failures ≡ owing + new.failures
+want-cost caller past past' old new (want.Call remembers what) transition owing is fine turn =
+    let told : cost transition ≡ owed_pending remembers = told-cost remembers turn.0.said transition turn.0.told fine in
     let same : new.failures ≡ old.failures = ap (λ (d : Disk). d.failures) turn.1 in
-    omega (arith, told, same, within)
-want-cost caller past past' old new (want.Read access ticket) transition most within turn = let read = read-cost old new access ticket transition turn.0 in omega (arith, read)
-want-cost caller past past' old new (want.Write on ticket) transition most within turn = let write = write-cost old new on ticket transition turn.0 in omega (arith, write)
-want-cost caller past past' old new (want.End said) transition most within turn =
+    omega (arith, told, same, is)
+want-cost caller past past' old new (want.Read access ticket) transition owing is fine turn = let read = read-cost old new access ticket transition turn.0 in omega (arith, read, is)
+want-cost caller past past' old new (want.Write on ticket) transition owing is fine turn = let write = write-cost old new on ticket transition turn.0 in omega (arith, write, is)
+want-cost caller past past' old new (want.End said) transition owing is fine turn =
     let says : cost transition ≡ one_if (is_error said) = ap cost turn.0 in
     let same : new.failures ≡ old.failures = ap (λ (d : Disk). d.failures) turn.2 in
-    omega (arith, says, same, within)
+    omega (arith, says, same, is)
 
 balance-owed : (marks : Watermarks) (free : ℕ) → owed_of (wants_balance marks free) ≡ 0
 balance-owed marks free = by_test (nat_le marks.high free)
@@ -239,20 +239,15 @@ pages-owed : (g left : ℕ) → owed_of (wants_pages g left) ≡ 0
 pages-owed g zero = refl
 pages-owed g (suc left) = refl
 
-none-owed : (wanted : Want) → owed_of wanted ≡ 0 → owed_of wanted ≤ 0
-none-owed wanted e = omega (arith, e)
+-- as much is owed while the book is asked as before
+wants-owed : (past : Past) (now : Stage) → owed_of (wants_at past now) ≡ owed_at now
+wants-owed past stage.Watch = watch-owed past.state.opening.watermarks (free_frames past.state)
+wants-owed past stage.Balance = balance-owed past.state.opening.watermarks (free_frames past.state)
+wants-owed past (stage.Reclaim g left) = pages-owed g.0 left
+wants-owed past others = refl
 
--- no more is owed while the book is asked than before
-wants-owed : (past : Past) (now : Stage) → owed_of (wants_at past now) ≤ owed_at now
-wants-owed past (stage.FetchFail ticket) = omega arith
-wants-owed past (stage.LeaveFail ticket) = omega arith
-wants-owed past stage.Watch = none-owed _ (watch-owed past.state.opening.watermarks (free_frames past.state))
-wants-owed past stage.Balance = none-owed _ (balance-owed past.state.opening.watermarks (free_frames past.state))
-wants-owed past (stage.Reclaim g left) = none-owed _ (pages-owed g.0 left)
-wants-owed past others = omega arith
-
-stage-cost : (old new : World) (who : Actor) (now : Stage) (outcome : Outcome) (turn : StageTurn old who now outcome new) → cost turn.transition + old.disk.failures ≤ owed_at now + new.disk.failures
-stage-cost old new who now outcome turn = want-cost old.caller old.past new.past old.disk new.disk (wants_at old.past now) turn.transition (owed_at now) (wants-owed old.past now) turn.turns
+stage-cost : (old new : World) (who : Actor) (now : Stage) (outcome : Outcome) (turn : StageTurn old who now outcome new) → FineOutcome outcome → cost turn.transition + old.disk.failures ≡ owed_at now + new.disk.failures
+stage-cost old new who now outcome turn fine = want-cost old.caller old.past new.past old.disk new.disk (wants_at old.past now) turn.transition (owed_at now) (wants-owed old.past now) (subst FineOutcome turn.shows fine) turn.turns
 
 -- a command that has had no turn owes nothing
 abbrev owed_judged : Judged → ℕ
@@ -328,33 +323,34 @@ judged-owed tree actor.Shell what = shell-owed what (map (find_group tree) (path
 judged-owed tree actor.Control what = shell-owed what (map (find_group tree) (paths_of actor.Control what))
 judged-owed tree actor.Daemon what = daemon-owed what
 
--- ---- all seats
+-- ---- answers that name no stranger
 
-owed-with_activity : (who : Actor) (now : Activity) (seats : List Seat) → all_owed (with_activity who now seats) + owed (activity_of who seats) ≡ all_owed seats + owed now
-owed-with_activity who now [] = omega arith
-owed-with_activity who now (seat ∷ seats) = at (is_of who seat) (owed-with_activity who now seats)
-  where
-    at : (b : Bool) → all_owed (with_activity who now seats) + owed (activity_of who seats) ≡ all_owed seats + owed now
-        → all_owed (if b then record { actor = seat.actor; activity = now } ∷ seats else seat ∷ with_activity who now seats) + owed (if b then seat.activity else activity_of who seats)
-        ≡ owed seat.activity + all_owed seats + owed now
-    at true ih = omega arith
-    at false ih = omega (arith, ih)
+split_fine : (xs ys : List Told_by) → AllFine (xs ++ ys) → AllFine xs × AllFine ys
+split_fine [] ys h = (tt, h)
+split_fine (told ∷ xs) ys h = let later = split_fine xs ys h.1 in ((h.0, later.0), later.1)
+
+outcome_fine : (who : Actor) (outcome : Outcome) → AllFine (said_at who outcome) → FineOutcome outcome
+outcome_fine who outcome.Goes h = tt
+outcome_fine who (outcome.Kills t) h = tt
+outcome_fine who (outcome.Ends said) h = h.0
+
+-- ---- all seats
 
 errors-append : (xs ys : List Told_by) → errors (xs ++ ys) ≡ errors xs + errors ys
 errors-append xs ys = sum_by-append (λ (told : Told_by). one_if (is_error told.answer)) xs ys
 
--- the errors answered, and those owed, are no more than the failures
-record Bound (old : World) (answers : List Told_by) (new : World) : Type 0 where
-  pub within : errors answers + all_owed new.seats + old.disk.failures ≤ all_owed old.seats + new.disk.failures
+-- the errors answered, and those owed, are as many as calls failed
+record Evens (old : World) (answers : List Told_by) (new : World) : Type 0 where
+  pub balance : errors answers + errors_owed new.seats + old.disk.failures ≡ errors_owed old.seats + new.disk.failures
 
-bound-same : (old new : World) (answers : List Told_by) → new ≡ old → errors answers ≡ 0 → Bound old answers new
-bound-same old new answers e none =
-    let seats : all_owed new.seats ≡ all_owed old.seats = ap (λ (w : World). all_owed w.seats) e in
+same-balance : (old new : World) (answers : List Told_by) → new ≡ old → errors answers ≡ 0 → Evens old answers new
+same-balance old new answers e none =
+    let seats : errors_owed new.seats ≡ errors_owed old.seats = ap (λ (w : World). errors_owed w.seats) e in
     let failures : new.disk.failures ≡ old.disk.failures = ap (λ (w : World). w.disk.failures) e in
-    record { within = omega (arith, seats, failures, none) }
+    record { balance = omega (arith, seats, failures, none) }
 
-bound-then : (old mid new : World) (xs ys : List Told_by) → Bound old xs mid → Bound mid ys new → Bound old (xs ++ ys) new
-bound-then old mid new xs ys a b = let sum = errors-append xs ys in record { within = omega (arith, sum, a.within, b.within) }
+then-balance : (old mid new : World) (xs ys : List Told_by) → Evens old xs mid → Evens mid ys new → Evens old (xs ++ ys) new
+then-balance old mid new xs ys a b = let sum = errors-append xs ys in record { balance = omega (arith, sum, a.balance, b.balance) }
 
 said-cost : (who : Actor) (transition : Transition) → errors (said_at who (outcome_of transition)) + owed (left_of transition) ≡ cost transition
 said-cost who (Goes now) = omega arith
@@ -365,58 +361,73 @@ said-cost who (Ends said) = alone (one_if (is_error said))
     alone : (n : ℕ) → 0 + n + 0 ≡ n
     alone n = omega arith
 
-bound-stage : (old new : World) (who : Actor) (now : Stage) (outcome : Outcome) → owed_at now ≡ owed (activity_of who old.seats) → StageTurn old who now outcome new → Bound old (said_at who outcome) new
-bound-stage old new who now outcome is turn =
-    let paid = stage-cost old new who now outcome turn in
-    let seats : all_owed new.seats + owed (activity_of who old.seats) ≡ all_owed old.seats + owed (left_of turn.transition) = rw turn.leaves (owed-with_activity who (left_of turn.transition) old.seats) in
+stage-balance : (old new : World) (who : Actor) (now : Stage) (outcome : Outcome) → owed_at now ≡ owed (activity_of who old.seats) → FineOutcome outcome → StageTurn old who now outcome new → Evens old (said_at who outcome) new
+stage-balance old new who now outcome is fine turn =
+    let paid = stage-cost old new who now outcome turn fine in
+    let seats : errors_owed new.seats + owed (activity_of who old.seats) ≡ errors_owed old.seats + owed (left_of turn.transition) = rw turn.leaves (count-with_activity owes refl who (left_of turn.transition) old.seats) in
     let shown : errors (said_at who outcome) + owed (left_of turn.transition) ≡ cost turn.transition = rw turn.shows (said-cost who turn.transition) in
-    record { within = omega (arith, paid, seats, is, shown) }
+    record { balance = omega (arith, paid, seats, is, shown) }
 
 -- an activity that owed nothing is set down for another that owes nothing
-bound-set : (old new : World) (who : Actor) (now : Activity) (answers : List Told_by) → owed now ≡ 0 → owed (activity_of who old.seats) ≡ 0 → errors answers ≡ 0
-    → new ≡ record old { seats = with_activity who now old.seats } → Bound old answers new
-bound-set old new who now answers free was none e =
+set-balance : (old new : World) (who : Actor) (now : Activity) (answers : List Told_by) → owed now ≡ 0 → owed (activity_of who old.seats) ≡ 0 → errors answers ≡ 0
+    → new ≡ record old { seats = with_activity who now old.seats } → Evens old answers new
+set-balance old new who now answers free was none e =
     let failures : new.disk.failures ≡ old.disk.failures = ap (λ (w : World). w.disk.failures) e in
-    let seats : all_owed new.seats + owed (activity_of who old.seats) ≡ all_owed old.seats + owed now =
-    (let both = owed-with_activity who now old.seats in let same : all_owed new.seats ≡ all_owed (with_activity who now old.seats) = ap (λ (w : World). all_owed w.seats) e in omega (arith, both, same)) in
-    record { within = omega (arith, none, was, free, failures, seats) }
+    let seats : errors_owed new.seats + owed (activity_of who old.seats) ≡ errors_owed old.seats + owed now =
+    (let both = count-with_activity owes refl who now old.seats in let same : errors_owed new.seats ≡ errors_owed (with_activity who now old.seats) = ap (λ (w : World). errors_owed w.seats) e in omega (arith, both, same)) in
+    record { balance = omega (arith, none, was, free, failures, seats) }
 
-bound-judged : (old new : World) (who : Actor) (found : Judged) (outcome : Outcome) → owed_judged found ≡ 0 → owed (activity_of who old.seats) ≡ 0 → JudgedTurn old who found outcome new → Bound old (said_at who outcome) new
-bound-judged old new who (Err why) outcome free was turn = bound-set old new who Rests (said_at who outcome) refl was (ap (λ o. errors (said_at who o)) turn.0) turn.1
-bound-judged old new who (Ok now) outcome free was turn = bound-stage old new who now outcome (let f = free in let w = was in omega (arith, f, w)) turn
+judged-balance : (old new : World) (who : Actor) (found : Judged) (outcome : Outcome) → owed_judged found ≡ 0 → owed (activity_of who old.seats) ≡ 0 → FineOutcome outcome → JudgedTurn old who found outcome new
+    → Evens old (said_at who outcome) new
+judged-balance old new who (Err why) outcome free was fine turn = set-balance old new who Rests (said_at who outcome) refl was (ap (λ o. errors (said_at who o)) turn.0) turn.1
+judged-balance old new who (Ok now) outcome free was fine turn = stage-balance old new who now outcome (let f = free in let w = was in omega (arith, f, w)) fine turn
 
-bound-turn : (old new : World) (who : Actor) (what : Activity) (outcome : Outcome) → activity_of who old.seats ≡ what → ActivityTurn old who what outcome new → Bound old (said_at who outcome) new
-bound-turn old new who Rests outcome is turn = bound-same old new (said_at who outcome) turn.1 (ap (λ o. errors (said_at who o)) turn.0)
-bound-turn old new who (Begun what) outcome is turn = bound-judged old new who (judged old.past.state.tree who what) outcome (judged-owed old.past.state.tree who what) (ap owed is) turn
-bound-turn old new who (Does now) outcome is turn = bound-stage old new who now outcome (let e : owed (activity_of who old.seats) ≡ owed_at now = ap owed is in omega (arith, e)) turn
+turn-balance : (old new : World) (who : Actor) (what : Activity) (outcome : Outcome) → activity_of who old.seats ≡ what → AllFine (said_at who outcome) → ActivityTurn old who what outcome new → Evens old (said_at who outcome) new
+turn-balance old new who Rests outcome is fine turn = same-balance old new (said_at who outcome) turn.1 (ap (λ o. errors (said_at who o)) turn.0)
+turn-balance old new who (Begun what) outcome is fine turn =
+    judged-balance old new who (judged old.past.state.tree who what) outcome (judged-owed old.past.state.tree who what) (ap owed is) (outcome_fine who outcome fine) turn
+turn-balance old new who (Does now) outcome is fine turn =
+    stage-balance old new who now outcome (let e : owed (activity_of who old.seats) ≡ owed_at now = ap owed is in omega (arith, e)) (outcome_fine who outcome fine) turn
 
 -- ---- runs
 
-bound-goings : (old new : World) (who : Actor) (outcomes : List Outcome) → Goings old who outcomes new → Bound old (all_said who outcomes) new
-bound-goings old new who [] goes = bound-same old new [] goes refl
-bound-goings old new who (outcome ∷ outcomes) goes =
-    bound-then old goes.0 new (said_at who outcome) (all_said who outcomes) (bound-turn old goes.0 who (activity_of who old.seats) outcome refl goes.1) (bound-goings goes.0 new who outcomes goes.3)
+goings-balance : (old new : World) (who : Actor) (outcomes : List Outcome) → AllFine (all_said who outcomes) → Goings old who outcomes new → Evens old (all_said who outcomes) new
+goings-balance old new who [] fine goes = same-balance old new [] goes refl
+goings-balance old new who (outcome ∷ outcomes) fine goes =
+    let fines = split_fine (said_at who outcome) (all_said who outcomes) fine in
+    then-balance old goes.0 new (said_at who outcome) (all_said who outcomes) (turn-balance old goes.0 who (activity_of who old.seats) outcome refl fines.0 goes.1) (goings-balance goes.0 new who outcomes fines.1 goes.3)
 
-bound-finish : (turns : ℕ) (old mid new : World) (who : Actor) (earlier : List Outcome) (answers : List Told_by) → Bound old (all_said who earlier) mid → EndsIn turns mid who earlier answers new ⊎ RunsOut turns mid who earlier answers new
-    → Bound old answers new
-bound-finish turns old mid new who earlier answers h (inl ends) =
-    rw ends.answers_are (bound-then old mid new (all_said who earlier) (said_at who ends.last) h (bound-turn mid new who (activity_of who mid.seats) ends.last refl ends.turn))
-bound-finish turns old mid new who earlier answers h (inr out) = rw out.answers_are (bound-then old mid new (all_said who earlier) _ h (bound-same mid new _ out.stays refl))
+finish-balance : (turns : ℕ) (old mid new : World) (who : Actor) (earlier : List Outcome) (answers : List Told_by) → AllFine answers → Goings old who earlier mid
+    → EndsIn turns mid who earlier answers new ⊎ RunsOut turns mid who earlier answers new → Evens old answers new
+finish-balance turns old mid new who earlier answers fine goes (inl ends) =
+    let fines = split_fine (all_said who earlier) (said_at who ends.last) (subst AllFine ends.answers_are fine) in
+    rw ends.answers_are (then-balance old mid new (all_said who earlier) (said_at who ends.last) (goings-balance old mid who earlier fines.0 goes) (turn-balance mid new who (activity_of who mid.seats) ends.last refl fines.1 ends.turn))
+finish-balance turns old mid new who earlier answers fine goes (inr out) =
+    let fines = split_fine (all_said who earlier) _ (subst AllFine out.answers_are fine) in
+    rw out.answers_are (then-balance old mid new (all_said who earlier) _ (goings-balance old mid who earlier fines.0 goes) (same-balance mid new _ out.stays refl))
 
-bound-begin : (old new : World) (who : Actor) (what : Command) (at : Activity) (answers : List Told_by) → activity_of who old.seats ≡ at → Begins old who what at answers new → Bound old answers new
-bound-begin old new who what Rests answers is h = bound-set old new who (Begun what) answers refl (ap owed is) (ap errors h.0) h.1
-bound-begin old new who what (Begun other) answers is h = bound-same old new answers h.1 (ap errors h.0)
-bound-begin old new who what (Does now) answers is h = bound-same old new answers h.1 (ap errors h.0)
+begin-balance : (old new : World) (who : Actor) (what : Command) (at : Activity) (answers : List Told_by) → activity_of who old.seats ≡ at → Begins old who what at answers new → Evens old answers new
+begin-balance old new who what Rests answers is h = set-balance old new who (Begun what) answers refl (ap owed is) (ap errors h.0) h.1
+begin-balance old new who what (Begun other) answers is h = same-balance old new answers h.1 (ap errors h.0)
+begin-balance old new who what (Does now) answers is h = same-balance old new answers h.1 (ap errors h.0)
 
-bound-step : (old new : World) (line : Line) (answers : List Told_by) → Stepped old line answers new → Bound old answers new
-bound-step old new (Begin who what) answers h = bound-begin old new who what (activity_of who old.seats) answers refl h
-bound-step old new (Advance who) answers h = rw h.2 (bound-turn old new who (activity_of who old.seats) h.0 refl h.1)
-bound-step old new (Finish who) answers h = bound-finish old.turns old h.1 new who h.0 answers (bound-goings old h.1 who h.0 h.2) h.3
+step-balance : (old new : World) (line : Line) (answers : List Told_by) → AllFine answers → Stepped old line answers new → Evens old answers new
+step-balance old new (Begin who what) answers fine h = begin-balance old new who what (activity_of who old.seats) answers refl h
+step-balance old new (Advance who) answers fine h = rw h.2 (turn-balance old new who (activity_of who old.seats) h.0 refl (subst AllFine h.2 fine) h.1)
+step-balance old new (Finish who) answers fine h = finish-balance old.turns old h.1 new who h.0 answers fine h.2 h.3
 
-bound-runs : (old new : World) (lines : List Line) (answers : List Told_by) → Runs old lines answers new → Bound old answers new
-bound-runs old new [] answers h = bound-same old new answers h.1 (ap errors h.0)
-bound-runs old new (line ∷ lines) answers h = rw h.5 (bound-then old h.2 new h.0 h.1 (bound-step old h.2 line h.0 h.3) (bound-runs h.2 new lines h.1 h.4))
+runs-balance : (old new : World) (lines : List Line) (answers : List Told_by) → AllFine answers → Runs old lines answers new → Evens old answers new
+runs-balance old new [] answers fine h = same-balance old new answers h.1 (ap errors h.0)
+runs-balance old new (line ∷ lines) answers fine h =
+    let fines = split_fine h.0 h.1 (subst AllFine h.5 fine) in rw h.5 (then-balance old h.2 new h.0 h.1 (step-balance old h.2 line h.0 fines.0 h.3) (runs-balance h.2 new lines h.1 fines.1 h.4))
 
-pub errors_are_failures : (config : Config) (before : Disk) (steps : List Line) (answers : List Told_by) (end : World) → Runs (first_world config before) steps answers end
-    → errors answers + before.failures ≤ end.disk.failures
-errors_are_failures config before lines answers end runs = let bound = bound-runs _ end lines answers runs in let within = bound.within in omega (arith, within)
+module _ (config : Config) (before : Disk) (steps : List Line) (answers : List Told_by) (end : World) (runs : Runs (first_world config before) steps answers end) where
+  none_strange : AllFine answers
+  none_strange = (runs_keep (Tickets (opening_of config)) (tickets_rest (opening_of config)) (tickets_turn (opening_of config)) (first_world config before) end steps answers runs (tickets_first config before)).1
+
+  pub each_failure_is_answered : errors answers + errors_owed end.seats + before.failures ≡ end.disk.failures
+  each_failure_is_answered = let all = runs-balance (first_world config before) end steps answers none_strange runs in let balance = all.balance in omega (arith, balance)
+
+  -- so no more are told than failed
+  pub errors_are_failures : errors answers + before.failures ≤ end.disk.failures
+  errors_are_failures = let all = each_failure_is_answered in omega (arith, all)

@@ -403,7 +403,7 @@ module _ (files : FirstBytes) (caller : Caller) (opening : Opening) (old new : P
           pages_share_no_ticket opening new.history new.state legal_on p given.p ticket.number page given.page there given.there (ap ticket_at going) (ap ticket_at given.going)
 
   own_on : (transition : Transition) → HandsOut new caller.worker answered → Next answered transition → BringsAt files new contents (left_of transition)
-  own_on transition gives (Handless none fine) = brings_none files new contents (left_of transition) none
+  own_on transition gives (Handless quiet none fine) = brings_none files new contents (left_of transition) none
   own_on transition gives (Reads access ticket is goes) = subst (λ (t : Transition). BringsAt files new contents (left_of t)) (sym goes) tt
   own_on transition gives (Writes on ticket is goes) =
       subst (λ (t : Transition). BringsAt files new contents (left_of t)) (sym goes) (sends ticket (subst (λ (r : Reply). HandsOut new caller.worker r) is gives))
@@ -544,7 +544,7 @@ module _ (files : FirstBytes) (caller : Caller) (opening : Opening) (old new : P
   asked_faithful remembers what said transition fine keeps brings called gives told = by_comes (called_comes old new caller (event_of what) (reply_of said) (of_command-leaves what fine) (pending_known caller old what keeps) called)
     where
       own : IsRefused old (reply_of said) new → Next said transition → BringsAt files old disk.contents (left_of transition)
-      own still (Handless none fine) = brings_none files old disk.contents (left_of transition) none
+      own still (Handless quiet none fine) = brings_none files old disk.contents (left_of transition) none
       own still (Reads access ticket is goes) = subst (λ (t : Transition). BringsAt files old disk.contents (left_of t)) (sym goes) tt
       own still (Writes on ticket is goes) = absurd (not_out old new said ticket still is)
 
@@ -619,10 +619,10 @@ pub record Faithful (files : FirstBytes) (opening : Opening) (w : World) : Type 
   pub brings : (a : Actor) → BringsAt files w.past w.disk.contents (activity_of a w.seats)
 
 module _ (files : FirstBytes) (opening : Opening) where
-  faithful_rest : (w : World) (who : Actor) (what : Activity) → is_idle what ≡ true → Faithful files opening w → Faithful files opening (record w { seats = with_activity who what w.seats })
-  faithful_rest w who what idle h =
+  faithful_rest : (w : World) (who : Actor) (what : Activity) → is_idle (activity_of who w.seats) ≡ true → is_idle what ≡ true → Faithful files opening w → Faithful files opening (record w { seats = with_activity who what w.seats })
+  faithful_rest w who what was idle h =
       record {
-        tickets = tickets_rest opening w who what idle h.tickets;
+        tickets = tickets_rest opening w who what was idle h.tickets;
         holds = h.holds;
         brings = seats_all (BringsAt files w.past w.disk.contents) who what w.seats (brings_none files w.past w.disk.contents what (idle_none what idle)) (λ a differs. h.brings a);
       }
@@ -632,7 +632,7 @@ module _ (files : FirstBytes) (opening : Opening) where
     where
       held : IsAt w who now → BringsWanted files w.past w.disk.contents (in_hand now)
       held (inl is) = subst (λ (at : Activity). BringsAt files w.past w.disk.contents at) is (h.brings who)
-      held (inr none) = wanted_none files w.past w.disk.contents (in_hand now) none
+      held (inr none) = wanted_none files w.past w.disk.contents (in_hand now) none.1
 
   faithful_turn : (old new : World) (who : Actor) (now : Stage) (outcome : Outcome) → IsAt old who now → StageTurn old who now outcome new → Faithful files opening old → Faithful files opening new × FineOutcome outcome
   faithful_turn old new who now outcome at turn h =

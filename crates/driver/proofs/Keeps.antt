@@ -292,24 +292,24 @@ judged-plain tree who what = by_actor who
 
 -- ---- runs
 
--- the actor is at this, or it has no ticket
+-- the actor is at this; or its command has had no turn, and this asks for no ticket
 abbrev pub IsAt : World → Actor → Stage → Type 0
-IsAt w who stage = (activity_of who w.seats ≡ Does stage) ⊎ (number_wanted (in_hand stage) ≡ None)
+IsAt w who stage = (activity_of who w.seats ≡ Does stage) ⊎ (is_idle (activity_of who w.seats) ≡ true) × (number_wanted (in_hand stage) ≡ None)
 
 module _ (P : World → Type 0)
-    (rests : (w : World) (who : Actor) (what : Activity) → is_idle what ≡ true → P w → P (record w { seats = with_activity who what w.seats }))
+    (rests : (w : World) (who : Actor) (what : Activity) → is_idle (activity_of who w.seats) ≡ true → is_idle what ≡ true → P w → P (record w { seats = with_activity who what w.seats }))
     (turns : (old new : World) (who : Actor) (stage : Stage) (outcome : Outcome) → IsAt old who stage → StageTurn old who stage outcome new → P old → P new × FineOutcome outcome) where
   same_world : (old new : World) → new ≡ old → P old → P new
   same_world old new e h = subst P (sym e) h
 
-  judged_keeps : (old new : World) (who : Actor) (found : Judged) (outcome : Outcome) → Plain found → JudgedTurn old who found outcome new → P old → P new × FineOutcome outcome
-  judged_keeps old new who (Err why) outcome plain turn h =
-      (same_world (record old { seats = with_activity who Rests old.seats }) new turn.1 (rests old who Rests refl h), subst FineOutcome (sym turn.0) (λ e. plain (cc)))
-  judged_keeps old new who (Ok stage) outcome plain turn h = turns old new who stage outcome (inr plain) turn h
+  judged_keeps : (old new : World) (who : Actor) (found : Judged) (outcome : Outcome) → is_idle (activity_of who old.seats) ≡ true → Plain found → JudgedTurn old who found outcome new → P old → P new × FineOutcome outcome
+  judged_keeps old new who (Err why) outcome idle plain turn h =
+      (same_world (record old { seats = with_activity who Rests old.seats }) new turn.1 (rests old who Rests idle refl h), subst FineOutcome (sym turn.0) (λ e. plain (cc)))
+  judged_keeps old new who (Ok stage) outcome idle plain turn h = turns old new who stage outcome (inr (idle, plain)) turn h
 
   turn_keeps : (old new : World) (who : Actor) (at : Activity) (outcome : Outcome) → activity_of who old.seats ≡ at → ActivityTurn old who at outcome new → P old → P new × FineOutcome outcome
   turn_keeps old new who Rests outcome is turn h = (same_world old new turn.1 h, subst FineOutcome (sym turn.0) (λ e. cc))
-  turn_keeps old new who (Begun what) outcome is turn h = judged_keeps old new who (judged old.past.state.tree who what) outcome (judged-plain old.past.state.tree who what) turn h
+  turn_keeps old new who (Begun what) outcome is turn h = judged_keeps old new who (judged old.past.state.tree who what) outcome (ap is_idle is) (judged-plain old.past.state.tree who what) turn h
   turn_keeps old new who (Does stage) outcome is turn h = turns old new who stage outcome (inl is) turn h
 
   goings_keep : (old new : World) (who : Actor) (outcomes : List Outcome) → Goings old who outcomes new → P old → P new × AllFine (all_said who outcomes)
@@ -327,14 +327,14 @@ module _ (P : World → Type 0)
   finish_keeps most mid new who earlier answers fine (inr out) h =
       (same_world mid new out.stays h, subst AllFine (sym out.answers_are) (fine-append (all_said who earlier) (answer_by who (answer.Word word.TurnLimit)) fine (λ e. cc, tt)))
 
-  begin_keeps : (old new : World) (who : Actor) (what : Command) (at : Activity) (answers : List Told_by) → Begins old who what at answers new → P old → P new × AllFine answers
-  begin_keeps old new who what Rests answers begins h =
-      (same_world (record old { seats = with_activity who (Begun what) old.seats }) new begins.1 (rests old who (Begun what) refl h), subst AllFine (sym begins.0) tt)
-  begin_keeps old new who what (Begun other) answers begins h = (same_world old new begins.1 h, subst AllFine (sym begins.0) (λ e. cc, tt))
-  begin_keeps old new who what (Does stage) answers begins h = (same_world old new begins.1 h, subst AllFine (sym begins.0) (λ e. cc, tt))
+  begin_keeps : (old new : World) (who : Actor) (what : Command) (at : Activity) (answers : List Told_by) → activity_of who old.seats ≡ at → Begins old who what at answers new → P old → P new × AllFine answers
+  begin_keeps old new who what Rests answers is begins h =
+      (same_world (record old { seats = with_activity who (Begun what) old.seats }) new begins.1 (rests old who (Begun what) (ap is_idle is) refl h), subst AllFine (sym begins.0) tt)
+  begin_keeps old new who what (Begun other) answers is begins h = (same_world old new begins.1 h, subst AllFine (sym begins.0) (λ e. cc, tt))
+  begin_keeps old new who what (Does stage) answers is begins h = (same_world old new begins.1 h, subst AllFine (sym begins.0) (λ e. cc, tt))
 
   step_keeps : (old new : World) (line : Line) (answers : List Told_by) → Stepped old line answers new → P old → P new × AllFine answers
-  step_keeps old new (Begin who what) answers step h = begin_keeps old new who what (activity_of who old.seats) answers step h
+  step_keeps old new (Begin who what) answers step h = begin_keeps old new who what (activity_of who old.seats) answers refl step h
   step_keeps old new (Advance who) answers step h =
       let turn = turn_keeps old new who (activity_of who old.seats) step.0 refl step.1 h in (turn.0, subst AllFine (sym step.2) (fine_said who step.0 turn.1))
   step_keeps old new (Finish who) answers step h =

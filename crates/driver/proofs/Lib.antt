@@ -1,8 +1,10 @@
+pub mod SeatCounts
 pub mod ErrorLemmas
 pub mod Keeps
 pub mod MarkLemmas
 pub mod CallCases
 pub mod Tickets
+pub mod HandLemmas
 pub mod Faithful
 pub mod HitLemmas
 pub mod TicketLemmas

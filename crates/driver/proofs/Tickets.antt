@@ -308,7 +308,7 @@ module _ (caller : Caller) (opening : Opening) (old new : Past) (legal : LegalPa
         unlike (is_ticket_taken old.state.pages n) (flies_taken old n (at_flies caller old at n h number)) ((served_effect caller opening old new legal (event_of what) (reply_of answered) went).fresh n e)
 
     on_turn : KeepsPending caller old what → HandsOut new caller.worker answered → Next answered transition → TurnsWell caller opening old (want.Call remembers what) transition new
-    on_turn keeps gives (Handless none fine) =
+    on_turn keeps gives (Handless quiet none fine) =
         record {
           legal = served_legal caller opening old new legal what answered keeps went;
           own = at_none caller new (left_of transition) none;
@@ -338,7 +338,7 @@ module _ (caller : Caller) (opening : Opening) (old new : Past) (legal : LegalPa
         }
 
   still_turn : (remembers : Pending) (what : Event) (answered : Reply) (transition : Transition) → IsRefused old (reply_of answered) new → Next answered transition → TurnsWell caller opening old (want.Call remembers what) transition new
-  still_turn remembers what answered transition still (Handless none fine) =
+  still_turn remembers what answered transition still (Handless quiet none fine) =
       same_turn (want.Call remembers what) transition still.same (at_none caller old (left_of transition) none) (λ n e. never_some (number_at (left_of transition)) none e) fine
   still_turn remembers what answered transition still (Reads access ticket is goes) = absurd (not_fetch old new answered ticket still is)
   still_turn remembers what answered transition still (Writes on ticket is goes) = absurd (not_out old new answered ticket still is)
@@ -450,8 +450,8 @@ seats_apart who what seats own apart a b n e f =
           ]
     ]
 
-pub tickets_rest : (opening : Opening) (w : World) (who : Actor) (what : Activity) → is_idle what ≡ true → Tickets opening w → Tickets opening (record w { seats = with_activity who what w.seats })
-tickets_rest opening w who what idle h =
+pub tickets_rest : (opening : Opening) (w : World) (who : Actor) (what : Activity) → is_idle (activity_of who w.seats) ≡ true → is_idle what ≡ true → Tickets opening w → Tickets opening (record w { seats = with_activity who what w.seats })
+tickets_rest opening w who what was idle h =
     record {
       legal = h.legal;
       keeps = seats_all (KeepsAt w.caller w.past) who what w.seats (at_none w.caller w.past what (idle_none what idle)) (λ a differs. h.keeps a);
@@ -464,7 +464,7 @@ own_keeps opening w who now at h = wanted_alike w.caller w.past (wants_at w.past
   where
     held : IsAt w who now → KeepsWanted w.caller w.past (in_hand now)
     held (inl is) = subst (λ (at : Activity). KeepsAt w.caller w.past at) is (h.keeps who)
-    held (inr none) = wanted_none w.caller w.past (in_hand now) none
+    held (inr none) = wanted_none w.caller w.past (in_hand now) none.1
 
 pub others_differ : (opening : Opening) (w : World) (who : Actor) (now : Stage) → IsAt w who now → Tickets opening w → (a : Actor) → (number_of a ≡ number_of who → ⊥) → (n : ℕ) → number_at (activity_of a w.seats) ≡ Some n
     → number_wanted (wants_at w.past now) ≡ Some n → ⊥
@@ -472,7 +472,7 @@ others_differ opening w who now at h a differs n e f = differ at (sym (wanted_in
   where
     differ : IsAt w who now → number_wanted (in_hand now) ≡ Some n → ⊥
     differ (inl is) g = differs (h.apart a who n e (ap number_at is ∙ g))
-    differ (inr none) g = never_some (number_wanted (in_hand now)) none g
+    differ (inr none) g = never_some (number_wanted (in_hand now)) none.1 g
 
 pub turns_well : (opening : Opening) (old new : World) (who : Actor) (now : Stage) (outcome : Outcome) → IsAt old who now → (turn : StageTurn old who now outcome new) → Tickets opening old → TurnsWell old.caller opening old.past (wants_at old.past now) turn.transition new.past
 turns_well opening old new who now outcome at turn h = want_turn old.caller opening old.past new.past h.legal old.disk new.disk (wants_at old.past now) turn.transition (wants_fine old.past now) (own_keeps opening old who now at h) turn.turns

@@ -4,5 +4,6 @@ pub mod ReclaimLemmas
 pub mod RiseLemmas
 pub mod CallLemmas
 pub mod OrderLemmas
+pub mod LeftLemmas
 pub mod ShareLemmas
 pub mod TurnLemmas

@@ -17,7 +17,7 @@ use Rattle.driver.specs.declared.turn.Outcome.{Outcome}
 use Rattle.driver.specs.declared.turn.Transition.{Transition}
 use Rattle.driver.specs.declared.turn.Want.{Want}
 use Rattle.driver.specs.declared.turn.Want.TheVariants as want
-use Rattle.driver.specs.Schedule.{World, first_world, with_activity, MarksAfter, WantTurn, wants_at, StageTurn, Runs}
+use Rattle.driver.specs.Schedule.{World, first_world, activity_of, with_activity, MarksAfter, WantTurn, wants_at, StageTurn, Runs}
 use Rattle.driver.proofs.Keeps.{is_idle, FineOutcome, IsAt, runs_keep}
 use Rattle.driver.proofs.Tickets.{Tickets, tickets_rest, tickets_turn, tickets_first}
 use Rattle.laws.specs.Laws.{HeldPagesAreListed, GenerationsHold, GroupsHaveCursors, PagesLeaveInOrder, MarkedPagesStay}
@@ -31,8 +31,8 @@ module _ (opening : Opening) where
     pub tickets : Tickets opening w
     pub order : IsOrdered w.past
 
-  ordered_rest : (w : World) (who : Actor) (what : Activity) → is_idle what ≡ true → Ordered w → Ordered (record w { seats = with_activity who what w.seats })
-  ordered_rest w who what idle h = record { tickets = tickets_rest opening w who what idle h.tickets; order = h.order }
+  ordered_rest : (w : World) (who : Actor) (what : Activity) → is_idle (activity_of who w.seats) ≡ true → is_idle what ≡ true → Ordered w → Ordered (record w { seats = with_activity who what w.seats })
+  ordered_rest w who what was idle h = record { tickets = tickets_rest opening w who what was idle h.tickets; order = h.order }
 
   -- a page that was hit is marked, and the lists are right still
   marks-ordered : (caller : Caller) (mid new : Past) (said : Reply) → MarksAfter caller mid said new → IsLegal opening new → IsOrdered mid → IsOrdered new

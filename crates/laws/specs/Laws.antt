@@ -22,11 +22,11 @@ use Rattle.machine.specs.declared.reply.Shown.TheVariants as shown
 use Rattle.machine.specs.declared.command.Actor.{Actor}
 use Rattle.machine.specs.declared.command.Step.{Step as Line}
 use Rattle.machine.specs.declared.command.Reply.{Reply as Told_by}
-use Rattle.machine.specs.Slots.{there_and}
+use Rattle.machine.specs.Slots.{there_and, count_there}
 use Rattle.machine.specs.Amounts.{exceeds}
 use Rattle.machine.specs.Counts.{limits_at, count_of_key, local, total, Counted, how_often}
 use Rattle.machine.specs.Tree.{Node, node_at, is_live, under}
-use Rattle.machine.specs.Pages.{OfFile, Page, page_at, is_anon, is_held, frame_at, block_at, ticket_at, is_in_transfer, is_charged, in_transfer, IsFiled}
+use Rattle.machine.specs.Pages.{OfFile, Residence, Away, Page, page_at, is_anon, is_held, frame_at, block_at, ticket_at, is_in_transfer, is_charged, in_transfer, used_frames, used_swap, IsFiled}
 use Rattle.machine.specs.Tasks.{lives, group_of_task, mapped_at, size_of}
 use Rattle.machine.specs.State.{Opening, State, page_numbers, usage, effective_min, is_swap_free, opening_of, blocks_of}
 use Rattle.machine.specs.Reclaim.{is_idle, target_of}
@@ -48,7 +48,10 @@ use Rattle.machine.specs.declared.command.Word.TheVariants as word
 use Rattle.machine.specs.declared.refusal.Refusal.TheVariants.{Stranger, NoMemory}
 use Rattle.block_store.specs.Device.{Disk}
 use Rattle.driver.specs.declared.turn.Outcome.{Outcome}
+use Rattle.driver.specs.declared.turn.Activity.TheVariants.{Rests}
+use Rattle.driver.specs.declared.turn.Seat.{Seat}
 use Rattle.driver.specs.Schedule.{World, first_world, Turn, Runs, files_on, fits, errors}
+use Rattle.driver.specs.Hands.{errors_owed, tickets_in_hand}
 
 -- the history of every run leads from the opening to the run's state, one step of the machine an entry
 abbrev pub RunsAreLegal : Type 0
@@ -73,6 +76,40 @@ abbrev pub ErrorsAreFailures : Type 0
 ErrorsAreFailures =
     (config : Config) (before : Disk) (steps : List Line) (answers : List Told_by) (end : World) → Runs (first_world config before) steps answers end
     → errors answers + before.failures ≤ end.disk.failures
+
+-- each failed call of the device is answered by one EIO, or the command whose call it was has still to say so. (Excludes a failure that nobody is told of, and one that is told twice.)
+abbrev pub EachFailureIsAnswered : Type 0
+EachFailureIsAnswered =
+    (config : Config) (before : Disk) (steps : List Line) (answers : List Told_by) (end : World) → Runs (first_world config before) steps answers end
+    → errors answers + errors_owed end.seats + before.failures ≡ end.disk.failures
+
+-- whatever a run led to, as many pages are in transfer as commands have a ticket in hand. (Excludes a page that stays in transfer when its command has ended, and a second transfer of one
+-- command beside its first.)
+abbrev pub TransfersAreInHand : Type 0
+TransfersAreInHand =
+    (config : Config) (before : Disk) (steps : List Line) (answers : List Told_by) (end : World) → Runs (first_world config before) steps answers end
+    → in_transfer end.past.state.pages ≡ tickets_in_hand end.seats
+
+-- no actor has a command that is not answered
+abbrev pub AllRest : List Seat → Type 0
+AllRest seats = AllByRecursion (λ (seat : Seat). seat.activity ≡ Rests) seats
+
+-- a page is on its block alone
+abbrev pub is_away_at : Residence → Bool
+is_away_at (Away block) = true
+is_away_at residence = false
+
+abbrev pub is_away : Page → Bool
+is_away page = is_away_at page.residence
+
+-- where each command is answered nothing is in transfer; the frames in use are those of held pages, and the swap blocks in use those of pages that are on their block alone. (Excludes a
+-- frame or a swap block that a failed call leaves behind.)
+abbrev pub NothingIsLeft : Type 0
+NothingIsLeft =
+    (config : Config) (before : Disk) (steps : List Line) (answers : List Told_by) (end : World) → Runs (first_world config before) steps answers end → AllRest end.seats
+    → (in_transfer end.past.state.pages ≡ 0)
+    × (used_frames end.past.state.pages ≡ count_there is_held end.past.state.pages)
+    × (used_swap end.past.state.pages ≡ count_there is_away end.past.state.pages)
 
 -- memory.current counts the pages with frames at or under the group
 abbrev pub CurrentCountsPages : Type 0

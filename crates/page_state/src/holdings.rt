@@ -135,11 +135,18 @@ impl Holdings {
         self.pool.free()
     }
 
+    /// How many swap blocks are free.
+    pub fn free_blocks(&self) -> u32
+        ensures { result + used_swap self.now.stored.pages ≡ self.now.swap }
+    {
+        self.slots.free()
+    }
+
     /// Whether a swap block is free.
     pub fn has_swap(&self) -> bool
         ensures { result ≡ nat_lt (used_swap self.now.stored.pages) self.now.swap }
     {
-        self.slots.free() > 0
+        self.free_blocks() > 0
     }
 
     /// How many pages are in transfer.

@@ -3,7 +3,7 @@
 ghost use Rattle.std.specs.Prelude.{◌≡◌, ℕ, ◌+◌, ◌<◌, ◌≤◌, [], true, Some, IfSome, IfOk, length};
 ghost use Rattle.machine.specs.Tree.{is_live};
 ghost use Rattle.machine.specs.State.{first_state, opening_of, is_config};
-ghost use Rattle.machine.specs.Pages.{page_at, is_frame_taken, used_frames, in_transfer};
+ghost use Rattle.machine.specs.Pages.{page_at, is_frame_taken, used_frames, used_swap, in_transfer};
 ghost use Rattle.machine.specs.Tasks.{lives, group_of_task, mapped_at};
 ghost use Rattle.machine.specs.Access.{task_pages};
 ghost use Rattle.machine.specs.Lists.{first_order, ListsHeld, AreGenerations};
@@ -99,6 +99,13 @@ impl State {
         ensures { result + used_frames self.now.tables.pages ≡ self.now.tables.opening.frames }
     {
         self.holdings.free()
+    }
+
+    /// How many swap blocks are free.
+    pub fn free_blocks(&self) -> u32
+        ensures { result + used_swap self.now.tables.pages ≡ self.now.tables.opening.swap }
+    {
+        self.holdings.free_blocks()
     }
 
     /// How many pages are in transfer.
