@@ -8,7 +8,7 @@ ghost use Rattle.machine.specs.Transfers.{transfers_begun, transfers_ended};
 ghost use Rattle.book.specs.Events.{event_of, reply_of};
 ghost use Rattle.book.specs.Passes.{count_of, call_of, keeping};
 ghost use Rattle.book.specs.Replies.{Replies};
-ghost use Rattle.driver.specs.Tickets.{blocks_in, OwnEvent, OwnReply, IsHanded, holds};
+ghost use Rattle.driver.specs.Tickets.{blocks_in, is_ending, OwnEvent, OwnReply, IsHanded, holds};
 ghost use Rattle.live.specs.Runs.{Looked};
 ghost use Rattle.live.specs.Reports.{IsLegal};
 
@@ -53,8 +53,10 @@ impl<L: Ledger + Opened> Model for SharedBook<L> {
         × (s.book.state.opening ≡ L.opening) };
 }
 
-/// Whether it ends a transfer.
-fn is_end(event: &Event) -> bool {
+/// Whether it ends a transfer, for which others may wait.
+fn is_end(event: &Event) -> bool
+    ensures { result ≡ is_ending event.now }
+{
     matches!(
         event,
         Event::Arrived(_) | Event::FetchFailed(_) | Event::Left(_) | Event::LeaveFailed(_)
