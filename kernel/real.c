@@ -336,7 +336,7 @@ static bool wait_for(struct task *task, struct reply *reply)
     int ready = poll(waits, 2, PATIENCE * 1000);
     close(life);
     if (ready == 0)
-        printf("# it is not done after %d seconds\n", PATIENCE);
+        give_up("a task that doesn't answer");
     return recv(task->channel[0], reply, sizeof *reply, MSG_DONTWAIT) == sizeof *reply;
 }
 
@@ -471,23 +471,22 @@ static void show_file(void)
 
 static bool read_request(struct request *request)
 {
-    static const struct { const char *name; enum action action; int words; } forms[] = {
-        { "write", WRITE, 5 }, { "read", READ, 4 }, { "free", FREE, 3 }, { "fwrite", FILE_WRITE, 6 },
-        { "fread", FILE_READ, 5 }, { "fork", FORK, 3 }, { "exit", EXIT, 2 },
+    static const struct { const char *name; enum action action; bool of_file; int words; } forms[] = {
+        { "write", WRITE, false, 5 }, { "read", READ, false, 4 }, { "free", FREE, false, 3 }, { "fwrite", FILE_WRITE, true, 6 },
+        { "fread", FILE_READ, true, 5 }, { "fork", FORK, false, 3 }, { "exit", EXIT, false, 2 },
     };
     for (size_t i = 0; i < sizeof forms / sizeof forms[0]; i++) {
         if (strcmp(word[1], forms[i].name) || words != forms[i].words)
             continue;
-        bool of_file = word[1][0] == 'f' && strchr("wr", word[1][1]) && strcmp(word[1], "free");
         int next = 2;
         memset(request, 0, sizeof *request);
         request->action = forms[i].action;
-        if (of_file)
+        if (forms[i].of_file)
             snprintf(request->file, sizeof request->file, "%s", word[next++]);
         request->child = request->page = next < words ? atol(word[next]) : 0;
         request->offset = next + 1 < words ? atol(word[next + 1]) : 0;
         request->byte = next + 2 < words ? atol(word[next + 2]) : 0;
-        return of_file || request->page < PAGES;
+        return request->page < PAGES && request->offset < REAL_PAGE;
     }
     return false;
 }
