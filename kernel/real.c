@@ -1,5 +1,5 @@
-/* real SCRIPT: carries a script of memcgrun out on the kernel that it runs on, as the first process of a virtual machine's
- * init calls it, and prints what the kernel answers, a line for each answer:
+/* real SCRIPT: carries a script of memcgrun out on the kernel that it runs on, in the virtual machine that init makes ready,
+ * and prints what the kernel answers, a line for each answer:
  *
  *     NUMBER WORDS: ANSWER
  *
