@@ -1,0 +1,111 @@
+//! What is asked of a book, step by step, as plain data: so it can be asked again.
+
+use machine::event::{Cause, Op, Place, Query, Setting};
+use machine::id::{GroupId, TaskId};
+
+/// How a transfer ends that a step begins, and what its end is called.
+#[derive(Clone, Copy, Debug, PartialEq, Eq)]
+pub enum End {
+    /// The device's block is read or written.
+    Good(&'static str),
+    /// It can't be.
+    Failed(&'static str),
+}
+
+/// An event that gives out no ticket.
+#[derive(Clone, Copy, Debug, PartialEq, Eq)]
+pub enum Change {
+    Spawn { task: u32, group: u32 },
+    Fork { task: u32, child: u32 },
+    Exit(u32),
+    Free { task: u32, page: u32 },
+    Attach { task: u32, group: u32 },
+    Mkdir(&'static str),
+    Rmdir(u32),
+    Set { group: u32, setting: Setting },
+    Show(Query),
+}
+
+/// An event, but for the ends of transfers.
+#[derive(Clone, Copy, Debug, PartialEq, Eq)]
+pub enum Ask {
+    Change(Change),
+    /// By a task, to the first byte of a page.
+    Access(TaskId, Place, Op, End),
+    Relieve(Cause, End),
+    ReclaimOne(GroupId, End),
+    MergeMarks { word: u32, bits: u64 },
+}
+
+/// An event, by the name that it is told by.
+#[derive(Clone, Copy, Debug, PartialEq, Eq)]
+pub struct Step {
+    pub name: &'static str,
+    pub ask: Ask,
+}
+
+/// A step that begins no transfer.
+pub fn event(name: &'static str, change: Change) -> Step {
+    Step {
+        name,
+        ask: Ask::Change(change),
+    }
+}
+
+/// The first byte of a task's virtual page. Where the page has to be read in, it arrives.
+pub fn touch(name: &'static str, task: u32, page: u32, op: Op) -> Step {
+    let place = Place::Virtual { page, offset: 0 };
+    Step {
+        name,
+        ask: Ask::Access(TaskId(task), place, op, End::Good("arrived")),
+    }
+}
+
+/// The first byte of a page of the file, for task 2.
+pub fn reach(name: &'static str, page: u32, op: Op, end: End) -> Step {
+    let place = Place::File {
+        file: 0,
+        page,
+        offset: 0,
+    };
+    Step {
+        name,
+        ask: Ask::Access(TaskId(2), place, op, end),
+    }
+}
+
+/// A page is taken from any group.
+pub fn reclaim_one(end: End) -> Step {
+    Step {
+        name: "reclaim one",
+        ask: Ask::ReclaimOne(GroupId::ROOT, end),
+    }
+}
+
+/// Room is wanted.
+pub fn relieve(name: &'static str, cause: Cause) -> Step {
+    Step {
+        name,
+        ask: Ask::Relieve(cause, End::Good("left")),
+    }
+}
+
+pub fn mkdir(name: &'static str, path: &'static str) -> Step {
+    event(name, Change::Mkdir(path))
+}
+
+pub fn spawn(name: &'static str, task: u32, group: u32) -> Step {
+    event(name, Change::Spawn { task, group })
+}
+
+/// Pages in these frames of a word were used.
+pub fn merge(name: &'static str, word: u32, bits: u64) -> Step {
+    Step {
+        name,
+        ask: Ask::MergeMarks { word, bits },
+    }
+}
+
+pub fn set(name: &'static str, group: u32, setting: Setting) -> Step {
+    event(name, Change::Set { group, setting })
+}
