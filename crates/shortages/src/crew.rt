@@ -172,8 +172,9 @@ fn finish<L: Ledger + Opened>(hunt: &mut Hunt, live: Live<L, Device>, passes: Ve
     };
     match ended {
         Ok(report) => {
-            let is_whole =
-                report.replies_match && report.audit.is_ok() && report.trace.len() == ENTRIES;
+            let is_whole = report.replies_match
+                && report.audit.is_ok()
+                && report.trace.len() == ENTRIES;
             hunt.demand(is_whole, "a report is not of what was done");
         }
         Err((live, _, _)) => {

@@ -184,9 +184,7 @@ fn work<R: Wait, O: Write>(
         Err(_) => Err(out_of_memory()),
         Ok(mut many) => {
             let done = match count {
-                Some(count) => {
-                    hunt_behind(rt, count, &mut few, &mut many, others, out, alloc)
-                }
+                Some(count) => { hunt_behind(rt, count, &mut few, &mut many, others, out, alloc) }
                 None => walk_through(rt, &mut few, &mut many, others, out, alloc),
             };
             many.close();

@@ -88,7 +88,12 @@ fn wanting() -> [Step; 6] {
         event("fork", Change::Fork { task: 1, child: 40 }),
         touch("read from swap", 1, 0, Op::Read),
         reach("read a file", 0, Op::Read, End::Good("arrived")),
-        reach("write a file", 1, Op::Write(70), End::Failed("fetch failed")),
+        reach(
+            "write a file",
+            1,
+            Op::Write(70),
+            End::Failed("fetch failed"),
+        ),
     ]
 }
 

@@ -273,13 +273,7 @@ impl Machine {
     }
 
     /// An event that may begin a transfer. The step ends with what it is answered, and then the transfer ends.
-    fn transfer(
-        &mut self,
-        hunt: &mut Hunt,
-        name: &'static str,
-        asked: Event,
-        end: End,
-    )
+    fn transfer(&mut self, hunt: &mut Hunt, name: &'static str, asked: Event, end: End)
         requires room { 1 < self.old.pass.room }
         requires asked { IsAsked (event_of asked) }
     {
@@ -349,43 +343,56 @@ impl Machine {
         requires room { 0 < self.old.pass.room }
     {
         match change {
-            Change::Spawn { task, group } => spend(self.book.call(
-                &mut self.pass,
-                Event::Spawn {
-                    task: TaskId(task),
-                    group: GroupId(group),
-                },
-            )),
-            Change::Fork { task, child } => spend(self.book.call(
-                &mut self.pass,
-                Event::Fork {
-                    task: TaskId(task),
-                    child: TaskId(child),
-                },
-            )),
-            Change::Attach { task, group } => spend(self.book.call(
-                &mut self.pass,
-                Event::Attach {
-                    task: TaskId(task),
-                    group: GroupId(group),
-                },
-            )),
-            Change::Free { task, page } => spend(self.book.call(
-                &mut self.pass,
-                Event::Free {
-                    task: TaskId(task),
-                    page,
-                },
-            )),
+            Change::Spawn { task, group } => spend(
+                self.book.call(
+                    &mut self.pass,
+                    Event::Spawn {
+                        task: TaskId(task),
+                        group: GroupId(group),
+                    },
+                ),
+            ),
+            Change::Fork { task, child } => spend(
+                self.book.call(
+                    &mut self.pass,
+                    Event::Fork {
+                        task: TaskId(task),
+                        child: TaskId(child),
+                    },
+                ),
+            ),
+            Change::Attach { task, group } => spend(
+                self.book.call(
+                    &mut self.pass,
+                    Event::Attach {
+                        task: TaskId(task),
+                        group: GroupId(group),
+                    },
+                ),
+            ),
+            Change::Free { task, page } => spend(
+                self.book.call(
+                    &mut self.pass,
+                    Event::Free {
+                        task: TaskId(task),
+                        page,
+                    },
+                ),
+            ),
             Change::Exit(task) => spend(self.book.call(&mut self.pass, Event::Exit(TaskId(task)))),
             Change::Mkdir(path) => {
                 let text = self.text(hunt, path);
                 spend(self.book.call(&mut self.pass, Event::Mkdir(text)))
             }
-            Change::Rmdir(group) => spend(self.book.call(&mut self.pass, Event::Rmdir(GroupId(group)))),
+            Change::Rmdir(group) => spend(
+                self.book.call(&mut self.pass, Event::Rmdir(GroupId(group))),
+            ),
             Change::Set { group, setting } => {
                 let group = GroupId(group);
-                spend(self.book.call(&mut self.pass, Event::Set { group, setting }))
+                spend(
+                    self.book
+                        .call(&mut self.pass, Event::Set { group, setting }),
+                )
             }
             Change::Show(query) => spend(self.book.call(&mut self.pass, Event::Show(query))),
         }
@@ -393,16 +400,13 @@ impl Machine {
     }
 
     /// Pages were used. The pass keeps nothing of it.
-    fn merge(
-        &mut self,
-        hunt: &mut Hunt,
-        name: &'static str,
-        word: u32,
-        bits: u64,
-    )
+    fn merge(&mut self, hunt: &mut Hunt, name: &'static str, word: u32, bits: u64)
         requires room { 0 < self.old.pass.room }
     {
-        spend(self.book.call(&mut self.pass, Event::MergeMarks { word, bits }));
+        spend(
+            self.book
+                .call(&mut self.pass, Event::MergeMarks { word, bits }),
+        );
         self.keep(hunt, name, Said::Ok);
     }
 }
