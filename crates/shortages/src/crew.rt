@@ -144,6 +144,15 @@ fn is_answer(reply: &Reply) -> bool {
     }
 }
 
+fn are_answers(replies: &[Reply]) -> bool {
+    for reply in replies {
+        if !is_answer(reply) {
+            return false;
+        }
+    }
+    true
+}
+
 /// Whether each command is answered.
 fn is_done<L: Ledger + Opened, R: Wait>(
     rt: &R,
@@ -152,7 +161,7 @@ fn is_done<L: Ledger + Opened, R: Wait>(
     commands: &[Command],
 ) -> bool {
     match live.control(rt, pass, commands) {
-        Ok(answers) => answers.iter().all(is_answer),
+        Ok(answers) => are_answers(&answers),
         Err(_) => false,
     }
 }

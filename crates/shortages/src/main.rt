@@ -6,6 +6,7 @@
 //! refused: it prints what the events are answered.
 #![tactic(auto)]
 
+mod asking;
 mod crew;
 mod hunt;
 mod openings;

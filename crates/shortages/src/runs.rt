@@ -70,7 +70,12 @@ impl Run {
 impl Ran {
     /// The answer at which memory was refused.
     fn refused_at(&self) -> Option<usize> {
-        self.answers.iter().position(is_refused)
+        for (at, reply) in self.answers.iter().enumerate() {
+            if is_refused(reply) {
+                return Some(at);
+            }
+        }
+        None
     }
 
     /// Takes note of a refusal.

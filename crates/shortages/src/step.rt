@@ -12,24 +12,30 @@ pub enum End {
     Failed(&'static str),
 }
 
-/// An event that gives out no ticket.
+/// An event of groups.
 #[derive(Clone, Copy, Debug, PartialEq, Eq)]
-pub enum Change {
-    Spawn { task: u32, group: u32 },
-    Fork { task: u32, child: u32 },
-    Exit(u32),
-    Free { task: u32, page: u32 },
-    Attach { task: u32, group: u32 },
+pub enum GroupChange {
     Mkdir(&'static str),
-    Rmdir(u32),
-    Set { group: u32, setting: Setting },
+    Rmdir(GroupId),
+    Set { group: GroupId, setting: Setting },
     Show(Query),
+}
+
+/// An event of tasks that gives out no ticket.
+#[derive(Clone, Copy, Debug, PartialEq, Eq)]
+pub enum TaskChange {
+    Spawn { task: TaskId, group: GroupId },
+    Fork { task: TaskId, child: TaskId },
+    Exit(TaskId),
+    Free { task: TaskId, page: u32 },
+    Attach { task: TaskId, group: GroupId },
 }
 
 /// An event, but for the ends of transfers.
 #[derive(Clone, Copy, Debug, PartialEq, Eq)]
 pub enum Ask {
-    Change(Change),
+    Group(GroupChange),
+    Task(TaskChange),
     /// By a task, to the first byte of a page.
     Access(TaskId, Place, Op, End),
     Relieve(Cause, End),
@@ -44,11 +50,17 @@ pub struct Step {
     pub ask: Ask,
 }
 
-/// A step that begins no transfer.
-pub fn event(name: &'static str, change: Change) -> Step {
+pub fn of_group(name: &'static str, change: GroupChange) -> Step {
     Step {
         name,
-        ask: Ask::Change(change),
+        ask: Ask::Group(change),
+    }
+}
+
+pub fn of_task(name: &'static str, change: TaskChange) -> Step {
+    Step {
+        name,
+        ask: Ask::Task(change),
     }
 }
 
@@ -91,11 +103,24 @@ pub fn relieve(name: &'static str, cause: Cause) -> Step {
 }
 
 pub fn mkdir(name: &'static str, path: &'static str) -> Step {
-    event(name, Change::Mkdir(path))
+    of_group(name, GroupChange::Mkdir(path))
+}
+
+pub fn set(name: &'static str, group: u32, setting: Setting) -> Step {
+    let group = GroupId(group);
+    of_group(name, GroupChange::Set { group, setting })
 }
 
 pub fn spawn(name: &'static str, task: u32, group: u32) -> Step {
-    event(name, Change::Spawn { task, group })
+    let task = TaskId(task);
+    let group = GroupId(group);
+    of_task(name, TaskChange::Spawn { task, group })
+}
+
+pub fn fork(name: &'static str, task: u32, child: u32) -> Step {
+    let task = TaskId(task);
+    let child = TaskId(child);
+    of_task(name, TaskChange::Fork { task, child })
 }
 
 /// Pages in these frames of a word were used.
@@ -104,8 +129,4 @@ pub fn merge(name: &'static str, word: u32, bits: u64) -> Step {
         name,
         ask: Ask::MergeMarks { word, bits },
     }
-}
-
-pub fn set(name: &'static str, group: u32, setting: Setting) -> Step {
-    event(name, Change::Set { group, setting })
 }

@@ -2,11 +2,12 @@
 //! what is asked in the end.
 
 use crate::step::{
-    Ask, Change, End, Step, event, merge, mkdir, reach, reclaim_one, relieve, set, spawn, touch,
+    Ask, End, GroupChange, Step, TaskChange, fork, merge, mkdir, of_group, of_task, reach,
+    reclaim_one, relieve, set, spawn, touch,
 };
 use machine::amount::Amount;
 use machine::event::{Cause, Op, Query, Setting};
-use machine::id::GroupId;
+use machine::id::{GroupId, TaskId};
 use std::alloc::{AllocError, Global};
 
 /// A machine, and what it is asked.
@@ -85,7 +86,7 @@ fn wanting() -> [Step; 6] {
     [
         mkdir("mkdir", "/d"),
         spawn("spawn", 9, 4),
-        event("fork", Change::Fork { task: 1, child: 40 }),
+        fork("fork", 1, 40),
         touch("read from swap", 1, 0, Op::Read),
         reach("read a file", 0, Op::Read, End::Good("arrived")),
         reach(
@@ -98,8 +99,15 @@ fn wanting() -> [Step; 6] {
 }
 
 /// What finds or makes a page without a read of the device, and marks of pages that were used.
-fn touching() -> [Step; 9] {
+fn touching() -> [Step; 11] {
     [
+        touch("read what came from swap", 1, 0, Op::Read),
+        reach(
+            "read what came of the file",
+            0,
+            Op::Read,
+            End::Good("arrived"),
+        ),
         touch("make a page", 9, 0, Op::Write(90)),
         touch("copy a page", 40, 2, Op::Write(42)),
         touch("read the copy", 40, 2, Op::Read),
@@ -117,13 +125,22 @@ fn grouped() -> [Step; 7] {
     let max = Setting::Max(Amount::Pages(5));
     let min = Setting::Min(Amount::Pages(1));
     [
-        event("attach", Change::Attach { task: 9, group: 3 }),
-        event("rmdir", Change::Rmdir(4)),
+        of_task(
+            "attach",
+            TaskChange::Attach {
+                task: TaskId(9),
+                group: GroupId(3),
+            },
+        ),
+        of_group("rmdir", GroupChange::Rmdir(GroupId(4))),
         set("set max", 3, max),
         set("set min", 2, min),
-        event("show current", Change::Show(Query::Current(GroupId(1)))),
-        event("show max", Change::Show(Query::Max(GroupId(3)))),
-        event("show stat", Change::Show(Query::Stat(GroupId(1)))),
+        of_group(
+            "show current",
+            GroupChange::Show(Query::Current(GroupId(1))),
+        ),
+        of_group("show max", GroupChange::Show(Query::Max(GroupId(3)))),
+        of_group("show stat", GroupChange::Show(Query::Stat(GroupId(1)))),
     ]
 }
 
@@ -141,8 +158,14 @@ fn leaving() -> [Step; 12] {
         relieve("relieve after a kill", lower),
         relieve("relieve where there is room", lower),
         relieve("relieve of frames", Cause::Frame),
-        event("free", Change::Free { task: 2, page: 0 }),
-        event("exit", Change::Exit(3)),
+        of_task(
+            "free",
+            TaskChange::Free {
+                task: TaskId(2),
+                page: 0,
+            },
+        ),
+        of_task("exit", TaskChange::Exit(TaskId(3))),
     ]
 }
 
@@ -156,6 +179,7 @@ pub fn end(alloc: Global) -> Result<Vec<Step>, AllocError> {
             touch("write", 50, 0, Op::Write(50)),
         ],
     )?;
+    read_all(&mut steps)?;
     read_all(&mut steps)?;
     for _turn in 0..6 {
         steps.push(reclaim_one(End::Good("left")))?;

@@ -1,20 +1,14 @@
 //! A machine that goes through steps: each is asked, and asked again where memory is refused for it.
 
-ghost use Rattle.std.specs.Prelude.{◌≡◌, ◌<◌};
-ghost use Rattle.book.specs.Events.{event_of};
-ghost use Rattle.book.specs.MakesStep.{IsAsked};
-
+use crate::asking::said;
 use crate::hunt::{Hunt, Told};
 use crate::shows::{Shows, finds_the_same, look, tally};
-use crate::step::{Ask, Change, End, Step};
+use crate::step::Step;
 use crate::tour::{Plan, end};
-use block_store::{BlockDevice, MemDevice};
-use book::{Book, Event, InTicket, Kept, OutTicket, Pass, Reply};
-use driver::automaton::spend;
+use block_store::MemDevice;
+use book::{Book, Pass};
 use machine::config::{Config, File, FileList, Watermarks};
-use machine::id::{GroupId, TaskId};
 use machine::refusal::Refusal;
-use machine::reply::Reply as Said;
 use machine::text::Text;
 use std::alloc::{AllocError, Global};
 
@@ -31,14 +25,14 @@ const ANSWERS: usize = 400;
 ///
 /// It must be spent, by [`Machine::close`].
 pub struct Machine {
-    book: Book,
-    pass: Pass,
-    device: MemDevice,
+    pub(crate) book: Book,
+    pub(crate) pass: Pass,
+    pub(crate) device: MemDevice,
     steps: Vec<Step>,
     /// The path of the next group, so that it takes no memory.
-    path: Option<Text>,
+    pub(crate) path: Option<Text>,
     /// What was answered since the machine was set up.
-    told: Vec<Told>,
+    pub(crate) told: Vec<Told>,
     /// It goes no further where so much was answered.
     last: usize,
 }
@@ -87,14 +81,6 @@ pub fn text(alloc: Global, words: &str) -> Result<Text, AllocError> {
     Ok(Text::new(string))
 }
 
-/// What was answered last.
-fn said(pass: &Pass) -> Option<Said> {
-    match pass.kept().last() {
-        Some(Kept::Call { asked: _, said }) => Some(*said),
-        _ => None,
-    }
-}
-
 impl Machine {
     /// A machine that was set up by the plan. It keeps the path of the next group.
     pub fn open(alloc: Global, plan: Plan) -> Result<Machine, Refusal> {
@@ -129,9 +115,14 @@ impl Machine {
                     told,
                     last: ANSWERS,
                 };
-                machine.take_all(&mut Hunt::none(alloc), &start);
+                let mut none = Hunt::none(alloc);
+                machine.take_all(&mut none, &start);
                 machine.told.clear();
                 machine.path = Some(path);
+                if none.wrong().is_some() {
+                    machine.close();
+                    return Err(Refusal::NoMemory);
+                }
                 Ok(machine)
             }
         }
@@ -214,200 +205,6 @@ impl Machine {
         hunt.demand(now == *before, "a group shows something else");
         let found = finds_the_same(hunt.alloc(), &self.book, &mut self.pass, &now);
         hunt.demand(found, "a path is another group's");
-    }
-
-    /// The last answer is the step's, unless it has to be asked again.
-    fn hear(&mut self, hunt: &mut Hunt, name: &'static str) {
-        match said(&self.pass) {
-            None => hunt.demand(false, "nothing was answered"),
-            Some(reply) => {
-                if !hunt.is_refusal(Some(reply)) {
-                    self.keep(hunt, name, reply);
-                }
-            }
-        }
-    }
-
-    fn keep(&mut self, hunt: &mut Hunt, name: &'static str, reply: Said) {
-        hunt.demand(
-            reply != Said::Refused(Refusal::NoMemory),
-            "memory is refused again",
-        );
-        let kept = self.told.push(Told { name, reply });
-        hunt.demand(kept.is_ok(), "an answer has no room");
-    }
-
-    /// The text of a path: the one that is there already, or a new one.
-    fn text(&mut self, hunt: &mut Hunt, path: &str) -> Text {
-        if let Some(text) = self.path.take() {
-            return text;
-        }
-        match text(hunt.alloc(), path) {
-            Ok(text) => text,
-            Err(_) => {
-                hunt.demand(false, "a path has no memory");
-                Text::new(String::new(hunt.alloc()))
-            }
-        }
-    }
-
-    /// One event, and the end of the transfer that it begins.
-    fn ask(&mut self, hunt: &mut Hunt, step: Step) {
-        if self.pass.reserve(2).is_err() {
-            return;
-        }
-        match step.ask {
-            Ask::Change(change) => self.change(hunt, step.name, change),
-            Ask::Access(task, place, op, end) => {
-                let asked = Event::Access { task, place, op };
-                self.transfer(hunt, step.name, asked, end)
-            }
-            Ask::Relieve(cause, end) => {
-                self.transfer(hunt, step.name, Event::Relieve(cause), end)
-            }
-            Ask::ReclaimOne(group, end) => {
-                self.transfer(hunt, step.name, Event::ReclaimOne(group), end)
-            }
-            Ask::MergeMarks { word, bits } => self.merge(hunt, step.name, word, bits),
-        }
-    }
-
-    /// An event that may begin a transfer. The step ends with what it is answered, and then the transfer ends.
-    fn transfer(&mut self, hunt: &mut Hunt, name: &'static str, asked: Event, end: End)
-        requires room { 1 < self.old.pass.room }
-        requires asked { IsAsked (event_of asked) }
-    {
-        match self.book.call(&mut self.pass, asked) {
-            Reply::Fetch(ticket) => {
-                self.hear(hunt, name);
-                self.end_in(hunt, ticket, end);
-            }
-            Reply::Out(ticket) => {
-                self.hear(hunt, name);
-                self.end_out(hunt, ticket, end);
-            }
-            other => {
-                spend(other);
-                self.hear(hunt, name);
-            }
-        }
-    }
-
-    /// The page comes with what the device has of it, or doesn't come.
-    fn end_in(&mut self, hunt: &mut Hunt, ticket: InTicket, end: End)
-        requires room { 0 < self.old.pass.room }
-        requires own { ticket.worker ≡ self.old.pass.caller.worker }
-    {
-        let mut ticket = ticket;
-        let (ended, name) = match end {
-            End::Good(name) => {
-                if ticket.block() < self.device.blocks() {
-                    let read = ticket.read_from(&mut self.device);
-                    hunt.demand(read.is_ok(), "a block could not be read");
-                }
-                (Event::Arrived(ticket), name)
-            }
-            End::Failed(name) => (Event::FetchFailed(ticket), name),
-        };
-        match self.book.call(&mut self.pass, ended) {
-            Reply::StrangeIn(ticket) => ticket.discard(),
-            other => spend(other),
-        }
-        self.hear(hunt, name);
-    }
-
-    /// The page goes to the device, or stays.
-    fn end_out(&mut self, hunt: &mut Hunt, ticket: OutTicket, end: End)
-        requires room { 0 < self.old.pass.room }
-        requires own { ticket.worker ≡ self.old.pass.caller.worker }
-    {
-        let (ended, name) = match end {
-            End::Good(name) => {
-                if ticket.block() < self.device.blocks() {
-                    let written = ticket.write_to(&mut self.device);
-                    hunt.demand(written.is_ok(), "a block could not be written");
-                }
-                (Event::Left(ticket), name)
-            }
-            End::Failed(name) => (Event::LeaveFailed(ticket), name),
-        };
-        match self.book.call(&mut self.pass, ended) {
-            Reply::StrangeOut(ticket) => ticket.discard(),
-            other => spend(other),
-        }
-        self.hear(hunt, name);
-    }
-
-    /// An event that gives out no ticket.
-    fn change(&mut self, hunt: &mut Hunt, name: &'static str, change: Change)
-        requires room { 0 < self.old.pass.room }
-    {
-        match change {
-            Change::Spawn { task, group } => spend(
-                self.book.call(
-                    &mut self.pass,
-                    Event::Spawn {
-                        task: TaskId(task),
-                        group: GroupId(group),
-                    },
-                ),
-            ),
-            Change::Fork { task, child } => spend(
-                self.book.call(
-                    &mut self.pass,
-                    Event::Fork {
-                        task: TaskId(task),
-                        child: TaskId(child),
-                    },
-                ),
-            ),
-            Change::Attach { task, group } => spend(
-                self.book.call(
-                    &mut self.pass,
-                    Event::Attach {
-                        task: TaskId(task),
-                        group: GroupId(group),
-                    },
-                ),
-            ),
-            Change::Free { task, page } => spend(
-                self.book.call(
-                    &mut self.pass,
-                    Event::Free {
-                        task: TaskId(task),
-                        page,
-                    },
-                ),
-            ),
-            Change::Exit(task) => spend(self.book.call(&mut self.pass, Event::Exit(TaskId(task)))),
-            Change::Mkdir(path) => {
-                let text = self.text(hunt, path);
-                spend(self.book.call(&mut self.pass, Event::Mkdir(text)))
-            }
-            Change::Rmdir(group) => spend(
-                self.book.call(&mut self.pass, Event::Rmdir(GroupId(group))),
-            ),
-            Change::Set { group, setting } => {
-                let group = GroupId(group);
-                spend(
-                    self.book
-                        .call(&mut self.pass, Event::Set { group, setting }),
-                )
-            }
-            Change::Show(query) => spend(self.book.call(&mut self.pass, Event::Show(query))),
-        }
-        self.hear(hunt, name);
-    }
-
-    /// Pages were used. The pass keeps nothing of it.
-    fn merge(&mut self, hunt: &mut Hunt, name: &'static str, word: u32, bits: u64)
-        requires room { 0 < self.old.pass.room }
-    {
-        spend(
-            self.book
-                .call(&mut self.pass, Event::MergeMarks { word, bits }),
-        );
-        self.keep(hunt, name, Said::Ok);
     }
 }
 
