@@ -6,7 +6,7 @@ ghost use Rattle.driver.specs.Tickets.{blocks_in};
 
 use crate::hunt::Hunt;
 use block_store::{Locked, MemDevice, SharedDevice};
-use driver::{Answer, Command, Config, Reply, Word};
+use driver::{Answer, Command, Config, Reply};
 use files::blocks_for;
 use live::{Live, Opened, Pass, Unfinished};
 use machine::refusal::Refusal;
@@ -20,8 +20,6 @@ const PARTS: u64 = 131_073;
 
 /// Entries of the commands: a group that is made.
 const ENTRIES: usize = 1;
-
-type Device = Locked<MemDevice>;
 
 /// What a machine is opened with, and what it is asked.
 #[derive(Drop)]
@@ -67,26 +65,33 @@ fn try_work<R: Wait>(rt: &R, hunt: &mut Hunt, crew: Crew) -> bool {
     let device = Locked::new(device);
     match blocks_for(&config) {
         Some(blocks) if blocks <= device.blocks() => {
-            open::<Brand, R>(rt, hunt, config, device, &commands, Blank::new(PARTS))
+            open::<Brand, Locked<MemDevice>, R>(
+                rt,
+                hunt,
+                config,
+                device,
+                &commands,
+                Blank::new(PARTS),
+            )
         }
         _ => false,
     }
 }
 
-fn open<L: Ledger + Opened, R: Wait>(
+fn open<L: Ledger + Opened, D: SharedDevice + Drop, R: Wait>(
     rt: &R,
     hunt: &mut Hunt,
     config: Config,
-    device: Device,
+    device: D,
     commands: &[Command],
     blank: Blank,
 ) -> bool
     requires name { blank.name ≡ L.name }
     requires parts { (blank.parts ≡ L.parts) × (blank.parts ≡ 131073) }
     requires opened { opening_of config ≡ L.opening }
-    requires fits { blocks_in L.opening ≤ device.blocks }
+    requires fits { blocks_in L.opening ≤ D.extent device }
 {
-    match Live::<L, Device>::open(hunt.alloc(), config, device, blank) {
+    match Live::<L, D>::open(hunt.alloc(), config, device, blank) {
         Err((_, cause)) => {
             hunt.demand(cause == Refusal::NoMemory, "an opening has another cause");
             false
@@ -100,10 +105,10 @@ fn open<L: Ledger + Opened, R: Wait>(
 }
 
 /// A pass for the shell, which asks. All passes.
-fn ask<L: Ledger + Opened, R: Wait>(
+fn ask<L: Ledger + Opened, D: SharedDevice + Drop, R: Wait>(
     rt: &R,
     hunt: &mut Hunt,
-    live: &Live<L, Device>,
+    live: &Live<L, D>,
     commands: &[Command],
 ) -> Vec<Pass<L>> {
     let mut passes = list(hunt);
@@ -137,37 +142,36 @@ fn list<L: Ledger>(hunt: &mut Hunt) -> Vec<Pass<L>> {
     passes
 }
 
-fn is_answer(reply: &Reply) -> bool {
-    match reply.answer {
-        Answer::Word(Word::Refused(Refusal::NoMemory)) => false,
-        _ => true,
-    }
-}
-
-fn are_answers(replies: &[Reply]) -> bool {
+/// Whether nothing is printed for any of them: each is done.
+fn are_done(replies: &[Reply]) -> bool {
     for reply in replies {
-        if !is_answer(reply) {
-            return false;
+        match reply.answer {
+            Answer::Done => {}
+            _ => return false,
         }
     }
     true
 }
 
-/// Whether each command is answered.
-fn is_done<L: Ledger + Opened, R: Wait>(
+/// Whether each command is done.
+fn is_done<L: Ledger + Opened, D: SharedDevice + Drop, R: Wait>(
     rt: &R,
-    live: &Live<L, Device>,
+    live: &Live<L, D>,
     pass: &mut Pass<L>,
     commands: &[Command],
 ) -> bool {
     match live.control(rt, pass, commands) {
-        Ok(answers) => are_answers(&answers),
+        Ok(answers) => are_done(&answers),
         Err(_) => false,
     }
 }
 
 /// The end: the trace is what the pass keeps, and its audit finds nothing wrong.
-fn finish<L: Ledger + Opened>(hunt: &mut Hunt, live: Live<L, Device>, passes: Vec<Pass<L>>) {
+fn finish<L: Ledger + Opened, D: SharedDevice + Drop>(
+    hunt: &mut Hunt,
+    live: Live<L, D>,
+    passes: Vec<Pass<L>>,
+) {
     let ended = match live.finish(passes) {
         Ok(report) => Ok(report),
         Err((live, passes, cause)) => {
