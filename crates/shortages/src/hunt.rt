@@ -116,7 +116,8 @@ impl Hunt {
 
     /// This step was told that memory is refused. That is so once.
     pub fn refused(&mut self, name: &'static str) {
-        self.demand(self.met.is_none(), "memory is refused again");
+        let is_first = self.met.is_none();
+        self.demand(is_first, "memory is refused again");
         self.met = Some(Met::In(name));
     }
 
