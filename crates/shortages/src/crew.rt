@@ -1,0 +1,198 @@
+//! A machine that workers share, on one thread: it is opened, asked, and ended.
+
+ghost use Rattle.std.specs.Prelude.{◌≡◌, ◌≤◌};
+ghost use Rattle.machine.specs.State.{opening_of};
+ghost use Rattle.driver.specs.Tickets.{blocks_in};
+
+use crate::hunt::Hunt;
+use block_store::{Locked, MemDevice, SharedDevice};
+use driver::{Answer, Command, Config, Reply};
+use files::blocks_for;
+use live::{Live, Opened, Pass, Unfinished};
+use machine::refusal::Refusal;
+use std::alloc::Global;
+use std::marker::Brand;
+use std::sync::Wait;
+use std::sync::ledger::{Blank, Ledger};
+
+/// As many passes as there can be, and one part more.
+const PARTS: u64 = 131_073;
+
+/// Entries of the commands: a group that is made.
+const ENTRIES: usize = 1;
+
+/// What a machine is opened with, and what it is asked.
+#[derive(Drop)]
+pub struct Crew {
+    config: Config,
+    device: MemDevice,
+    commands: Vec<Command>,
+}
+
+impl Crew {
+    pub fn new(alloc: Global) -> Option<Crew> {
+        let config = crate::walk::config(alloc).ok()?;
+        let path = crate::walk::text(alloc, "/a").ok()?;
+        Some(Crew {
+            device: MemDevice::new(alloc, 5, &[], &[]).ok()?,
+            config,
+            commands: Vec::from_array(alloc, [Command::Group(path)]).ok()?,
+        })
+    }
+}
+
+/// Opens the machine, asks it, and ends it.
+pub fn work<R: Wait>(rt: &R, hunt: &mut Hunt, crew: Crew) {
+    if !try_work(rt, hunt, crew) {
+        hunt.refused("live open");
+        match Crew::new(hunt.alloc()) {
+            Some(crew) => {
+                let opened = try_work(rt, hunt, crew);
+                hunt.demand(opened, "a machine is not opened");
+            }
+            None => hunt.demand(false, "there is nothing to open"),
+        }
+    }
+}
+
+/// Whether it could be opened.
+fn try_work<R: Wait>(rt: &R, hunt: &mut Hunt, crew: Crew) -> bool {
+    let Crew {
+        config,
+        device,
+        commands,
+    } = crew;
+    let device = Locked::new(device);
+    match blocks_for(&config) {
+        Some(blocks) if blocks <= device.blocks() => {
+            open::<Brand, Locked<MemDevice>, R>(
+                rt,
+                hunt,
+                config,
+                device,
+                &commands,
+                Blank::new(PARTS),
+            )
+        }
+        _ => false,
+    }
+}
+
+fn open<L: Ledger + Opened, D: SharedDevice + Drop, R: Wait>(
+    rt: &R,
+    hunt: &mut Hunt,
+    config: Config,
+    device: D,
+    commands: &[Command],
+    blank: Blank,
+) -> bool
+    requires name { blank.name ≡ L.name }
+    requires parts { (blank.parts ≡ L.parts) × (blank.parts ≡ 131073) }
+    requires opened { opening_of config ≡ L.opening }
+    requires fits { blocks_in L.opening ≤ D.extent device }
+{
+    match Live::<L, D>::open(hunt.alloc(), config, device, blank) {
+        Err((_, cause)) => {
+            hunt.demand(cause == Refusal::NoMemory, "an opening has another cause");
+            false
+        }
+        Ok(live) => {
+            let passes = ask(rt, hunt, &live, commands);
+            finish(hunt, live, passes);
+            true
+        }
+    }
+}
+
+/// A pass for the shell, which asks. All passes.
+fn ask<L: Ledger + Opened, D: SharedDevice + Drop, R: Wait>(
+    rt: &R,
+    hunt: &mut Hunt,
+    live: &Live<L, D>,
+    commands: &[Command],
+) -> Vec<Pass<L>> {
+    let mut passes = list(hunt);
+    let given = match live.pass(rt) {
+        Ok(pass) => Ok(pass),
+        Err(_) => {
+            hunt.refused("live pass");
+            live.pass(rt)
+        }
+    };
+    if let Ok(mut pass) = given {
+        if !is_done(rt, live, &mut pass, commands) {
+            hunt.refused("live command");
+            let done = is_done(rt, live, &mut pass, commands);
+            hunt.demand(done, "a command is refused again");
+        }
+        let kept = passes.push(pass);
+        hunt.demand(kept.is_ok(), "a pass is lost");
+    }
+    passes
+}
+
+/// Room for the pass.
+fn list<L: Ledger>(hunt: &mut Hunt) -> Vec<Pass<L>> {
+    let mut passes = Vec::new(hunt.alloc());
+    if passes.reserve(1).is_err() {
+        hunt.refused("list of passes");
+        let again = passes.reserve(1);
+        hunt.demand(again.is_ok(), "a pass has no room");
+    }
+    passes
+}
+
+/// Whether nothing is printed for any of them: each is done.
+fn are_done(replies: &[Reply]) -> bool {
+    for reply in replies {
+        match reply.answer {
+            Answer::Done => {}
+            _ => return false,
+        }
+    }
+    true
+}
+
+/// Whether each command is done.
+fn is_done<L: Ledger + Opened, D: SharedDevice + Drop, R: Wait>(
+    rt: &R,
+    live: &Live<L, D>,
+    pass: &mut Pass<L>,
+    commands: &[Command],
+) -> bool {
+    match live.control(rt, pass, commands) {
+        Ok(answers) => are_done(&answers),
+        Err(_) => false,
+    }
+}
+
+/// The end: the trace is what the pass keeps, and its audit finds nothing wrong.
+fn finish<L: Ledger + Opened, D: SharedDevice + Drop>(
+    hunt: &mut Hunt,
+    live: Live<L, D>,
+    passes: Vec<Pass<L>>,
+) {
+    let ended = match live.finish(passes) {
+        Ok(report) => Ok(report),
+        Err((live, passes, cause)) => {
+            hunt.demand(
+                cause == Unfinished::NoMemory,
+                "an end is refused for another cause",
+            );
+            hunt.refused("live finish");
+            live.finish(passes)
+        }
+    };
+    match ended {
+        Ok(report) => {
+            let is_whole = report.replies_match
+                && report.audit.is_ok()
+                && report.trace.len() == ENTRIES;
+            hunt.demand(is_whole, "a report is not of what was done");
+        }
+        Err((live, _, _)) => {
+            live.give_up();
+            hunt.demand(false, "an end is refused again");
+        }
+    }
+}

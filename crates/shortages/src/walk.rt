@@ -1,0 +1,216 @@
+//! A machine that goes through steps: each is asked, and asked again where memory is refused for it.
+
+use crate::asking::said;
+use crate::hunt::{Hunt, Told};
+use crate::shows::{Shows, finds_the_same, look};
+use crate::step::Step;
+use crate::tour::{Plan, end};
+use block_store::MemDevice;
+use book::{Book, Pass};
+use machine::config::{Config, File, FileList, Watermarks};
+use machine::refusal::Refusal;
+use machine::text::Text;
+use std::alloc::{AllocError, Global};
+
+/// Room in a pass for a step, with two looks at the book.
+const ROOM: usize = 200;
+
+/// Room in a pass, and in a trace, for all steps.
+const ALL_ROOM: u32 = 20_000;
+
+/// So many answers are kept.
+const ANSWERS: usize = 400;
+
+/// A book, with the pass by which it is asked, and its device.
+///
+/// It must be spent, by [`Machine::close`].
+pub struct Machine {
+    pub(crate) book: Book,
+    pub(crate) pass: Pass,
+    pub(crate) device: MemDevice,
+    steps: Vec<Step>,
+    /// The path of the next group, so that it takes no memory.
+    pub(crate) path: Option<Text>,
+    /// What was answered since the machine was set up.
+    pub(crate) told: Vec<Told>,
+    /// It goes no further where so much was answered.
+    last: usize,
+}
+
+/// What a machine is made of, all that wants memory but the book.
+#[derive(Drop)]
+struct Parts {
+    config: Config,
+    device: MemDevice,
+    path: Text,
+    start: Vec<Step>,
+    steps: Vec<Step>,
+    told: Vec<Told>,
+}
+
+impl Parts {
+    fn new(alloc: Global, plan: Plan) -> Result<Parts, AllocError> {
+        Ok(Parts {
+            config: config(alloc)?,
+            device: MemDevice::new(alloc, 5, &[], &[])?,
+            path: text(alloc, "/d")?,
+            start: plan.start(alloc)?,
+            steps: plan.steps(alloc)?,
+            told: Vec::with_capacity(alloc, ANSWERS)?,
+        })
+    }
+}
+
+/// Eight frames, three blocks of swap, and a file of two pages.
+pub fn config(alloc: Global) -> Result<Config, AllocError> {
+    let mut files = FileList::new(alloc);
+    let name = text(alloc, "f")?;
+    files.push(File { name, pages: 2 })?;
+    Ok(Config {
+        frames: 8,
+        swap: 3,
+        files,
+        watermarks: Watermarks { low: 0, high: 0 },
+        trace: ALL_ROOM,
+        turns: 1000,
+    })
+}
+
+pub fn text(alloc: Global, words: &str) -> Result<Text, AllocError> {
+    let string = String::from_str(alloc, words)?;
+    Ok(Text::new(string))
+}
+
+impl Machine {
+    /// A machine that was set up by the plan. It keeps the path of the next group.
+    pub fn open(alloc: Global, plan: Plan) -> Result<Machine, Refusal> {
+        match Parts::new(alloc, plan) {
+            Ok(parts) => Machine::of(alloc, parts),
+            Err(_) => Err(Refusal::NoMemory),
+        }
+    }
+
+    fn of(alloc: Global, parts: Parts) -> Result<Machine, Refusal> {
+        let Parts {
+            config,
+            device,
+            path,
+            start,
+            steps,
+            told,
+        } = parts;
+        let mut book = Book::open(alloc, config)?;
+        match ready_pass(&mut book) {
+            Err(cause) => {
+                let _ = book.close();
+                Err(cause)
+            }
+            Ok(pass) => {
+                let mut machine = Machine {
+                    book,
+                    pass,
+                    device,
+                    steps,
+                    path: None,
+                    told,
+                    last: ANSWERS,
+                };
+                let mut none = Hunt::none(alloc);
+                machine.take_all(&mut none, &start);
+                machine.told.clear();
+                machine.path = Some(path);
+                if none.wrong().is_some() {
+                    machine.close();
+                    return Err(Refusal::NoMemory);
+                }
+                Ok(machine)
+            }
+        }
+    }
+
+    /// One step after the other.
+    pub fn take_all(&mut self, hunt: &mut Hunt, steps: &[Step]) {
+        for step in steps {
+            self.take(hunt, *step);
+        }
+    }
+
+    pub fn close(self) {
+        let Machine {
+            book,
+            pass: _,
+            device: _,
+            steps: _,
+            path: _,
+            told: _,
+            last: _,
+        } = self;
+        let _ = book.close();
+    }
+
+    /// What was answered since it was set up, the oldest first.
+    pub fn told(&self) -> &[Told] {
+        self.told.as_slice()
+    }
+
+    /// It goes no further than the other did.
+    pub fn follow(&mut self, other: &Machine) {
+        self.last = other.told.len();
+    }
+
+    /// The steps of its plan, until the refusal is met, or it has gone far enough.
+    pub fn walk(&mut self, hunt: &mut Hunt) {
+        for at in 0..self.steps.len() {
+            if hunt.is_over() || self.told.len() >= self.last {
+                return;
+            }
+            if let Some(step) = self.steps.get(at) {
+                let step = *step;
+                self.take(hunt, step);
+            }
+        }
+    }
+
+    /// What every machine is asked in the end.
+    pub fn end(&mut self, hunt: &mut Hunt) {
+        match end(hunt.alloc()) {
+            Ok(steps) => self.take_all(hunt, &steps),
+            Err(_) => hunt.demand(false, "there is no end"),
+        }
+    }
+
+    /// One step. Where memory is refused, all is as it was before, and the event is asked once more.
+    pub fn take(&mut self, hunt: &mut Hunt, step: Step) {
+        if self.pass.reserve(ROOM).is_err() {
+            hunt.demand(false, "a pass has no room");
+            return;
+        }
+        let before = look(&mut self.book, &mut self.pass);
+        let tallied = self.book.tally();
+        self.ask(hunt, step);
+        if hunt.is_refusal(said(&self.pass)) {
+            hunt.refused(step.name);
+            hunt.demand(
+                self.book.tally() == tallied,
+                "other frames are free, or an entry was made",
+            );
+            self.compare(hunt, &before);
+            self.ask(hunt, step);
+        }
+    }
+
+    /// All is as it was before.
+    fn compare(&mut self, hunt: &mut Hunt, before: &Shows) {
+        let now = look(&mut self.book, &mut self.pass);
+        hunt.demand(now == *before, "a group shows something else");
+        let found = finds_the_same(hunt.alloc(), &self.book, &mut self.pass, &now);
+        hunt.demand(found, "a path is another group's");
+    }
+}
+
+/// A pass with room for all steps.
+fn ready_pass(book: &mut Book) -> Result<Pass, Refusal> {
+    let mut pass = book.pass()?;
+    pass.reserve(ALL_ROOM as usize)?;
+    Ok(pass)
+}
