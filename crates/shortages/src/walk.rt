@@ -192,7 +192,7 @@ impl Machine {
             hunt.refused(step.name);
             hunt.demand(
                 self.book.tally() == tallied,
-                "other frames are free, or an entry was made",
+                "the book tallies something else",
             );
             self.compare(hunt, &before);
             self.ask(hunt, step);
