@@ -1,11 +1,10 @@
 -- As many pages are in transfer as commands have a ticket in hand.
-use Rattle.std.proofs.Common.{◌≡◌, inl, inr, ℕ, zero, suc, ◌+◌, Bool, true, false, List, ◌∷◌, Option, Some, None, refl, sym, ap, ◌∙◌, subst, arith}
-use Rattle.std.specs.Prelude.{◌⊎◌, if◌then◌else◌, nat_le, Result, Ok, Err}
+use Rattle.std.proofs.Common.{◌≡◌, inl, inr, ℕ, zero, suc, ◌+◌, Bool, true, false, List, None, refl, sym, ap, ◌∙◌, arith}
+use Rattle.std.specs.Prelude.{if◌then◌else◌, nat_le, Result, Ok, Err}
 use Rattle.std.proofs.lemmas.List.Sums.{sum_by-cons}
 use Rattle.machine.specs.declared.config.Config.{Config}
 use Rattle.machine.specs.declared.config.Watermarks.{Watermarks}
 use Rattle.machine.specs.declared.entry.Entry.{Entry}
-use Rattle.machine.specs.declared.reply.Reply.{Reply as Plain_reply}
 use Rattle.machine.specs.declared.reply.Reply.TheVariants as reply
 use Rattle.machine.specs.declared.refusal.Refusal.{Refusal}
 use Rattle.machine.specs.declared.refusal.Refusal.TheVariants.{Stranger}
@@ -37,7 +36,6 @@ use Rattle.driver.specs.declared.turn.Transition.{Transition}
 use Rattle.driver.specs.declared.turn.Outcome.{Outcome}
 use Rattle.driver.specs.declared.turn.Activity.{Activity}
 use Rattle.driver.specs.declared.turn.Activity.TheVariants.{Rests, Begun, Does}
-use Rattle.driver.specs.declared.turn.Seat.{Seat}
 use Rattle.driver.specs.Turns.{wants_pages, wants_balance, wants_watch, done, Closed, Told, ReadsIn, WritesOut, after_read, after_write}
 use Rattle.driver.specs.Schedule.{activity_of, with_activity, World, first_world, WantTurn, wants_at, StageTurn, left_of, Runs}
 use Rattle.driver.specs.Tickets.{holds, is_ending, holds_want, gives_ticket}

@@ -1,5 +1,5 @@
 -- A frame that was hit is one of the opening's, and its mark stands among those of its word.
-use Rattle.std.proofs.Common.{◌≡◌, ℕ, ◌<◌, ◌==◌, true, Option, Some, None, eq-eqb, refl, ap, ◌∙◌}
+use Rattle.std.proofs.Common.{◌≡◌, ℕ, ◌<◌, true, Some, eq-eqb, refl, ap, ◌∙◌}
 use Rattle.machine.specs.declared.event.Event.TheVariants as plain
 use Rattle.machine.specs.declared.event.Op.{Op}
 use Rattle.machine.specs.declared.event.Place.{Place}

@@ -1,16 +1,12 @@
 -- What one call leaves of the lists of held pages and of the order in which they leave.
-use Rattle.std.proofs.Common.{◌≡◌, inl, inr, ℕ, ◌+◌, ◌<◌, ◌≤◌, ◌==◌, ◌&&◌, ◌||◌, not, Bool, true, false, List, [], ◌∷◌, ◌++◌, length, Option, Some, None, eqb-true, arith, refl, sym, ap, ◌∙◌, subst, length-append, length-set, get_or-set_other}
-use Rattle.std.specs.Prelude.{◌⊎◌, MatchBool, IfSome, slice_set}
+use Rattle.std.proofs.Common.{◌≡◌, inl, inr, ℕ, ◌+◌, ◌≤◌, ◌==◌, ◌&&◌, ◌||◌, not, Bool, true, false, List, [], ◌∷◌, ◌++◌, length, Option, Some, None, eqb-true, arith, refl, sym, ap, ◌∙◌, subst, length-append, length-set}
+use Rattle.std.specs.Prelude.{◌⊎◌, MatchBool, slice_set}
 use Rattle.std.specs.List.{AllByRecursion}
-use Rattle.std.proofs.lemmas.Bool.{and_parts, eqb-false, true≢false}
+use Rattle.std.proofs.lemmas.Bool.{and_parts, true≢false}
 use Rattle.std.proofs.lemmas.Bool.Decides.{nat_tests}
-use Rattle.std.proofs.lemmas.List.{get_or-set_same, length-replicate}
-use Rattle.machine.specs.declared.id.FrameId.{FrameId}
-use Rattle.machine.specs.declared.id.TaskId.{TaskId}
+use Rattle.std.proofs.lemmas.List.{length-replicate}
 use Rattle.machine.specs.declared.id.GroupId.{GroupId}
 use Rattle.machine.specs.declared.entry.Entry.{Entry}
-use Rattle.machine.specs.declared.event.Op.{Op}
-use Rattle.machine.specs.declared.event.Place.{Place}
 use Rattle.machine.specs.declared.event.Event.{Event}
 use Rattle.machine.specs.declared.event.Event.TheVariants as event
 use Rattle.machine.specs.declared.refusal.Refusal.{Refusal}
@@ -22,7 +18,7 @@ use Rattle.machine.specs.Tree.{Node, node_at}
 use Rattle.machine.specs.Pages.{Page, Pages, page_at, is_anon, is_held, is_held_in, in_transfer}
 use Rattle.machine.specs.State.{Opening, State, page_numbers, first_state, is_swap_free}
 use Rattle.machine.specs.Reclaim.{target_of}
-use Rattle.machine.specs.Generations.{Gens, new_gens, of_kind, row_of, gens_at, IsGens}
+use Rattle.machine.specs.Generations.{Gens, new_gens, of_kind, row_of, gens_at}
 use Rattle.machine.specs.Aging.{is_marked, has_mark}
 use Rattle.machine.specs.Eviction.{old_pages}
 use Rattle.machine.specs.Lists.{HeldLists, Order, Orders, first_order, PicksOf, is_held_of, ListsHeld, AreGenerations, Generation, Youngest, generation_for, GoesOn, is_in_bits, MergesMarks, with_group, TakesNext, AddsLists, RemovesLists, Keeps}
@@ -36,7 +32,7 @@ use Rattle.machine.proofs.CursorLemmas.{cursors-push, cursors-set}
 use Rattle.legal.proofs.Did.{is_rmdir, changes_groups}
 use Rattle.legal.proofs.OpeningLemmas.{tree_after, step_opening, step_tree}
 use Rattle.machine.proofs.HeldLemmas.{held-go_on, gens_at-more, held-group, generations-group, goes_length, goes-max, goes-min, generations-go_on, first-held, first-generations}
-use Rattle.legal.proofs.StepLemmas.{step-places, mkdir-pages, legal-lists, legal-numbered}
+use Rattle.legal.proofs.StepLemmas.{step-places, mkdir-pages, legal-lists}
 use Rattle.legal.proofs.RemovedCounts.{removal, SameNumbers, numbers-handed, length-handed, handed, held-removed, generations-removed}
 use Rattle.legal.proofs.OrdersLemmas.{orders_alike}
 use Rattle.legal.proofs.SoundLemmas.{legal-sound}

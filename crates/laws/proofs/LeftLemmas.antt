@@ -1,11 +1,9 @@
 -- What is in use once each command of a run is answered.
-use Rattle.std.proofs.Common.{◌≡◌, ℕ, ◌≤◌, ◌&&◌, Bool, true, false, List, [], ◌∷◌, Option, Some, None, refl, sym, ap, ◌∙◌, arith}
-use Rattle.std.specs.Prelude.{is_some}
+use Rattle.std.proofs.Common.{◌≡◌, ℕ, ◌≤◌, Bool, true, false, List, [], ◌∷◌, Option, Some, None, refl, sym, ap, ◌∙◌, arith}
 use Rattle.std.proofs.lemmas.List.Sums.{sum_by-cons}
-use Rattle.machine.specs.Slots.{at, there_and, count_there}
-use Rattle.machine.specs.Pages.{Content, Memory, OfFile, Residence, Held, Coming, Going, Away, Page, page_at, is_anon, has_frame, is_held, is_in_transfer, in_transfer, used_frames, has_swap, used_swap, IsFiled}
-use Rattle.machine.specs.State.{State, Opening, opening_of}
-use Rattle.machine.specs.Legal.{Legal}
+use Rattle.machine.specs.Slots.{there_and, count_there}
+use Rattle.machine.specs.Pages.{Content, Memory, OfFile, Residence, Held, Coming, Going, Away, Page, page_at, has_frame, is_held, is_in_transfer, in_transfer, used_frames, has_swap, used_swap, IsFiled}
+use Rattle.machine.specs.State.{State, opening_of}
 use Rattle.machine.proofs.SlotLemmas.{one_if, slot-le-sum_by}
 use Rattle.machine.proofs.RemovedLemmas.{count-alike}
 use Rattle.legal.proofs.FileSteps.{AreFiled}

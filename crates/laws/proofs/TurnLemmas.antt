@@ -1,6 +1,6 @@
 -- Which pages a turn of a schedule marks: the one that it hit, and no other.
 use Rattle.std.specs.Prelude.{◌⊎◌, Ok, Err}
-use Rattle.std.proofs.Common.{◌≡◌, ◌≢◌, inl, inr, ℕ, suc, ◌/◌, ◌%◌, ◌==◌, ◌&&◌, ◌||◌, Bool, true, false, cond, List, [], ◌∷◌, ◌++◌, length, Option, Some, None, eq-eqb, eqb-true, refl, sym, ap, ◌∙◌, subst, arith}
+use Rattle.std.proofs.Common.{◌≡◌, ◌≢◌, inl, inr, ℕ, suc, ◌/◌, ◌%◌, ◌==◌, ◌&&◌, ◌||◌, Bool, true, false, cond, List, ◌∷◌, ◌++◌, length, Option, Some, None, eq-eqb, eqb-true, refl, sym, ap, ◌∙◌, subst, arith}
 use Rattle.std.specs.Int.{bit_at}
 use Rattle.std.proofs.lemmas.Bool.{and_parts}
 use Rattle.std.proofs.lemmas.Bool.Decides.{eqb_tells}
@@ -22,8 +22,7 @@ use Rattle.machine.specs.Pages.{Residence, Held, Coming, Going, Away, Page, page
 use Rattle.machine.specs.State.{Opening, opening_of}
 use Rattle.machine.specs.Aging.{is_marked}
 use Rattle.machine.specs.Lists.{shown_at, has_bit, is_in_bits_at, is_in_bits}
-use Rattle.machine.specs.Step.{Step}
-use Rattle.machine.specs.Call.{Past, Caller, leaves_entry, entry_of, Answers, Called}
+use Rattle.machine.specs.Call.{Past, leaves_entry, entry_of, Answers, Called}
 use Rattle.machine.proofs.Values.{unlike}
 use Rattle.machine.proofs.EntryLemmas.{entries-one}
 use Rattle.block_store.specs.Device.{Disk}

@@ -1,5 +1,5 @@
 -- The headline in the words of its users: what holds of every step and of every run.
-use Rattle.std.specs.Prelude.{◌≡◌, ◌≢◌, ◌⊎◌, ℕ, ◌+◌, ◌<◌, ◌≤◌, Bool, true, false, List, ◌∷◌, ◌++◌, length, count_by, Option, Some, None, slice_get, slice_set}
+use Rattle.std.specs.Prelude.{◌≡◌, ◌≢◌, ◌⊎◌, ℕ, ◌+◌, ◌<◌, ◌≤◌, Bool, true, false, List, ◌∷◌, ◌++◌, length, Option, Some, None, slice_get, slice_set}
 use Rattle.std.specs.List.{AllByRecursion}
 use Rattle.machine.specs.declared.config.Config.{Config}
 use Rattle.machine.specs.declared.entry.Entry.{Entry}

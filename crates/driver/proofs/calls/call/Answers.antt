@@ -1,9 +1,8 @@
-use Rattle.std.proofs.Common.{◌≡◌, ◌+◌, ◌-◌, ℕ, true, ap, sym, ◌∙◌, subst, arith}
+use Rattle.std.proofs.Common.{◌≡◌, ap, ◌∙◌, subst, arith}
 use Rattle.machine.specs.State.{Opening}
 use Rattle.book.specs.Events.{event_of, reply_of}
 use Rattle.driver.specs.Tickets.{blocks_in, OwnReply}
 use Rattle.legal.proofs.OpeningLemmas.{called_opening}
-use Rattle.machine.specs.Call.{leaves_entry}
 use Rattle.book.specs.Passes.{PassOf, call_of, keeping}
 use Rattle.book.proofs.PassLemmas.{keeping_call-kept}
 use Rattle.driver.specs.Hits.{HitsWithin}
