@@ -1,11 +1,10 @@
 -- Each call of the device that failed is answered by one error, or is owed one.
 use Rattle.std.proofs.Common.{◌≡◌, inl, inr, ℕ, zero, suc, ◌+◌, ◌≤◌, Bool, true, false, List, [], ◌∷◌, ◌++◌, Option, Some, None, refl, ap, ◌∙◌, subst, arith}
-use Rattle.std.specs.Prelude.{◌⊎◌, if◌then◌else◌, nat_le, map, Result, Ok, Err}
+use Rattle.std.specs.Prelude.{◌⊎◌, if◌then◌else◌, map, Result, Ok, Err}
 use Rattle.std.proofs.lemmas.List.Sums.{sum_by-append}
 use Rattle.machine.specs.declared.amount.Amount.{Amount}
 use Rattle.machine.specs.declared.amount.Amount.TheVariants as amount
 use Rattle.machine.specs.declared.config.Config.{Config}
-use Rattle.machine.specs.declared.config.Watermarks.{Watermarks}
 use Rattle.machine.specs.declared.event.Cause.{Cause}
 use Rattle.machine.specs.declared.event.Op.{Op}
 use Rattle.machine.specs.declared.event.Op.TheVariants.{Read, Write}
@@ -29,7 +28,6 @@ use Rattle.machine.specs.Call.{Past, Caller}
 use Rattle.block_store.specs.declared.device.Fault.{Fault}
 use Rattle.block_store.specs.Device.{Disk, ReadsBlock, WritesBlock}
 use Rattle.pages.specs.Tickets.{TicketOf}
-use Rattle.book.specs.declared.event.Event.TheVariants as event
 use Rattle.book.specs.declared.event.Reply.{Reply}
 use Rattle.book.specs.declared.event.Reply.TheVariants as reply
 use Rattle.driver.specs.declared.turn.Access.{Access}
@@ -47,12 +45,12 @@ use Rattle.driver.specs.declared.turn.Outcome.{Outcome}
 use Rattle.driver.specs.declared.turn.Outcome.TheVariants as outcome
 use Rattle.driver.specs.declared.turn.Activity.{Activity}
 use Rattle.driver.specs.declared.turn.Activity.TheVariants.{Rests, Begun, Does}
-use Rattle.driver.specs.Turns.{wants_pages, wants_balance, wants_watch, done, byte_answer, ends_refused, resumes_at, Tried, MadeRoom, MaxSet, Lowered, Reclaimed, Balanced, Made, TaskDid, WasShown, Closed, Told, ReadsIn, WritesOut, after_read, after_write, Judged, with_group, with_file, with_amount, reads_file, writes_file, reclaims, task_judged, shell_judged, daemon_judged, paths_of, judged}
+use Rattle.driver.specs.Turns.{wants_pages, done, byte_answer, ends_refused, resumes_at, Tried, MadeRoom, MaxSet, Lowered, Reclaimed, Balanced, Made, TaskDid, WasShown, Closed, Told, ReadsIn, WritesOut, after_read, after_write, Judged, with_group, with_file, with_amount, reads_file, writes_file, reclaims, task_judged, shell_judged, daemon_judged, paths_of, judged}
 use Rattle.driver.specs.Schedule.{World, first_world, activity_of, with_activity, outcome_of, left_of, WantTurn, wants_at, StageTurn, JudgedTurn, ActivityTurn, said_at, all_said, Goings, EndsIn, RunsOut, Begins, Stepped, Runs, is_error, errors}
 use Rattle.driver.specs.Hands.{owes_at, owes, errors_owed}
 use Rattle.machine.proofs.SlotLemmas.{one_if}
 use Rattle.driver.proofs.SeatCounts.{count-with_activity}
-use Rattle.driver.proofs.Keeps.{Fine, FineOutcome, AllFine, runs_keep}
+use Rattle.driver.proofs.Keeps.{balance_either, watch_either, Fine, FineOutcome, AllFine, runs_keep}
 use Rattle.driver.proofs.Tickets.{Tickets, tickets_rest, tickets_turn, tickets_first}
 
 -- ---- what is owed
@@ -220,28 +218,14 @@ want-cost caller past past' old new (want.End said) transition owing is fine tur
     let same : new.failures ≡ old.failures = ap (λ (d : Disk). d.failures) turn.2 in
     omega (arith, says, same, is)
 
-balance-owed : (marks : Watermarks) (free : ℕ) → owed_of (wants_balance marks free) ≡ 0
-balance-owed marks free = by_test (nat_le marks.high free)
-  where
-    by_test : (b : Bool) → owed_of (if b then done else want.Call pending.Balance (event.ReclaimOne (record { 0 = 0 }))) ≡ 0
-    by_test true = refl
-    by_test false = refl
-
-watch-owed : (marks : Watermarks) (free : ℕ) → owed_of (wants_watch marks free) ≡ 0
-watch-owed marks free = by_test (nat_le marks.low free)
-  where
-    by_test : (b : Bool) → owed_of (if b then done else wants_balance marks free) ≡ 0
-    by_test true = refl
-    by_test false = balance-owed marks free
-
 pages-owed : (g left : ℕ) → owed_of (wants_pages g left) ≡ 0
 pages-owed g zero = refl
 pages-owed g (suc left) = refl
 
 -- as much is owed while the book is asked as before
 wants-owed : (past : Past) (now : Stage) → owed_of (wants_at past now) ≡ owed_at now
-wants-owed past stage.Watch = watch-owed past.state.opening.watermarks (free_frames past.state)
-wants-owed past stage.Balance = balance-owed past.state.opening.watermarks (free_frames past.state)
+wants-owed past stage.Watch = watch_either (λ w. owed_of w ≡ 0) past.state.opening.watermarks (free_frames past.state) refl refl
+wants-owed past stage.Balance = balance_either (λ w. owed_of w ≡ 0) past.state.opening.watermarks (free_frames past.state) refl refl
 wants-owed past (stage.Reclaim g left) = pages-owed g.0 left
 wants-owed past others = refl
 

@@ -1,9 +1,8 @@
 -- As many pages are in transfer as commands have a ticket in hand.
 use Rattle.std.proofs.Common.{◌≡◌, inl, inr, ℕ, zero, suc, ◌+◌, Bool, true, false, List, None, refl, sym, ap, ◌∙◌, arith}
-use Rattle.std.specs.Prelude.{if◌then◌else◌, nat_le, Result, Ok, Err}
+use Rattle.std.specs.Prelude.{Result, Ok, Err}
 use Rattle.std.proofs.lemmas.List.Sums.{sum_by-cons}
 use Rattle.machine.specs.declared.config.Config.{Config}
-use Rattle.machine.specs.declared.config.Watermarks.{Watermarks}
 use Rattle.machine.specs.declared.entry.Entry.{Entry}
 use Rattle.machine.specs.declared.reply.Reply.TheVariants as reply
 use Rattle.machine.specs.declared.refusal.Refusal.{Refusal}
@@ -36,13 +35,13 @@ use Rattle.driver.specs.declared.turn.Transition.{Transition}
 use Rattle.driver.specs.declared.turn.Outcome.{Outcome}
 use Rattle.driver.specs.declared.turn.Activity.{Activity}
 use Rattle.driver.specs.declared.turn.Activity.TheVariants.{Rests, Begun, Does}
-use Rattle.driver.specs.Turns.{wants_pages, wants_balance, wants_watch, done, Closed, Told, ReadsIn, WritesOut, after_read, after_write}
+use Rattle.driver.specs.Turns.{wants_pages, Closed, Told, ReadsIn, WritesOut, after_read, after_write}
 use Rattle.driver.specs.Schedule.{activity_of, with_activity, World, first_world, WantTurn, wants_at, StageTurn, left_of, Runs}
 use Rattle.driver.specs.Tickets.{holds, is_ending, holds_want, gives_ticket}
 use Rattle.driver.specs.Hands.{carries, tickets_in_hand}
 use Rattle.legal.proofs.TransferLemmas.{legal-transfers}
 use Rattle.driver.proofs.SeatCounts.{count-with_activity}
-use Rattle.driver.proofs.Keeps.{number_wanted, in_hand, number_at, is_idle, FineOutcome, OfCommand, of_command-leaves, FineWant, wants_fine, IsAt, runs_keep}
+use Rattle.driver.proofs.Keeps.{number_wanted, balance_either, watch_either, in_hand, number_at, is_idle, FineOutcome, OfCommand, of_command-leaves, FineWant, wants_fine, IsAt, runs_keep}
 use Rattle.driver.proofs.CallCases.{IsRefused, IsServed, Comes, ByRefusal, ByEntry, called_comes, Next, Handless, Reads, Writes, told_next}
 use Rattle.driver.proofs.MarkLemmas.{Stays, marks-stay}
 use Rattle.driver.proofs.Tickets.{KeepsPending, KeepsWanted, pending_known, still_known, LegalPast, served_legal, Tickets, tickets_rest, tickets_turn, tickets_first, own_keeps}
@@ -69,27 +68,13 @@ idle_carries Rests e = refl
 idle_carries (Begun command) e = refl
 idle_carries (Does now) e = cc
 
-balance_held : (marks : Watermarks) (free : ℕ) → holds_want (wants_balance marks free) ≡ false
-balance_held marks free = by_test (nat_le marks.high free)
-  where
-    by_test : (b : Bool) → holds_want (if b then done else want.Call pending.Balance (event.ReclaimOne (record { 0 = 0 }))) ≡ false
-    by_test true = refl
-    by_test false = refl
-
-watch_held : (marks : Watermarks) (free : ℕ) → holds_want (wants_watch marks free) ≡ false
-watch_held marks free = by_test (nat_le marks.low free)
-  where
-    by_test : (b : Bool) → holds_want (if b then done else wants_balance marks free) ≡ false
-    by_test true = refl
-    by_test false = balance_held marks free
-
 pages_held : (g left : ℕ) → holds_want (wants_pages g left) ≡ false
 pages_held g zero = refl
 pages_held g (suc left) = refl
 
 wants_held : (past : Past) (now : Stage) → holds_want (wants_at past now) ≡ holds now
-wants_held past stage.Watch = watch_held past.state.opening.watermarks (free_frames past.state)
-wants_held past stage.Balance = balance_held past.state.opening.watermarks (free_frames past.state)
+wants_held past stage.Watch = watch_either (λ w. holds_want w ≡ false) past.state.opening.watermarks (free_frames past.state) refl refl
+wants_held past stage.Balance = balance_either (λ w. holds_want w ≡ false) past.state.opening.watermarks (free_frames past.state) refl refl
 wants_held past (stage.Reclaim g left) = pages_held g.0 left
 wants_held past others = refl
 
@@ -107,27 +92,13 @@ abbrev IsPaired : Want → Type 0
 IsPaired (want.Call remembers what) = is_ending what ≡ closes remembers
 IsPaired wanted = Unit {0}
 
-balance_paired : (marks : Watermarks) (free : ℕ) → IsPaired (wants_balance marks free)
-balance_paired marks free = by_test (nat_le marks.high free)
-  where
-    by_test : (b : Bool) → IsPaired (if b then done else want.Call pending.Balance (event.ReclaimOne (record { 0 = 0 })))
-    by_test true = tt
-    by_test false = refl
-
-watch_paired : (marks : Watermarks) (free : ℕ) → IsPaired (wants_watch marks free)
-watch_paired marks free = by_test (nat_le marks.low free)
-  where
-    by_test : (b : Bool) → IsPaired (if b then done else wants_balance marks free)
-    by_test true = tt
-    by_test false = balance_paired marks free
-
 pages_paired : (g left : ℕ) → IsPaired (wants_pages g left)
 pages_paired g zero = tt
 pages_paired g (suc left) = refl
 
 wants_paired : (past : Past) (now : Stage) → IsPaired (wants_at past now)
-wants_paired past stage.Watch = watch_paired past.state.opening.watermarks (free_frames past.state)
-wants_paired past stage.Balance = balance_paired past.state.opening.watermarks (free_frames past.state)
+wants_paired past stage.Watch = watch_either IsPaired past.state.opening.watermarks (free_frames past.state) tt refl
+wants_paired past stage.Balance = balance_either IsPaired past.state.opening.watermarks (free_frames past.state) tt refl
 wants_paired past (stage.Reclaim g left) = pages_paired g.0 left
 wants_paired past (stage.Read access ticket) = tt
 wants_paired past (stage.Write on ticket) = tt

@@ -86,27 +86,29 @@ pub data Alike (w other : Want) : Type 0 where
   Same : w ≡ other → Alike w other
   Ticketless : number_wanted w ≡ None → number_wanted other ≡ None → Alike w other
 
-balance_none : (marks : Watermarks) (free : ℕ) → number_wanted (wants_balance marks free) ≡ None
-balance_none marks free = by_test (nat_le marks.high free)
-  where
-    by_test : (b : Bool) → number_wanted (if b then done else want.Call pending.Balance (event.ReclaimOne (record { 0 = 0 }))) ≡ None
-    by_test true = refl
-    by_test false = refl
+-- a daemon is done, or it takes a page for the root
+module _ (P : Want → Type 0) (marks : Watermarks) (free : ℕ) (ends : P done) (takes : P (want.Call pending.Balance (event.ReclaimOne (record { 0 = 0 })))) where
+  pub balance_either : P (wants_balance marks free)
+  balance_either = by_test (nat_le marks.high free)
+    where
+      by_test : (b : Bool) → P (if b then done else want.Call pending.Balance (event.ReclaimOne (record { 0 = 0 })))
+      by_test true = ends
+      by_test false = takes
 
-watch_none : (marks : Watermarks) (free : ℕ) → number_wanted (wants_watch marks free) ≡ None
-watch_none marks free = by_test (nat_le marks.low free)
-  where
-    by_test : (b : Bool) → number_wanted (if b then done else wants_balance marks free) ≡ None
-    by_test true = refl
-    by_test false = balance_none marks free
+  pub watch_either : P (wants_watch marks free)
+  watch_either = by_test (nat_le marks.low free)
+    where
+      by_test : (b : Bool) → P (if b then done else wants_balance marks free)
+      by_test true = ends
+      by_test false = balance_either
 
 pub pages_none : (g left : ℕ) → number_wanted (wants_pages g left) ≡ None
 pages_none g zero = refl
 pages_none g (suc left) = refl
 
 pub wants_alike : (past : Past) (stage : Stage) → Alike (wants_at past stage) (in_hand stage)
-wants_alike past stage.Watch = Ticketless (watch_none past.state.opening.watermarks (free_frames past.state)) refl
-wants_alike past stage.Balance = Ticketless (balance_none past.state.opening.watermarks (free_frames past.state)) refl
+wants_alike past stage.Watch = Ticketless (watch_either (λ w. number_wanted w ≡ None) past.state.opening.watermarks (free_frames past.state) refl refl) refl
+wants_alike past stage.Balance = Ticketless (balance_either (λ w. number_wanted w ≡ None) past.state.opening.watermarks (free_frames past.state) refl refl) refl
 wants_alike past others = Same refl
 
 number_alike : (w other : Want) → Alike w other → number_wanted w ≡ number_wanted other
@@ -167,27 +169,13 @@ FineWant (want.End said) = Fine said
 FineWant (want.Call remembers what) = OfCommand what × Tries remembers what
 FineWant wanted = Unit {0}
 
-balance_fine : (marks : Watermarks) (free : ℕ) → FineWant (wants_balance marks free)
-balance_fine marks free = by_test (nat_le marks.high free)
-  where
-    by_test : (b : Bool) → FineWant (if b then done else want.Call pending.Balance (event.ReclaimOne (record { 0 = 0 })))
-    by_test true = λ e. cc
-    by_test false = (tt, tt)
-
-watch_fine : (marks : Watermarks) (free : ℕ) → FineWant (wants_watch marks free)
-watch_fine marks free = by_test (nat_le marks.low free)
-  where
-    by_test : (b : Bool) → FineWant (if b then done else wants_balance marks free)
-    by_test true = λ e. cc
-    by_test false = balance_fine marks free
-
 pages_fine : (g left : ℕ) → FineWant (wants_pages g left)
 pages_fine g zero = λ e. cc
 pages_fine g (suc left) = (tt, tt)
 
 pub wants_fine : (past : Past) (stage : Stage) → FineWant (wants_at past stage)
-wants_fine past stage.Watch = watch_fine past.state.opening.watermarks (free_frames past.state)
-wants_fine past stage.Balance = balance_fine past.state.opening.watermarks (free_frames past.state)
+wants_fine past stage.Watch = watch_either FineWant past.state.opening.watermarks (free_frames past.state) (λ e. cc) (tt, tt)
+wants_fine past stage.Balance = balance_either FineWant past.state.opening.watermarks (free_frames past.state) (λ e. cc) (tt, tt)
 wants_fine past (stage.Reclaim g left) = pages_fine g.0 left
 wants_fine past (stage.Try access) = (tt, refl)
 wants_fine past (stage.Read access ticket) = tt
