@@ -77,7 +77,8 @@ ErrorsAreFailures =
     (config : Config) (before : Disk) (steps : List Line) (answers : List Told_by) (end : World) → Runs (first_world config before) steps answers end
     → errors answers + before.failures ≤ end.disk.failures
 
--- each failed call of the device is answered by one EIO, or the command whose call it was has still to say so. (Excludes a failure that nobody is told of, and one that is told twice.)
+-- the errors of the device that are answered, and those that commands under way still owe, are together as many as its calls that failed. (Excludes a failure that nobody is told of, and one
+-- that is told twice.)
 abbrev pub EachFailureIsAnswered : Type 0
 EachFailureIsAnswered =
     (config : Config) (before : Disk) (steps : List Line) (answers : List Told_by) (end : World) → Runs (first_world config before) steps answers end

@@ -27,8 +27,8 @@ pub fn errors_are_failures()
     ensures { ErrorsAreFailures }
 {}
 
-/// Each call of the device that failed in a run is answered by one `EIO`, or the command whose call it was
-/// has still to say so.
+/// The errors of the device that a run answered, and those that its commands under way still owe, are
+/// together as many as calls of it failed.
 pub fn each_failure_is_answered()
     ensures { EachFailureIsAnswered }
 {}
