@@ -1,13 +1,14 @@
 -- The parts of aging, one after another.
 use Rattle.std.proofs.Common.{◌≡◌, ℕ, ◌+◌, ◌<◌, ◌≢◌, max, not, Bool, true, false, cond, eqb, List, [], ◌∷◌, ◌++◌, length, map, set, refl, sym, ap, ◌∙◌, get_or-set_other}
 use Rattle.std.specs.List.{AllByRecursion}
-use Rattle.std.proofs.lemmas.Bool.{eqb-false, ne_eqb}
+use Rattle.std.proofs.lemmas.Bool.{eqb-false}
 use Rattle.machine.specs.declared.record.Kind.TheVariants.{Anon, File}
-use Rattle.machine.specs.Generations.{Listed, Row, Gens, at_seq, on_row, listed, merged, advanced, IsGens, AreDistinct}
+use Rattle.machine.specs.Generations.{Listed, Row, Gens, at_seq, has_page, on_row, listed, merged, advanced, IsGens}
 use Rattle.machine.specs.Aging.{is_marked, cleared, at_most_three, promoted, aged}
 use Rattle.lru_gen.specs.Gens.{GensOf, gens_of, sets}
 use Rattle.aging.specs.Groups.{seen_at}
-use Rattle.machine.proofs.ListedLemmas.{each-back, none-in}
+use Rattle.machine.proofs.ListedLemmas.{each-weaker, each-has, none-in}
+use Rattle.lru_gen.proofs.KindLemmas.{anon_is_no_file, sound_apart}
 use Rattle.machine.proofs.AgingLemmas.{each-three}
 use Rattle.aging.proofs.GroupLemmas.{change, only-then, sets-by}
 use Rattle.aging.proofs.PromoteLemmas.{cleared-append, unmarked_of, marked_of}
@@ -39,23 +40,9 @@ cleared-other (l ∷ ls) m p h =
     let ne : p ≢ l.page = λ q. eqb-false l.page p h.0 (sym q) in
     cleared-other ls (set m l.page false) p h.1 ∙ get_or-set_other m l.page p false false ne
 
-apart-from : (g : Listed) (gs fs : List Listed) → AllByRecursion (λ f. eqb f.page g.page ≡ false) fs → AllByRecursion (λ f. AllByRecursion (λ l. eqb l.page f.page ≡ false) gs) fs
-    → AllByRecursion (λ f. AllByRecursion (λ l. eqb l.page f.page ≡ false) (g ∷ gs)) fs
-apart-from g gs [] h k = tt
-apart-from g gs (f ∷ fs) h k = ((ne_eqb g.page f.page (λ q. eqb-false f.page g.page h.0 (sym q)), k.0), apart-from g gs fs h.1 k.1)
-
-each-empty : (fs : List Listed) → AllByRecursion (λ (f : Listed). AllByRecursion (λ (l : Listed). eqb l.page f.page ≡ false) []) fs
-each-empty [] = tt
-each-empty (f ∷ fs) = (tt, each-empty fs)
-
--- the pages of the one list are none of the other
-pub apart-lists : (gs fs : List Listed) → AreDistinct (gs ++ fs) → AllByRecursion (λ f. AllByRecursion (λ l. eqb l.page f.page ≡ false) gs) fs
-apart-lists [] fs d = each-empty fs
-apart-lists (g ∷ gs) fs d = apart-from g gs fs (each-back (λ f. eqb f.page g.page ≡ false) gs fs (none-in g.page (gs ++ fs) d.0)) (apart-lists gs fs d.1)
-
-each-same : (gs : List Listed) (m : List Bool) (fs : List Listed) → AllByRecursion (λ f. AllByRecursion (λ l. eqb l.page f.page ≡ false) gs) fs → AllByRecursion (λ f. is_marked (cleared gs m) f.page ≡ is_marked m f.page) fs
-each-same gs m [] h = tt
-each-same gs m (f ∷ fs) h = (cleared-other gs m f.page h.0, each-same gs m fs h.1)
+each-same : (gs : List Listed) (m : List Bool) (fs : List Listed) → ((p : ℕ) → has_page p fs ≡ true → has_page p gs ≡ false) → AllByRecursion (λ f. is_marked (cleared gs m) f.page ≡ is_marked m f.page) fs
+each-same gs m fs apart =
+    each-weaker (λ f. has_page f.page fs ≡ true) (λ f. is_marked (cleared gs m) f.page ≡ is_marked m f.page) (λ f h. cleared-other gs m f.page (none-in f.page gs (apart f.page h))) fs (each-has fs)
 
 marked-same : (m m' : List Bool) (xs : List Listed) → AllByRecursion (λ f. is_marked m' f.page ≡ is_marked m f.page) xs → marked_of m' xs ≡ marked_of m xs
 marked-same m m' [] h = refl
@@ -81,7 +68,7 @@ gens-done g g3 g4 g5 m m4 s e3 e4 em e5 =
     let top : ℕ = g.max_seq + 1 in
     let at4 : g4 ≡ on_row Anon (promoted top m) (opened g) = e4 ∙ ap (λ (x : Gens). on_row Anon (promoted x.max_seq m) x) e3 in
     let marks : m4 ≡ cleared g.anon.pages m = em ∙ ap (λ (x : Gens). cleared x.anon.pages m) e3 ∙ cleared-three g.max_seq g.anon m in
-    let same = each-three (λ f. is_marked (cleared g.anon.pages m) f.page ≡ is_marked m f.page) g.max_seq g.file (λ e l q. q) (each-same g.anon.pages m g.file.pages (apart-lists g.anon.pages g.file.pages s.distinct)) in
+    let same = each-three (λ f. is_marked (cleared g.anon.pages m) f.page ≡ is_marked m f.page) g.max_seq g.file (λ e l q. q) (each-same g.anon.pages m g.file.pages (sound_apart s File Anon anon_is_no_file)) in
     e5 ∙ ap (λ (x : Gens). on_row File (promoted x.max_seq m4) x) at4
     ∙ ap (λ (x : List Bool). rows top (promoted top m (at_most_three g.max_seq g.anon)) (promoted top x (at_most_three g.max_seq g.file))) marks
     ∙ ap (λ (x : Row). rows top (promoted top m (at_most_three g.max_seq g.anon)) x) (promoted-same top m (cleared g.anon.pages m) (at_most_three g.max_seq g.file) same)

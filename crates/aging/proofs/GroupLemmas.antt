@@ -1,11 +1,11 @@
 -- A change of one group's lists, and the other groups.
-use Rattle.std.proofs.Common.{◌≡◌, ℕ, zero, suc, ◌<◌, ◌≢◌, ◌||◌, Bool, true, false, eqb, List, [], ◌∷◌, length, refl, sym, ap, ◌∙◌, subst, length-set, get_or-set_other}
-use Rattle.std.proofs.Math.Bool.{or-true}
+use Rattle.std.proofs.Common.{◌≡◌, ℕ, suc, ◌<◌, ◌≢◌, ◌||◌, Bool, true, false, List, [], ◌∷◌, length, refl, sym, ap, ◌∙◌, subst, inl, inr, length-set, get_or-set_other}
 use Rattle.std.proofs.lemmas.List.{set-get_or, get_or-set_same, set-set}
-use Rattle.std.proofs.lemmas.Bool.{eqb-true, eqb-false, true≢false}
+use Rattle.std.proofs.lemmas.Bool.{cases_eq, false_from_ne_true}
 use Rattle.machine.specs.Generations.{Gens, new_gens, gens_at, with_gens, has_page, is_listed, is_listed_in, isolated, AreGens}
 use Rattle.lru_gen.specs.Gens.{GensOf, gens_of, sets}
 use Rattle.aging.specs.Groups.{ChangesOnly}
+use Rattle.lru_gen.proofs.SoundLemmas.{group_has}
 use Rattle.machine.proofs.ListedLemmas.{has_page-without}
 
 -- ---- the lists of one group
@@ -59,9 +59,7 @@ only-other g s t only h ne = ap (λ (u : GensOf). gens_of u h) only ∙ get_or-s
 -- ---- a page that is on the lists of one group
 
 pub listed-in : (groups : List Gens) (g p : ℕ) → is_listed (gens_at groups g) p ≡ true → is_listed_in groups p ≡ true
-listed-in [] g p h = absurd (true≢false (sym h))
-listed-in (x ∷ xs) zero p h = ap (λ (b : Bool). b || is_listed_in xs p) h
-listed-in (x ∷ xs) (suc g) p h = ap (λ (b : Bool). is_listed x p || b) (listed-in xs g p h) ∙ or-true (is_listed x p)
+listed-in groups g p h = group_has groups g p h
 
 pub unlisted-all : (groups : List Gens) (p : ℕ) → ((g : ℕ) → is_listed (gens_at groups g) p ≡ false) → is_listed_in groups p ≡ false
 unlisted-all [] p h = refl
@@ -74,16 +72,13 @@ unlisted-isolated p x = ap (λ (b : Bool). b || has_page p (isolated p x).anon.p
 pub unlisted-in : (groups : List Gens) (g p : ℕ) → AreGens groups → g < length groups → is_listed (gens_at groups g) p ≡ true
     → is_listed_in (with_gens groups g (isolated p (gens_at groups g))) p ≡ false
 unlisted-in groups g p s lt h =
-    let new : List Gens = with_gens groups g (isolated p (gens_at groups g)) in
-    let other : (k : ℕ) → k ≢ g → (b : Bool) → is_listed (gens_at groups k) p ≡ b → b ≡ false =
-    λ k ne b t. (elim b as (λ v. is_listed (gens_at groups k) p ≡ v → v ≡ false) [ true ↦ λ t'. absurd (ne (s.apart k g p t' h)) | false ↦ λ t'. refl ]) t in
-    let each : (k : ℕ) (b : Bool) → eqb k g ≡ b → is_listed (gens_at new k) p ≡ false =
-    λ k b t. (elim b as (λ v. eqb k g ≡ v → is_listed (gens_at new k) p ≡ false) [
-      | true ↦ λ t'.
-          subst (λ (i : ℕ). is_listed (gens_at new i) p ≡ false) (sym (eqb-true k g t'))
-          (ap (λ (x : Gens). is_listed x p) (get_or-set_same groups g (isolated p (gens_at groups g)) new_gens lt) ∙ unlisted-isolated p (gens_at groups g))
-      | false ↦ λ t'.
-          let ne : k ≢ g = λ q. eqb-false k g t' q in
-          ap (λ (x : Gens). is_listed x p) (get_or-set_other groups g k (isolated p (gens_at groups g)) new_gens ne) ∙ other k ne (is_listed (gens_at groups k) p) refl
-    ]) t in
-    unlisted-all new p (λ k. each k (eqb k g) refl)
+    let left : Gens = isolated p (gens_at groups g) in
+    unlisted-all (with_gens groups g left) p (λ k.
+    elim (cases_eq k g) [
+      | inl same ↦
+          subst (λ (i : ℕ). is_listed (gens_at (with_gens groups g left) i) p ≡ false) (sym same)
+          (ap (λ (x : Gens). is_listed x p) (get_or-set_same groups g left new_gens lt) ∙ unlisted-isolated p (gens_at groups g))
+      | inr other ↦
+          ap (λ (x : Gens). is_listed x p) (get_or-set_other groups g k left new_gens other)
+          ∙ false_from_ne_true (is_listed (gens_at groups k) p) (λ too. other (s.apart k g p too h))
+    ])

@@ -1,16 +1,16 @@
 -- The walk along a row that takes the marked pages to its tail.
-use Rattle.std.proofs.Common.{◌≡◌, ℕ, ◌+◌, ◌<◌, ◌≤◌, ◌≢◌, ◌||◌, not, Bool, true, false, cond, eqb, List, [], ◌∷◌, ◌++◌, length, map, filter, set, get_or, slice_get, Option, Some, None, option_map, IfSome, refl, sym, ap, ◌∙◌, subst, arith, append_assoc, append-nil, length-append, get_or-set_other}
+use Rattle.std.proofs.Common.{◌≡◌, ℕ, ◌+◌, ◌<◌, ◌≤◌, ◌≢◌, ◌||◌, not, Bool, true, false, cond, eqb, List, [], ◌∷◌, ◌++◌, length, map, filter, set, get_or, slice_get, Option, Some, None, option_map, IfSome, refl, sym, ap, ◌∙◌, subst, inl, inr, arith, append_assoc, append-nil, length-append, get_or-set_other}
 use Rattle.std.specs.List.{AllByRecursion}
 use Rattle.std.proofs.lemmas.List.{set-get_or}
-use Rattle.std.proofs.Math.Bool.{or-true}
 use Rattle.std.proofs.lemmas.List.Elements.{filter-append}
-use Rattle.std.proofs.lemmas.Bool.{eq-eqb, eqb-true, eqb-false, true≢false}
+use Rattle.std.proofs.lemmas.Bool.{cases_Bool, eq-eqb, eqb-true, eqb-false, true≢false}
+use Rattle.lru_gen.proofs.KindLemmas.{anon_is_no_file, file_is_no_anon, row_by, both_rows, sound_row, sound_distinct, sound_apart}
 use Rattle.machine.specs.declared.record.Kind.{Kind}
 use Rattle.machine.specs.declared.record.Kind.TheVariants.{Anon, File}
-use Rattle.machine.specs.Generations.{Listed, Gens, at_seq, row_of, on_row, added, isolated, entered, without, has_page, after_in, is_listed, IsGens, AreDistinct}
+use Rattle.machine.specs.Generations.{Listed, Gens, at_seq, row_of, on_row, added, isolated, entered, without, has_page, after_in, IsGens, AreDistinct}
 use Rattle.machine.specs.Aging.{has_mark, is_marked, cleared, promoted}
 use Rattle.machine.specs.Eviction.{front_run, behind_run}
-use Rattle.machine.proofs.ListedLemmas.{each-append, each-front, each-back, none-in, in-none, without-all, top-each, distinct-middle, entered-tail}
+use Rattle.machine.proofs.ListedLemmas.{each-append, each-front, each-back, none-in, without-all, top-each, distinct-middle, entered-tail}
 use Rattle.machine.proofs.AgingLemmas.{clear-here, cleared-keeps}
 
 abbrev pub with_pages : Kind → List Listed → Gens → Gens
@@ -77,14 +77,12 @@ pub record At (pages : List Listed) (p : ℕ) : Type 0 where
 pub at : (pages : List Listed) (p : ℕ) → has_page p pages ≡ true → At pages p
 at [] p e = absurd (true≢false (sym e))
 at (x ∷ xs) p e =
-    let go : (b : Bool) → eqb x.page p ≡ b → (b || has_page p xs) ≡ true → At (x ∷ xs) p =
-    λ b t q. (elim b as (λ v. eqb x.page p ≡ v → (v || has_page p xs) ≡ true → At (x ∷ xs) p) [
-      | true ↦ λ t' q'. record { before = []; here = x; rest = xs; is = refl; page = eqb-true x.page p t'; next = after-here x xs p t' }
-      | false ↦ λ t' q'.
-          let a = at xs p q' in
-          record { before = x ∷ a.before; here = a.here; rest = a.rest; is = ap (λ (zs : List Listed). x ∷ zs) a.is; page = a.page; next = after-later x xs p t' ∙ a.next }
-    ]) t q in
-    go (eqb x.page p) refl e
+    elim (cases_Bool (eqb x.page p)) [
+      | inl here ↦ record { before = []; here = x; rest = xs; is = refl; page = eqb-true x.page p here; next = after-here x xs p here }
+      | inr later ↦
+          let a = at xs p (rw later at e) in
+          record { before = x ∷ a.before; here = a.here; rest = a.rest; is = ap (λ (zs : List Listed). x ∷ zs) a.is; page = a.page; next = after-later x xs p later ∙ a.next }
+    ]
 
 -- ---- a row in two parts
 
@@ -203,62 +201,36 @@ tail-middle top bs l rs hb hr t =
     ∙ entered-tail l.page top (bs ++ rs) (each-append (λ k. k.seq ≤ top) bs rs (each-front (λ k. k.seq ≤ top) bs (l ∷ rs) t) back.1)
     ∙ append_assoc bs rs (at_seq top l ∷ [])
 
--- no other page of the two rows is this one
-record Apart (p : ℕ) (bs rs os : List Listed) : Type 0 where
-  before : AllByRecursion (λ k. eqb k.page p ≡ false) bs
-  behind : AllByRecursion (λ k. eqb k.page p ≡ false) rs
-  beside : AllByRecursion (λ k. eqb k.page p ≡ false) os
+-- no other page of the row is this one
+row-parts : (kind : Kind) (g : Gens) (bs : List Listed) (l : Listed) (rs : List Listed) → IsGens g → (row_of kind g).pages ≡ bs ++ l ∷ rs → (has_page l.page bs ≡ false) × (has_page l.page rs ≡ false)
+row-parts kind g bs l rs s e = distinct-middle bs l rs (subst (λ (zs : List Listed). AreDistinct zs) e (sound_distinct s kind))
 
-apart-anon : (pages bs : List Listed) (l : Listed) (rs fs : List Listed) → pages ≡ bs ++ l ∷ rs → AreDistinct (pages ++ fs) → Apart l.page bs rs fs
-apart-anon pages bs l rs fs e d =
-    let d' : AreDistinct ((bs ++ l ∷ rs) ++ fs) = subst (λ (zs : List Listed). AreDistinct (zs ++ fs)) e d in
-    let d'' : AreDistinct (bs ++ l ∷ (rs ++ fs)) = subst (λ (zs : List Listed). AreDistinct zs) (append_assoc bs (l ∷ rs) fs) d' in
-    let m = distinct-middle bs l (rs ++ fs) d'' in
-    let n = none-in l.page (rs ++ fs) m.1 in
-    record { before = none-in l.page bs m.0; behind = each-front (λ k. eqb k.page l.page ≡ false) rs fs n; beside = each-back (λ k. eqb k.page l.page ≡ false) rs fs n }
-
-apart-file : (gs pages bs : List Listed) (l : Listed) (rs : List Listed) → pages ≡ bs ++ l ∷ rs → AreDistinct (gs ++ pages) → Apart l.page bs rs gs
-apart-file gs pages bs l rs e d =
-    let d' : AreDistinct (gs ++ (bs ++ l ∷ rs)) = subst (λ (zs : List Listed). AreDistinct (gs ++ zs)) e d in
-    let d'' : AreDistinct ((gs ++ bs) ++ l ∷ rs) = subst (λ (zs : List Listed). AreDistinct zs) (sym (append_assoc gs bs (l ∷ rs))) d' in
-    let m = distinct-middle (gs ++ bs) l rs d'' in
-    let n = none-in l.page (gs ++ bs) m.0 in
-    record { before = each-back (λ k. eqb k.page l.page ≡ false) gs bs n; behind = none-in l.page rs m.1; beside = each-front (λ k. eqb k.page l.page ≡ false) gs bs n }
-
-behind-apart : (kind : Kind) (g : Gens) (bs : List Listed) (l : Listed) (rs : List Listed) → IsGens g → (row_of kind g).pages ≡ bs ++ l ∷ rs → has_page l.page rs ≡ false
-behind-apart Anon g bs l rs s e = in-none l.page rs (apart-anon g.anon.pages bs l rs g.file.pages e s.distinct).behind
-behind-apart File g bs l rs s e = in-none l.page rs (apart-file g.anon.pages g.file.pages bs l rs e s.distinct).behind
-
-in-middle : (bs : List Listed) (l : Listed) (rs : List Listed) → has_page l.page (bs ++ l ∷ rs) ≡ true
+pub in-middle : (bs : List Listed) (l : Listed) (rs : List Listed) → has_page l.page (bs ++ l ∷ rs) ≡ true
 in-middle [] l rs = rw (eq-eqb l.page l.page refl) refl
 in-middle (b ∷ bs) l rs = elim (eqb b.page l.page) as (λ v. (v || has_page l.page (bs ++ l ∷ rs)) ≡ true) [ true ↦ refl | false ↦ in-middle bs l rs ]
 
-abbrev both : Gens → List Listed → List Listed → Gens
-both g gs fs = record { max_seq = g.max_seq; anon = record { min_seq = g.anon.min_seq; pages = gs }; file = record { min_seq = g.file.min_seq; pages = fs } }
+moved-by : (kind : Kind) (g : Gens) (p : ℕ) (xs : List Listed) → entered p g.max_seq (without p (row_of kind g).pages) ≡ xs → ((j : Kind) → j ≢ kind → without p (row_of j g).pages ≡ (row_of j g).pages) → added p kind g.max_seq (isolated p g) ≡ with_pages kind xs g
+moved-by Anon g p xs own others = both_rows (row_by g.anon.min_seq own) (row_by g.file.min_seq (others File file_is_no_anon))
+moved-by File g p xs own others = both_rows (row_by g.anon.min_seq (others Anon anon_is_no_file)) (row_by g.file.min_seq own)
 
-moved : (kind : Kind) (g : Gens) (bs : List Listed) (l : Listed) (rs : List Listed) → IsGens g → (row_of kind g).pages ≡ bs ++ l ∷ rs → added l.page kind g.max_seq (isolated l.page g) ≡ with_pages kind (bs ++ (rs ++ at_seq g.max_seq l ∷ [])) g
-moved Anon g bs l rs s e =
-    let a = apart-anon g.anon.pages bs l rs g.file.pages e s.distinct in
-    let t : AllByRecursion (λ k. k.seq ≤ g.max_seq) (bs ++ l ∷ rs) = subst (λ (zs : List Listed). AllByRecursion (λ k. k.seq ≤ g.max_seq) zs) e (top-each g.max_seq g.anon.min_seq g.anon.pages s.anon.within) in
-    ap (λ (zs : List Listed). both g (entered l.page g.max_seq (without l.page zs)) (without l.page g.file.pages)) e
-    ∙ ap (λ (zs : List Listed). both g zs (without l.page g.file.pages)) (tail-middle g.max_seq bs l rs a.before a.behind t)
-    ∙ ap (λ (zs : List Listed). both g (bs ++ (rs ++ at_seq g.max_seq l ∷ [])) zs) (without-all l.page g.file.pages a.beside)
-moved File g bs l rs s e =
-    let a = apart-file g.anon.pages g.file.pages bs l rs e s.distinct in
-    let t : AllByRecursion (λ k. k.seq ≤ g.max_seq) (bs ++ l ∷ rs) = subst (λ (zs : List Listed). AllByRecursion (λ k. k.seq ≤ g.max_seq) zs) e (top-each g.max_seq g.file.min_seq g.file.pages s.file.within) in
-    ap (λ (zs : List Listed). both g (without l.page g.anon.pages) (entered l.page g.max_seq (without l.page zs))) e
-    ∙ ap (λ (zs : List Listed). both g (without l.page g.anon.pages) zs) (tail-middle g.max_seq bs l rs a.before a.behind t)
-    ∙ ap (λ (zs : List Listed). both g zs (bs ++ (rs ++ at_seq g.max_seq l ∷ []))) (without-all l.page g.anon.pages a.beside)
+pub moved : (kind : Kind) (g : Gens) (bs : List Listed) (l : Listed) (rs : List Listed) → IsGens g → (row_of kind g).pages ≡ bs ++ l ∷ rs → added l.page kind g.max_seq (isolated l.page g) ≡ with_pages kind (bs ++ (rs ++ at_seq g.max_seq l ∷ [])) g
+moved kind g bs l rs s e =
+    let parts = row-parts kind g bs l rs s e in
+    let row = sound_row s kind in
+    let t : AllByRecursion (λ k. k.seq ≤ g.max_seq) (bs ++ l ∷ rs) = subst (λ (zs : List Listed). AllByRecursion (λ k. k.seq ≤ g.max_seq) zs) e (top-each g.max_seq (row_of kind g).min_seq (row_of kind g).pages row.within) in
+    let there : has_page l.page (row_of kind g).pages ≡ true = ap (λ (zs : List Listed). has_page l.page zs) e ∙ in-middle bs l rs in
+    moved-by kind g l.page (bs ++ (rs ++ at_seq g.max_seq l ∷ []))
+    (ap (λ (zs : List Listed). entered l.page g.max_seq (without l.page zs)) e ∙ tail-middle g.max_seq bs l rs (none-in l.page bs parts.0) (none-in l.page rs parts.1) t)
+    (λ j differs. without-all l.page (row_of j g).pages (none-in l.page (row_of j g).pages (sound_apart s kind j differs l.page there)))
 
 -- ---- a turn of the walk
 
-row-apart : (kind : Kind) (g : Gens) (pages bs : List Listed) (l : Listed) (rs : List Listed) → IsGens g → pages ≡ (row_of kind g).pages → pages ≡ bs ++ l ∷ rs → AllByRecursion (λ k. eqb k.page l.page ≡ false) bs
-row-apart Anon g pages bs l rs s w e = (apart-anon g.anon.pages bs l rs g.file.pages (sym w ∙ e) s.distinct).before
-row-apart File g pages bs l rs s w e = (apart-file g.anon.pages g.file.pages bs l rs (sym w ∙ e) s.distinct).before
+row-apart : (kind : Kind) (g : Gens) (bs : List Listed) (l : Listed) (rs : List Listed) → IsGens g → (row_of kind g).pages ≡ bs ++ l ∷ rs → AllByRecursion (λ k. eqb k.page l.page ≡ false) bs
+row-apart kind g bs l rs s e = none-in l.page bs (row-parts kind g bs l rs s e).0
 
 first-apart : (kind : Kind) (g : Gens) (bs : List Listed) (l : Listed) (rs : List Listed) → IsGens g → (row_of kind g).pages ≡ bs ++ l ∷ rs → FirstApart (bs ++ l ∷ []) rs
 first-apart kind g bs l [] s e = tt
-first-apart kind g bs l (r ∷ rs) s e = row-apart kind g (row_of kind g).pages (bs ++ l ∷ []) r rs s refl (e ∙ sym (append_assoc bs (l ∷ []) (r ∷ rs)))
+first-apart kind g bs l (r ∷ rs) s e = row-apart kind g (bs ++ l ∷ []) r rs s (e ∙ sym (append_assoc bs (l ∷ []) (r ∷ rs)))
 
 front-apart : (bs : List Listed) (l : Listed) (rs : List Listed) → FirstApart (bs ++ l ∷ []) rs → FirstApart bs rs
 front-apart bs l [] h = tt
@@ -289,7 +261,7 @@ steps-over kind g m p s h k =
     let a = at pages p h in
     let k' : has_mark m a.here ≡ false = ap (λ (q : ℕ). is_marked m q) a.page ∙ k in
     let more : pages ≡ (a.before ++ a.here ∷ []) ++ a.rest = a.is ∙ sym (append_assoc a.before (a.here ∷ []) a.rest) in
-    let now : Parted (Some a.here.page) pages a.before (a.here ∷ a.rest) = parted-here pages a.before a.here a.rest a.is (row-apart kind g pages a.before a.here a.rest s refl a.is) in
+    let now : Parted (Some a.here.page) pages a.before (a.here ∷ a.rest) = parted-here pages a.before a.here a.rest a.is (row-apart kind g a.before a.here a.rest s a.is) in
     let then : Parted (first_page a.rest) pages (a.before ++ a.here ∷ []) a.rest = parted-next pages (a.before ++ a.here ∷ []) a.rest more (first-apart kind g a.before a.here a.rest s a.is) in
     let ma : marked_of m (a.here ∷ a.rest) ≡ marked_of m a.rest = rw k' refl in
     let ma_length : length (marked_of m (a.here ∷ a.rest)) ≡ length (marked_of m a.rest) = ap (λ (zs : List Listed). length zs) ma in
@@ -315,7 +287,7 @@ steps-by kind g m bs l rs xs bs' rs' next' s e k p whole marks there less =
     let pages : List Listed = (row_of kind g).pages in
     let row : (row_of kind (with_pages kind xs g)).pages ≡ xs = row-with kind xs g in
     let p' : Parted next' (row_of kind (with_pages kind xs g)).pages bs' rs' = subst (λ (zs : List Listed). Parted next' zs bs' rs') (sym row) p in
-    let now : Parted (Some l.page) pages bs (l ∷ rs) = parted-here pages bs l rs e (row-apart kind g pages bs l rs s refl e) in
+    let now : Parted (Some l.page) pages bs (l ∷ rs) = parted-here pages bs l rs e (row-apart kind g bs l rs s e) in
     let left_now = left-by (Some l.page) m pages bs (l ∷ rs) now in
     let left_then = left-by next' m' (row_of kind (with_pages kind xs g)).pages bs' rs' p' in
     record {
@@ -337,7 +309,7 @@ steps-moved kind g m bs l (r ∷ rs) s e k =
     let m' : List Bool = set m l.page false in
     let tail : List Listed = (r ∷ rs) ++ at_seq g.max_seq l ∷ [] in
     let xs : List Listed = bs ++ tail in
-    let a = behind-apart kind g bs l (r ∷ rs) s e in
+    let a = (row-parts kind g bs l (r ∷ rs) s e).1 in
     let first = front-apart bs l (r ∷ rs) (first-apart kind g bs l (r ∷ rs) s e) in
     let ma : marked_of m (l ∷ r ∷ rs) ≡ l ∷ marked_of m (r ∷ rs) = rw k refl in
     let ma_length : length (marked_of m (l ∷ r ∷ rs)) ≡ length (marked_of m (r ∷ rs)) + 1 = ap (λ (zs : List Listed). length zs) ma ∙ omega arith in
@@ -374,10 +346,6 @@ pub moves : (kind : Kind) (g g' : Gens) (m m' : List Bool) (p : ℕ) (next next'
 moves kind g g' m m' p next next' s e h k e' eg em =
     subst (λ (n : Option ℕ). Steps kind g g' m m' n next') (sym e)
     (subst (λ (n : Option ℕ). Steps kind g g' m m' (Some p) n) (sym e') (steps-to-tail kind g g' m m' p s (next-is (row_of kind g).pages next p e h) k eg em))
-
-pub has-listed : (kind : Kind) (g : Gens) (p : ℕ) → has_page p (row_of kind g).pages ≡ true → is_listed g p ≡ true
-has-listed Anon g p h = ap (λ (b : Bool). has_page p g.file.pages || b) h ∙ or-true (has_page p g.file.pages)
-has-listed File g p h = ap (λ (b : Bool). b || has_page p g.anon.pages) h
 
 -- ---- the start of the walk
 

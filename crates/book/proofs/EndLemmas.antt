@@ -1,5 +1,5 @@
 -- What a task's end is to the plain machine.
-use Rattle.std.proofs.Common.{◌≡◌, ◌≢◌, inl, inr, ℕ, ◌≤◌, true, false, List, Some, refl, sym, ap, ◌∙◌, arith}
+use Rattle.std.proofs.Common.{◌≡◌, ◌≢◌, inr, ℕ, ◌≤◌, true, false, List, Some, refl, sym, ap, ◌∙◌, arith}
 use Rattle.machine.specs.declared.record.Key.TheVariants as key
 use Rattle.machine.specs.declared.record.Life.{Life}
 use Rattle.machine.specs.declared.record.Life.TheVariants.{Live, Exited, Killed}
@@ -9,7 +9,7 @@ use Rattle.machine.specs.declared.event.Event.{Event}
 use Rattle.machine.specs.declared.event.Event.TheVariants as event
 use Rattle.machine.specs.declared.reply.Reply.{Reply}
 use Rattle.machine.specs.declared.reply.Reply.TheVariants as reply
-use Rattle.machine.specs.Slots.{at, there_and}
+use Rattle.machine.specs.Slots.{there_and}
 use Rattle.machine.specs.Pages.{in_transfer}
 use Rattle.machine.specs.declared.record.EventCounts.{EventCounts}
 use Rattle.machine.specs.Counts.{with_event}
@@ -22,7 +22,6 @@ use Rattle.machine.specs.Victim.{IsVictim}
 use Rattle.machine.specs.Step.{Step, EndsTask as EndsTask_of}
 use Rattle.machine.specs.History.{Spot, InTask, InFile}
 use Rattle.machine.proofs.Values.{unlike}
-use Rattle.machine.proofs.TreeLemmas.{eq_cases}
 use Rattle.page_state.specs.States.{StateOf}
 use Rattle.book.specs.Spots.{IsThere}
 use Rattle.book.specs.Effects.{byte_at_spot, KnowsSpot, WasByte, ReadsByte}

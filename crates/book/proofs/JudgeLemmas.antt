@@ -1,18 +1,37 @@
 -- What is judged of an event before anything changes.
-use Rattle.std.proofs.Common.{◌≡◌, ◌⊎◌, inl, inr, ℕ, Bool, Option, Some, None, refl, sym, ap, subst, ◌∙◌}
-use Rattle.std.specs.Prelude.{IsSome, IfSome, option_map}
+use Rattle.std.proofs.Common.{◌≡◌, ℕ, arith, Bool, true, Option, Some, None, refl, sym, ap, subst, ◌∙◌, false}
+use Rattle.std.specs.Prelude.{IsSome, IfSome, nat_lt, option_map, slice_index}
+use Rattle.std.proofs.lemmas.Bool.Decides.{nat_tests}
+use Rattle.std.proofs.lemmas.Bool.{and_parts}
 use Rattle.machine.specs.declared.id.FrameId.{FrameId}
+use Rattle.machine.specs.declared.id.GroupId.{GroupId}
 use Rattle.machine.specs.declared.record.Task.{Task}
-use Rattle.machine.specs.declared.record.Direction.{Direction}
-use Rattle.machine.specs.declared.record.Direction.TheVariants.{In, Out}
-use Rattle.machine.specs.Pages.{Content, Memory, OfFile, Residence, Held, Coming, Going, Away, Page, Pages, page_at, file_page, IsFiled, IsFiledAs}
-use Rattle.machine.specs.Tasks.{Tasks, task_at, group_of, group_of_task}
+use Rattle.machine.specs.Pages.{Content, Memory, OfFile, Residence, Held, Away, Page, Pages, page_at, file_page, IsFiled, IsFiledAs}
+use Rattle.machine.specs.Slots.{there_and}
+use Rattle.machine.specs.Tree.{is_live}
+use Rattle.machine.specs.Tasks.{Tasks, task_at, is_live_task, lives, group_of, group_of_task, mapped_at}
 use Rattle.machine.proofs.Values.{some_inj}
 use Rattle.machine.proofs.FileLemmas.{file_page-there}
 use Rattle.files.specs.Files.{FilesOf}
-use Rattle.pages.specs.PagesOf.{Label, labelled, label_of, memory_of, moving, HasResidence, residence_of, AreFiled}
+use Rattle.pages.specs.PagesOf.{Label, labelled, label_of, memory_of, HasResidence, residence_of, AreFiled}
 use Rattle.pages.specs.declared.residence.Residence.{Residence as Code_residence}
 use Rattle.pages.specs.declared.residence.Residence.TheVariants as code
+use Rattle.machine.specs.State.{State}
+use Rattle.machine.specs.declared.event.Place.{Place}
+use Rattle.machine.specs.declared.event.Place.TheVariants.{Virtual, File}
+use Rattle.machine.specs.declared.event.Op.{Op}
+use Rattle.machine.specs.Access as plain
+use Rattle.machine.specs.Access.{page_size, is_place, is_shared_write, meets, charges}
+use Rattle.machine.specs.History.{spot_of}
+use Rattle.book.specs.Spots.{holder}
+use Rattle.page_state.specs.Mapped.{AreMapped}
+use Rattle.page_state.proofs.MappedLemmas.{mapped_there}
+use Rattle.book.specs.declared.decision.Fault.{Fault}
+use Rattle.book.specs.Decisions.{offset_at, IsFault, Finds, HasRoomFor, MeetsSource, met_by}
+use Rattle.pages.specs.declared.source.Source.{Source}
+use Rattle.pages.specs.declared.source.Source.TheVariants as source
+use Rattle.pages.specs.Transfers.{IsReadable}
+use Rattle.page_state.specs.Changes.{files_of, HasRoom}
 
 pub known-home : (tasks : Tasks) (t : ℕ) (task : Task) → task_at tasks t ≡ Some task → group_of_task tasks t ≡ task.group.0
 known-home tasks t task known = ap group_of known
@@ -30,29 +49,33 @@ residence-some pages p found e = by_slot (page_at pages p) refl e
     by_slot (Some page) is e = (label_of page, page.residence, is, sym (some_inj e))
 
 pub residence-none : (slot : Option Page) → IsSome slot → option_map (λ (page : Page). residence_of page.residence) slot ≡ None → ⊥
-residence-none None there e = cc
-residence-none (Some page) there e = cc
+residence-none slot there e = grind (arith, there, e)
 
--- one that the code says is in transfer is so in a direction
-pub transfer-stands : (pages : Pages) (p : ℕ) (label : Label) (r : Residence) → HasResidence pages p label r → (residence_of r ≡ code.Coming) ⊎ (residence_of r ≡ code.Going)
-    → (direction : Direction) × (f : ℕ) × (b : ℕ) × (n : ℕ) × HasResidence pages p label (moving direction f b n)
-transfer-stands pages p label (Held f) stands said = elim said [ inl e ↦ cc | inr e ↦ cc ]
-transfer-stands pages p label (Coming f b n) stands said = (In, f, b, n, stands)
-transfer-stands pages p label (Going f b n) stands said = (Out, f, b, n, stands)
-transfer-stands pages p label (Away b) stands said = elim said [ inl e ↦ cc | inr e ↦ cc ]
+-- in that frame, or on that block
+pub is-held : (r : Residence) (frame : FrameId) → residence_of r ≡ code.Held frame → r ≡ Held frame.0
+is-held r frame said = grind (arith, said)
 
--- one that the code says is in a frame is in that frame, and one on its block on that block
-pub held-stands : (pages : Pages) (p : ℕ) (frame : FrameId) (label : Label) (r : Residence) → HasResidence pages p label r → residence_of r ≡ code.Held frame → HasResidence pages p label (Held frame.0)
-held-stands pages p frame label (Held f) stands said = (let same : record { 0 = f } ≡ frame = cc in subst (λ (x : ℕ). HasResidence pages p label (Held x)) (ap (λ (x : FrameId). x.0) same) stands)
-held-stands pages p frame label (Coming f b n) stands said = cc
-held-stands pages p frame label (Going f b n) stands said = cc
-held-stands pages p frame label (Away b) stands said = cc
+pub is-away : (r : Residence) (b : ℕ) → residence_of r ≡ code.Away b → r ≡ Away b
+is-away r b said = grind (arith, said)
 
-pub away-stands : (pages : Pages) (p b : ℕ) (label : Label) (r : Residence) → HasResidence pages p label r → residence_of r ≡ code.Away b → HasResidence pages p label (Away b)
-away-stands pages p b label (Held f) stands said = cc
-away-stands pages p b label (Coming f b' n) stands said = cc
-away-stands pages p b label (Going f b' n) stands said = cc
-away-stands pages p b label (Away b') stands said = let same : b' ≡ b = cc in subst (λ (x : ℕ). HasResidence pages p label (Away x)) same stands
+-- ---- what an access needs
+
+-- the charge that it needs is granted
+pub room-for : (s : State) (fault : Fault) (met : plain.Meeting) (g : ℕ) → HasRoomFor s fault → met_by s fault ≡ met → charges met fault.group.0 ≡ Some g → HasRoom s g
+room-for s fault met g has meeting needs = has g (ap (λ (m : plain.Meeting). charges m fault.group.0) meeting ∙ needs)
+
+-- ---- what an access meets that finds a page
+
+-- a write to memory that others map too
+abbrev pub is_shared_write_at : State → Place → ℕ → Op → Bool
+is_shared_write_at s (Virtual v o) p op = is_shared_write s.page_tables p op
+is_shared_write_at s (File file q o) p op = false
+
+-- in a frame, where it may use the page as it is
+pub meets-held : (s : State) (t p f : ℕ) (place : Place) (op : Op) (label : Label) → holder s (spot_of t place) ≡ Some p → HasResidence s.pages p label (Held f) → is_shared_write_at s place p op ≡ false
+    → meets s t place op ≡ plain.Hits p (labelled label (Held f)) f
+meets-held s t p f (Virtual v o) op label found stands alone = rw found (rw stands (rw alone refl))
+meets-held s t p f (File file q o) op label found stands alone = rw found (rw stands refl)
 
 -- ---- pages of files
 
@@ -61,7 +84,7 @@ module _ (files : FilesOf) (pages : Pages) (filed : AreFiled files pages) where
   filed_at p page there = subst (λ (slot : Option Page). IfSome slot (IsFiled files.first files.sizes)) there (filed.filed p)
 
   -- a page on its block alone is memory
-  pub away-memory : (p b : ℕ) (label : Label) → HasResidence pages p label (Away b) → (g : ℕ) × HasResidence pages p (memory_of g) (Away b)
+  away-memory : (p b : ℕ) (label : Label) → HasResidence pages p label (Away b) → (g : ℕ) × HasResidence pages p (memory_of g) (Away b)
   away-memory p b label stands = by_content label.content refl (filed_at p (labelled label (Away b)) stands)
     where
       by_content : (content : Content) → label.content ≡ content → IsFiledAs files.first files.sizes (labelled label (Away b)) content → (g : ℕ) × HasResidence pages p (memory_of g) (Away b)
@@ -73,7 +96,7 @@ module _ (files : FilesOf) (pages : Pages) (filed : AreFiled files pages) where
       by_content (OfFile f q) is home = absurd (home.1)
 
   -- a page of a file never is
-  pub cached-never_away : (f q p b : ℕ) (label : Label) → file_page pages f q ≡ Some p → HasResidence pages p label (Away b) → ⊥
+  cached-never_away : (f q p b : ℕ) (label : Label) → file_page pages f q ≡ Some p → HasResidence pages p label (Away b) → ⊥
   cached-never_away f q p b label cached stands =
       let there = file_page-there pages f q p cached in
       let one : Some there.0 ≡ Some (labelled label (Away b)) = sym there.1 ∙ stands in
@@ -82,6 +105,39 @@ module _ (files : FilesOf) (pages : Pages) (filed : AreFiled files pages) where
       subst (λ (c : Content). IsFiledAs files.first files.sizes (labelled label (Away b)) c) holds (filed_at p (labelled label (Away b)) stands) in
       home.1
 
--- the page that is found for a page of a file is there
-pub cached_there : (pages : Pages) (f q p : ℕ) → file_page pages f q ≡ Some p → IsSome (page_at pages p)
-cached_there pages f q p cached = (let there = file_page-there pages f q p cached in subst (λ (slot : Option Page). IsSome slot) (sym there.1) refl)
+-- a page that is found is there
+pub found-there : (s : State) (t p : ℕ) (place : Place) → AreMapped s.pages s.page_tables → holder s (spot_of t place) ≡ Some p → IsSome (page_at s.pages p)
+found-there s t p (Virtual v o) mapped found = mapped_there s.pages s.page_tables mapped t v p found
+found-there s t p (File f q o) mapped found = (let there = file_page-there s.pages f q p found in subst (λ (slot : Option Page). IsSome slot) (sym there.1) refl)
+
+-- on its block alone, where it is memory
+pub meets-away : (files : FilesOf) (s : State) (fault : Fault) (p b : ℕ) (g : GroupId) → AreFiled files s.pages → Finds s fault p (Away b) → option_map (λ (page : Page). page.group) (page_at s.pages p) ≡ Some g.0
+    → MeetsSource s fault (source.Swapped (record { 0 = p })) g
+meets-away files s fault p b g filed finds group = by_place fault.place refl
+  where
+    by_place : (place : Place) → fault.place ≡ place → MeetsSource s fault (source.Swapped (record { 0 = p })) g
+    by_place (Virtual v o) is =
+        let memory = away-memory files s.pages filed p b finds.label finds.stands in
+        let own : memory.0 ≡ g.0 = some_inj (sym (ap (option_map (λ (page : Page). page.group)) memory.1) ∙ group) in
+        let found : mapped_at s.page_tables fault.task.0 v ≡ Some p = sym (ap (λ (x : Place). holder s (spot_of fault.task.0 x)) is) ∙ finds.found in
+        let stands : HasResidence s.pages p (memory_of g.0) (Away b) = subst (λ (x : ℕ). HasResidence s.pages p (memory_of x) (Away b)) own memory.1 in
+        (b, ap (λ (x : Place). meets s fault.task.0 x fault.op) is ∙ rw found (rw stands refl), stands)
+    by_place (File f q o) is = absurd (cached-never_away files s.pages filed f q p b finds.label (sym (ap (λ (x : Place). holder s (spot_of fault.task.0 x)) is) ∙ finds.found) finds.stands)
+
+-- what is read in can be
+pub source-readable : (s : State) (fault : Fault) (from : Source) (g : GroupId) → IsFault s fault → MeetsSource s fault from g → IsReadable s.pages (files_of s.opening) from g.0
+source-readable s fault (source.Swapped p) g is met = (met.0, met.2)
+source-readable s fault (source.File at) g is met =
+    let within = (and_parts (nat_lt at.page (slice_index s.opening.files at.file)) (nat_lt (offset_at fault) page_size) (sym (ap (is_place s.opening) met.1) ∙ is.there)).0 in (grind (arith, nat_tests, within), met.2)
+
+-- and the group that is charged for it is there
+pub source-live : (s : State) (fault : Fault) (from : Source) (g : GroupId) → ((t : ℕ) → lives s.tasks t ≡ true → is_live s.tree (group_of_task s.tasks t) ≡ true)
+    → ((p : ℕ) → IfSome (page_at s.pages p) (λ page. is_live s.tree page.group ≡ true)) → IsFault s fault → MeetsSource s fault from g → is_live s.tree g.0 ≡ true
+source-live s fault (source.Swapped p) g homes groups is meets = subst (λ (slot : Option Page). IfSome slot (λ page. is_live s.tree page.group ≡ true)) meets.2 (groups p.0)
+source-live s fault (source.File at) g homes groups is meets =
+    subst (λ (x : GroupId). is_live s.tree x.0 ≡ true) (sym meets.3) (subst (λ (n : ℕ). is_live s.tree n ≡ true) (known-home s.tasks fault.task.0 _ is.known) (homes fault.task.0 (ap (there_and is_live_task) is.known)))
+
+-- and has room for it
+pub source-room : (s : State) (fault : Fault) (from : Source) (g : GroupId) → HasRoomFor s fault → MeetsSource s fault from g → HasRoom s g.0
+source-room s fault (source.Swapped p) g has meets = room-for s fault _ g.0 has meets.1 refl
+source-room s fault (source.File at) g has meets = subst (λ (x : GroupId). HasRoom s x.0) (sym meets.3) (room-for s fault _ fault.group.0 has meets.0 refl)

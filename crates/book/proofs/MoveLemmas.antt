@@ -1,13 +1,7 @@
 -- What a page that comes to stand elsewhere is to the plain machine: transfers that begin and end, and pages that are dropped.
-use Rattle.std.proofs.Common.{◌≡◌, ◌≢◌, ◌⊎◌, inl, inr, ℕ, ◌+◌, ◌≤◌, ◌==◌, ◌&&◌, Bool, true, false, MatchBool, cond, List, Option, Some, None, eq-eqb, ne_eqb, refl, sym, ap, subst, ◌∙◌, arith}
+use Rattle.std.proofs.Common.{◌≡◌, ◌≢◌, ◌⊎◌, inl, inr, ℕ, ◌+◌, ◌≤◌, ◌==◌, ◌&&◌, Bool, true, false, MatchBool, cond, Option, Some, None, refl, sym, ap, subst, ◌∙◌, arith}
 use Rattle.std.specs.Prelude.{IfSome, is_some, slice_index}
 use Rattle.machine.specs.declared.id.GroupId.{GroupId}
-use Rattle.machine.specs.declared.record.Life.TheVariants.{Live}
-use Rattle.machine.specs.declared.record.Task.{Task}
-use Rattle.machine.specs.declared.event.Place.{Place}
-use Rattle.machine.specs.declared.event.Place.TheVariants.{Virtual, File}
-use Rattle.machine.specs.declared.event.Op.{Op}
-use Rattle.machine.specs.declared.event.Op.TheVariants.{Read, Write}
 use Rattle.machine.specs.declared.event.Cause.{Cause}
 use Rattle.machine.specs.declared.event.Event.{Event}
 use Rattle.machine.specs.declared.event.Event.TheVariants as event
@@ -15,37 +9,38 @@ use Rattle.machine.specs.declared.reply.Reply.{Reply}
 use Rattle.machine.specs.declared.reply.Reply.TheVariants as reply
 use Rattle.machine.specs.Slots.{at, Changes, there_and}
 use Rattle.machine.specs.Pages.{Content, Memory, OfFile, Residence, Held, Coming, Going, Away, Page, Pages, page_at, file_page, home_block, is_anon, is_page_of, is_in_transfer, in_transfer, in_transfer_at}
-use Rattle.machine.specs.Tasks.{PageTables, task_at, mapped_at, mappers}
-use Rattle.machine.specs.State.{State, over_in, is_frame_free}
-use Rattle.machine.specs.Access.{meets}
-use Rattle.machine.specs.Call.{fetches, need}
+use Rattle.machine.specs.Tasks.{PageTables, mapped_at, mappers}
+use Rattle.machine.specs.State.{State}
+use Rattle.machine.specs.Access.{Meeting, charges, is_fetch}
+use Rattle.machine.specs.Call.{need}
 use Rattle.machine.specs.Reclaim.{stands, target_of, is_takeable, has_takeable}
 use Rattle.machine.specs.Lists.{Youngest, entry_after, TakesNext, Orders}
-use Rattle.machine.specs.Step.{Step, MeetStep, StartsFetch, ReadsFile, StartsLeave, Drops, LeavesBy, Takes, RelieveStep, ReclaimOneStep, EndsTransfer, or_gone, in_frame, on_block, on_block_of}
+use Rattle.machine.specs.Step.{Step, MeetStep, StartsFetch, StartsLeave, Drops, LeavesBy, Takes, EndsTransfer, or_gone, in_frame, on_block, on_block_of}
 use Rattle.machine.specs.History.{Spot, InTask, InFile, Nothing, says, ticket_given}
 use Rattle.machine.proofs.Values.{some_inj, unlike}
 use Rattle.machine.proofs.TreeLemmas.{eq_cases}
 use Rattle.machine.proofs.SlotLemmas.{one_if}
 use Rattle.machine.proofs.FileLemmas.{IsSingle, holds_page, file_page-beside, file_page-gone, file_page-gone_other, file_page-new, file_page-new_other}
 use Rattle.files.specs.Files.{FilesOf}
-use Rattle.pages.specs.PagesOf.{Label, labelled, memory_of, of_file, byte_in, HasResidence, flight, AreFiled}
+use Rattle.pages.specs.PagesOf.{Label, labelled, of_file, byte_in, HasResidence, flight, AreFiled}
 use Rattle.pages.specs.declared.flight.Flight.{Flight}
 use Rattle.machine.specs.declared.record.Direction.{Direction}
 use Rattle.machine.specs.declared.record.Direction.TheVariants.{In, Out}
 use Rattle.page_state.specs.States.{StateOf, byte_shown}
 use Rattle.book.specs.Spots.{offset_of, holder}
 use Rattle.book.specs.Effects.{byte_at_spot, is_in_memory, is_known, knows, KnowsSpot, ReadsByte, Arrives, Follows, ChangesBytes, KeepsFlights}
-use Rattle.book.specs.MakesStep.{AgesByThree, MakesStep, RepliesTo, is_refused}
-use Rattle.book.specs.declared.event.Reply.TheVariants as given
+use Rattle.book.specs.MakesStep.{AgesByThree, MakesStep, is_refused}
 use Rattle.pages.specs.Tickets.{TicketOf}
 use Rattle.pages.specs.declared.end.End.{End}
 use Rattle.pages.specs.declared.end.End.TheVariants.{InFrame, OnBlock}
-use Rattle.page_state.specs.Changes.{BeginsReadIn, BeginsRead, IsWrittenTo, BeginsWriteOut, DropsClean, ended_as, EndsTransfer as Settles}
+use Rattle.page_state.specs.Changes.{BeginsReadIn, IsWrittenTo, BeginsWriteOut, DropsClean, ended_as, EndsTransfer as Settles, HasRoom}
 use Rattle.book.specs.Events.{ended}
-use Rattle.book.specs.Decisions.{AsksPage}
+use Rattle.book.specs.Decisions.{AsksPage, IsFault, met_by, HasRoomFor}
 use Rattle.pages.proofs.TableLemmas.{any-some}
 use Rattle.book.proofs.FlightLemmas.{in_transfer-changes}
-use Rattle.book.proofs.StepLemmas.{order-on, was, there-same, holder-same, stays-was, flight-kept, flights-kept, live_step, granted_step}
+use Rattle.book.proofs.StepLemmas.{order-on, was, there-same, holder-same, stays-was, flight-kept, flights-kept, quiet-access, reads-access, met_step, asks_step, asks-need}
+use Rattle.book.specs.declared.decision.Fault.{Fault}
+use Rattle.book.proofs.JudgeLemmas.{room-for}
 
 -- ---- which page has a byte, as one page changes
 
@@ -64,40 +59,28 @@ module _ (old new : StateOf) (tables : new.tables ≡ record old.tables { pages 
   pub holders-beside : (p : ℕ) (to : Option Page) → Changes old.tables.pages new.tables.pages p to → ((f q : ℕ) → holds_page f q to ≡ holds_page f q (page_at old.tables.pages p)) → (spot : Spot) → KnowsSpot new spot → holder new.tables spot ≡ holder old.tables spot
   holders-beside p to changes same spot known = holder-same old.tables new.tables spot same_place (λ f q. file_page-beside old.tables.pages new.tables.pages p to changes f q (same f q))
 
-  -- a page of a file is gone: what it had is on the device alone
+  -- a page of a file comes or goes, and is not in memory after: what it has is on the device alone
+  holders-but : (f q : ℕ) → ((f' q' : ℕ) → ((f ≡ f') × (q ≡ q') → ⊥) → file_page new.tables.pages f' q' ≡ file_page old.tables.pages f' q') → ((o : ℕ) → knows new (InFile f q o) (file_page new.tables.pages f q) ≡ false)
+      → (spot : Spot) → KnowsSpot new spot → holder new.tables spot ≡ holder old.tables spot
+  holders-but f q elsewhere unknown (InTask t v o) known = same_place t v
+  holders-but f q elsewhere unknown (InFile f' q' o) known = by_file (eq_cases f f') (eq_cases q q')
+    where
+      by_file : (f ≡ f') ⊎ (f ≢ f') → (q ≡ q') ⊎ (q ≢ q') → file_page new.tables.pages f' q' ≡ file_page old.tables.pages f' q'
+      by_file (inl fs) (inl qs) = unlike (knows new (InFile f' q' o) (file_page new.tables.pages f' q')) known.0 (rw fs at rw qs at unknown o)
+      by_file (inl fs) (inr other) = elsewhere f' q' (λ same. other same.1)
+      by_file (inr other) qs = elsewhere f' q' (λ same. other same.0)
+
   pub holders-gone : (p f q : ℕ) (page : Page) → IsSingle old.tables.pages → Changes old.tables.pages new.tables.pages p None → page_at old.tables.pages p ≡ Some page → page.content ≡ OfFile f q
       → (spot : Spot) → KnowsSpot new spot → holder new.tables spot ≡ holder old.tables spot
-  holders-gone p f q page single changes there holds (InTask t v o) known = same_place t v
-  holders-gone p f q page single changes there holds (InFile f' q' o) known = by_file (eq_cases f f') (eq_cases q q')
-    where
-      elsewhere : ((f ≡ f') × (q ≡ q') → ⊥) → file_page new.tables.pages f' q' ≡ file_page old.tables.pages f' q'
-      elsewhere differ = file_page-gone_other old.tables.pages new.tables.pages p f q page changes there holds f' q' differ
+  holders-gone p f q page single changes there holds =
+      holders-but f q (file_page-gone_other old.tables.pages new.tables.pages p f q page changes there holds)
+      (λ o. ap (knows new (InFile f q o)) (file_page-gone old.tables.pages new.tables.pages p f q page single changes there holds))
 
-      none : f ≡ f' → q ≡ q' → file_page new.tables.pages f' q' ≡ None
-      none fs qs = ap (λ (x : ℕ). file_page new.tables.pages x q') (sym fs) ∙ ap (file_page new.tables.pages f) (sym qs) ∙ file_page-gone old.tables.pages new.tables.pages p f q page single changes there holds
-
-      by_file : (f ≡ f') ⊎ (f ≢ f') → (q ≡ q') ⊎ (q ≢ q') → file_page new.tables.pages f' q' ≡ file_page old.tables.pages f' q'
-      by_file (inl fs) (inl qs) = unlike (knows new (InFile f' q' o) (file_page new.tables.pages f' q')) known.0 (ap (knows new (InFile f' q' o)) (none fs qs))
-      by_file (inl fs) (inr other) = elsewhere (λ same. other same.1)
-      by_file (inr other) qs = elsewhere (λ same. other same.0)
-
-  -- a page of a file comes that none held, and is not in memory yet
   pub holders-new : (p f q : ℕ) (page : Page) → Changes old.tables.pages new.tables.pages p (Some page) → page_at old.tables.pages p ≡ None → page.content ≡ OfFile f q → file_page old.tables.pages f q ≡ None → is_in_memory page.residence ≡ false
       → (spot : Spot) → KnowsSpot new spot → holder new.tables spot ≡ holder old.tables spot
-  holders-new p f q page changes free holds uncached absent (InTask t v o) known = same_place t v
-  holders-new p f q page changes free holds uncached absent (InFile f' q' o) known = by_file (eq_cases f f') (eq_cases q q')
-    where
-      elsewhere : ((f ≡ f') × (q ≡ q') → ⊥) → file_page new.tables.pages f' q' ≡ file_page old.tables.pages f' q'
-      elsewhere differ = file_page-new_other old.tables.pages new.tables.pages p f q page changes free holds f' q' differ
-
-      found : f ≡ f' → q ≡ q' → file_page new.tables.pages f' q' ≡ Some p
-      found fs qs = ap (λ (x : ℕ). file_page new.tables.pages x q') (sym fs) ∙ ap (file_page new.tables.pages f) (sym qs) ∙ file_page-new old.tables.pages new.tables.pages p f q page changes holds uncached
-
-      by_file : (f ≡ f') ⊎ (f ≢ f') → (q ≡ q') ⊎ (q ≢ q') → file_page new.tables.pages f' q' ≡ file_page old.tables.pages f' q'
-      by_file (inl fs) (inl qs) =
-          unlike (knows new (InFile f' q' o) (file_page new.tables.pages f' q')) known.0 (ap (knows new (InFile f' q' o)) (found fs qs) ∙ ap (there_and (λ (page : Page). is_in_memory page.residence)) changes.changed ∙ absent)
-      by_file (inl fs) (inr other) = elsewhere (λ same. other same.1)
-      by_file (inr other) qs = elsewhere (λ same. other same.0)
+  holders-new p f q page changes free holds uncached absent =
+      holders-but f q (file_page-new_other old.tables.pages new.tables.pages p f q page changes free holds)
+      (λ o. ap (knows new (InFile f q o)) (file_page-new old.tables.pages new.tables.pages p f q page changes holds uncached) ∙ ap (there_and (λ (page : Page). is_in_memory page.residence)) changes.changed ∙ absent)
 
 -- ---- one page changes
 
@@ -168,136 +151,75 @@ module _ (old new : StateOf) (what : Event) (answer : Reply) (p : ℕ) (to : Opt
 
 -- ---- the transfers in flight
 
--- a ticket is given to the
-pub flights-begun : (old new : StateOf) (p n : ℕ) (direction : Direction) (answer : Reply) → ticket_given answer ≡ Some n → Changes old.flights new.flights n (Some (flight p direction)) → KeepsFlights old answer new
-flights-begun old new p n direction answer given listed m =
+-- what is in flight under one ticket changes
+flights-changed : (old new : StateOf) (n : ℕ) (to : Option Flight) (answer : Reply) → IfSome to (λ f. ticket_given answer ≡ Some n) → Changes old.flights new.flights n to → KeepsFlights old answer new
+flights-changed old new n to answer given changes m =
     elim (eq_cases m n) [
-      | inl same ↦ any_flight (at new.flights m) (λ f. inl (given ∙ ap (λ (k : ℕ). Some k) (sym same)))
-      | inr other ↦ flight-kept answer m (at new.flights m) (at old.flights m) (listed.others m other)
+      | inl same ↦ by_flight to given (at new.flights m) (ap (at new.flights) same ∙ changes.changed) same
+      | inr other ↦ flight-kept answer m (at new.flights m) (at old.flights m) (changes.others m other)
     ]
   where
-    any_flight : (slot : Option Flight) → ((f : Flight) → (ticket_given answer ≡ Some m) ⊎ (at old.flights m ≡ Some f)) → IfSome slot (λ f. (ticket_given answer ≡ Some m) ⊎ (at old.flights m ≡ Some f))
-    any_flight None all = tt
-    any_flight (Some f) all = all f
+    by_flight : (to : Option Flight) → IfSome to (λ f. ticket_given answer ≡ Some n) → (slot : Option Flight) → slot ≡ to → m ≡ n → IfSome slot (λ f. (ticket_given answer ≡ Some m) ⊎ (at old.flights m ≡ Some f))
+    by_flight to given None is same = tt
+    by_flight (Some f) given (Some f') is same = inl (given ∙ ap (λ (k : ℕ). Some k) (sym same))
+    by_flight None given (Some f) is same = cc
+
+-- a ticket is given to the page
+pub flights-begun : (old new : StateOf) (p n : ℕ) (direction : Direction) (answer : Reply) → ticket_given answer ≡ Some n → Changes old.flights new.flights n (Some (flight p direction)) → KeepsFlights old answer new
+flights-begun old new p n direction answer given listed = flights-changed old new n (Some (flight p direction)) answer given listed
 
 -- a transfer is in flight no more
 pub flights-ended : (old new : StateOf) (n : ℕ) (answer : Reply) → Changes old.flights new.flights n None → KeepsFlights old answer new
-flights-ended old new n answer unlisted m =
-    elim (eq_cases m n) [
-      | inl same ↦ no_flight (at new.flights m) (ap (at new.flights) same ∙ unlisted.changed)
-      | inr other ↦ flight-kept answer m (at new.flights m) (at old.flights m) (unlisted.others m other)
-    ]
-  where
-    no_flight : (slot : Option Flight) → slot ≡ None → IfSome slot (λ f. (ticket_given answer ≡ Some m) ⊎ (at old.flights m ≡ Some f))
-    no_flight None is = tt
-    no_flight (Some f) is = cc
+flights-ended old new n answer unlisted = flights-changed old new n None answer tt unlisted
 
 -- ---- a read-in begins
 
-silent-fetch : (t n : ℕ) (place : Place) (op : Op) (spot : Spot) → says (event.Access (record { 0 = t }) place op) (reply.Fetch (record { 0 = n })) spot ≡ Nothing
-silent-fetch t n place Read spot = refl
-silent-fetch t n place (Write b) spot = refl
+-- it needs an entry for the end too
+pub fetch-needs : (s : State) (fault : Fault) (met : Meeting) (g : ℕ) → IsFault s fault → HasRoomFor s fault → met_by s fault ≡ met → is_fetch met ≡ true → charges met fault.group.0 ≡ Some g
+    → need s (event.Access fault.task fault.place fault.op) ≡ 2
+fetch-needs s fault met g is has meeting fetch needs =
+    let room = room-for s fault met g has meeting needs in
+    rw is.known (rw meeting (rw fetch (rw needs (rw room.under (rw room.free refl)))))
 
-reads-fetch : (s : StateOf) (t n : ℕ) (place : Place) (op : Op) → ReadsByte s (event.Access (record { 0 = t }) place op) (reply.Fetch (record { 0 = n }))
-reads-fetch s t n place Read = tt
-reads-fetch s t n place (Write b) = tt
-
--- an access to a page on its block begins to read it in, where its charge is granted: it needs an entry for the end too, and may want memory
-pub away-fetches : (s : State) (t v o p g b : ℕ) (op : Op) (task : Task) → task_at s.tasks t ≡ Some task → task.life ≡ Live → mapped_at s.page_tables t v ≡ Some p → HasResidence s.pages p (memory_of g) (Away b)
-    → over_in s g ≡ None → is_frame_free s ≡ true → fetches s t (Virtual v o) op ≡ true
-away-fetches s t v o p g b op task known live shown away under free = rw known (rw live (rw shown (rw away (rw under (rw free refl)))))
-
--- and so one to a page of a file that no page holds
-pub uncached-fetches : (s : State) (t file q o : ℕ) (op : Op) (task : Task) → task_at s.tasks t ≡ Some task → task.life ≡ Live → file_page s.pages file q ≡ None
-    → over_in s task.group.0 ≡ None → is_frame_free s ≡ true → fetches s t (File file q o) op ≡ true
-uncached-fetches s t file q o op task known live none under free = rw known (rw live (rw none (rw under (rw free refl))))
-
-pub fetch-needs : (s : State) (t : ℕ) (place : Place) (op : Op) → fetches s t place op ≡ true → need s (event.Access (record { 0 = t }) place op) ≡ 2
-fetch-needs s t place op fetch = ap (λ b. cond b 2 1) fetch
+starts-fetch : (old new : StateOf) (p b : ℕ) (label : Label) (ticket : TicketOf) → label.dirty ≡ false → BeginsReadIn old new p label b ticket → StartsFetch old.tables p label.group label.content b (reply.Fetch (record { 0 = ticket.number })) new.tables
+starts-fetch old new p b label ticket clean begins =
+    record {
+      frame = begins.frame;
+      ticket = ticket.number;
+      frame_free = begins.frame_free;
+      ticket_free = begins.ticket_free;
+      placed = subst (λ (dirty : Bool). Changes old.tables.pages new.tables.pages p (Some (labelled (record label { dirty = dirty }) (Coming begins.frame b ticket.number)))) clean begins.placed;
+      answers = refl;
+      state = begins.tables;
+    }
 
 -- a page begins to be read in, whichever it is
-module _ (old new : StateOf) (t p b : ℕ) (label : Label) (place : Place) (op : Op) (task : Task) (ticket : TicketOf) (begins : BeginsReadIn old new p label b ticket) where
-  pub makes_step-fetch : task_at old.tables.tasks t ≡ Some task → task.life ≡ Live → fetches old.tables t place op ≡ true → there_and is_in_transfer (page_at old.tables.pages p) ≡ false
-      → (MeetStep old.tables t task.group.0 op (meets old.tables t place op) (reply.Fetch (record { 0 = ticket.number })) new.tables)
-      → ((spot : Spot) → KnowsSpot new spot → holder new.tables spot ≡ holder old.tables spot)
-      → MakesStep old (event.Access (record { 0 = t }) place op) (reply.Fetch (record { 0 = ticket.number })) new
-  makes_step-fetch known live fetch rested meeting holders =
-      makes_step-move old new (event.Access (record { 0 = t }) place op) (reply.Fetch (record { 0 = ticket.number })) p (Some (labelled label (Coming begins.frame b ticket.number)))
-      (record {
-        tables = begins.tables;
-        placed = begins.placed;
-        others = begins.bytes;
-        silent = silent-fetch t ticket.number place op;
-        given = refl;
-        holders = holders;
-        own = λ spot is there. unlike false there refl;
-      })
-      (live_step old.tables _ task _ _ _ known live meeting)
-      (order-on Youngest old old.order.held new refl begins.held begins.cursors) (reads-fetch old t ticket.number place op)
-      (flights-begun old new p ticket.number In (reply.Fetch (record { 0 = ticket.number })) refl begins.listed)
-      (let more = in_transfer-changes old.tables.pages new.tables.pages p (Some (labelled label (Coming begins.frame b ticket.number))) begins.placed in
-      let was : one_if (there_and is_in_transfer (page_at old.tables.pages p)) ≡ 0 = ap one_if rested in
-      let two = fetch-needs old.tables t place op fetch in
-      omega (arith, more, was, two))
-
--- memory on its block
-pub makes_step-swap_in : (old new : StateOf) (t v o p g b : ℕ) (op : Op) (task : Task) (ticket : TicketOf) → task_at old.tables.tasks t ≡ Some task → task.life ≡ Live → mapped_at old.tables.page_tables t v ≡ Some p
-    → HasResidence old.tables.pages p (memory_of g) (Away b) → over_in old.tables g ≡ None → is_frame_free old.tables ≡ true → BeginsReadIn old new p (memory_of g) b ticket
-    → MakesStep old (event.Access (record { 0 = t }) (Virtual v o) op) (reply.Fetch (record { 0 = ticket.number })) new
-makes_step-swap_in old new t v o p g b op task ticket known live shown away under free begins =
-    makes_step-fetch old new t p b (memory_of g) (Virtual v o) op task ticket begins known live (away-fetches old.tables t v o p g b op task known live shown away under free) (ap (there_and is_in_transfer) away)
-    (rw shown (rw away (granted_step old.tables _ _ _ _ _ under free starts_fetch)))
-    (holders-beside old new begins.tables p (Some (labelled (memory_of g) (Coming begins.frame b ticket.number))) begins.placed (λ f q. sym (ap (holds_page f q) away)))
-  where
-    starts_fetch : StartsFetch old.tables p g Memory b (reply.Fetch (record { 0 = ticket.number })) new.tables
-    starts_fetch =
-        record {
-          frame = begins.frame;
-          ticket = ticket.number;
-          frame_free = record { in_range = begins.frame_free.in_range; unused = begins.frame_free.unused };
-          ticket_free = begins.ticket_free;
-          placed = begins.placed;
-          answers = refl;
-          state = begins.tables;
-        }
-
--- a page of a file
-pub makes_step-read_in : (old new : StateOf) (t file q o : ℕ) (op : Op) (task : Task) (ticket : TicketOf) → task_at old.tables.tasks t ≡ Some task → task.life ≡ Live → file_page old.tables.pages file q ≡ None
-    → over_in old.tables task.group.0 ≡ None → is_frame_free old.tables ≡ true → BeginsRead old new file q task.group.0 ticket
-    → MakesStep old (event.Access (record { 0 = t }) (File file q o) op) (reply.Fetch (record { 0 = ticket.number })) new
-makes_step-read_in old new t file q o op task ticket known live none under free reads =
-    makes_step-fetch old new t reads.page (home_block old.tables.opening.swap old.tables.opening.files file q) (of_file file q task.group.0 false) (File file q o) op task ticket begins known live
-    (uncached-fetches old.tables t file q o op task known live none under free) (ap (there_and is_in_transfer) reads.number_free)
-    (rw none (granted_step old.tables _ _ _ _ _ under free reads_file))
-    (holders-new old new begins.tables reads.page file q (labelled (of_file file q task.group.0 false) (Coming begins.frame (home_block old.tables.opening.swap old.tables.opening.files file q) ticket.number)) begins.placed reads.number_free refl none refl)
-  where
-    begins : BeginsReadIn old new reads.page (of_file file q task.group.0 false) (home_block old.tables.opening.swap old.tables.opening.files file q) ticket
-    begins = reads.begins
-
-    reads_file : ReadsFile old.tables file q task.group.0 (reply.Fetch (record { 0 = ticket.number })) new.tables
-    reads_file =
-        record {
-          page = reads.page;
-          in_range = reads.in_range;
-          slot_free = reads.number_free;
-          fetch = record {
-            frame = begins.frame;
-            ticket = ticket.number;
-            frame_free = record { in_range = begins.frame_free.in_range; unused = begins.frame_free.unused };
-            ticket_free = begins.ticket_free;
-            placed = begins.placed;
-            answers = refl;
-            state = begins.tables;
-          };
-        }
+pub makes_step-fetch : (old new : StateOf) (fault : Fault) (met : Meeting) (g p b : ℕ) (label : Label) (ticket : TicketOf) → IsFault old.tables fault → HasRoomFor old.tables fault → met_by old.tables fault ≡ met → is_fetch met ≡ true
+    → charges met fault.group.0 ≡ Some g → there_and is_in_transfer (page_at old.tables.pages p) ≡ false → label.dirty ≡ false → BeginsReadIn old new p label b ticket
+    → (HasRoom old.tables g → StartsFetch old.tables p label.group label.content b (reply.Fetch (record { 0 = ticket.number })) new.tables
+    → MeetStep old.tables fault.task.0 fault.group.0 fault.op met (reply.Fetch (record { 0 = ticket.number })) new.tables)
+    → ((spot : Spot) → KnowsSpot new spot → holder new.tables spot ≡ holder old.tables spot)
+    → MakesStep old (event.Access fault.task fault.place fault.op) (reply.Fetch (record { 0 = ticket.number })) new
+makes_step-fetch old new fault met g p b label ticket is has meeting fetch needs rested clean begins starts holders =
+    makes_step-move old new (event.Access fault.task fault.place fault.op) (reply.Fetch (record { 0 = ticket.number })) p (Some (labelled label (Coming begins.frame b ticket.number)))
+    (record {
+      tables = begins.tables;
+      placed = begins.placed;
+      others = begins.bytes;
+      silent = (quiet-access fault.task.0 fault.place fault.op (reply.Fetch (record { 0 = ticket.number })) refl refl).says;
+      given = refl;
+      holders = holders;
+      own = λ spot is there. unlike false there refl;
+    })
+    (met_step old.tables fault met _ _ is meeting (starts (room-for old.tables fault met g has meeting needs) (starts-fetch old new p b label ticket clean begins)))
+    (order-on Youngest old old.order.held new refl begins.held begins.cursors) (reads-access old fault.task.0 fault.place fault.op (reply.Fetch (record { 0 = ticket.number })) refl)
+    (flights-begun old new p ticket.number In (reply.Fetch (record { 0 = ticket.number })) refl begins.listed)
+    (let more = in_transfer-changes old.tables.pages new.tables.pages p (Some (labelled label (Coming begins.frame b ticket.number))) begins.placed in
+    let was : one_if (there_and is_in_transfer (page_at old.tables.pages p)) ≡ 0 = ap one_if rested in
+    let two = fetch-needs old.tables fault met g is has meeting fetch needs in
+    omega (arith, more, was, two))
 
 -- ---- a write-out begins
-
-pub relief-two : (s : State) (why : Cause) → stands s why ≡ true → has_takeable s (target_of why) ≡ true → need s (event.Relieve why) ≡ 2
-relief-two s why wants some = rw wants (rw some refl)
-
-pub reclaim-two : (s : State) (g : ℕ) → has_takeable s g ≡ true → need s (event.ReclaimOne (record { 0 = g })) ≡ 2
-reclaim-two s g some = rw some refl
 
 -- a page is taken for the target, whatever asks for it, and whether it is written out or dropped
 module _ (old new : StateOf) (target : ℕ) (answer : Reply) (p : ℕ) (to : Option Page) (some : has_takeable old.tables target ≡ true)
@@ -309,39 +231,22 @@ module _ (old new : StateOf) (target : ℕ) (answer : Reply) (p : ℕ) (to : Opt
     (own : (spot : Spot) → holder old.tables spot ≡ Some p → there_and (λ page. is_in_memory page.residence) to ≡ true → (is_known old.tables.pages p ≡ true) × (byte_in new.bytes p (offset_of spot) ≡ byte_in old.bytes p (offset_of spot)))
     (rested : there_and is_in_transfer (page_at old.tables.pages p) ≡ false) where
   at_most_one : (slot : Option Page) → one_if (there_and is_in_transfer slot) ≤ 1
-  at_most_one slot = by_test (there_and is_in_transfer slot)
-    where
-      by_test : (b : Bool) → one_if b ≤ 1
-      by_test true = omega arith
-      by_test false = omega arith
+  at_most_one slot = grind arith
 
-  -- whatever asks for it
-  makes_step-asked : (what : Event) → Step old.tables what answer new.tables → Orders old.tables old.order what answer new.tables new.order → ReadsByte old what answer → ((spot : Spot) → says what answer spot ≡ Nothing)
-      → need old.tables what ≡ 2 → MakesStep old what answer new
-  makes_step-asked what steps orders reads silent two =
+  makes_step-asked : (what : Event) → AsksPage old.tables what target → Orders old.tables old.order what answer new.tables new.order → ReadsByte old what answer → ((spot : Spot) → says what answer spot ≡ Nothing) → MakesStep old what answer new
+  makes_step-asked what asks orders reads silent =
       makes_step-move old new what answer p to
       (record { tables = tables; placed = placed; others = others; silent = silent; given = given; holders = holders; own = λ spot is there. inr (own spot is there) })
-      steps (orders, ages) reads flights
+      (asks_step old.tables what target answer new.tables asks (λ Idle. rw some takes)) (orders, ages) reads flights
       (let more = in_transfer-changes old.tables.pages new.tables.pages p to placed in
       let was : one_if (there_and is_in_transfer (page_at old.tables.pages p)) ≡ 0 = ap one_if rested in
       let now = at_most_one to in
+      let two : need old.tables what ≡ 2 = asks-need old.tables what target true asks some in
       omega (arith, more, was, now, two))
 
-  relieves : (why : Cause) → stands old.tables why ≡ true → target_of why ≡ target → RelieveStep old.tables why answer new.tables
-  relieves why wants same =
-      let found : has_takeable old.tables (target_of why) ≡ true = ap (has_takeable old.tables) same ∙ some in
-      rw wants (rw found (subst (λ (t : ℕ). Takes old.tables t answer new.tables) (sym same) takes))
-
-  reclaims : (h : ℕ) → h ≡ target → ReclaimOneStep old.tables h answer new.tables
-  reclaims h same =
-      let found : has_takeable old.tables h ≡ true = ap (has_takeable old.tables) same ∙ some in
-      rw found (subst (λ (t : ℕ). Takes old.tables t answer new.tables) (sym same) takes)
-
   pub makes_step-taken : (what : Event) → AsksPage old.tables what target → MakesStep old what answer new
-  makes_step-taken (event.Relieve why) asks =
-      makes_step-asked (event.Relieve why) (relieves why asks.0 asks.1) (relief_order why asks.1) tt (λ spot. refl) (relief-two old.tables why asks.0 (ap (has_takeable old.tables) asks.1 ∙ some))
-  makes_step-taken (event.ReclaimOne h) asks =
-      makes_step-asked (event.ReclaimOne h) (reclaims h.0 asks) (reclaim_order h asks) tt (λ spot. refl) (reclaim-two old.tables h.0 (ap (has_takeable old.tables) asks ∙ some))
+  makes_step-taken (event.Relieve why) asks = makes_step-asked (event.Relieve why) asks (relief_order why asks.1) tt (λ spot. refl)
+  makes_step-taken (event.ReclaimOne h) asks = makes_step-asked (event.ReclaimOne h) asks (reclaim_order h asks) tt (λ spot. refl)
   makes_step-taken other asks = absurd asks
 
 -- it begins to be written out
@@ -361,7 +266,7 @@ module _ (old new : StateOf) (target : ℕ) (ticket : TicketOf) (taken : BeginsW
 
   leaves_by : (content : Content) → IsWrittenTo old.tables content taken.label.dirty ticket.block
       → LeavesBy old.tables taken.p (labelled taken.label (Held taken.frame)) content taken.frame old.tables.counted (reply.Out (record { 0 = ticket.number })) new.tables
-  leaves_by Memory free = record { block = ticket.block; block_free = record { in_range = free.in_range; unused = free.unused }; leave = starts_leave ticket.block refl }
+  leaves_by Memory free = record { block = ticket.block; block_free = free; leave = starts_leave ticket.block refl }
   leaves_by (OfFile file q) home =
       subst
       (λ (dirty : Bool). MatchBool dirty
@@ -408,17 +313,6 @@ module _ (old new : StateOf) (target : ℕ) (single : IsSingle old.tables.pages)
       (λ spot is there. unlike false there refl)
       (ap (there_and is_in_transfer) taken.stood)
       what asks
-
--- the ticket is a reply to it, and that the page was dropped
-pub replies-out : (s : State) (what : Event) (target : ℕ) (ticket : TicketOf) → AsksPage s what target → RepliesTo what (given.Out ticket)
-replies-out s (event.Relieve why) target ticket asks = tt
-replies-out s (event.ReclaimOne h) target ticket asks = tt
-replies-out s other target ticket asks = absurd asks
-
-pub replies-dropped : (s : State) (what : Event) (target : ℕ) → AsksPage s what target → RepliesTo what given.Dropped
-replies-dropped s (event.Relieve why) target asks = tt
-replies-dropped s (event.ReclaimOne h) target asks = tt
-replies-dropped s other target asks = absurd asks
 
 -- ---- transfers end
 

@@ -1,5 +1,5 @@
 -- Calls with a pass: which are strangers', and what the pass counts.
-use Rattle.std.proofs.Common.{◌≡◌, ℕ, suc, ◌+◌, ◌==◌, ◌&&◌, Bool, true, false, cond, List, [], ◌∷◌, ◌++◌, length, Option, None, Some, eq-eqb, refl, sym, ap, ◌∙◌, add-one, arith}
+use Rattle.std.proofs.Common.{◌≡◌, ℕ, ◌+◌, ◌==◌, ◌&&◌, Bool, true, false, cond, List, [], ◌∷◌, ◌++◌, length, Option, None, Some, eq-eqb, refl, sym, ap, ◌∙◌, add-one, arith}
 use Rattle.std.specs.Prelude.{MatchBool, nat_lt, not, ◌||◌}
 use Rattle.std.proofs.lemmas.Bool.Decides.{nat_tests}
 use Rattle.std.proofs.lemmas.List.Sums.{sum_by-append, sum_by-cons}
@@ -12,12 +12,11 @@ use Rattle.machine.specs.declared.event.Event.{Event}
 use Rattle.machine.specs.declared.event.Event.TheVariants as event
 use Rattle.machine.specs.declared.reply.Reply.{Reply}
 use Rattle.machine.specs.declared.reply.Reply.TheVariants as reply
-use Rattle.machine.specs.History.{is_by, entries_by}
+use Rattle.machine.specs.History.{entries_by}
 use Rattle.machine.specs.Refusals.{refusal}
 use Rattle.machine.specs.Call.{Past, Caller, knows_pass, grows, is_trace_full, leaves_entry, entry_of, Refuses, Answers, Answered, JudgedBy, Called}
 use Rattle.book.specs.declared.event.Reply.TheVariants as given
 use Rattle.book.specs.declared.kept.Kept.{Kept}
-use Rattle.book.specs.declared.kept.Kept.TheVariants.{Call, Find}
 use Rattle.book.specs.declared.kept.Asked.TheVariants.{Whole}
 use Rattle.book.specs.MakesStep.{IsAsked, RepliesTo}
 use Rattle.book.specs.Passes.{PassOf, asked_of, call_of, find_of, keeping, keeping_call, is_entry, count_of, is_current, may_ask, CalledWith}

@@ -5,7 +5,7 @@ use Rattle.machine.specs.declared.event.Event.TheVariants as event
 use Rattle.machine.specs.declared.reply.Reply.TheVariants as reply
 use Rattle.machine.specs.Slots.{there_and}
 use Rattle.machine.specs.Pages.{Page, page_at, file_page, is_in_transfer, in_transfer}
-use Rattle.machine.specs.Tasks.{group_of_task, mapped_at}
+use Rattle.machine.specs.Tasks.{mapped_at}
 use Rattle.machine.specs.State.{State}
 use Rattle.machine.specs.Generations.{Gens, taken_over, emptied, gens_at, with_gens, handed_over}
 use Rattle.machine.specs.Lists.{Order, RemovesLists}

@@ -1,18 +1,15 @@
 -- What each change of the parts is to the plain machine: changes that move no page.
 use Rattle.std.proofs.Common.{◌≡◌, ◌⊎◌, inr, ℕ, zero, suc, ◌<◌, ◌≤◌, ◌&&◌, Bool, true, false, cond, List, [], ◌∷◌, ◌++◌, Option, Some, None, refl, sym, ap, subst, ◌∙◌, arith}
-use Rattle.std.specs.Prelude.{IfSome, nat_lt, slice_set}
+use Rattle.std.specs.Prelude.{IfSome, nat_lt, slice_set, slice_index}
 use Rattle.machine.specs.declared.record.Key.TheVariants as key
 use Rattle.machine.specs.declared.record.Life.{Life}
 use Rattle.machine.specs.declared.record.Life.TheVariants.{Live, Exited, Killed}
 use Rattle.machine.specs.declared.record.Task.{Task}
-use Rattle.machine.specs.declared.id.TaskId.{TaskId}
-use Rattle.machine.specs.declared.id.FrameId.{FrameId}
 use Rattle.machine.specs.declared.event.Place.{Place}
 use Rattle.machine.specs.declared.event.Place.TheVariants.{Virtual, File}
 use Rattle.machine.specs.declared.event.Op.{Op}
 use Rattle.machine.specs.declared.event.Op.TheVariants.{Read, Write}
 use Rattle.machine.specs.declared.event.Cause.{Cause}
-use Rattle.machine.specs.declared.event.Cause.TheVariants as cause
 use Rattle.machine.specs.declared.event.Setting.{Setting}
 use Rattle.machine.specs.declared.event.Query.{Query}
 use Rattle.machine.specs.declared.event.Event.{Event}
@@ -21,21 +18,19 @@ use Rattle.machine.specs.declared.reply.Shown.{Shown}
 use Rattle.machine.specs.declared.reply.Reply.{Reply}
 use Rattle.machine.specs.declared.reply.Reply.TheVariants as reply
 use Rattle.machine.specs.Slots.{at, there_and}
-use Rattle.machine.specs.Pages.{Held, Away, Page, Pages, file_page, is_held, is_held_in, in_transfer}
+use Rattle.machine.specs.Pages.{Held, Page, Pages, file_page, is_held_in, in_transfer}
 use Rattle.machine.specs.Counts.{no_limits, limits_at, no_counts, with_event}
-use Rattle.machine.specs.Tasks.{Tasks, PageTables, task_at, lives, mapped_at, mappers}
-use Rattle.machine.specs.State.{State, over_in, is_frame_free}
-use Rattle.machine.specs.Access.{Meeting, Hits, Transferring, page_size, is_shared_write, meets}
+use Rattle.machine.specs.Tasks.{Tasks, PageTables, task_at, lives, mapped_at}
+use Rattle.machine.specs.State.{State, Opening}
+use Rattle.machine.specs.Access.{Meeting, Hits, page_size, meets, Unmapped, NeedsPage, NeedsCopy, NeedsSwapIn, NeedsRead, task_pages, is_place, charges, Transferring}
 use Rattle.machine.specs.Call.{fetches, need}
 use Rattle.machine.specs.Reclaim.{stands, target_of, has_takeable, has_transfer}
 use Rattle.machine.specs.Generations.{Gens, new_gens, gens_at}
 use Rattle.machine.specs.Lists.{HeldLists, Order, ListsHeld, Generation, Youngest, GoesOn, AddsLists, Orders}
 use Rattle.machine.specs.Victim.{IsVictim}
-use Rattle.machine.specs.Step.{Step, ChargeStep, MeetStep, TaskStep, LifeStep, RelieveStep, ReclaimOneStep, KillStep, new_node, with_setting, shown_of}
+use Rattle.machine.specs.Step.{Step, ChargeStep, MeetStep, TaskStep, LifeStep, RelieveStep, ReclaimOneStep, KillStep, new_node, with_setting, shown_of, TriesCharge, MakesPage, StartsFetch, ReadsFile, ReclaimStep}
 use Rattle.machine.specs.History.{Spot, InTask, InFile, spot_of, Says, Nothing, says, ticket_given}
-use Rattle.machine.specs.declared.record.Direction.{Direction}
-use Rattle.machine.specs.declared.record.Direction.TheVariants.{In, Out}
-use Rattle.pages.specs.PagesOf.{Label, labelled, memory_of, byte_in, moving, HasResidence}
+use Rattle.pages.specs.PagesOf.{labelled, byte_in, moving}
 use Rattle.pages.specs.declared.flight.Flight.{Flight}
 use Rattle.page_state.specs.States.{StateOf, byte_shown}
 use Rattle.book.specs.Spots.{offset_of, holder, IsThere}
@@ -43,6 +38,16 @@ use Rattle.book.specs.Effects.{byte_at_spot, is_in_memory, is_known, knows, Know
 use Rattle.book.specs.MakesStep.{AgesByThree, MakesStep, is_refused}
 use Rattle.machine.proofs.HeldChanges.{goes-on-same}
 use Rattle.machine.proofs.HeldLemmas.{goes-still, goes-max}
+use Rattle.machine.specs.declared.record.Key.{Key}
+use Rattle.book.specs.declared.decision.Fault.{Fault}
+use Rattle.book.specs.Decisions.{spot_at, offset_at, IsFault, Finds, met_by, HasLife, IsOfKilled, AsksPage, FindsNothing}
+use Rattle.page_state.specs.Changes.{counts_event}
+use Rattle.machine.proofs.Values.{some_inj}
+use Rattle.std.proofs.lemmas.Bool.{and_parts}
+use Rattle.std.proofs.lemmas.Bool.Decides.{nat_tests}
+use Rattle.machine.specs.declared.record.Limits.{Limits}
+use Rattle.machine.specs.declared.record.EventCounts.{EventCounts}
+use Rattle.machine.specs.Tree.{Node}
 
 -- ---- where nothing changes that an event may tell of
 
@@ -60,8 +65,28 @@ pub record IsQuiet (what : Event) (answer : Reply) : Type 0 where
   pub says : (spot : Spot) → says what answer spot ≡ Nothing
   pub given : is_refused answer ≡ false
 
+-- the reply gives a byte
+abbrev pub is_done : Reply → Bool
+is_done (reply.Done byte hit) = true
+is_done answer = false
+
 pub still-self : (s : StateOf) → IsStill s s
 still-self s = record { pages = refl; tasks = refl; page_tables = refl; bytes = refl; flights = refl; opening = refl }
+
+-- groups come or go, and their limits and counts change
+still-groups : (old new : StateOf) (tree : List Node) (limits : List Limits) (counted : List EventCounts) → new.tables ≡ record old.tables { tree = tree; limits = limits; counted = counted } → new.bytes ≡ old.bytes → new.flights ≡ old.flights → IsStill old new
+still-groups old new tree limits counted tables bytes flights =
+    record {
+      pages = ap (λ (s : State). s.pages) tables;
+      tasks = ap (λ (s : State). s.tasks) tables;
+      page_tables = ap (λ (s : State). s.page_tables) tables;
+      bytes = bytes;
+      flights = flights;
+      opening = ap (λ (s : State). s.opening) tables;
+    }
+
+pub still-counts : (old new : StateOf) (g : ℕ) (key : Key) → new ≡ counts_event old g key → IsStill old new
+still-counts old new g key counts = still-groups old new _ _ _ (ap (λ (s : StateOf). s.tables) counts) (ap (λ (s : StateOf). s.bytes) counts) (ap (λ (s : StateOf). s.flights) counts)
 
 -- ---- the order
 
@@ -132,6 +157,10 @@ pub holder-same : (old new : State) (spot : Spot) → ((t v : ℕ) → mapped_at
 holder-same old new (InTask t v o) places files = places t v
 holder-same old new (InFile f q o) places files = files f q
 
+-- a page in a frame is in memory
+pub held-known : (pages : Pages) (p : ℕ) → is_held_in pages p ≡ true → is_known pages p ≡ true
+held-known pages p held = grind (arith, held)
+
 -- what no page has is known by its place alone
 knows-none : (c d : StateOf) (spot : Spot) → knows c spot None ≡ true → knows d spot None ≡ true
 knows-none c d (InTask t v o) known = refl
@@ -184,26 +213,34 @@ flight-kept answer n (Some f) before e = inr (sym e)
 pub flights-kept : (old new : StateOf) (answer : Reply) → new.flights ≡ old.flights → KeepsFlights old answer new
 flights-kept old new answer same n = flight-kept answer n (at new.flights n) (at old.flights n) (ap (λ (fs : List (Option Flight)). at fs n) same)
 
-pub makes_step-still : (old new : StateOf) (what : Event) (answer : Reply) → IsStill old new → IsQuiet what answer
-    → Step old.tables what answer new.tables → Orders old.tables old.order what answer new.tables new.order × AgesByThree old new → ReadsByte old what answer → 1 ≤ need old.tables what → MakesStep old what answer new
-makes_step-still old new what answer still quiet steps orders reads needs =
+-- where no transfer begins or ends, and each byte is what the event says of it
+pub makes_step-alike : (old new : StateOf) (what : Event) (answer : Reply) → Step old.tables what answer new.tables → Orders old.tables old.order what answer new.tables new.order × AgesByThree old new → ReadsByte old what answer
+    → ((spot : Spot) → IsThere new.tables spot → KnowsSpot new spot → Follows old what answer spot (byte_at_spot new spot)) → new.flights ≡ old.flights → in_transfer new.tables.pages ≡ in_transfer old.tables.pages → 1 ≤ need old.tables what
+    → is_refused answer ≡ false → new.tables.opening ≡ old.tables.opening → MakesStep old what answer new
+makes_step-alike old new what answer steps orders reads bytes flights moving needs given opening =
     record {
       steps = steps;
       orders = orders.0;
       ages = orders.1;
       reads = reads;
-      bytes = λ spot there known. inr (was old what answer spot (byte_at_spot new spot) (quiet.says spot) (still-was old new spot (there-same old.tables new.tables spot still.tasks there) still.pages still.page_tables still.bytes known));
-      flights = flights-kept old new answer still.flights;
-      kept = (let same = ap in_transfer still.pages in omega (arith, same, needs));
-      given = quiet.given;
-      opening = still.opening;
+      bytes = λ spot there known. inr (bytes spot there known);
+      flights = flights-kept old new answer flights;
+      kept = omega (arith, moving, needs);
+      given = given;
+      opening = opening;
     }
+
+pub makes_step-still : (old new : StateOf) (what : Event) (answer : Reply) → IsStill old new → IsQuiet what answer
+    → Step old.tables what answer new.tables → Orders old.tables old.order what answer new.tables new.order × AgesByThree old new → ReadsByte old what answer → 1 ≤ need old.tables what → MakesStep old what answer new
+makes_step-still old new what answer still quiet steps orders reads needs =
+    makes_step-alike old new what answer steps orders reads
+    (λ spot there known. was old what answer spot (byte_at_spot new spot) (quiet.says spot) (still-was old new spot (there-same old.tables new.tables spot still.tasks there) still.pages still.page_tables still.bytes known))
+    still.flights (ap in_transfer still.pages) needs quiet.given still.opening
 
 -- ---- how many entries an event needs
 
 one_or_two : (b : Bool) → 1 ≤ cond b 2 1
-one_or_two true = omega arith
-one_or_two false = omega arith
+one_or_two b = grind arith
 
 pub access-needs : (s : State) (t : ℕ) (place : Place) (op : Op) → 1 ≤ need s (event.Access (record { 0 = t }) place op)
 access-needs s t place op = one_or_two (fetches s t place op)
@@ -221,8 +258,8 @@ live_step s slot task F answer new is living h = rw is (by_life task.life living
     by_life Exited e = cc
     by_life Killed e = cc
 
-pub killed_step : (s : State) (slot : Option Task) (task : Task) (F : Task → Type 0) → slot ≡ Some task → task.life ≡ Killed → TaskStep s slot F reply.Killed s
-killed_step s slot task F is killed = rw is (rw killed (refl, refl))
+pub killed_step : (s : State) (t : ℕ) (F : Task → Type 0) → HasLife s t Killed → TaskStep s (task_at s.tasks t) F reply.Killed s
+killed_step s t F life = rw life.1 (refl, refl)
 
 pub granted_step : (s : State) (over : Option ℕ) (free : Bool) (Granted : Type 0) (answer : Reply) (new : State) → over ≡ None → free ≡ true → Granted → ChargeStep s over free Granted answer new
 granted_step s over free Granted answer new none is h = rw none (rw is h)
@@ -241,17 +278,7 @@ pub makes_step-mkdir : (old new : StateOf) (path : List ℕ)
     → AddsLists old.order new.order → MakesStep old (event.Mkdir path) reply.Ok new
 makes_step-mkdir old new path tables bytes flights adds =
     makes_step-still old new (event.Mkdir path) reply.Ok
-    (record {
-      pages = ap (λ (s : State). s.pages) tables;
-      tasks = ap (λ (s : State). s.tasks) tables;
-      page_tables = ap (λ (s : State). s.page_tables) tables;
-      bytes = bytes;
-      flights = flights;
-      opening = ap (λ (s : State). s.opening) tables;
-    })
-    (record { says = λ spot. refl; given = refl })
-    tables
-    (order-more old new adds) tt (omega arith)
+    (still-groups old new _ _ _ tables bytes flights) (record { says = λ spot. refl; given = refl }) tables (order-more old new adds) tt (omega arith)
 
 pub makes_step-set : (old new : StateOf) (g : ℕ) (setting : Setting)
     → new.tables ≡ record old.tables { limits = slice_set old.tables.limits g (with_setting (limits_at old.tables.limits g) setting) } → new.bytes ≡ old.bytes → new.flights ≡ old.flights
@@ -259,16 +286,7 @@ pub makes_step-set : (old new : StateOf) (g : ℕ) (setting : Setting)
     → MakesStep old (event.Set (record { 0 = g }) setting) reply.Ok new
 makes_step-set old new g setting tables bytes flights listed order =
     makes_step-still old new (event.Set (record { 0 = g }) setting) reply.Ok
-    (record {
-      pages = ap (λ (s : State). s.pages) tables;
-      tasks = ap (λ (s : State). s.tasks) tables;
-      page_tables = ap (λ (s : State). s.page_tables) tables;
-      bytes = bytes;
-      flights = flights;
-      opening = ap (λ (s : State). s.opening) tables;
-    })
-    (record { says = λ spot. refl; given = refl })
-    tables (order-still old new listed (ap (λ (s : State). s.pages) tables) order) tt (omega arith)
+    (still-groups old new _ _ _ tables bytes flights) (record { says = λ spot. refl; given = refl }) tables (order-still old new listed (ap (λ (s : State). s.pages) tables) order) tt (omega arith)
 
 pub makes_step-show : (s : StateOf) (what : Query) (numbers : Shown) → InOrder s → numbers ≡ shown_of s.tables what
     → MakesStep s (event.Show what) (reply.Shown numbers) s
@@ -278,186 +296,103 @@ makes_step-show s what numbers listed is =
 
 -- ---- accesses
 
--- a task that was killed is told so
-pub makes_step-killed : (s : StateOf) (t : ℕ) (place : Place) (op : Op) (task : Task) → task_at s.tables.tasks t ≡ Some task → task.life ≡ Killed → InOrder s
-    → MakesStep s (event.Access (record { 0 = t }) place op) reply.Killed s
-makes_step-killed s t place Read task is killed listed =
-    makes_step-still s s (event.Access (record { 0 = t }) place Read) reply.Killed (still-self s) (record { says = λ spot. refl; given = refl })
-    (killed_step s.tables _ task _ is killed) (order-still s s listed refl refl) tt (access-needs s.tables t place Read)
-makes_step-killed s t place (Write b) task is killed listed =
-    makes_step-still s s (event.Access (record { 0 = t }) place (Write b)) reply.Killed (still-self s) (record { says = λ spot. refl; given = refl })
-    (killed_step s.tables _ task _ is killed) (order-still s s listed refl refl) tt (access-needs s.tables t place (Write b))
+-- an access that is not done says nothing of a byte, and reads none
+pub quiet-access : (t : ℕ) (place : Place) (op : Op) (answer : Reply) → is_done answer ≡ false → is_refused answer ≡ false → IsQuiet (event.Access (record { 0 = t }) place op) answer
+quiet-access t place Read answer undone given = record { says = λ spot. refl; given = given }
+quiet-access t place (Write b) (reply.Done byte hit) undone given = cc
+quiet-access t place (Write b) other undone given = record { says = λ spot. refl; given = given }
 
-pub makes_step-unmapped : (s : StateOf) (t v o : ℕ) (task : Task) → task_at s.tables.tasks t ≡ Some task → task.life ≡ Live → mapped_at s.tables.page_tables t v ≡ None → o < page_size → InOrder s
-    → MakesStep s (event.Access (record { 0 = t }) (Virtual v o) Read) (reply.Done 0 None) s
-makes_step-unmapped s t v o task is living none within listed =
-    makes_step-still s s (event.Access (record { 0 = t }) (Virtual v o) Read) (reply.Done 0 None) (still-self s) (record { says = λ spot. refl; given = refl })
-    (live_step s.tables _ task _ _ _ is living (rw none (refl, refl))) (order-still s s listed refl refl)
-    (sym (ap (λ m. byte_shown s.bytes m o) none), (ap (knows s (InTask t v o)) none, within)) (access-needs s.tables t (Virtual v o) Read)
+pub reads-access : (s : StateOf) (t : ℕ) (place : Place) (op : Op) (answer : Reply) → is_done answer ≡ false → ReadsByte s (event.Access (record { 0 = t }) place op) answer
+reads-access s t place Read (reply.Done byte hit) undone = cc
+reads-access s t place Read other undone = tt
+reads-access s t place (Write b) answer undone = tt
 
--- what an access meets that finds its page in a frame
-pub meets-hit : (s : State) (t v o p f : ℕ) (label : Label) (op : Op) → mapped_at s.page_tables t v ≡ Some p → HasResidence s.pages p label (Held f) → is_shared_write s.page_tables p op ≡ false
-    → meets s t (Virtual v o) op ≡ Hits p (labelled label (Held f)) f
-meets-hit s t v o p f label op shown page alone = rw shown (rw page (rw alone refl))
+-- nor does it move a page, where none begins to be read in
+pub makes_step-undone : (old new : StateOf) (t : ℕ) (place : Place) (op : Op) (answer : Reply) → is_done answer ≡ false → is_refused answer ≡ false → IsStill old new
+    → Step old.tables (event.Access (record { 0 = t }) place op) answer new.tables → InOrder old → new.order ≡ old.order → MakesStep old (event.Access (record { 0 = t }) place op) answer new
+makes_step-undone old new t place op answer undone given still steps listed order =
+    makes_step-still old new (event.Access (record { 0 = t }) place op) answer still (quiet-access t place op answer undone given)
+    steps (order-still old new listed still.pages order) (reads-access old t place op answer undone) (access-needs old.tables t place op)
 
-pub meets-cached : (s : State) (t file q o p f : ℕ) (label : Label) (op : Op) → file_page s.pages file q ≡ Some p → HasResidence s.pages p label (Held f) → meets s t (File file q o) op ≡ Hits p (labelled label (Held f)) f
-meets-cached s t file q o p f label op cached page = rw cached (rw page refl)
+-- what a live task meets is answered so
+pub met_step : (old : State) (fault : Fault) (met : Meeting) (answer : Reply) (new : State) → IsFault old fault → met_by old fault ≡ met → MeetStep old fault.task.0 fault.group.0 fault.op met answer new
+    → Step old (event.Access fault.task fault.place fault.op) answer new
+met_step old fault met answer new is meeting step =
+    live_step old _ _ _ _ _ is.known refl (subst (λ (m : Meeting). MeetStep old fault.task.0 fault.group.0 fault.op m answer new) (sym meeting) step)
 
-pub makes_step-hit_read : (s : StateOf) (t p f : ℕ) (place : Place) (label : Label) (task : Task) → task_at s.tables.tasks t ≡ Some task → task.life ≡ Live → holder s.tables (spot_of t place) ≡ Some p
-    → HasResidence s.tables.pages p label (Held f) → meets s.tables t place Read ≡ Hits p (labelled label (Held f)) f → offset_of (spot_of t place) < page_size → InOrder s
-    → MakesStep s (event.Access (record { 0 = t }) place Read) (reply.Done (byte_in s.bytes p (offset_of (spot_of t place))) (Some (record { 0 = f }))) s
-makes_step-hit_read s t p f place label task is living shown page meeting within listed =
-    makes_step-still s s (event.Access (record { 0 = t }) place Read) (reply.Done (byte_in s.bytes p (offset_of (spot_of t place))) (Some (record { 0 = f }))) (still-self s) (record { says = λ spot. refl; given = refl })
-    (live_step s.tables _ task _ _ _ is living hits) (order-still s s listed refl refl)
-    (sym (ap (λ m. byte_shown s.bytes m (offset_of (spot_of t place))) shown), (knows-some s (spot_of t place) p shown (ap (there_and (λ (page : Page). is_in_memory page.residence)) page), within)) (access-needs s.tables t place Read)
-  where
-    hits : MeetStep s.tables t task.group.0 Read (meets s.tables t place Read) (reply.Done (byte_in s.bytes p (offset_of (spot_of t place))) (Some (record { 0 = f }))) s.tables
-    hits =
-        subst (λ (m : Meeting). MeetStep s.tables t task.group.0 Read m (reply.Done (byte_in s.bytes p (offset_of (spot_of t place))) (Some (record { 0 = f }))) s.tables) (sym meeting) (refl, refl)
+place-within : (opening : Opening) (t : ℕ) (place : Place) → is_place opening place ≡ true → offset_of (spot_of t place) < page_size
+place-within opening t (Virtual v o) there = let within = (and_parts (nat_lt v task_pages) (nat_lt o page_size) there).1 in grind (arith, nat_tests, within)
+place-within opening t (File file q o) there = let within = (and_parts (nat_lt q (slice_index opening.files file)) (nat_lt o page_size) there).1 in grind (arith, nat_tests, within)
 
--- replies to any access that neither reads nor writes
-pub quiet-busy : (t : ℕ) (place : Place) (op : Op) → IsQuiet (event.Access (record { 0 = t }) place op) reply.Busy
-quiet-busy t place Read = record { says = λ spot. refl; given = refl }
-quiet-busy t place (Write b) = record { says = λ spot. refl; given = refl }
+pub fault-within : (s : State) (fault : Fault) → IsFault s fault → offset_at fault < page_size
+fault-within s fault is = place-within s.opening fault.task.0 fault.place is.there
 
-pub quiet-over : (t a : ℕ) (place : Place) (op : Op) → IsQuiet (event.Access (record { 0 = t }) place op) (reply.Over (record { 0 = a }))
-quiet-over t a place Read = record { says = λ spot. refl; given = refl }
-quiet-over t a place (Write b) = record { says = λ spot. refl; given = refl }
+-- a page in transfer is waited for
+pub makes_step-busy : (s : StateOf) (fault : Fault) → IsFault s.tables fault → met_by s.tables fault ≡ Transferring → InOrder s → MakesStep s (event.Access fault.task fault.place fault.op) reply.Busy s
+makes_step-busy s fault is meeting listed =
+    makes_step-undone s s fault.task.0 fault.place fault.op reply.Busy refl refl (still-self s) (met_step s.tables fault _ _ _ is meeting (refl, refl)) listed refl
 
-pub quiet-no_frame : (t : ℕ) (place : Place) (op : Op) → IsQuiet (event.Access (record { 0 = t }) place op) reply.NoFrame
-quiet-no_frame t place Read = record { says = λ spot. refl; given = refl }
-quiet-no_frame t place (Write b) = record { says = λ spot. refl; given = refl }
+-- memory that was never written is zeros
+unmapped : (s : State) (t : ℕ) (place : Place) (op : Op) → meets s t place op ≡ Unmapped → holder s (spot_of t place) ≡ None → (op ≡ Read) × ((c : StateOf) → knows c (spot_of t place) None ≡ true)
+unmapped s t (Virtual v o) Read meeting none = (refl, λ c. refl)
+unmapped s t (Virtual v o) (Write b) meeting none = let other = rw none at meeting in cc
+unmapped s t (File f q o) op meeting none = let other = rw none at meeting in cc
 
-reads-busy : (s : StateOf) (t : ℕ) (place : Place) (op : Op) → ReadsByte s (event.Access (record { 0 = t }) place op) reply.Busy
-reads-busy s t place Read = tt
-reads-busy s t place (Write b) = tt
+pub makes_step-unmapped : (s : StateOf) (fault : Fault) → IsFault s.tables fault → met_by s.tables fault ≡ Unmapped → holder s.tables (spot_at fault) ≡ None → InOrder s
+    → MakesStep s (event.Access fault.task fault.place fault.op) (reply.Done 0 None) s
+makes_step-unmapped s fault is meeting none listed =
+    let read = unmapped s.tables fault.task.0 fault.place fault.op meeting none in
+    makes_step-still s s (event.Access fault.task fault.place fault.op) (reply.Done 0 None) (still-self s) (record { says = λ spot. rw read.0 refl; given = refl })
+    (met_step s.tables fault _ _ _ is meeting (refl, refl)) (order-still s s listed refl refl)
+    (rw read.0 (sym (ap (λ m. byte_shown s.bytes m (offset_at fault)) none), (ap (knows s (spot_at fault)) none ∙ read.1 s, fault-within s.tables fault is))) (access-needs s.tables fault.task.0 fault.place fault.op)
 
-reads-over : (s : StateOf) (t a : ℕ) (place : Place) (op : Op) → ReadsByte s (event.Access (record { 0 = t }) place op) (reply.Over (record { 0 = a }))
-reads-over s t a place Read = tt
-reads-over s t a place (Write b) = tt
+pub makes_step-hit_read : (s : StateOf) (fault : Fault) (p f : ℕ) → IsFault s.tables fault → (finds : Finds s.tables fault p (Held f)) → met_by s.tables fault ≡ Hits p (labelled finds.label (Held f)) f → fault.op ≡ Read → InOrder s
+    → MakesStep s (event.Access fault.task fault.place fault.op) (reply.Done (byte_in s.bytes p (offset_at fault)) (Some (record { 0 = f }))) s
+makes_step-hit_read s fault p f is finds meeting read listed =
+    makes_step-still s s (event.Access fault.task fault.place fault.op) (reply.Done (byte_in s.bytes p (offset_at fault)) (Some (record { 0 = f }))) (still-self s) (record { says = λ spot. rw read refl; given = refl })
+    (met_step s.tables fault _ _ _ is meeting (rw read (refl, refl))) (order-still s s listed refl refl)
+    (rw read (sym (ap (λ m. byte_shown s.bytes m (offset_at fault)) finds.found), (knows-some s (spot_at fault) p finds.found (ap (there_and (λ (page : Page). is_in_memory page.residence)) finds.stands), fault-within s.tables fault is))) (access-needs s.tables fault.task.0 fault.place fault.op)
 
-reads-no_frame : (s : StateOf) (t : ℕ) (place : Place) (op : Op) → ReadsByte s (event.Access (record { 0 = t }) place op) reply.NoFrame
-reads-no_frame s t place Read = tt
-reads-no_frame s t place (Write b) = tt
+-- what needs a charge tries it
+pub tries_charge : (s : State) (t g h : ℕ) (op : Op) (met : Meeting) (answer : Reply) (new : State) → charges met g ≡ Some h → ((Granted : Type 0) → TriesCharge s h Granted answer new) → MeetStep s t g op met answer new
+tries_charge s t g h op (NeedsPage v) answer new needs tries = subst (λ (x : ℕ). TriesCharge s x (MakesPage s t v g op answer new) answer new) (sym (some_inj needs)) (tries _)
+tries_charge s t g h op (NeedsCopy v) answer new needs tries = subst (λ (x : ℕ). TriesCharge s x (MakesPage s t v g op answer new) answer new) (sym (some_inj needs)) (tries _)
+tries_charge s t g h op (NeedsSwapIn p page block) answer new needs tries =
+    subst (λ (x : ℕ). TriesCharge s x (StartsFetch s p page.group page.content block answer new) answer new) (sym (some_inj needs)) (tries _)
+tries_charge s t g h op (NeedsRead file q) answer new needs tries = subst (λ (x : ℕ). TriesCharge s x (ReadsFile s file q g answer new) answer new) (sym (some_inj needs)) (tries _)
+tries_charge s t g h op other answer new needs tries = cc
 
-pub makes_step-busy : (s : StateOf) (t : ℕ) (place : Place) (op : Op) (task : Task) → task_at s.tables.tasks t ≡ Some task → task.life ≡ Live → meets s.tables t place op ≡ Transferring
-    → InOrder s → MakesStep s (event.Access (record { 0 = t }) place op) reply.Busy s
-makes_step-busy s t place op task is living meeting listed =
-    makes_step-still s s (event.Access (record { 0 = t }) place op) reply.Busy (still-self s) (quiet-busy t place op)
-    (live_step s.tables _ task _ _ _ is living waits) (order-still s s listed refl refl) (reads-busy s t place op) (access-needs s.tables t place op)
-  where
-    waits : MeetStep s.tables t task.group.0 op (meets s.tables t place op) reply.Busy s.tables
-    waits = subst (λ (m : Meeting). MeetStep s.tables t task.group.0 op m reply.Busy s.tables) (sym meeting) (refl, refl)
+-- ---- reclaim
 
--- what an access meets whose page is in transfer
-pub meets-transfer : (s : State) (t v o p f b n : ℕ) (label : Label) (direction : Direction) (op : Op) → mapped_at s.page_tables t v ≡ Some p → HasResidence s.pages p label (moving direction f b n)
-    → meets s t (Virtual v o) op ≡ Transferring
-meets-transfer s t v o p f b n label In op shown page = rw shown (rw page refl)
-meets-transfer s t v o p f b n label Out op shown page = rw shown (rw page refl)
+-- an event that asks for a page of the target is a reclaim of it, whatever follows where there is nothing
+pub asks_step : (s : State) (what : Event) (target : ℕ) (answer : Reply) (new : State) → AsksPage s what target → ((Idle : Type 0) → ReclaimStep s target Idle answer new) → Step s what answer new
+asks_step s (event.Relieve why) target answer new asks reclaims = rw asks.0 (subst (λ (t : ℕ). ReclaimStep s t (KillStep s t answer new) answer new) (sym asks.1) (reclaims _))
+asks_step s (event.ReclaimOne g) target answer new asks reclaims = subst (λ (t : ℕ). ReclaimOneStep s t answer new) (sym asks) (reclaims _)
+asks_step s other target answer new asks reclaims = absurd asks
 
-pub meets-cached_transfer : (s : State) (t file q o p f b n : ℕ) (label : Label) (direction : Direction) (op : Op) → file_page s.pages file q ≡ Some p → HasResidence s.pages p label (moving direction f b n)
-    → meets s t (File file q o) op ≡ Transferring
-meets-cached_transfer s t file q o p f b n label In op cached page = rw cached (rw page refl)
-meets-cached_transfer s t file q o p f b n label Out op cached page = rw cached (rw page refl)
-
--- ---- charges that are refused
-
-pub makes_step-over : (old new : StateOf) (t a : ℕ) (place : Place) (op : Op) (task : Task) → task_at old.tables.tasks t ≡ Some task → task.life ≡ Live
-    → MeetStep old.tables t task.group.0 op (meets old.tables t place op) (reply.Over (record { 0 = a })) (record old.tables { counted = with_event old.tables.counted a key.Max })
-    → new.tables ≡ record old.tables { counted = with_event old.tables.counted a key.Max } → new.bytes ≡ old.bytes → new.flights ≡ old.flights → InOrder old → new.order ≡ old.order
-    → MakesStep old (event.Access (record { 0 = t }) place op) (reply.Over (record { 0 = a })) new
-makes_step-over old new t a place op task is living meet tables bytes flights listed order =
-    makes_step-still old new (event.Access (record { 0 = t }) place op) (reply.Over (record { 0 = a }))
-    (record {
-      pages = ap (λ (s : State). s.pages) tables;
-      tasks = ap (λ (s : State). s.tasks) tables;
-      page_tables = ap (λ (s : State). s.page_tables) tables;
-      bytes = bytes;
-      flights = flights;
-      opening = ap (λ (s : State). s.opening) tables;
-    })
-    (quiet-over t a place op)
-    (subst (λ (s : State). Step old.tables (event.Access (record { 0 = t }) place op) (reply.Over (record { 0 = a })) s) (sym tables)
-    (live_step old.tables _ task _ _ _ is living meet))
-    (order-still old new listed (ap (λ (s : State). s.pages) tables) order) (reads-over old t a place op) (access-needs old.tables t place op)
-
-pub makes_step-no_frame : (old new : StateOf) (t : ℕ) (place : Place) (op : Op) (task : Task) → task_at old.tables.tasks t ≡ Some task → task.life ≡ Live
-    → MeetStep old.tables t task.group.0 op (meets old.tables t place op) reply.NoFrame old.tables
-    → new.tables ≡ old.tables → new.bytes ≡ old.bytes → new.flights ≡ old.flights → InOrder old → new.order ≡ old.order
-    → MakesStep old (event.Access (record { 0 = t }) place op) reply.NoFrame new
-makes_step-no_frame old new t place op task is living meet tables bytes flights listed order =
-    makes_step-still old new (event.Access (record { 0 = t }) place op) reply.NoFrame
-    (record {
-      pages = ap (λ (s : State). s.pages) tables;
-      tasks = ap (λ (s : State). s.tasks) tables;
-      page_tables = ap (λ (s : State). s.page_tables) tables;
-      bytes = bytes;
-      flights = flights;
-      opening = ap (λ (s : State). s.opening) tables;
-    })
-    (quiet-no_frame t place op)
-    (subst (λ (s : State). Step old.tables (event.Access (record { 0 = t }) place op) reply.NoFrame s) (sym tables)
-    (live_step old.tables _ task _ _ _ is living meet))
-    (order-still old new listed (ap (λ (s : State). s.pages) tables) order) (reads-no_frame old t place op) (access-needs old.tables t place op)
-
--- a write where nothing is mapped
-pub unmapped-over : (s : State) (t v o b g a : ℕ) → mapped_at s.page_tables t v ≡ None → over_in s g ≡ Some a
-    → MeetStep s t g (Write b) (meets s t (Virtual v o) (Write b)) (reply.Over (record { 0 = a })) (record s { counted = with_event s.counted a key.Max })
-unmapped-over s t v o b g a none full = rw none (over_step s _ _ _ a full)
-
-pub unmapped-no_frame : (s : State) (t v o b g : ℕ) → mapped_at s.page_tables t v ≡ None → over_in s g ≡ None → is_frame_free s ≡ false
-    → MeetStep s t g (Write b) (meets s t (Virtual v o) (Write b)) reply.NoFrame s
-unmapped-no_frame s t v o b g none under taken = rw none (frameless_step s _ _ _ under taken)
-
--- a write to a page in a frame that others show too
-pub shared-over : (s : State) (t v o b p f g a : ℕ) (label : Label) → mapped_at s.page_tables t v ≡ Some p → HasResidence s.pages p label (Held f) → nat_lt 1 (mappers s.page_tables p) ≡ true → over_in s g ≡ Some a
-    → MeetStep s t g (Write b) (meets s t (Virtual v o) (Write b)) (reply.Over (record { 0 = a })) (record s { counted = with_event s.counted a key.Max })
-shared-over s t v o b p f g a label shown held shared full = rw shown (rw held (rw shared (over_step s _ _ _ a full)))
-
-pub shared-no_frame : (s : State) (t v o b p f g : ℕ) (label : Label) → mapped_at s.page_tables t v ≡ Some p → HasResidence s.pages p label (Held f) → nat_lt 1 (mappers s.page_tables p) ≡ true → over_in s g ≡ None → is_frame_free s ≡ false
-    → MeetStep s t g (Write b) (meets s t (Virtual v o) (Write b)) reply.NoFrame s
-shared-no_frame s t v o b p f g label shown held shared under taken = rw shown (rw held (rw shared (frameless_step s _ _ _ under taken)))
-
--- an access to a page on its block
-pub away-over : (s : State) (t v o p g own b a : ℕ) (op : Op) → mapped_at s.page_tables t v ≡ Some p → HasResidence s.pages p (memory_of g) (Away b) → over_in s g ≡ Some a
-    → MeetStep s t own op (meets s t (Virtual v o) op) (reply.Over (record { 0 = a })) (record s { counted = with_event s.counted a key.Max })
-away-over s t v o p g own b a op shown away full = rw shown (rw away (over_step s _ _ _ a full))
-
-pub away-no_frame : (s : State) (t v o p g own b : ℕ) (op : Op) → mapped_at s.page_tables t v ≡ Some p → HasResidence s.pages p (memory_of g) (Away b) → over_in s g ≡ None → is_frame_free s ≡ false
-    → MeetStep s t own op (meets s t (Virtual v o) op) reply.NoFrame s
-away-no_frame s t v o p g own b op shown away under taken = rw shown (rw away (frameless_step s _ _ _ under taken))
-
--- an access to a page of a file that no page holds
-pub uncached-over : (s : State) (t file q o g a : ℕ) (op : Op) → file_page s.pages file q ≡ None → over_in s g ≡ Some a
-    → MeetStep s t g op (meets s t (File file q o) op) (reply.Over (record { 0 = a })) (record s { counted = with_event s.counted a key.Max })
-uncached-over s t file q o g a op none full = rw none (over_step s _ _ _ a full)
-
-pub uncached-no_frame : (s : State) (t file q o g : ℕ) (op : Op) → file_page s.pages file q ≡ None → over_in s g ≡ None → is_frame_free s ≡ false
-    → MeetStep s t g op (meets s t (File file q o) op) reply.NoFrame s
-uncached-no_frame s t file q o g op none under taken = rw none (frameless_step s _ _ _ under taken)
-
--- ---- relief
-
-quiet-relief : (why : Cause) (answer : Reply) → is_refused answer ≡ false → IsQuiet (event.Relieve why) answer
-quiet-relief why answer given = record { says = λ spot. refl; given = given }
+pub asks-need : (s : State) (what : Event) (target : ℕ) (some : Bool) → AsksPage s what target → has_takeable s target ≡ some → need s what ≡ cond some 2 1
+asks-need s (event.Relieve why) target some asks found = rw asks.0 (ap (λ (b : Bool). cond b 2 1) (ap (has_takeable s) asks.1 ∙ found))
+asks-need s (event.ReclaimOne g) target some asks found = ap (λ (b : Bool). cond b 2 1) (ap (has_takeable s) asks ∙ found)
+asks-need s other target some asks found = absurd asks
 
 pub makes_step-room : (s : StateOf) (why : Cause) → stands s.tables why ≡ false → InOrder s → MakesStep s (event.Relieve why) reply.Room s
 makes_step-room s why met listed =
-    makes_step-still s s (event.Relieve why) reply.Room (still-self s) (quiet-relief why reply.Room refl)
-    room (order-still s s listed refl refl) tt (relief-needs s.tables why)
-  where
-    room : RelieveStep s.tables why reply.Room s.tables
-    room = rw met (refl, refl)
+    makes_step-still s s (event.Relieve why) reply.Room (still-self s) (record { says = λ spot. refl; given = refl }) (rw met (refl, refl)) (order-still s s listed refl refl) tt (relief-needs s.tables why)
 
-pub makes_step-wait : (s : StateOf) (why : Cause) → stands s.tables why ≡ true → has_takeable s.tables (target_of why) ≡ false → has_transfer s.tables (target_of why) ≡ true → InOrder s
-    → MakesStep s (event.Relieve why) reply.Wait s
-makes_step-wait s why wants untakeable moving listed =
-    makes_step-still s s (event.Relieve why) reply.Wait (still-self s) (quiet-relief why reply.Wait refl)
-    waits (order-still s s listed refl refl) tt (relief-needs s.tables why)
-  where
-    waits : RelieveStep s.tables why reply.Wait s.tables
-    waits =
-        rw wants (rw untakeable (rw moving (refl, refl)))
+pub makes_step-wait : (s : StateOf) (what : Event) (target : ℕ) → AsksPage s.tables what target → has_takeable s.tables target ≡ false → has_transfer s.tables target ≡ true → InOrder s → MakesStep s what reply.Wait s
+makes_step-wait s (event.Relieve why) target asks none moving listed =
+    makes_step-still s s (event.Relieve why) reply.Wait (still-self s) (record { says = λ spot. refl; given = refl })
+    (asks_step s.tables (event.Relieve why) target _ _ asks (λ Idle. rw none (rw moving (refl, refl)))) (order-still s s listed refl refl) tt (relief-needs s.tables why)
+makes_step-wait s (event.ReclaimOne g) target asks none moving listed =
+    makes_step-still s s (event.ReclaimOne g) reply.Wait (still-self s) (record { says = λ spot. refl; given = refl })
+    (asks_step s.tables (event.ReclaimOne g) target _ _ asks (λ Idle. rw none (rw moving (refl, refl)))) (order-still s s listed refl refl) tt (one_or_two (has_takeable s.tables g.0))
+makes_step-wait s other target asks none moving listed = absurd asks
+
+pub makes_step-nothing : (s : StateOf) (what : Event) → FindsNothing s.tables what → InOrder s → MakesStep s what reply.Nothing s
+makes_step-nothing s (event.ReclaimOne g) idle listed =
+    makes_step-still s s (event.ReclaimOne g) reply.Nothing (still-self s) (record { says = λ spot. refl; given = refl }) (rw idle.untakeable (rw idle.settled (refl, refl))) (order-still s s listed refl refl) tt
+    (one_or_two (has_takeable s.tables g.0))
+makes_step-nothing s other idle listed = absurd idle
 
 -- relief that is wanted, with nothing to reclaim
 pub relieve_step : (s : State) (why : Cause) (answer : Reply) (new : State) → stands s why ≡ true → has_takeable s (target_of why) ≡ false → has_transfer s (target_of why) ≡ false
@@ -465,61 +400,21 @@ pub relieve_step : (s : State) (why : Cause) (answer : Reply) (new : State) → 
 relieve_step s why answer new wants untakeable settled kill = rw wants (rw untakeable (rw settled kill))
 
 pub makes_step-no_victim : (old new : StateOf) (why : Cause) → stands old.tables why ≡ true → has_takeable old.tables (target_of why) ≡ false → has_transfer old.tables (target_of why) ≡ false
-    → IsVictim old.tables.tree old.tables.tasks old.tables.page_tables (target_of why) None → new.tables ≡ record old.tables { counted = with_event old.tables.counted (target_of why) key.Oom } → new.bytes ≡ old.bytes → new.flights ≡ old.flights → InOrder old → new.order ≡ old.order
-    → MakesStep old (event.Relieve why) reply.NoVictim new
-makes_step-no_victim old new why wants untakeable settled nobody tables bytes flights listed order =
-    makes_step-still old new (event.Relieve why) reply.NoVictim
-    (record {
-      pages = ap (λ (s : State). s.pages) tables;
-      tasks = ap (λ (s : State). s.tasks) tables;
-      page_tables = ap (λ (s : State). s.page_tables) tables;
-      bytes = bytes;
-      flights = flights;
-      opening = ap (λ (s : State). s.opening) tables;
-    })
-    (quiet-relief why reply.NoVictim refl)
-    (relieve_step old.tables why reply.NoVictim _ wants untakeable settled (nobody, tables))
-    (order-still old new listed (ap (λ (s : State). s.pages) tables) order) tt (relief-needs old.tables why)
+    → IsVictim old.tables.tree old.tables.tasks old.tables.page_tables (target_of why) None → new ≡ counts_event old (target_of why) key.Oom → InOrder old → MakesStep old (event.Relieve why) reply.NoVictim new
+makes_step-no_victim old new why wants untakeable settled nobody counts listed =
+    makes_step-still old new (event.Relieve why) reply.NoVictim (still-counts old new (target_of why) key.Oom counts) (record { says = λ spot. refl; given = refl })
+    (relieve_step old.tables why reply.NoVictim _ wants untakeable settled (nobody, ap (λ (s : StateOf). s.tables) counts))
+    (order-still old new listed (ap (λ (s : StateOf). s.tables.pages) counts) (ap (λ (s : StateOf). s.order) counts)) tt (relief-needs old.tables why)
 
--- ---- a page for whoever asks
+-- ---- tasks that were killed
 
-pub reclaim-needs : (s : State) (g : ℕ) → 1 ≤ need s (event.ReclaimOne (record { 0 = g }))
-reclaim-needs s g = one_or_two (has_takeable s g)
-
-quiet-reclaim : (g : ℕ) (answer : Reply) → is_refused answer ≡ false → IsQuiet (event.ReclaimOne (record { 0 = g })) answer
-quiet-reclaim g answer given = record { says = λ spot. refl; given = given }
-
-pub makes_step-reclaim_wait : (s : StateOf) (g : ℕ) → has_takeable s.tables g ≡ false → has_transfer s.tables g ≡ true → InOrder s → MakesStep s (event.ReclaimOne (record { 0 = g })) reply.Wait s
-makes_step-reclaim_wait s g untakeable moving listed =
-    makes_step-still s s (event.ReclaimOne (record { 0 = g })) reply.Wait (still-self s) (quiet-reclaim g reply.Wait refl)
-    waits (order-still s s listed refl refl) tt (reclaim-needs s.tables g)
-  where
-    waits : ReclaimOneStep s.tables g reply.Wait s.tables
-    waits =
-        rw untakeable (rw moving (refl, refl))
-
-pub makes_step-nothing : (s : StateOf) (g : ℕ) → has_takeable s.tables g ≡ false → has_transfer s.tables g ≡ false → InOrder s → MakesStep s (event.ReclaimOne (record { 0 = g })) reply.Nothing s
-makes_step-nothing s g untakeable settled listed =
-    makes_step-still s s (event.ReclaimOne (record { 0 = g })) reply.Nothing (still-self s) (quiet-reclaim g reply.Nothing refl)
-    finds_none (order-still s s listed refl refl) tt (reclaim-needs s.tables g)
-  where
-    finds_none : ReclaimOneStep s.tables g reply.Nothing s.tables
-    finds_none =
-        rw untakeable (rw settled (refl, refl))
-
--- ---- events of tasks that were killed
-
-pub makes_step-fork_killed : (s : StateOf) (t : ℕ) (child : TaskId) (task : Task) → task_at s.tables.tasks t ≡ Some task → task.life ≡ Killed → InOrder s → MakesStep s (event.Fork (record { 0 = t }) child) reply.Killed s
-makes_step-fork_killed s t child task is killed listed =
-    makes_step-still s s (event.Fork (record { 0 = t }) child) reply.Killed (still-self s) (record { says = λ spot. refl; given = refl })
-    (killed_step s.tables _ task _ is killed) (order-still s s listed refl refl) tt (omega arith)
-
-pub makes_step-free_killed : (s : StateOf) (t v : ℕ) (task : Task) → task_at s.tables.tasks t ≡ Some task → task.life ≡ Killed → InOrder s → MakesStep s (event.Free (record { 0 = t }) v) reply.Killed s
-makes_step-free_killed s t v task is killed listed =
-    makes_step-still s s (event.Free (record { 0 = t }) v) reply.Killed (still-self s) (record { says = λ spot. refl; given = refl })
-    (killed_step s.tables _ task _ is killed) (order-still s s listed refl refl) tt (omega arith)
-
-pub makes_step-exit_killed : (s : StateOf) (t : ℕ) (task : Task) → task_at s.tables.tasks t ≡ Some task → task.life ≡ Killed → InOrder s → MakesStep s (event.Exit (record { 0 = t })) reply.Killed s
-makes_step-exit_killed s t task is killed listed =
-    makes_step-still s s (event.Exit (record { 0 = t })) reply.Killed (still-self s) (record { says = λ spot. refl; given = refl })
-    (killed_step s.tables _ task _ is killed) (order-still s s listed refl refl) tt (omega arith)
+-- one that was killed is told so, whatever it asks
+pub makes_step-killed : (s : StateOf) (what : Event) → IsOfKilled s.tables what → InOrder s → MakesStep s what reply.Killed s
+makes_step-killed s (event.Access t place op) life listed = makes_step-undone s s t.0 place op reply.Killed refl refl (still-self s) (killed_step s.tables t.0 _ life) listed refl
+makes_step-killed s (event.Fork t child) life listed =
+    makes_step-still s s (event.Fork t child) reply.Killed (still-self s) (record { says = λ spot. refl; given = refl }) (killed_step s.tables t.0 _ life) (order-still s s listed refl refl) tt (omega arith)
+makes_step-killed s (event.Free t v) life listed =
+    makes_step-still s s (event.Free t v) reply.Killed (still-self s) (record { says = λ spot. refl; given = refl }) (killed_step s.tables t.0 _ life) (order-still s s listed refl refl) tt (omega arith)
+makes_step-killed s (event.Exit t) life listed =
+    makes_step-still s s (event.Exit t) reply.Killed (still-self s) (record { says = λ spot. refl; given = refl }) (killed_step s.tables t.0 _ life) (order-still s s listed refl refl) tt (omega arith)
+makes_step-killed s other life listed = absurd life

@@ -1,22 +1,22 @@
 -- What a task's write to its page, a page made for it, and its begin are to the plain machine.
-use Rattle.std.proofs.Common.{◌≡◌, ◌≢◌, ◌⊎◌, inl, inr, ℕ, ◌<◌, ◌≤◌, ◌==◌, ◌&&◌, not, Bool, true, false, cond, if◌then◌else◌, List, Option, Some, None, eqb-true, eq-eqb, ne_eqb, refl, sym, ap, ◌∙◌, subst, arith}
+use Rattle.std.proofs.Common.{◌≡◌, ◌≢◌, ◌⊎◌, inl, inr, ℕ, ◌≤◌, ◌==◌, ◌&&◌, not, Bool, true, false, cond, if◌then◌else◌, List, Option, Some, None, eqb-true, eq-eqb, ne_eqb, refl, sym, ap, ◌∙◌, subst, arith}
 use Rattle.std.specs.Prelude.{IfSome, is_some, nat_lt}
 use Rattle.std.proofs.lemmas.Bool.{and_parts}
 use Rattle.std.proofs.lemmas.Bool.Decides.{nat_tests}
 use Rattle.machine.specs.declared.record.Life.TheVariants.{Live}
 use Rattle.machine.specs.declared.record.Task.{Task}
 use Rattle.machine.specs.declared.event.Place.{Place}
-use Rattle.machine.specs.declared.event.Place.TheVariants.{Virtual}
+use Rattle.machine.specs.declared.event.Place.TheVariants.{Virtual, File}
 use Rattle.machine.specs.declared.event.Op.TheVariants.{Write}
 use Rattle.machine.specs.declared.event.Event.TheVariants as event
 use Rattle.machine.specs.declared.reply.Reply.TheVariants as reply
 use Rattle.machine.specs.Slots.{at, Changes, there_and}
 use Rattle.machine.specs.Pages.{Content, Memory, OfFile, Held, Page, Pages, page_at, file_page, is_anon, is_page_of, in_transfer_at, is_held, is_in_transfer, in_transfer}
-use Rattle.machine.specs.Tasks.{PageTables, SetsTask, task_at, is_live_life, is_live_task, lives, group_of, group_of_task, mapped_at, mappers, Shows}
-use Rattle.machine.specs.State.{State, page_numbers, over_in, is_frame_free}
-use Rattle.machine.specs.Access.{Meeting, Hits, meets}
+use Rattle.machine.specs.Tasks.{PageTables, SetsTask, task_at, is_live_life, is_live_task, lives, group_of, mapped_at, mappers}
+use Rattle.machine.specs.State.{State}
+use Rattle.machine.specs.Access.{Meeting, Hits, meets, NeedsCopy}
 use Rattle.machine.specs.Lists.{Youngest}
-use Rattle.machine.specs.Step.{MeetStep, MakesPage, IsFreeFrame, new_page, touched, still}
+use Rattle.machine.specs.Step.{MeetStep, MakesPage, new_page, touched, still}
 use Rattle.machine.specs.History.{Spot, InTask, InFile, spot_of, is_spot, Says, Byte, As, Nothing, says_if, says_of_task}
 use Rattle.machine.proofs.Values.{some_inj}
 use Rattle.machine.proofs.TreeLemmas.{eq_cases}
@@ -25,14 +25,16 @@ use Rattle.machine.proofs.MappingLemmas.{mapped_at-mappers, mapped_at-one}
 use Rattle.machine.proofs.FileLemmas.{holds_page, file_page-there, file_page-alike, file_page-kept, file_page-new_memory}
 use Rattle.pages.specs.PagesOf.{byte_in, Label, labelled, HasResidence}
 use Rattle.page_state.specs.States.{StateOf, byte_shown}
-use Rattle.page_state.specs.Changes.{KeepsLists, StartsTask, ForksTask, MovesTask, DropsPages, Unmaps}
+use Rattle.page_state.specs.Changes.{StartsTask, ForksTask, MovesTask, DropsPages, Unmaps, WritesByte, MakesPage as Makes}
 use Rattle.page_state.specs.Mapped.{AreMapped}
 use Rattle.book.specs.Spots.{offset_of, holder, IsThere}
 use Rattle.book.specs.Effects.{byte_at_spot, is_in_memory, is_known, knows, KnowsSpot, WasByte, IsSaid}
-use Rattle.book.specs.MakesStep.{AgesByThree, MakesStep}
+use Rattle.book.specs.MakesStep.{MakesStep}
 use Rattle.book.proofs.FlightLemmas.{in_transfer-changes}
 use Rattle.page_state.proofs.DropLemmas.{mapped_stays, moving_alike}
-use Rattle.book.proofs.StepLemmas.{InOrder, order-on, order-still, order-written, GoesOnIn, there-same, holder-same, spot-was, stays-was, still-was, flights-kept, live_step, granted_step, access-needs}
+use Rattle.book.proofs.StepLemmas.{InOrder, order-on, order-still, order-written, there-same, holder-same, spot-was, stays-was, still-was, live_step, access-needs, met_step, makes_step-alike}
+use Rattle.book.specs.declared.decision.Fault.{Fault}
+use Rattle.book.specs.Decisions.{spot_at, offset_at, IsFault, WritesAt, Finds, met_by}
 
 -- ---- a write in place
 
@@ -49,77 +51,6 @@ same_spot (InFile f q o) (InFile f' q' k) e =
 same_spot (InTask t v o) (InFile f q k) e = cc
 same_spot (InFile f q o) (InTask t v k) e = cc
 
--- a byte of the page of another place is at another offset
-abbrev pub IsOwn : StateOf → ℕ → Spot → Type 0
-IsOwn s p own = (spot : Spot) → holder s.tables spot ≡ Some p → is_spot own spot ≡ (offset_of own == offset_of spot)
-
-pub makes_step-hit_write : (old new : StateOf) (t p b f : ℕ) (place : Place) (label : Label) (task : Task) → task_at old.tables.tasks t ≡ Some task → task.life ≡ Live → holder old.tables (spot_of t place) ≡ Some p
-    → HasResidence old.tables.pages p label (Held f) → meets old.tables t place (Write b) ≡ Hits p (labelled label (Held f)) f → IsOwn old p (spot_of t place)
-    → Changes old.tables.pages new.tables.pages p (Some (touched (labelled label (Held f)) (Write b))) → new.tables ≡ record old.tables { pages = new.tables.pages }
-    → ((q k : ℕ) → byte_in new.bytes q k ≡ (if (q == p) && (offset_of (spot_of t place) == k) then b else byte_in old.bytes q k)) → new.flights ≡ old.flights
-    → InOrder old → new.order ≡ old.order
-    → MakesStep old (event.Access (record { 0 = t }) place (Write b)) (reply.Done b (Some (record { 0 = f }))) new
-makes_step-hit_write old new t p b f place label task is living shown page meeting own placed tables bytes flights listed order =
-    record {
-      steps = live_step old.tables _ task _ _ _ is living writes;
-      orders = goes.0;
-      ages = goes.1;
-      reads = tt;
-      bytes = λ spot there known. inr (at_spot spot (there-same old.tables new.tables spot (ap (λ (s : State). s.tasks) tables) there) known (is_spot (spot_of t place) spot) refl);
-      flights = flights-kept old new (reply.Done b (Some (record { 0 = f }))) flights;
-      kept =
-          (let same = in_transfer-changes old.tables.pages new.tables.pages p (Some (touched (labelled label (Held f)) (Write b))) placed in
-          let was : one_if (there_and is_in_transfer (page_at old.tables.pages p)) ≡ 0 = ap (λ (slot : Option Page). one_if (there_and is_in_transfer slot)) page in
-          let one = access-needs old.tables t place (Write b) in omega (arith, same, was, one));
-      given = refl;
-      opening = ap (λ (s : State). s.opening) tables;
-    }
-  where
-    -- each page is where it was
-    alike : (test : Page → Bool) → test (touched (labelled label (Held f)) (Write b)) ≡ test (labelled label (Held f)) → (q : ℕ) → there_and test (page_at new.tables.pages q) ≡ there_and test (page_at old.tables.pages q)
-    alike test same q =
-        elim (eq_cases q p) [
-          | inl here ↦ ap (λ (x : ℕ). there_and test (page_at new.tables.pages x)) here ∙ ap (there_and test) placed.changed ∙ same ∙ sym (ap (λ (x : ℕ). there_and test (page_at old.tables.pages x)) here ∙ ap (there_and test) page)
-          | inr other ↦ ap (there_and test) (placed.others q other)
-        ]
-
-    goes : GoesOnIn Youngest old old.order.held new
-    goes = order-written old new listed (alike is_held refl) order
-
-    writes : MeetStep old.tables t task.group.0 (Write b) (meets old.tables t place (Write b)) (reply.Done b (Some (record { 0 = f }))) new.tables
-    writes =
-        subst (λ (m : Meeting). MeetStep old.tables t task.group.0 (Write b) m (reply.Done b (Some (record { 0 = f }))) new.tables) (sym meeting)
-        (refl, refl, placed, tables)
-
-    same_holder : (spot : Spot) → holder new.tables spot ≡ holder old.tables spot
-    same_holder spot =
-        holder-same old.tables new.tables spot (λ u w. ap (λ (s : State). mapped_at s.page_tables u w) tables)
-        (λ g q. file_page-kept old.tables.pages new.tables.pages p (labelled label (Held f)) (touched (labelled label (Held f)) (Write b)) placed page refl g q)
-
-    -- at its own place the page has the byte that is written
-    here : byte_at_spot new (spot_of t place) ≡ b
-    here =
-        ap (λ (m : Option ℕ). byte_shown new.bytes m (offset_of (spot_of t place))) (same_holder (spot_of t place) ∙ shown) ∙ bytes p (offset_of (spot_of t place))
-        ∙ ap (λ x. cond (x && (offset_of (spot_of t place) == offset_of (spot_of t place))) b (byte_in old.bytes p (offset_of (spot_of t place)))) (eq-eqb p p refl)
-        ∙ ap (λ x. cond x b (byte_in old.bytes p (offset_of (spot_of t place)))) (eq-eqb (offset_of (spot_of t place)) (offset_of (spot_of t place)) refl)
-
-    -- another has the byte that it had
-    kept : (spot : Spot) → is_spot (spot_of t place) spot ≡ false → (q : ℕ) → holder old.tables spot ≡ Some q → byte_in new.bytes q (offset_of spot) ≡ byte_in old.bytes q (offset_of spot)
-    kept spot miss q at = bytes q (offset_of spot) ∙ by_page (q == p) refl
-      where
-        by_page : (x : Bool) → (q == p) ≡ x → cond ((q == p) && (offset_of (spot_of t place) == offset_of spot)) b (byte_in old.bytes q (offset_of spot)) ≡ byte_in old.bytes q (offset_of spot)
-        by_page true hit =
-            let elsewhere : (offset_of (spot_of t place) == offset_of spot) ≡ false = sym (own spot (at ∙ ap (λ (x : ℕ). Some x) (eqb-true q p hit))) ∙ miss in
-            ap (λ x. cond (x && (offset_of (spot_of t place) == offset_of spot)) b (byte_in old.bytes q (offset_of spot))) hit ∙ ap (λ x. cond x b (byte_in old.bytes q (offset_of spot))) elsewhere
-        by_page false other = ap (λ x. cond (x && (offset_of (spot_of t place) == offset_of spot)) b (byte_in old.bytes q (offset_of spot))) other
-
-    at_spot : (spot : Spot) → IsThere old.tables spot → KnowsSpot new spot → (test : Bool) → is_spot (spot_of t place) spot ≡ test → IsSaid old (says_if (is_spot (spot_of t place) spot) (Byte b)) spot (byte_at_spot new spot)
-    at_spot spot there known true hit =
-        subst (λ (x : Bool). IsSaid old (says_if x (Byte b)) spot (byte_at_spot new spot)) (sym hit) (ap (byte_at_spot new) (sym (same_spot (spot_of t place) spot hit)) ∙ here)
-    at_spot spot there known false miss =
-        subst (λ (x : Bool). IsSaid old (says_if x (Byte b)) spot (byte_at_spot new spot)) (sym miss)
-        (stays-was old new spot there (same_holder spot) (λ q at now. (sym (alike (λ (page : Page). is_in_memory page.residence) refl q) ∙ now, kept spot miss q at)) known)
-
 -- memory is in the cache for no file, and a page of a file is mapped nowhere
 module _ (s : State) (mapped : AreMapped s.pages s.page_tables) where
   mapped_or_filed : (t v f q p : ℕ) → mapped_at s.page_tables t v ≡ Some p → file_page s.pages f q ≡ Some p → ⊥
@@ -129,30 +60,95 @@ module _ (s : State) (mapped : AreMapped s.pages s.page_tables) where
       let none = subst (λ (slot : Option Page). IfSome slot (λ page. is_anon page.content ≡ false → mappers s.page_tables p ≡ 0)) there.1 (mapped.files p) (ap is_anon there.2) in
       omega (arith, some, none)
 
--- a page of memory that one place shows
-pub own-mapped : (s : StateOf) (t v o p : ℕ) → AreMapped s.tables.pages s.tables.page_tables → mapped_at s.tables.page_tables t v ≡ Some p → nat_lt 1 (mappers s.tables.page_tables p) ≡ false → IsOwn s p (InTask t v o)
-own-mapped s t v o p mapped shown alone (InTask u w k) is = by_test (t == u) (v == w) (mapped_at-one s.tables.page_tables t v u w p (at_most (mappers s.tables.page_tables p) alone) shown is)
+-- where a page is hit, a byte of it is at one place and offset alone: memory that is written in place is mapped once, and a page of a file is in the cache once
+own-spot : (s : StateOf) (t p f : ℕ) (place : Place) (label : Label) (b : ℕ) → AreMapped s.tables.pages s.tables.page_tables → holder s.tables (spot_of t place) ≡ Some p → HasResidence s.tables.pages p label (Held f)
+    → meets s.tables t place (Write b) ≡ Hits p (labelled label (Held f)) f → (spot : Spot) → holder s.tables spot ≡ Some p → is_spot (spot_of t place) spot ≡ (offset_of (spot_of t place) == offset_of spot)
+own-spot s t p f (Virtual v o) label b mapped shown page meeting (InTask u w k) is = by_test (t == u) (v == w) (mapped_at-one s.tables.page_tables t v u w p (at_most (mappers s.tables.page_tables p) (rw page at rw shown at meeting)) shown is)
   where
-    at_most : (n : ℕ) → nat_lt 1 n ≡ false → n ≤ 1
-    at_most n is = grind (arith, nat_tests, is)
+    at_most : (n : ℕ) → cond (nat_lt 1 n) (NeedsCopy v) (Hits p (labelled label (Held f)) f) ≡ Hits p (labelled label (Held f)) f → n ≤ 1
+    at_most n is = by_count (nat_lt 1 n) refl is
+      where
+        by_count : (x : Bool) → nat_lt 1 n ≡ x → cond x (NeedsCopy v) (Hits p (labelled label (Held f)) f) ≡ Hits p (labelled label (Held f)) f → n ≤ 1
+        by_count true e is = cc
+        by_count false e is = grind (arith, nat_tests, e)
 
     by_test : (x y : Bool) → (x && y) ≡ true → (x && (y && (o == k))) ≡ (o == k)
     by_test true true e = refl
     by_test true false e = cc
     by_test false y e = cc
-own-mapped s t v o p mapped shown alone (InFile f q k) is = absurd (mapped_or_filed s.tables mapped t v f q p shown is)
-
--- a page of a file
-pub own-cached : (s : StateOf) (f q o p : ℕ) → AreMapped s.tables.pages s.tables.page_tables → file_page s.tables.pages f q ≡ Some p → IsOwn s p (InFile f q o)
-own-cached s f q o p mapped cached (InTask u w k) is = absurd (mapped_or_filed s.tables mapped u w f q p is cached)
-own-cached s f q o p mapped cached (InFile f' q' k) is =
-    let one = file_page-there s.tables.pages f q p cached in
-    let other = file_page-there s.tables.pages f' q' p is in
+own-spot s t p f (Virtual v o) label b mapped shown page meeting (InFile h q k) is = absurd (mapped_or_filed s.tables mapped t v h q p shown is)
+own-spot s t p f (File h q o) label b mapped cached page meeting (InTask u w k) is = absurd (mapped_or_filed s.tables mapped u w h q p is cached)
+own-spot s t p f (File h q o) label b mapped cached page meeting (InFile h' q' k) is =
+    let one = file_page-there s.tables.pages h q p cached in
+    let other = file_page-there s.tables.pages h' q' p is in
     let page : one.0 ≡ other.0 = some_inj (sym one.1 ∙ other.1) in
-    let content : OfFile f q ≡ OfFile f' q' = sym one.2 ∙ ap (λ (x : Page). x.content) page ∙ other.2 in
-    let files : f ≡ f' = cc in
+    let content : OfFile h q ≡ OfFile h' q' = sym one.2 ∙ ap (λ (x : Page). x.content) page ∙ other.2 in
+    let files : h ≡ h' = cc in
     let numbers : q ≡ q' = cc in
-    ap (λ (b : Bool). b && ((q == q') && (o == k))) (eq-eqb f f' files) ∙ ap (λ (b : Bool). b && (o == k)) (eq-eqb q q' numbers)
+    ap (λ (b : Bool). b && ((q == q') && (o == k))) (eq-eqb h h' files) ∙ ap (λ (b : Bool). b && (o == k)) (eq-eqb q q' numbers)
+
+pub makes_step-hit_write : (old new : StateOf) (fault : Fault) (p f b : ℕ) → IsFault old.tables fault → (finds : Finds old.tables fault p (Held f)) → met_by old.tables fault ≡ Hits p (labelled finds.label (Held f)) f → fault.op ≡ Write b
+    → AreMapped old.tables.pages old.tables.page_tables → WritesByte old new p (offset_at fault) b → InOrder old
+    → MakesStep old (event.Access fault.task fault.place fault.op) (reply.Done b (Some (record { 0 = f }))) new
+makes_step-hit_write old new fault p f b is finds meeting write mapped written listed =
+    makes_step-alike old new (event.Access fault.task fault.place fault.op) (reply.Done b (Some (record { 0 = f })))
+    (met_step old.tables fault _ _ _ is meeting (rw write (refl, refl, placed, written.tables))) (order-written old new listed (alike is_held refl) written.order) (rw write tt)
+    (λ spot there known. rw write (at_spot spot (there-same old.tables new.tables spot (ap (λ (s : State). s.tasks) written.tables) there) known (is_spot (spot_at fault) spot) refl))
+    written.flights
+    (let same = in_transfer-changes old.tables.pages new.tables.pages p (Some written_page) placed in
+    let was : one_if (there_and is_in_transfer (page_at old.tables.pages p)) ≡ 0 = ap (λ (slot : Option Page). one_if (there_and is_in_transfer slot)) finds.stands in
+    omega (arith, same, was))
+    (access-needs old.tables fault.task.0 fault.place fault.op) refl (ap (λ (s : State). s.opening) written.tables)
+  where
+    page : Page
+    page = labelled finds.label (Held f)
+
+    written_page : Page
+    written_page = touched page (Write b)
+
+    placed : Changes old.tables.pages new.tables.pages p (Some written_page)
+    placed = written.placed _ finds.stands
+
+    -- each page is where it was
+    alike : (test : Page → Bool) → test written_page ≡ test page → (q : ℕ) → there_and test (page_at new.tables.pages q) ≡ there_and test (page_at old.tables.pages q)
+    alike test same q =
+        elim (eq_cases q p) [
+          | inl here ↦ ap (λ (x : ℕ). there_and test (page_at new.tables.pages x)) here ∙ ap (there_and test) placed.changed ∙ same ∙ sym (ap (λ (x : ℕ). there_and test (page_at old.tables.pages x)) here ∙ ap (there_and test) finds.stands)
+          | inr other ↦ ap (there_and test) (placed.others q other)
+        ]
+
+    -- a byte of the page of another place is at another offset
+    own : (spot : Spot) → holder old.tables spot ≡ Some p → is_spot (spot_at fault) spot ≡ (offset_at fault == offset_of spot)
+    own = own-spot old fault.task.0 p f fault.place finds.label b mapped finds.found finds.stands (sym (ap (meets old.tables fault.task.0 fault.place) write) ∙ meeting)
+
+    same_holder : (spot : Spot) → holder new.tables spot ≡ holder old.tables spot
+    same_holder spot =
+        holder-same old.tables new.tables spot (λ u w. ap (λ (s : State). mapped_at s.page_tables u w) written.tables)
+        (λ h q. file_page-kept old.tables.pages new.tables.pages p page written_page placed finds.stands refl h q)
+
+    -- at its own place the page has the byte that is written
+    here : byte_at_spot new (spot_at fault) ≡ b
+    here =
+        ap (λ (m : Option ℕ). byte_shown new.bytes m (offset_at fault)) (same_holder (spot_at fault) ∙ finds.found) ∙ written.bytes p (offset_at fault)
+        ∙ ap (λ x. cond (x && (offset_at fault == offset_at fault)) b (byte_in old.bytes p (offset_at fault))) (eq-eqb p p refl)
+        ∙ ap (λ x. cond x b (byte_in old.bytes p (offset_at fault))) (eq-eqb (offset_at fault) (offset_at fault) refl)
+
+    -- another has the byte that it had
+    kept : (spot : Spot) → is_spot (spot_at fault) spot ≡ false → (q : ℕ) → holder old.tables spot ≡ Some q → byte_in new.bytes q (offset_of spot) ≡ byte_in old.bytes q (offset_of spot)
+    kept spot miss q at = written.bytes q (offset_of spot) ∙ by_page (q == p) refl
+      where
+        by_page : (x : Bool) → (q == p) ≡ x → cond ((q == p) && (offset_at fault == offset_of spot)) b (byte_in old.bytes q (offset_of spot)) ≡ byte_in old.bytes q (offset_of spot)
+        by_page true hit =
+            let elsewhere : (offset_at fault == offset_of spot) ≡ false = sym (own spot (at ∙ ap (λ (x : ℕ). Some x) (eqb-true q p hit))) ∙ miss in
+            ap (λ x. cond (x && (offset_at fault == offset_of spot)) b (byte_in old.bytes q (offset_of spot))) hit ∙ ap (λ x. cond x b (byte_in old.bytes q (offset_of spot))) elsewhere
+        by_page false other = ap (λ x. cond (x && (offset_at fault == offset_of spot)) b (byte_in old.bytes q (offset_of spot))) other
+
+    at_spot : (spot : Spot) → IsThere old.tables spot → KnowsSpot new spot → (test : Bool) → is_spot (spot_at fault) spot ≡ test → IsSaid old (says_if (is_spot (spot_at fault) spot) (Byte b)) spot (byte_at_spot new spot)
+    at_spot spot there known true hit =
+        subst (λ (x : Bool). IsSaid old (says_if x (Byte b)) spot (byte_at_spot new spot)) (sym hit) (ap (byte_at_spot new) (sym (same_spot (spot_at fault) spot hit)) ∙ here)
+    at_spot spot there known false miss =
+        subst (λ (x : Bool). IsSaid old (says_if x (Byte b)) spot (byte_at_spot new spot)) (sym miss)
+        (stays-was old new spot there (same_holder spot) (λ q at now. (sym (alike (λ (page : Page). is_in_memory page.residence) refl q) ∙ now, kept spot miss q at)) known)
 
 -- ---- pages that are made
 
@@ -170,48 +166,59 @@ said_here old true false z b spot byte hit written kept = cc
 said_here old false y z b spot byte hit written kept = cc
 
 -- a page is made for a place: of zeros where nothing was shown, or a copy of the page in a frame that others show too
-pub makes_step-made : (old new : StateOf) (t v o b p f : ℕ) (task : Task) → AreMapped old.tables.pages old.tables.page_tables
-    → task_at old.tables.tasks t ≡ Some task → task.life ≡ Live → ((u w k : ℕ) → knows old (InTask u w k) (mapped_at old.tables.page_tables t v) ≡ true)
-    → ((new : State) → MakesPage old.tables t v task.group.0 (Write b) (reply.Done b None) new
-    → MeetStep old.tables t task.group.0 (Write b) (meets old.tables t (Virtual v o) (Write b)) (reply.Done b None) new)
-    → IsFreeFrame old.tables f → p < page_numbers old.tables.opening → page_at old.tables.pages p ≡ None
-    → Changes old.tables.pages new.tables.pages p (Some (new_page task.group.0 f))
-    → Shows old.tables.page_tables new.tables.page_tables t v (Some p) → new.tables ≡ record old.tables { pages = new.tables.pages; page_tables = new.tables.page_tables }
-    → ((q k : ℕ) → byte_in new.bytes q k ≡ (if q == p then (if o == k then b else byte_shown old.bytes (mapped_at old.tables.page_tables t v) k) else byte_in old.bytes q k)) → new.flights ≡ old.flights
-    → KeepsLists Youngest old new → new.order.cursors ≡ old.order.cursors
-    → MakesStep old (event.Access (record { 0 = t }) (Virtual v o) (Write b)) (reply.Done b None) new
-makes_step-made old new t v o b p f task mapped is living knew meeting frame within slot placed shown tables bytes flights goes cursors =
-    record {
-      steps = live_step old.tables _ task _ _ _ is living (meeting new.tables made);
-      orders = (goes, cursors);
-      ages = (order-on Youngest old old.order.held new refl goes cursors).1;
-      reads = tt;
-      bytes = λ spot there known. inr (at_spot spot (there-same old.tables new.tables spot (ap (λ (s : State). s.tasks) tables) there) known);
-      flights = flights-kept old new (reply.Done b None) flights;
-      kept =
-          (let same = in_transfer-changes old.tables.pages new.tables.pages p (Some (new_page task.group.0 f)) placed in
-          let was : one_if (there_and is_in_transfer (page_at old.tables.pages p)) ≡ 0 = ap (λ (slot : Option Page). one_if (there_and is_in_transfer slot)) slot in
-          let one = access-needs old.tables t (Virtual v o) (Write b) in omega (arith, same, was, one));
-      given = refl;
-      opening = ap (λ (s : State). s.opening) tables;
-    }
+pub makes_step-made : (old new : StateOf) (fault : Fault) (met : Meeting) (v b : ℕ) → AreMapped old.tables.pages old.tables.page_tables → IsFault old.tables fault → WritesAt fault v b → met_by old.tables fault ≡ met
+    → ((u w k : ℕ) → knows old (InTask u w k) (mapped_at old.tables.page_tables fault.task.0 v) ≡ true)
+    → (MakesPage old.tables fault.task.0 v fault.group.0 (Write b) (reply.Done b None) new.tables → MeetStep old.tables fault.task.0 fault.group.0 (Write b) met (reply.Done b None) new.tables)
+    → Makes old new fault.task.0 v fault.group.0 (offset_at fault) b → MakesStep old (event.Access fault.task fault.place fault.op) (reply.Done b None) new
+makes_step-made old new fault met v b mapped is writes meeting knew granted makes =
+    makes_step-alike old new (event.Access fault.task fault.place fault.op) (reply.Done b None)
+    (met_step old.tables fault met _ _ is meeting (rw writes.op (granted made))) (order-on Youngest old old.order.held new refl makes.held makes.cursors) (rw writes.op tt)
+    (λ spot there known. rw writes.op (rw writes.place (at_spot spot (there-same old.tables new.tables spot (ap (λ (s : State). s.tasks) makes.tables) there) known)))
+    makes.flights
+    (let same = in_transfer-changes old.tables.pages new.tables.pages p (Some (new_page g makes.frame)) makes.placed in
+    let was : one_if (there_and is_in_transfer (page_at old.tables.pages p)) ≡ 0 = ap (λ (slot : Option Page). one_if (there_and is_in_transfer slot)) makes.number_free in
+    omega (arith, same, was))
+    (access-needs old.tables t fault.place fault.op) refl (ap (λ (s : State). s.opening) makes.tables)
   where
-    made : MakesPage old.tables t v task.group.0 (Write b) (reply.Done b None) new.tables
-    made = record { page = p; frame = f; in_range = within; slot_free = slot; frame_free = record { in_range = frame.in_range; unused = frame.unused }; placed = placed; shown = shown; answers = refl; state = tables }
+    t : ℕ
+    t = fault.task.0
+
+    g : ℕ
+    g = fault.group.0
+
+    o : ℕ
+    o = offset_at fault
+
+    p : ℕ
+    p = makes.page
+
+    made : MakesPage old.tables t v g (Write b) (reply.Done b None) new.tables
+    made =
+        record {
+          page = p;
+          frame = makes.frame;
+          in_range = makes.in_range;
+          slot_free = makes.number_free;
+          frame_free = makes.frame_free;
+          placed = makes.placed;
+          shown = makes.shown;
+          answers = refl;
+          state = makes.tables;
+        }
 
     -- another page is what it was
     another : (q k : ℕ) → q ≢ p → is_known new.tables.pages q ≡ true → (is_known old.tables.pages q ≡ true) × (byte_in new.bytes q k ≡ byte_in old.bytes q k)
     another q k other now = (
-      sym (ap (there_and (λ (page : Page). is_in_memory page.residence)) (placed.others q other)) ∙ now,
-      bytes q k ∙ ap (λ x. cond x (if o == k then b else byte_shown old.bytes (mapped_at old.tables.page_tables t v) k) (byte_in old.bytes q k)) (ne_eqb q p other),
+      sym (ap (there_and (λ (page : Page). is_in_memory page.residence)) (makes.placed.others q other)) ∙ now,
+      makes.bytes q k ∙ ap (λ x. cond x (if o == k then b else byte_shown old.bytes (mapped_at old.tables.page_tables t v) k) (byte_in old.bytes q k)) (ne_eqb q p other),
     )
 
     unmade : (q : ℕ) → 1 ≤ mappers old.tables.page_tables q → q ≢ p
     unmade q some same =
-        absurd (let none = mapped.there q (ap (page_at old.tables.pages) same ∙ slot) in omega (arith, none, some))
+        absurd (let none = mapped.there q (ap (page_at old.tables.pages) same ∙ makes.number_free) in omega (arith, none, some))
 
-    uncached : (g n q : ℕ) → file_page old.tables.pages g n ≡ Some q → q ≢ p
-    uncached g n q cached same = let there = file_page-there old.tables.pages g n q cached in absurd (let wrong : Some there.0 ≡ None = sym there.1 ∙ ap (page_at old.tables.pages) same ∙ slot in cc)
+    uncached : (h n q : ℕ) → file_page old.tables.pages h n ≡ Some q → q ≢ p
+    uncached h n q cached same = let there = file_page-there old.tables.pages h n q cached in absurd (let wrong : Some there.0 ≡ None = sym there.1 ∙ ap (page_at old.tables.pages) same ∙ makes.number_free in cc)
 
     same_place : (tables : PageTables) (u w : ℕ) → ((t == u) && (v == w)) ≡ true → mapped_at tables u w ≡ mapped_at tables t v
     same_place tables u w hit =
@@ -222,7 +229,7 @@ makes_step-made old new t v o b p f task mapped is living knew meeting frame wit
     -- of the page that is made one byte is written, and the others are those that the place showed
     own : (u w k : ℕ) → ((t == u) && (v == w)) ≡ true → (z : Bool) → (o == k) ≡ z → byte_at_spot new (InTask u w k) ≡ cond z b (byte_at_spot old (InTask u w k))
     own u w k hit z is =
-        ap (λ m. byte_shown new.bytes m k) (same_place new.tables.page_tables u w hit ∙ shown.changed) ∙ bytes p k
+        ap (λ m. byte_shown new.bytes m k) (same_place new.tables.page_tables u w hit ∙ makes.shown.changed) ∙ makes.bytes p k
         ∙ ap (λ x. cond x (cond (o == k) b (byte_at_spot old (InTask t v k))) (byte_in old.bytes p k)) (eq-eqb p p refl)
         ∙ ap (λ x. cond x b (byte_at_spot old (InTask t v k))) is
         ∙ ap (cond z b) (sym (ap (λ m. byte_shown old.bytes m k) (same_place old.tables.page_tables u w hit)))
@@ -234,104 +241,62 @@ makes_step-made old new t v o b p f task mapped is living knew meeting frame wit
         (λ z. (alive, (ap (knows old (InTask u w k)) (same_place old.tables.page_tables u w hit) ∙ knew u w k, known.1), own u w k hit false z))
     at_place u w k alive known false miss =
         subst (λ (said : Says). IsSaid old said (InTask u w k) (byte_at_spot new (InTask u w k))) (sym (silent_elsewhere (t == u) (v == w) (o == k) b miss))
-        (stays-was old new (InTask u w k) alive (shown.others u w miss) (λ q at now. another q k (unmade q (mapped_at-mappers old.tables.page_tables u w q at)) now) known)
+        (stays-was old new (InTask u w k) alive (makes.shown.others u w miss) (λ q at now. another q k (unmade q (mapped_at-mappers old.tables.page_tables u w q at)) now) known)
 
     at_spot : (spot : Spot) → IsThere old.tables spot → KnowsSpot new spot → IsSaid old (says_if (is_spot (InTask t v o) spot) (Byte b)) spot (byte_at_spot new spot)
     at_spot (InTask u w k) alive known = at_place u w k alive known ((t == u) && (v == w)) refl
-    at_spot (InFile g n k) there known =
-        stays-was old new (InFile g n k) tt (file_page-new_memory old.tables.pages new.tables.pages p (new_page task.group.0 f) placed slot refl g n) (λ q at now. another q k (uncached g n q at) now) known
-
--- where nothing is mapped
-pub meets-unmapped : (old : State) (t v o b g : ℕ) → mapped_at old.page_tables t v ≡ None → over_in old g ≡ None → is_frame_free old ≡ true
-    → (new : State) → MakesPage old t v g (Write b) (reply.Done b None) new → MeetStep old t g (Write b) (meets old t (Virtual v o) (Write b)) (reply.Done b None) new
-meets-unmapped old t v o b g none under free new made = rw none (granted_step old _ _ _ _ _ under free made)
-
--- where a shared page is
-pub meets-shared : (old : State) (t v o b p f g : ℕ) (label : Label) → mapped_at old.page_tables t v ≡ Some p → HasResidence old.pages p label (Held f) → nat_lt 1 (mappers old.page_tables p) ≡ true → over_in old g ≡ None → is_frame_free old ≡ true
-    → (new : State) → MakesPage old t v g (Write b) (reply.Done b None) new → MeetStep old t g (Write b) (meets old t (Virtual v o) (Write b)) (reply.Done b None) new
-meets-shared old t v o b p f g label shown held shared under free new made = rw shown (rw held (rw shared (granted_step old _ _ _ _ _ under free made)))
+    at_spot (InFile h n k) there known =
+        stays-was old new (InFile h n k) tt (file_page-new_memory old.tables.pages new.tables.pages p (new_page g makes.frame) makes.placed makes.number_free refl h n) (λ q at now. another q k (uncached h n q at) now) known
 
 -- ---- tasks begin
 
+-- a task begins, and the event says what its bytes are; each other place shows what it did
+module _ (old new : StateOf) (t g : ℕ) (starts : SetsTask old.tables.tasks t g Live new.tables.tasks) (others : (u v : ℕ) → u ≢ t → mapped_at new.tables.page_tables u v ≡ mapped_at old.tables.page_tables u v)
+    (tables : new.tables ≡ record old.tables { tasks = new.tables.tasks; page_tables = new.tables.page_tables }) (bytes : new.bytes ≡ old.bytes) where
+  same_pages : new.tables.pages ≡ old.tables.pages
+  same_pages = ap (λ (s : State). s.pages) tables
+
+  -- what a place shows that showed as much before
+  shows_still : (spot from : Spot) → IsThere old.tables from → offset_of from ≡ offset_of spot → ((c : StateOf) → knows c spot None ≡ true → knows c from None ≡ true) → holder new.tables spot ≡ holder old.tables from
+      → KnowsSpot new spot → WasByte old from (byte_at_spot new spot)
+  shows_still spot from there offset none same known =
+      spot-was old new spot from there offset none same
+      (λ p at now. (sym (ap (λ (ps : Pages). is_known ps p) same_pages) ∙ now, ap (λ (bs : List (Option (List ℕ))). byte_in bs p (offset_of spot)) bytes)) known
+
+  begins-bytes : (said : ℕ → ℕ → Says) → ((v o : ℕ) → KnowsSpot new (InTask t v o) → IsSaid old (said v o) (InTask t v o) (byte_at_spot new (InTask t v o)))
+      → (spot : Spot) → IsThere new.tables spot → KnowsSpot new spot → IsSaid old (says_of_task t spot said) spot (byte_at_spot new spot)
+  begins-bytes said own (InFile f q o) there known = shows_still (InFile f q o) (InFile f q o) tt refl (λ c is. is) (ap (λ (ps : Pages). file_page ps f q) same_pages) known
+  begins-bytes said own (InTask u v o) alive known = by_task (eq_cases u t)
+    where
+      by_task : (u ≡ t) ⊎ (u ≢ t) → IsSaid old (says_if (t == u) (said v o)) (InTask u v o) (byte_at_spot new (InTask u v o))
+      by_task (inl same) =
+          rw (eq-eqb t u (sym same))
+          (subst (λ (x : ℕ). KnowsSpot new (InTask x v o) → IsSaid old (said v o) (InTask x v o) (byte_at_spot new (InTask x v o))) (sym same) (own v o) known)
+      by_task (inr other) =
+          rw (ne_eqb t u (λ e. other (sym e)))
+          (shows_still (InTask u v o) (InTask u v o) (sym (ap (there_and is_live_task) (starts.others u other)) ∙ alive) refl (λ c is. is) (others u v other) known)
+
 pub makes_step-spawn : (old new : StateOf) (t g : ℕ) → StartsTask old new t g → InOrder old
     → MakesStep old (event.Spawn (record { 0 = t }) (record { 0 = g })) reply.Ok new
-makes_step-spawn old new t g starts listed =
-    record {
-      steps = (starts.starts, record { none = starts.none; others = λ u v other. starts.same u v }, starts.tables);
-      orders = (order-still old new listed same_pages starts.order).0;
-      ages = (order-still old new listed same_pages starts.order).1;
-      reads = tt;
-      bytes = λ spot there known. inr (by_spot spot there known);
-      flights = flights-kept old new reply.Ok starts.flights;
-      kept = (let same = ap in_transfer same_pages in omega (arith, same));
-      given = refl;
-      opening = ap (λ (s : State). s.opening) starts.tables;
-    }
-  where
-    same_pages : new.tables.pages ≡ old.tables.pages
-    same_pages = ap (λ (s : State). s.pages) starts.tables
-
-    same_known : (p : ℕ) → is_known new.tables.pages p ≡ true → is_known old.tables.pages p ≡ true
-    same_known p now = sym (ap (λ (ps : Pages). is_known ps p) same_pages) ∙ now
-
-    same_byte : (p o : ℕ) → byte_in new.bytes p o ≡ byte_in old.bytes p o
-    same_byte p o = ap (λ (bs : List (Option (List ℕ))). byte_in bs p o) starts.bytes
-
-    by_task : (u v o : ℕ) → lives new.tables.tasks u ≡ true → KnowsSpot new (InTask u v o) → (t ≡ u) ⊎ (t ≢ u) → IsSaid old (says_if (t == u) (Byte 0)) (InTask u v o) (byte_at_spot new (InTask u v o))
-    by_task u v o alive known (inl same) =
-        subst (λ (said : Says). IsSaid old said (InTask u v o) (byte_at_spot new (InTask u v o))) (sym (ap (λ (b : Bool). says_if b (Byte 0)) (eq-eqb t u same)))
-        (ap (λ m. byte_shown new.bytes m o) (ap (λ (x : ℕ). mapped_at new.tables.page_tables x v) (sym same) ∙ starts.none v))
-    by_task u v o alive known (inr other) =
-        subst (λ (said : Says). IsSaid old said (InTask u v o) (byte_at_spot new (InTask u v o))) (sym (ap (λ (b : Bool). says_if b (Byte 0)) (ne_eqb t u other)))
-        (stays-was old new (InTask u v o) (sym (ap (there_and is_live_task) (starts.starts.others u (λ e. other (sym e)))) ∙ alive) (starts.same u v) (λ p at now. (same_known p now, same_byte p o)) known)
-
-    by_spot : (spot : Spot) → IsThere new.tables spot → KnowsSpot new spot → IsSaid old (says_of_task t spot (λ v o. Byte 0)) spot (byte_at_spot new spot)
-    by_spot (InTask u v o) alive known = by_task u v o alive known (eq_cases t u)
-    by_spot (InFile f q o) there known = stays-was old new (InFile f q o) tt (ap (λ (ps : Pages). file_page ps f q) same_pages) (λ p at now. (same_known p now, same_byte p o)) known
+makes_step-spawn old new t g begins listed =
+    makes_step-alike old new (event.Spawn (record { 0 = t }) (record { 0 = g })) reply.Ok (begins.starts, record { none = begins.none; others = λ u v other. begins.same u v }, begins.tables)
+    (order-still old new listed (ap (λ (s : State). s.pages) begins.tables) begins.order) tt
+    (begins-bytes old new t g begins.starts (λ u v other. begins.same u v) begins.tables begins.bytes (λ v o. Byte 0) (λ v o known. ap (λ m. byte_shown new.bytes m o) (begins.none v)))
+    begins.flights (ap (λ (s : State). in_transfer s.pages) begins.tables) (omega arith) refl (ap (λ (s : State). s.opening) begins.tables)
 
 -- a child shows what its parent shows
 pub makes_step-fork : (old new : StateOf) (t child : ℕ) (task : Task) → task_at old.tables.tasks t ≡ Some task → task.life ≡ Live → ForksTask old new t child → InOrder old
     → MakesStep old (event.Fork (record { 0 = t }) (record { 0 = child })) reply.Ok new
 makes_step-fork old new t child task is living forks listed =
-    record {
-      steps = live_step old.tables _ task _ _ _ is living (refl, subst (λ (g : ℕ). SetsTask old.tables.tasks child g Live new.tables.tasks) (ap group_of is) forks.starts, forks.copies, forks.tables);
-      orders = (order-still old new listed same_pages forks.order).0;
-      ages = (order-still old new listed same_pages forks.order).1;
-      reads = tt;
-      bytes = λ spot there known. inr (by_spot spot there known);
-      flights = flights-kept old new reply.Ok forks.flights;
-      kept = (let same = ap in_transfer same_pages in omega (arith, same));
-      given = refl;
-      opening = ap (λ (s : State). s.opening) forks.tables;
-    }
+    makes_step-alike old new (event.Fork (record { 0 = t }) (record { 0 = child })) reply.Ok
+    (live_step old.tables _ task _ _ _ is living (refl, subst (λ (g : ℕ). SetsTask old.tables.tasks child g Live new.tables.tasks) (ap group_of is) forks.starts, forks.copies, forks.tables))
+    (order-still old new listed (ap (λ (s : State). s.pages) forks.tables) forks.order) tt
+    (begins-bytes old new child _ forks.starts forks.copies.others forks.tables forks.bytes (λ v o. As (InTask t v o)) own)
+    forks.flights (ap (λ (s : State). in_transfer s.pages) forks.tables) (omega arith) refl (ap (λ (s : State). s.opening) forks.tables)
   where
-    same_pages : new.tables.pages ≡ old.tables.pages
-    same_pages = ap (λ (s : State). s.pages) forks.tables
-
-    parent_lives : lives old.tables.tasks t ≡ true
-    parent_lives = ap (there_and is_live_task) is ∙ ap is_live_life living
-
-    same_known : (p : ℕ) → is_known new.tables.pages p ≡ true → is_known old.tables.pages p ≡ true
-    same_known p now = sym (ap (λ (ps : Pages). is_known ps p) same_pages) ∙ now
-
-    same_byte : (p o : ℕ) → byte_in new.bytes p o ≡ byte_in old.bytes p o
-    same_byte p o = ap (λ (bs : List (Option (List ℕ))). byte_in bs p o) forks.bytes
-
-    -- what a place shows that showed as much before
-    as_it_was : (u v u' : ℕ) (o : ℕ) → mapped_at new.tables.page_tables u v ≡ mapped_at old.tables.page_tables u' v → lives old.tables.tasks u' ≡ true → KnowsSpot new (InTask u v o) → WasByte old (InTask u' v o) (byte_at_spot new (InTask u v o))
-    as_it_was u v u' o same alive known = spot-was old new (InTask u v o) (InTask u' v o) alive refl (λ c is. refl) same (λ p at now. (same_known p now, same_byte p o)) known
-
-    by_task : (u v o : ℕ) → lives new.tables.tasks u ≡ true → KnowsSpot new (InTask u v o) → (child ≡ u) ⊎ (child ≢ u) → IsSaid old (says_if (child == u) (As (InTask t v o))) (InTask u v o) (byte_at_spot new (InTask u v o))
-    by_task u v o alive known (inl same) =
-        subst (λ (said : Says). IsSaid old said (InTask u v o) (byte_at_spot new (InTask u v o))) (sym (ap (λ (b : Bool). says_if b (As (InTask t v o))) (eq-eqb child u same)))
-        (as_it_was u v t o (ap (λ (x : ℕ). mapped_at new.tables.page_tables x v) (sym same) ∙ forks.copies.copied v) parent_lives known)
-    by_task u v o alive known (inr other) =
-        subst (λ (said : Says). IsSaid old said (InTask u v o) (byte_at_spot new (InTask u v o))) (sym (ap (λ (b : Bool). says_if b (As (InTask t v o))) (ne_eqb child u other)))
-        (as_it_was u v u o (forks.copies.others u v (λ e. other (sym e))) (sym (ap (there_and is_live_task) (forks.starts.others u (λ e. other (sym e)))) ∙ alive) known)
-
-    by_spot : (spot : Spot) → IsThere new.tables spot → KnowsSpot new spot → IsSaid old (says_of_task child spot (λ v o. As (InTask t v o))) spot (byte_at_spot new spot)
-    by_spot (InTask u v o) alive known = by_task u v o alive known (eq_cases child u)
-    by_spot (InFile f q o) there known = stays-was old new (InFile f q o) tt (ap (λ (ps : Pages). file_page ps f q) same_pages) (λ p at now. (same_known p now, same_byte p o)) known
+    own : (v o : ℕ) → KnowsSpot new (InTask child v o) → WasByte old (InTask t v o) (byte_at_spot new (InTask child v o))
+    own v o known =
+        shows_still old new child _ forks.starts forks.copies.others forks.tables forks.bytes (InTask child v o) (InTask t v o) (ap (there_and is_live_task) is ∙ ap is_live_life living) refl (λ c is. refl) (forks.copies.copied v) known
 
 -- ---- tasks that go elsewhere, and places that show nothing any more
 
@@ -339,17 +304,9 @@ makes_step-fork old new t child task is living forks listed =
 pub makes_step-attach : (old new : StateOf) (t g : ℕ) → lives old.tables.tasks t ≡ true → MovesTask old new t g → InOrder old
     → MakesStep old (event.Attach (record { 0 = t }) (record { 0 = g })) reply.Ok new
 makes_step-attach old new t g living moves listed =
-    record {
-      steps = (moves.moves, moves.tables);
-      orders = (order-still old new listed same_pages moves.order).0;
-      ages = (order-still old new listed same_pages moves.order).1;
-      reads = tt;
-      bytes = λ spot there known. inr (still-was old new spot (there_before spot there) same_pages (ap (λ (s : State). s.page_tables) moves.tables) moves.bytes known);
-      flights = flights-kept old new reply.Ok moves.flights;
-      kept = (let same = ap in_transfer same_pages in omega (arith, same));
-      given = refl;
-      opening = ap (λ (s : State). s.opening) moves.tables;
-    }
+    makes_step-alike old new (event.Attach (record { 0 = t }) (record { 0 = g })) reply.Ok (moves.moves, moves.tables) (order-still old new listed same_pages moves.order) tt
+    (λ spot there known. still-was old new spot (there_before spot there) same_pages (ap (λ (s : State). s.page_tables) moves.tables) moves.bytes known)
+    moves.flights (ap in_transfer same_pages) (omega arith) refl (ap (λ (s : State). s.opening) moves.tables)
   where
     same_pages : new.tables.pages ≡ old.tables.pages
     same_pages = ap (λ (s : State). s.pages) moves.tables
@@ -377,11 +334,7 @@ still-holds tables p f q (Some page) = by_content page.content ((mappers tables 
     by_content (OfFile f' q') goes = refl
 
 known_there : (pages : Pages) (p : ℕ) → is_known pages p ≡ true → is_some (page_at pages p) ≡ true
-known_there pages p known = by_slot (page_at pages p) known
-  where
-    by_slot : (slot : Option Page) → there_and (λ (page : Page). is_in_memory page.residence) slot ≡ true → is_some slot ≡ true
-    by_slot None e = cc
-    by_slot (Some page) e = refl
+known_there pages p known = grind (arith, known)
 
 -- where pages go since nothing maps them any more
 module _ (old new : StateOf) (drops : DropsPages old new) where
@@ -406,17 +359,11 @@ module _ (old new : StateOf) (drops : DropsPages old new) where
 pub makes_step-free : (old new : StateOf) (t v : ℕ) (task : Task) → task_at old.tables.tasks t ≡ Some task → task.life ≡ Live → Unmaps old new t v
     → MakesStep old (event.Free (record { 0 = t }) v) reply.Ok new
 makes_step-free old new t v task is living frees =
-    record {
-      steps = live_step old.tables _ task _ _ _ is living (record { answers = refl; shown = frees.shown; pages = frees.drops.pages; state = frees.tables });
-      orders = (order-on Youngest old old.order.held new refl frees.drops.held frees.drops.cursors).0;
-      ages = (order-on Youngest old old.order.held new refl frees.drops.held frees.drops.cursors).1;
-      reads = tt;
-      bytes = λ spot there known. inr (at_spot spot (there-same old.tables new.tables spot (ap (λ (s : State). s.tasks) frees.tables) there) known);
-      flights = flights-kept old new reply.Ok frees.drops.flights;
-      kept = (let same = moving_alike old new frees.drops in omega (arith, same));
-      given = refl;
-      opening = ap (λ (s : State). s.opening) frees.tables;
-    }
+    makes_step-alike old new (event.Free (record { 0 = t }) v) reply.Ok
+    (live_step old.tables _ task _ _ _ is living (record { answers = refl; shown = frees.shown; pages = frees.drops.pages; state = frees.tables }))
+    (order-on Youngest old old.order.held new refl frees.drops.held frees.drops.cursors) tt
+    (λ spot there known. at_spot spot (there-same old.tables new.tables spot (ap (λ (s : State). s.tasks) frees.tables) there) known)
+    frees.drops.flights (moving_alike old new frees.drops) (omega arith) refl (ap (λ (s : State). s.opening) frees.tables)
   where
     here : (u w : ℕ) → (t == u) ≡ true → (v == w) ≡ true → mapped_at new.tables.page_tables u w ≡ None
     here u w ts vs = ap (λ (x : ℕ). mapped_at new.tables.page_tables x w) (sym (eqb-true t u ts)) ∙ ap (mapped_at new.tables.page_tables t) (sym (eqb-true v w vs)) ∙ frees.shown.changed

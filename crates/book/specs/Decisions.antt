@@ -1,93 +1,101 @@
 -- What an event without a ticket will do, as it is decided before anything changes.
-use Rattle.std.specs.Prelude.{◌≡◌, ℕ, ◌<◌, nat_lt, Bool, true, false, slice_index, Some, None}
+use Rattle.std.specs.Prelude.{◌≡◌, ℕ, ◌<◌, Bool, true, false, Option, Some, None}
+use Rattle.machine.specs.declared.id.GroupId.{GroupId}
+use Rattle.machine.specs.declared.record.Life.{Life}
 use Rattle.machine.specs.declared.record.Life.TheVariants.{Live, Killed}
-use Rattle.machine.specs.declared.record.Task.{Task}
-use Rattle.machine.specs.declared.record.Direction.{Direction}
 use Rattle.machine.specs.declared.event.Place.TheVariants.{Virtual, File}
-use Rattle.machine.specs.declared.event.Op.TheVariants.{Read, Write}
+use Rattle.machine.specs.declared.event.Op.TheVariants.{Write}
 use Rattle.machine.specs.declared.event.Event.{Event}
 use Rattle.machine.specs.declared.event.Event.TheVariants as event
 use Rattle.machine.specs.Names.{parent_path}
 use Rattle.machine.specs.Tree.{is_live, find_group}
-use Rattle.machine.specs.Pages.{Held, Away, file_page}
-use Rattle.machine.specs.Tasks.{task_at, lives, mapped_at, mappers}
+use Rattle.machine.specs.Pages.{Residence, Held, Away, file_page}
+use Rattle.machine.specs.Tasks.{task_at, lives, mapped_at}
 use Rattle.machine.specs.State.{State}
-use Rattle.machine.specs.Access.{page_size, task_pages, is_shared_write}
+use Rattle.machine.specs.Access as plain
+use Rattle.machine.specs.Access.{Meeting as Met, task_pages, is_place, meets, charges}
 use Rattle.machine.specs.Refusals.{refusal, number_refusal, rmdir_refusal}
 use Rattle.machine.specs.Reclaim.{stands, target_of, has_takeable, has_transfer}
 use Rattle.machine.specs.Victim.{IsVictim}
 use Rattle.machine.specs.Lists.{Order, served}
-use Rattle.pages.specs.PagesOf.{Label, memory_of, moving, HasResidence}
+use Rattle.machine.specs.History.{Spot, spot_of}
+use Rattle.pages.specs.PagesOf.{Label, labelled, memory_of, HasResidence}
+use Rattle.pages.specs.declared.source.Source.{Source}
+use Rattle.pages.specs.declared.source.Source.TheVariants as source
+use Rattle.page_state.specs.declared.room.NoRoom.{NoRoom}
 use Rattle.page_state.specs.States.{StateOf}
-use Rattle.page_state.specs.Changes.{HasRoom, LacksRoom}
+use Rattle.page_state.specs.Changes.{HasRoom, LacksRoom, SharesPage}
 use Rattle.book.specs.declared.event.Reply.{Reply as Given}
-use Rattle.book.specs.declared.decision.Touch.{Touch}
-use Rattle.book.specs.declared.decision.FileTouch.{FileTouch}
-use Rattle.book.specs.declared.decision.CacheMeeting.{CacheMeeting}
-use Rattle.book.specs.declared.decision.CacheMeeting.TheVariants as cache
+use Rattle.book.specs.declared.decision.Fault.{Fault}
 use Rattle.book.specs.declared.decision.Meeting.{Meeting}
 use Rattle.book.specs.declared.decision.Meeting.TheVariants as meeting
 use Rattle.book.specs.declared.decision.Decision.{Decision}
 use Rattle.book.specs.declared.decision.Decision.TheVariants as decision
+use Rattle.book.specs.Spots.{offset_of, holder}
 use Rattle.book.specs.Events.{reply_of}
 use Rattle.book.specs.MakesStep.{MakesStep, GivesTicket, RepliesTo}
 
 -- ---- accesses
 
--- a live task of the group reaches for a byte that a page has
-pub record IsTouch (s : State) (touch : Touch) : Type 0 where
-  pub task : Task
-  pub known : task_at s.tasks touch.task.0 ≡ Some task
-  pub live : task.life ≡ Live
-  pub group : task.group ≡ touch.group
-  pub inside : touch.at < task_pages
-  pub within : touch.offset < page_size
+-- the byte that it reaches for, and where in its page that is
+abbrev pub spot_at : Fault → Spot
+spot_at fault = spot_of fault.task.0 fault.place
 
--- the page at the place is in a frame, and others show it too
-pub record IsShared (s : State) (touch : Touch) (p : ℕ) : Type 0 where
+abbrev pub offset_at : Fault → ℕ
+offset_at fault = offset_of (spot_at fault)
+
+-- a live task of the group reaches for a byte that is there
+pub record IsFault (s : State) (fault : Fault) : Type 0 where
+  pub known : task_at s.tasks fault.task.0 ≡ Some (record { group = fault.group; life = Live })
+  pub there : is_place s.opening fault.place ≡ true
+
+-- it writes the byte to its virtual page v
+pub record WritesAt (fault : Fault) (v byte : ℕ) : Type 0 where
+  pub place : fault.place ≡ Virtual v (offset_at fault)
+  pub op : fault.op ≡ Write byte
+
+-- the page that has the byte, and where it is
+pub record Finds (s : State) (fault : Fault) (p : ℕ) (residence : Residence) : Type 0 where
   pub label : Label
-  pub frame : ℕ
-  pub shown : mapped_at s.page_tables touch.task.0 touch.at ≡ Some p
-  pub held : HasResidence s.pages p label (Held frame)
-  pub shared : nat_lt 1 (mappers s.page_tables p) ≡ true
+  pub found : holder s (spot_at fault) ≡ Some p
+  pub stands : HasResidence s.pages p label residence
 
--- it needs a charge to g: a write where nothing is mapped, or a shared page is, to the task's own group; a page on its block to the page's
-pub data NeedsCharge (s : State) (touch : Touch) (g : ℕ) : Type 0 where
-  ForNew : (byte : ℕ) → touch.op ≡ Write byte → mapped_at s.page_tables touch.task.0 touch.at ≡ None → g ≡ touch.group.0 → NeedsCharge s touch g
-  ForCopy : (byte p : ℕ) → touch.op ≡ Write byte → IsShared s touch p → g ≡ touch.group.0 → NeedsCharge s touch g
-  ForAway : (p block : ℕ) → mapped_at s.page_tables touch.task.0 touch.at ≡ Some p → HasResidence s.pages p (memory_of g) (Away block) → NeedsCharge s touch g
+-- what it meets, as the machine says it
+abbrev pub met_by : State → Fault → Met
+met_by s fault = meets s fault.task.0 fault.place fault.op
 
--- what it meets, and whether the charge that it needs is granted
-abbrev pub MeetsSo : State → Touch → Meeting → Type 0
-MeetsSo s touch meeting.Unmapped = (touch.op ≡ Read) × (mapped_at s.page_tables touch.task.0 touch.at ≡ None)
-MeetsSo s touch (meeting.Hits p frame) = (label : Label) × (mapped_at s.page_tables touch.task.0 touch.at ≡ Some p.0) × HasResidence s.pages p.0 label (Held frame.0) × (is_shared_write s.page_tables p.0 touch.op ≡ false)
-MeetsSo s touch meeting.Transferring =
-    (direction : Direction) × (p : ℕ) × (label : Label) × (f : ℕ) × (b : ℕ) × (n : ℕ) × (mapped_at s.page_tables touch.task.0 touch.at ≡ Some p) × HasResidence s.pages p label (moving direction f b n)
-MeetsSo s touch (meeting.NeedsPage byte) = (touch.op ≡ Write byte) × (mapped_at s.page_tables touch.task.0 touch.at ≡ None) × HasRoom s touch.group.0
-MeetsSo s touch (meeting.NeedsCopy p byte) = (touch.op ≡ Write byte) × IsShared s touch p.0 × HasRoom s touch.group.0
-MeetsSo s touch (meeting.NeedsSwapIn p) = (g : ℕ) × (b : ℕ) × (mapped_at s.page_tables touch.task.0 touch.at ≡ Some p.0) × HasResidence s.pages p.0 (memory_of g) (Away b) × HasRoom s g
-MeetsSo s touch (meeting.Lacks why) = (g : ℕ) × NeedsCharge s touch g × LacksRoom s g why
+-- what it has read in, and the group that is charged for it: memory's own, or the task's
+abbrev pub MeetsSource : State → Fault → Source → GroupId → Type 0
+MeetsSource s fault (source.Swapped p) g = (b : ℕ) × (met_by s fault ≡ plain.NeedsSwapIn p.0 (labelled (memory_of g.0) (Away b)) b) × HasResidence s.pages p.0 (memory_of g.0) (Away b)
+MeetsSource s fault (source.File at) g =
+    (met_by s fault ≡ plain.NeedsRead at.file at.page) × (fault.place ≡ File at.file at.page (offset_at fault)) × (file_page s.pages at.file at.page ≡ None) × (g ≡ fault.group)
 
--- ---- accesses to files
+-- what it meets, and what is known with it
+abbrev pub MeetsSo : State → Fault → Meeting → Type 0
+MeetsSo s fault meeting.Unmapped = (met_by s fault ≡ plain.Unmapped) × (holder s (spot_at fault) ≡ None)
+MeetsSo s fault (meeting.Hits p frame) = (finds : Finds s fault p.0 (Held frame.0)) × (met_by s fault ≡ plain.Hits p.0 (labelled finds.label (Held frame.0)) frame.0)
+MeetsSo s fault meeting.Transferring = met_by s fault ≡ plain.Transferring
+MeetsSo s fault (meeting.NeedsPage v byte) = (met_by s fault ≡ plain.NeedsPage v) × WritesAt fault v byte × (mapped_at s.page_tables fault.task.0 v ≡ None)
+MeetsSo s fault (meeting.NeedsCopy v p byte) = (met_by s fault ≡ plain.NeedsCopy v) × WritesAt fault v byte × SharesPage s fault.task.0 v p.0
+MeetsSo s fault (meeting.NeedsFetch from g) = MeetsSource s fault from g
 
--- a live task of the group reaches for a byte of a file
-pub record IsFileTouch (s : State) (touch : FileTouch) : Type 0 where
-  pub task : Task
-  pub known : task_at s.tasks touch.task.0 ≡ Some task
-  pub live : task.life ≡ Live
-  pub group : task.group ≡ touch.group
-  pub inside : touch.at.page < slice_index s.opening.files touch.at.file
-  pub within : touch.offset < page_size
+-- the charge that it needs is granted, if it needs one; or it needs one that is not
+abbrev pub HasRoomFor : State → Fault → Type 0
+HasRoomFor s fault = (g : ℕ) → charges (met_by s fault) fault.group.0 ≡ Some g → HasRoom s g
 
--- what it meets, and whether the charge that it needs, to the task's own group, is granted
-abbrev pub MeetsInCache : State → FileTouch → CacheMeeting → Type 0
-MeetsInCache s touch (cache.Hits p frame) = (label : Label) × (file_page s.pages touch.at.file touch.at.page ≡ Some p.0) × HasResidence s.pages p.0 label (Held frame.0)
-MeetsInCache s touch cache.Transferring =
-    (direction : Direction) × (p : ℕ) × (label : Label) × (f : ℕ) × (b : ℕ) × (n : ℕ) × (file_page s.pages touch.at.file touch.at.page ≡ Some p) × HasResidence s.pages p label (moving direction f b n)
-MeetsInCache s touch cache.NeedsRead = (file_page s.pages touch.at.file touch.at.page ≡ None) × HasRoom s touch.group.0
-MeetsInCache s touch (cache.Lacks why) = (file_page s.pages touch.at.file touch.at.page ≡ None) × LacksRoom s touch.group.0 why
+abbrev pub LacksRoomFor : State → Fault → NoRoom → Type 0
+LacksRoomFor s fault why = (g : ℕ) × (charges (met_by s fault) fault.group.0 ≡ Some g) × LacksRoom s g why
 
 -- ---- decisions
+
+-- a task in this state of its life
+abbrev pub HasLife : State → ℕ → Life → Type 0
+HasLife s t life = (group : GroupId) × (task_at s.tasks t ≡ Some (record { group = group; life = life }))
+
+-- a live task's group; none where the task was killed
+abbrev pub RunsIn : State → ℕ → Option GroupId → Type 0
+RunsIn s t (Some group) = task_at s.tasks t ≡ Some (record { group = group; life = Live })
+RunsIn s t None = HasLife s t Killed
 
 -- for the target no page may be taken, and none under it is in transfer
 pub record IsIdleFor (s : State) (target : ℕ) : Type 0 where
@@ -96,25 +104,25 @@ pub record IsIdleFor (s : State) (target : ℕ) : Type 0 where
 
 -- what is known of a decision, whatever event it is for
 abbrev pub IsSound : State → Order → Decision → Type 0
-IsSound s order (decision.Access touch met) = IsTouch s touch × MeetsSo s touch met
-IsSound s order (decision.FileAccess touch met) = IsFileTouch s touch × MeetsInCache s touch met
+IsSound s order (decision.Access fault met) = IsFault s fault × MeetsSo s fault met × HasRoomFor s fault
+IsSound s order (decision.Lacks fault why) = IsFault s fault × LacksRoomFor s fault why
 IsSound s order (decision.Take target g) = (is_live s.tree target.0 ≡ true) × (served s order target.0 ≡ Some g.0) × (has_takeable s target.0 ≡ true)
 IsSound s order (decision.Kill limit t) = (is_live s.tree limit.0 ≡ true) × IsIdleFor s limit.0 × IsVictim s.tree s.tasks s.page_tables limit.0 (Some t.0)
 IsSound s order (decision.NoVictim limit) = (is_live s.tree limit.0 ≡ true) × IsIdleFor s limit.0 × IsVictim s.tree s.tasks s.page_tables limit.0 None
-IsSound s order (decision.Fork t child) = (task : Task) × (task_at s.tasks t.0 ≡ Some task) × (task.life ≡ Live) × (number_refusal s.tasks child.0 ≡ None)
-IsSound s order (decision.Free t at) = (task : Task) × (task_at s.tasks t.0 ≡ Some task) × (task.life ≡ Live) × (at < task_pages)
+IsSound s order (decision.Fork t child) = HasLife s t.0 Live × (number_refusal s.tasks child.0 ≡ None)
+IsSound s order (decision.Free t at) = HasLife s t.0 Live × (at < task_pages)
 IsSound s order (decision.Attach t g) = (lives s.tasks t.0 ≡ true) × (is_live s.tree g.0 ≡ true)
-IsSound s order (decision.Exit t) = (task : Task) × (task_at s.tasks t.0 ≡ Some task) × (task.life ≡ Live)
+IsSound s order (decision.Exit t) = HasLife s t.0 Live
 IsSound s order (decision.Mkdir parent path) = (find_group s.tree (parent_path path.now) ≡ Some parent.0) × (is_live s.tree parent.0 ≡ true)
 IsSound s order (decision.Rmdir g) = rmdir_refusal s g.0 ≡ None
 IsSound s order other = Unit {0}
 
 -- an event of a task that was killed
 abbrev pub IsOfKilled : State → Event → Type 0
-IsOfKilled s (event.Access t place op) = (task : Task) × (task_at s.tasks t.0 ≡ Some task) × (task.life ≡ Killed)
-IsOfKilled s (event.Fork t child) = (task : Task) × (task_at s.tasks t.0 ≡ Some task) × (task.life ≡ Killed)
-IsOfKilled s (event.Free t v) = (task : Task) × (task_at s.tasks t.0 ≡ Some task) × (task.life ≡ Killed)
-IsOfKilled s (event.Exit t) = (task : Task) × (task_at s.tasks t.0 ≡ Some task) × (task.life ≡ Killed)
+IsOfKilled s (event.Access t place op) = HasLife s t.0 Killed
+IsOfKilled s (event.Fork t child) = HasLife s t.0 Killed
+IsOfKilled s (event.Free t v) = HasLife s t.0 Killed
+IsOfKilled s (event.Exit t) = HasLife s t.0 Killed
 IsOfKilled s what = ⊥
 
 -- the event asks for a page of the target
@@ -141,8 +149,8 @@ FindsNothing s what = ⊥
 -- the decision is one for this event
 abbrev pub Fits : State → Event → Decision → Type 0
 Fits s what decision.Killed = IsOfKilled s what
-Fits s what (decision.Access touch met) = what ≡ event.Access touch.task (Virtual touch.at touch.offset) touch.op
-Fits s what (decision.FileAccess touch met) = what ≡ event.Access touch.task (File touch.at.file touch.at.page touch.offset) touch.op
+Fits s what (decision.Access fault met) = what ≡ event.Access fault.task fault.place fault.op
+Fits s what (decision.Lacks fault why) = what ≡ event.Access fault.task fault.place fault.op
 Fits s what decision.Room = HasItsRoom s what
 Fits s what (decision.Take target g) = AsksPage s what target.0
 Fits s what decision.Wait = (target : ℕ) × AsksPage s what target × (has_takeable s target ≡ false) × (has_transfer s target ≡ true)
@@ -169,15 +177,13 @@ pub record IsDecided (s : StateOf) (what : Event) (decided : Decision) : Type 0 
 
 -- how many entries of the trace: two where a transfer begins, one of them for its end, or a page is dropped
 abbrev pub entries_for : Decision → ℕ
-entries_for (decision.Access touch (meeting.NeedsSwapIn p)) = 2
-entries_for (decision.FileAccess touch cache.NeedsRead) = 2
+entries_for (decision.Access fault (meeting.NeedsFetch from g)) = 2
 entries_for (decision.Take target g) = 2
 entries_for other = 1
 
 -- whether it makes something, and so may want memory: a group, a task, or what the bytes of a read-in arrive in
 abbrev pub makes : Decision → Bool
-makes (decision.Access touch (meeting.NeedsSwapIn p)) = true
-makes (decision.FileAccess touch cache.NeedsRead) = true
+makes (decision.Access fault (meeting.NeedsFetch from g)) = true
 makes (decision.Spawn t g) = true
 makes (decision.Fork t child) = true
 makes (decision.Mkdir parent path) = true

@@ -6,12 +6,11 @@ ghost use Rattle.machine.specs.Refusals.{show_refusal};
 ghost use Rattle.machine.specs.Step.{shown_of};
 ghost use Rattle.machine.specs.declared.event.Event.{Event as Event_of};
 ghost use Rattle.page_state.specs.States.{AreFew, AreYoung};
-ghost use Rattle.book.specs.Decisions.{IsSound, IsTouch, MeetsSo, IsFileTouch, MeetsInCache, IsDecided, makes, Carries};
+ghost use Rattle.book.specs.Decisions.{IsFault, MeetsSo, HasRoomFor, LacksRoomFor, IsSound, IsDecided, makes, Carries};
 ghost use Rattle.book.specs.declared.decision.Decision.TheVariants as decision;
 ghost use Rattle.book.specs.declared.decision.Meeting.TheVariants as meeting;
-ghost use Rattle.book.specs.declared.decision.CacheMeeting.TheVariants as cache;
 
-use crate::decision::{CacheMeeting, Decision, FileTouch, Meeting, Touch};
+use crate::decision::{Decision, Fault, Meeting};
 use crate::event::Reply;
 use machine::event::{Op, Query, Setting};
 use machine::id::{FrameId, GroupId, PageId, TaskId};
@@ -33,14 +32,11 @@ pub fn apply(state: &mut State, alloc: Global, decided: Decision<'_>) -> Result<
     state.is_joined();
     match decided {
         Decision::Killed => Ok(Reply::Killed),
-        Decision::Access(touch, meeting) => {
-            let reply = access(state, alloc, touch, meeting)?;
+        Decision::Access(fault, meeting) => {
+            let reply = access(state, alloc, fault, meeting)?;
             Ok(reply)
         }
-        Decision::FileAccess(touch, meeting) => {
-            let reply = file_access(state, alloc, touch, meeting)?;
-            Ok(reply)
-        }
+        Decision::Lacks(fault, why) => Ok(refuse(state, fault, why)),
         Decision::Room => Ok(Reply::Room),
         Decision::Take { target, group } => Ok(take(state, target, group)),
         Decision::Wait => Ok(Reply::Wait),
@@ -83,81 +79,55 @@ pub fn apply(state: &mut State, alloc: Global, decided: Decision<'_>) -> Result<
     }
 }
 
-/// An access by a live task.
+/// An access by a live task, whose charge is granted if it needs one.
 fn access(
     state: &mut State,
     alloc: Global,
-    touch: Touch,
+    fault: Fault,
     meeting: Meeting,
 ) -> Result<Reply, AllocError>
-    requires few { AreFew state.old.tables }
-    requires touch { IsTouch state.old.tables touch }
-    requires meets { MeetsSo state.old.tables touch meeting }
-    ensures carries { IfOk result (λ said. Carries state.old (decision.Access touch meeting) said state.new) }
+    requires fault { IsFault state.old.tables fault }
+    requires meets { MeetsSo state.old.tables fault meeting }
+    requires room { HasRoomFor state.old.tables fault }
+    ensures carries { IfOk result (λ said. Carries state.old (decision.Access fault meeting) said state.new) }
     ensures err { OnErr result (state.new ≡ state.old) }
-    ensures makes { OnErr result (makes (decision.Access touch meeting) ≡ true) }
+    ensures makes { OnErr result (makes (decision.Access fault meeting) ≡ true) }
 {
     state.is_joined();
     match meeting {
         Meeting::Unmapped => Ok(Reply::Done { byte: 0, hit: None }),
-        Meeting::Hits(page, frame) => Ok(hit(state, touch, page, frame)),
+        Meeting::Hits(page, frame) => Ok(hit(state, fault, page, frame)),
         Meeting::Transferring => Ok(Reply::Busy),
-        Meeting::NeedsPage(byte) => {
-            state.hold(touch.task, touch.at, touch.group, touch.offset, byte);
+        Meeting::NeedsPage { at, byte } => {
+            state.hold(fault.task, at, fault.group, fault.offset(), byte);
             Ok(Reply::Done { byte, hit: None })
         }
-        Meeting::NeedsCopy(page, byte) => {
-            state.copy(touch.task, touch.at, page, touch.group, touch.offset, byte);
+        Meeting::NeedsCopy { at, page, byte } => {
+            state.copy(fault.task, at, page, fault.group, fault.offset(), byte);
             Ok(Reply::Done { byte, hit: None })
         }
-        Meeting::NeedsSwapIn(page) => {
-            let ticket = state.start_in(alloc, page)?;
+        Meeting::NeedsFetch(from, group) => {
+            let ticket = state.start_in(alloc, from, group)?;
             Ok(Reply::Fetch(ticket))
         }
-        Meeting::Lacks(why) => Ok(refuse_charge(state, touch, why)),
     }
 }
 
-/// An access to a file by a live task.
-fn file_access(
-    state: &mut State,
-    alloc: Global,
-    touch: FileTouch,
-    meeting: CacheMeeting,
-) -> Result<Reply, AllocError>
-    requires few { AreFew state.old.tables }
-    requires touch { IsFileTouch state.old.tables touch }
-    requires meets { MeetsInCache state.old.tables touch meeting }
-    ensures carries { IfOk result (λ said. Carries state.old (decision.FileAccess touch meeting) said state.new) }
-    ensures err { OnErr result (state.new ≡ state.old) }
-    ensures makes { OnErr result (makes (decision.FileAccess touch meeting) ≡ true) }
+/// An access to a page in a frame.
+fn hit(state: &mut State, fault: Fault, page: PageId, frame: FrameId) -> Reply
+    requires fault { IsFault state.old.tables fault }
+    requires meets { MeetsSo state.old.tables fault (meeting.Hits page frame) }
+    ensures { Carries state.old (decision.Access fault (meeting.Hits page frame)) result state.new }
 {
     state.is_joined();
-    match meeting {
-        CacheMeeting::Hits(page, frame) => Ok(file_hit(state, touch, page, frame)),
-        CacheMeeting::Transferring => Ok(Reply::Busy),
-        CacheMeeting::NeedsRead => {
-            let ticket = state.start_in_file(alloc, touch.at, touch.group)?;
-            Ok(Reply::Fetch(ticket))
-        }
-        CacheMeeting::Lacks(why) => Ok(refuse_file(state, touch, why)),
-    }
-}
-
-/// An access to a page of a file that is in a frame.
-fn file_hit(state: &mut State, touch: FileTouch, cached: PageId, frame: FrameId) -> Reply
-    requires touch { IsFileTouch state.old.tables touch }
-    requires meets { MeetsInCache state.old.tables touch (cache.Hits cached frame) }
-    ensures { Carries state.old (decision.FileAccess touch (cache.Hits cached frame)) result state.new }
-{
-    state.is_joined();
-    match touch.op {
+    let offset = fault.offset();
+    match fault.op {
         Op::Read => Reply::Done {
-            byte: state.pages().read(cached, touch.offset as usize),
+            byte: state.pages().read(page, offset as usize),
             hit: Some(frame),
         },
         Op::Write(byte) => {
-            state.write(cached, touch.offset, byte);
+            state.write(page, offset, byte);
             Reply::Done {
                 byte,
                 hit: Some(frame),
@@ -166,18 +136,18 @@ fn file_hit(state: &mut State, touch: FileTouch, cached: PageId, frame: FrameId)
     }
 }
 
-/// The charge of a page of a file is refused. Where a max is in its way, that is counted at the max's group.
-fn refuse_file(state: &mut State, touch: FileTouch, why: NoRoom) -> Reply
+/// A charge is refused. Where a max is in its way, that is counted at the max's group.
+fn refuse(state: &mut State, fault: Fault, why: NoRoom) -> Reply
     requires few { AreFew state.old.tables }
-    requires touch { IsFileTouch state.old.tables touch }
-    requires meets { MeetsInCache state.old.tables touch (cache.Lacks why) }
-    ensures { Carries state.old (decision.FileAccess touch (cache.Lacks why)) result state.new }
+    requires fault { IsFault state.old.tables fault }
+    requires lacks { LacksRoomFor state.old.tables fault why }
+    ensures { Carries state.old (decision.Lacks fault why) result state.new }
 {
     state.is_joined();
     match why {
-        NoRoom::Over(full) => {
-            state.count(full, Key::Max);
-            Reply::Over(full)
+        NoRoom::Over(group) => {
+            state.count(group, Key::Max);
+            Reply::Over(group)
         }
         NoRoom::NoFrame => Reply::NoFrame,
     }
@@ -193,45 +163,6 @@ fn take(state: &mut State, target: GroupId, group: GroupId) -> Reply
     match state.take_out(target, group) {
         Some(ticket) => Reply::Out(ticket),
         None => Reply::Dropped,
-    }
-}
-
-/// An access to a page in a frame.
-fn hit(state: &mut State, touch: Touch, page: PageId, frame: FrameId) -> Reply
-    requires touch { IsTouch state.old.tables touch }
-    requires meets { MeetsSo state.old.tables touch (meeting.Hits page frame) }
-    ensures { Carries state.old (decision.Access touch (meeting.Hits page frame)) result state.new }
-{
-    state.is_joined();
-    match touch.op {
-        Op::Read => Reply::Done {
-            byte: state.pages().read(page, touch.offset as usize),
-            hit: Some(frame),
-        },
-        Op::Write(byte) => {
-            state.write(page, touch.offset, byte);
-            Reply::Done {
-                byte,
-                hit: Some(frame),
-            }
-        }
-    }
-}
-
-/// A charge is refused. Where a max is in its way, that is counted at the max's group.
-fn refuse_charge(state: &mut State, touch: Touch, why: NoRoom) -> Reply
-    requires few { AreFew state.old.tables }
-    requires touch { IsTouch state.old.tables touch }
-    requires meets { MeetsSo state.old.tables touch (meeting.Lacks why) }
-    ensures { Carries state.old (decision.Access touch (meeting.Lacks why)) result state.new }
-{
-    state.is_joined();
-    match why {
-        NoRoom::Over(group) => {
-            state.count(group, Key::Max);
-            Reply::Over(group)
-        }
-        NoRoom::NoFrame => Reply::NoFrame,
     }
 }
 
@@ -257,16 +188,8 @@ fn set(state: &mut State, group: GroupId, setting: Setting) -> Reply
     ensures { Carries state.old (decision.Set group setting) result state.new }
 {
     state.is_joined();
-    match setting {
-        Setting::Max(max) => {
-            state.set_max(group, max);
-            Reply::Ok
-        }
-        Setting::Min(min) => {
-            state.set_min(group, min);
-            Reply::Ok
-        }
-    }
+    state.set(group, setting);
+    Reply::Ok
 }
 
 /// The numbers that are asked for.
@@ -276,8 +199,8 @@ fn shown(state: &State, query: Query) -> Shown
 {
     match query {
         Query::Current(group) => Shown::Pages(state.usage(group)),
-        Query::Max(group) => Shown::Amount(state.max(group)),
-        Query::Min(group) => Shown::Amount(state.min(group)),
+        Query::Max(group) => Shown::Amount(state.limits(group).max),
+        Query::Min(group) => Shown::Amount(state.limits(group).min),
         Query::Events(group) => Shown::Events(state.events(group)),
         Query::EventsLocal(group) => Shown::Events(state.local_events(group)),
         Query::Stat(group) => Shown::Stat(state.stat(group)),

@@ -1,19 +1,20 @@
 //! What an event will do: each cause to refuse it, in order, and where there is none, what comes of it.
 //! Nothing changes here.
 
-ghost use Rattle.std.specs.Prelude.{◌≡◌, ℕ, true, None, Some, MatchResult};
+ghost use Rattle.std.specs.Prelude.{◌≡◌, ℕ, true, false, Option, None, Some, option_map, IfSome, IfOk, IfErr, OnErr, MatchResult};
 ghost use Rattle.machine.specs.declared.event.Event.TheVariants as event;
 ghost use Rattle.machine.specs.Tree.{is_live};
 ghost use Rattle.machine.specs.Pages as residence;
-ghost use Rattle.machine.specs.Pages.{file_page};
-ghost use Rattle.pages.specs.PagesOf.{Label, memory_of, HasResidence};
-ghost use Rattle.machine.specs.Tasks.{task_at, lives, mapped_at};
+ghost use Rattle.machine.specs.Access.{is_place, charges};
+ghost use Rattle.machine.specs.Tasks.{task_at, lives};
 ghost use Rattle.machine.specs.Reclaim.{stands, target_of};
-ghost use Rattle.machine.specs.Refusals.{refusal, below_target, bars_children, bars_tasks, file_refusal, show_refusal, spawn_refusal, attach_refusal, rmdir_refusal};
+ghost use Rattle.machine.specs.declared.refusal.Refusal.{Refusal as Refusal_of};
+ghost use Rattle.machine.specs.Refusals.{refusal, task_refusal, below_target, bars_children, bars_tasks, file_refusal, show_refusal, spawn_refusal, attach_refusal, rmdir_refusal};
 ghost use Rattle.book.specs.MakesStep.{IsAsked};
-ghost use Rattle.book.specs.Decisions.{IsTouch, IsShared, MeetsSo, IsFileTouch, MeetsInCache, IsDecided};
+ghost use Rattle.book.specs.Spots.{holder};
+ghost use Rattle.book.specs.Decisions.{spot_at, IsFault, Finds, met_by, MeetsSo, RunsIn, IsDecided};
 
-use crate::decision::{CacheMeeting, Decision, FileTouch, Meeting, Touch};
+use crate::decision::{Decision, Fault, Meeting};
 use machine::bytes::PAGE_BYTES;
 use machine::event::{Cause, Event, Op, Place, Query, Setting};
 use machine::id::{FrameId, GroupId, PageId, TaskId};
@@ -22,7 +23,7 @@ use machine::record::Life;
 use machine::refusal::Refusal;
 use oom::victim;
 use page_state::State;
-use pages::{FilePage, Residence};
+use pages::{FilePage, Residence, Source};
 
 /// The first cause to refuse an event that has no ticket, room in the trace and memory aside; or what the
 /// event will do.
@@ -64,179 +65,160 @@ fn decide_access<'e>(
 ) -> Result<Decision<'e>, Refusal>
     ensures { MatchResult result (λ decided. IsDecided state.now (event.Access task place op) decided) (λ why. refusal state.now.tables (event.Access task place op) ≡ Some why) }
 {
-    let Some(known) = state.spaces().task(task) else {
-        return Err(Refusal::NoTask);
+    let Some(group) = running(state, task)? else {
+        return Ok(Decision::Killed);
     };
-    match known.life {
-        Life::Exited => Err(Refusal::NoTask),
-        Life::Killed => Ok(Decision::Killed),
-        Life::Live => decide_touch(state, task, known.group, place, op),
+    if !is_place(state, place) {
+        return Err(Refusal::BadPlace);
     }
+    let fault = Fault {
+        task,
+        group,
+        place,
+        op,
+    };
+    Ok(decide_fault(state, fault))
 }
 
-/// An access by a live task of the group.
-fn decide_touch<'e>(
-    state: &State,
-    task: TaskId,
-    group: GroupId,
-    place: Place,
-    op: Op,
-) -> Result<Decision<'e>, Refusal>
-    requires { task_at state.now.tables.tasks task.0 ≡ Some (record { group = group; life = Life.Live }) }
-    ensures { MatchResult result (λ decided. IsDecided state.now (event.Access task place op) decided) (λ why. refusal state.now.tables (event.Access task place op) ≡ Some why) }
+/// Whether the place is there.
+fn is_place(state: &State, place: Place) -> bool
+    ensures { result ≡ is_place state.now.tables.opening place }
 {
     match place {
-        Place::Virtual { page: at, offset } => {
-            if at >= TASK_PAGES || offset as usize >= PAGE_BYTES {
-                return Err(Refusal::BadPlace);
-            }
-            let touch = Touch {
-                task,
-                group,
-                at,
-                offset,
-                op,
-            };
-            Ok(Decision::Access(touch, meet(state, touch)))
-        }
+        Place::Virtual { page, offset } => page < TASK_PAGES && (offset as usize) < PAGE_BYTES,
         Place::File { file, page, offset } => {
-            if state.pages().files().home(file, page).is_none() || offset as usize >= PAGE_BYTES {
-                return Err(Refusal::BadPlace);
-            }
-            let touch = FileTouch {
-                task,
-                group,
-                at: FilePage { file, page },
-                offset,
-                op,
-            };
-            Ok(Decision::FileAccess(touch, meet_in_cache(state, touch)))
+            state.pages().files().home(file, page).is_some() && (offset as usize) < PAGE_BYTES
         }
     }
 }
 
-/// What an access to a file meets.
-fn meet_in_cache(state: &State, touch: FileTouch) -> CacheMeeting
-    requires { IsFileTouch state.now.tables touch }
-    ensures { MeetsInCache state.now.tables touch result }
+/// An access by a live task: what it meets, and whether the charge that it needs is granted.
+fn decide_fault<'e>(state: &State, fault: Fault) -> Decision<'e>
+    requires { IsFault state.now.tables fault }
+    ensures { IsDecided state.now (event.Access fault.task fault.place fault.op) result }
 {
-    state.is_joined();
-    match state.pages().cached(touch.at.file, touch.at.page) {
-        None => match state.room_for(touch.group) {
-            Ok(()) => CacheMeeting::NeedsRead,
-            Err(why) => CacheMeeting::Lacks(why),
+    let meeting = meet(state, fault);
+    match charged(state, fault, meeting) {
+        None => Decision::Access(fault, meeting),
+        Some(group) => match state.room_for(group) {
+            Ok(()) => Decision::Access(fault, meeting),
+            Err(why) => Decision::Lacks(fault, why),
         },
-        Some(page) => meet_cached(state, touch, page),
     }
 }
 
-/// An access to a page of a file that is in the cache. Whoever writes to it writes in place.
-fn meet_cached(state: &State, touch: FileTouch, page: PageId) -> CacheMeeting
-    requires touch { IsFileTouch state.now.tables touch }
-    requires cached { file_page state.now.tables.pages touch.at.file touch.at.page ≡ Some page.0 }
-    ensures { MeetsInCache state.now.tables touch result }
+/// The group that is charged for the page that an access needs, if it needs one. What is made is the task's.
+fn charged(state: &State, fault: Fault, meeting: Meeting) -> Option<GroupId>
+    requires fault { IsFault state.now.tables fault }
+    requires meets { MeetsSo state.now.tables fault meeting }
+    ensures charges { option_map (λ g. g.0) result ≡ charges (met_by state.now.tables fault) fault.group.0 }
+    ensures live { IfSome result (λ g. is_live state.now.tables.tree g.0 ≡ true) }
+{
+    state.is_joined();
+    match meeting {
+        Meeting::Unmapped | Meeting::Hits(_, _) | Meeting::Transferring => None,
+        Meeting::NeedsFetch(_, group) => Some(group),
+        Meeting::NeedsPage { at: _, byte: _ }
+        | Meeting::NeedsCopy {
+            at: _,
+            page: _,
+            byte: _,
+        } => Some(fault.group),
+    }
+}
+
+/// What an access meets. Where no page has its byte, memory is zeros, and a page of a file is on the device.
+fn meet(state: &State, fault: Fault) -> Meeting
+    requires { IsFault state.now.tables fault }
+    ensures { MeetsSo state.now.tables fault result }
+{
+    if let Some(page) = find(state, fault) {
+        return meet_page(state, fault, page);
+    }
+    match fault.place {
+        Place::Virtual {
+            page: at,
+            offset: _,
+        } => match fault.op {
+            Op::Read => Meeting::Unmapped,
+            Op::Write(byte) => Meeting::NeedsPage { at, byte },
+        },
+        Place::File {
+            file,
+            page,
+            offset: _,
+        } => Meeting::NeedsFetch(Source::File(FilePage { file, page }), fault.group),
+    }
+}
+
+/// The page that has the byte: what the task's page table shows, or what the cache holds of the file.
+fn find(state: &State, fault: Fault) -> Option<PageId>
+    requires { IsFault state.now.tables fault }
+    ensures { option_map (λ page. page.0) result ≡ holder state.now.tables (spot_at fault) }
+{
+    match fault.place {
+        Place::Virtual { page, offset: _ } => state.spaces().page(fault.task, page),
+        Place::File {
+            file,
+            page,
+            offset: _,
+        } => state.pages().cached(file, page),
+    }
+}
+
+/// An access to a page, wherever it is.
+fn meet_page(state: &State, fault: Fault, page: PageId) -> Meeting
+    requires { holder state.now.tables (spot_at fault) ≡ Some page.0 }
+    ensures { MeetsSo state.now.tables fault result }
 {
     state.is_joined();
     let Some(residence) = state.pages().residence(page) else {
         unreachable!()
     };
     match residence {
-        Residence::Held(frame) => CacheMeeting::Hits(page, frame),
-        Residence::Coming | Residence::Going => CacheMeeting::Transferring,
-        Residence::Away(_) => unreachable!(),
-    }
-}
-
-/// What an access meets.
-fn meet(state: &State, touch: Touch) -> Meeting
-    requires { IsTouch state.now.tables touch }
-    ensures { MeetsSo state.now.tables touch result }
-{
-    match state.spaces().page(touch.task, touch.at) {
-        None => meet_nothing(state, touch),
-        Some(page) => meet_page(state, touch, page),
-    }
-}
-
-/// An access where nothing is mapped.
-fn meet_nothing(state: &State, touch: Touch) -> Meeting
-    requires touch { IsTouch state.now.tables touch }
-    requires unmapped { mapped_at state.now.tables.page_tables touch.task.0 touch.at ≡ None }
-    ensures { MeetsSo state.now.tables touch result }
-{
-    state.is_joined();
-    match touch.op {
-        Op::Read => Meeting::Unmapped,
-        Op::Write(byte) => match state.room_for(touch.group) {
-            Ok(()) => Meeting::NeedsPage(byte),
-            Err(why) => Meeting::Lacks(why),
-        },
-    }
-}
-
-/// An access to a page that is mapped.
-fn meet_page(state: &State, touch: Touch, page: PageId) -> Meeting
-    requires touch { IsTouch state.now.tables touch }
-    requires shown { mapped_at state.now.tables.page_tables touch.task.0 touch.at ≡ Some page.0 }
-    ensures { MeetsSo state.now.tables touch result }
-{
-    state.is_joined();
-    let Some(residence) = state.pages().residence(page) else {
-        unreachable!()
-    };
-    match residence {
-        Residence::Held(frame) => meet_held(state, touch, page, frame),
+        Residence::Held(frame) => meet_held(state, fault, page, frame),
         Residence::Coming | Residence::Going => Meeting::Transferring,
-        Residence::Away(_) => meet_away(state, touch, page),
+        Residence::Away(_) => meet_away(state, fault, page),
     }
 }
 
-/// An access to a page in a frame. A write in place would change what others see that show the page too.
-fn meet_held(state: &State, touch: Touch, page: PageId, frame: FrameId) -> Meeting
-    requires touch { IsTouch state.now.tables touch }
-    requires shown { mapped_at state.now.tables.page_tables touch.task.0 touch.at ≡ Some page.0 }
-    requires held { (label : Label) × HasResidence state.now.tables.pages page.0 label (residence.Held frame.0) }
-    ensures { MeetsSo state.now.tables touch result }
-{
-    match touch.op {
-        Op::Read => Meeting::Hits(page, frame),
-        Op::Write(byte) => {
-            if state.spaces().mappers(page) > 1 {
-                meet_shared(state, touch, page, byte)
-            } else {
-                Meeting::Hits(page, frame)
-            }
-        }
-    }
-}
-
-/// A write to a page in a frame that others show too.
-fn meet_shared(state: &State, touch: Touch, page: PageId, byte: u8) -> Meeting
-    requires touch { IsTouch state.now.tables touch }
-    requires writes { touch.op ≡ Op.Write byte }
-    requires shared { IsShared state.now.tables touch page.0 }
-    ensures { MeetsSo state.now.tables touch result }
-{
-    state.is_joined();
-    match state.room_for(touch.group) {
-        Ok(()) => Meeting::NeedsCopy(page, byte),
-        Err(why) => Meeting::Lacks(why),
-    }
-}
-
-/// An access to a page on its block.
-fn meet_away(state: &State, touch: Touch, page: PageId) -> Meeting
-    requires shown { mapped_at state.now.tables.page_tables touch.task.0 touch.at ≡ Some page.0 }
-    requires away { (g b : ℕ) × HasResidence state.now.tables.pages page.0 (memory_of g) (residence.Away b) }
-    ensures { MeetsSo state.now.tables touch result }
+/// An access to a page on its block, which is memory: it stays its group's, whoever reaches for it.
+fn meet_away(state: &State, fault: Fault, page: PageId) -> Meeting
+    requires { (b : ℕ) × Finds state.now.tables fault page.0 (residence.Away b) }
+    ensures { MeetsSo state.now.tables fault result }
 {
     state.is_joined();
     let Some(group) = state.pages().group(page) else {
         unreachable!()
     };
-    match state.room_for(group) {
-        Ok(()) => Meeting::NeedsSwapIn(page),
-        Err(why) => Meeting::Lacks(why),
+    Meeting::NeedsFetch(Source::Swapped(page), group)
+}
+
+/// An access to a page in a frame. A write in place would change memory for others that map it too; a page
+/// of a file is written in place, whoever else reads it.
+fn meet_held(state: &State, fault: Fault, page: PageId, frame: FrameId) -> Meeting
+    requires { Finds state.now.tables fault page.0 (residence.Held frame.0) }
+    ensures { MeetsSo state.now.tables fault result }
+{
+    match fault.place {
+        Place::Virtual {
+            page: at,
+            offset: _,
+        } => match fault.op {
+            Op::Read => Meeting::Hits(page, frame),
+            Op::Write(byte) => {
+                if state.spaces().mappers(page) > 1 {
+                    Meeting::NeedsCopy { at, page, byte }
+                } else {
+                    Meeting::Hits(page, frame)
+                }
+            }
+        },
+        Place::File {
+            file: _,
+            page: _,
+            offset: _,
+        } => Meeting::Hits(page, frame),
     }
 }
 
@@ -289,10 +271,10 @@ fn is_wanted(state: &State, cause: Cause) -> bool
 {
     match cause {
         Cause::Charge(group) => {
-            state.tree().is_live(group) && state.max(group).is_full(state.usage(group))
+            state.tree().is_live(group) && state.limits(group).max.is_full(state.usage(group))
         }
         Cause::Lower(group) => {
-            state.tree().is_live(group) && state.max(group).exceeded_by(state.usage(group))
+            state.tree().is_live(group) && state.limits(group).max.exceeded_by(state.usage(group))
         }
         Cause::Frame => state.free_frames() == 0,
     }
@@ -310,110 +292,84 @@ pub fn target_of(cause: Cause) -> GroupId
 
 // ---- tasks and groups
 
-fn decide_spawn<'e>(state: &State, task: TaskId, group: GroupId) -> Result<Decision<'e>, Refusal>
-    ensures { MatchResult result (λ decided. IsDecided state.now (event.Spawn task group) decided) (λ why. refusal state.now.tables (event.Spawn task group) ≡ Some why) }
-{
-    match spawn_refusal(state, task, group) {
-        Some(why) => Err(why),
-        None => Ok(Decision::Spawn { task, group }),
-    }
-}
-
-fn spawn_refusal(state: &State, task: TaskId, group: GroupId) -> Option<Refusal>
-    ensures { result ≡ spawn_refusal state.now.tables task.0 group.0 }
-{
-    if !state.tree().is_live(group) {
-        return Some(Refusal::NoEntry);
-    }
-    if bars_tasks(state, group) {
-        return Some(Refusal::Busy);
-    }
-    state.spaces().number_refusal(task)
-}
-
-fn decide_fork<'e>(state: &State, task: TaskId, child: TaskId) -> Result<Decision<'e>, Refusal>
-    ensures { MatchResult result (λ decided. IsDecided state.now (event.Fork task child) decided) (λ why. refusal state.now.tables (event.Fork task child) ≡ Some why) }
+/// A live task's group, or none where the task was killed, which it is told whatever it asks. Any other task
+/// is the first cause to refuse what it asks.
+fn running(state: &State, task: TaskId) -> Result<Option<GroupId>, Refusal>
+    ensures runs { IfOk result (λ group. RunsIn state.now.tables task.0 group) }
+    ensures refused { IfErr result (λ why. (others : Option Refusal_of) → task_refusal (task_at state.now.tables.tasks task.0) others ≡ Some why) }
+    ensures gone { OnErr result (lives state.now.tables.tasks task.0 ≡ false) }
 {
     let Some(known) = state.spaces().task(task) else {
         return Err(Refusal::NoTask);
     };
     match known.life {
+        Life::Live => Ok(Some(known.group)),
+        Life::Killed => Ok(None),
         Life::Exited => Err(Refusal::NoTask),
-        Life::Killed => Ok(Decision::Killed),
-        Life::Live => match state.spaces().number_refusal(child) {
-            Some(why) => Err(why),
-            None => Ok(Decision::Fork { task, child }),
-        },
+    }
+}
+
+fn decide_spawn<'e>(state: &State, task: TaskId, group: GroupId) -> Result<Decision<'e>, Refusal>
+    ensures { MatchResult result (λ decided. IsDecided state.now (event.Spawn task group) decided) (λ why. refusal state.now.tables (event.Spawn task group) ≡ Some why) }
+{
+    if !state.tree().is_live(group) {
+        return Err(Refusal::NoEntry);
+    }
+    if bars_tasks(state, group) {
+        return Err(Refusal::Busy);
+    }
+    match state.spaces().number_refusal(task) {
+        Some(why) => Err(why),
+        None => Ok(Decision::Spawn { task, group }),
+    }
+}
+
+fn decide_fork<'e>(state: &State, task: TaskId, child: TaskId) -> Result<Decision<'e>, Refusal>
+    ensures { MatchResult result (λ decided. IsDecided state.now (event.Fork task child) decided) (λ why. refusal state.now.tables (event.Fork task child) ≡ Some why) }
+{
+    if running(state, task)?.is_none() {
+        return Ok(Decision::Killed);
+    }
+    match state.spaces().number_refusal(child) {
+        Some(why) => Err(why),
+        None => Ok(Decision::Fork { task, child }),
     }
 }
 
 fn decide_free<'e>(state: &State, task: TaskId, at: u32) -> Result<Decision<'e>, Refusal>
     ensures { MatchResult result (λ decided. IsDecided state.now (event.Free task at) decided) (λ why. refusal state.now.tables (event.Free task at) ≡ Some why) }
 {
-    let Some(known) = state.spaces().task(task) else {
-        return Err(Refusal::NoTask);
-    };
-    match known.life {
-        Life::Exited => Err(Refusal::NoTask),
-        Life::Killed => Ok(Decision::Killed),
-        Life::Live => {
-            if at >= TASK_PAGES {
-                Err(Refusal::BadPlace)
-            } else {
-                Ok(Decision::Free { task, at })
-            }
-        }
+    if running(state, task)?.is_none() {
+        return Ok(Decision::Killed);
     }
+    if at >= TASK_PAGES {
+        return Err(Refusal::BadPlace);
+    }
+    Ok(Decision::Free { task, at })
 }
 
 fn decide_attach<'e>(state: &State, task: TaskId, group: GroupId) -> Result<Decision<'e>, Refusal>
     ensures { MatchResult result (λ decided. IsDecided state.now (event.Attach task group) decided) (λ why. refusal state.now.tables (event.Attach task group) ≡ Some why) }
 {
-    match attach_refusal(state, task, group) {
-        Some(why) => Err(why),
-        None => Ok(Decision::Attach { task, group }),
-    }
-}
-
-fn attach_refusal(state: &State, task: TaskId, group: GroupId) -> Option<Refusal>
-    ensures { result ≡ attach_refusal state.now.tables task.0 group.0 }
-{
     if !state.tree().is_live(group) {
-        return Some(Refusal::NoEntry);
+        return Err(Refusal::NoEntry);
     }
-    if !lives(state, task) {
-        return Some(Refusal::NoTask);
-    }
-    if bars_tasks(state, group) {
-        return Some(Refusal::Busy);
-    }
-    None
-}
-
-/// Whether the task is there and runs.
-fn lives(state: &State, task: TaskId) -> bool
-    ensures { result ≡ lives state.now.tables.tasks task.0 }
-{
-    let Some(known) = state.spaces().task(task) else {
-        return false;
+    let Ok(Some(_)) = running(state, task) else {
+        return Err(Refusal::NoTask);
     };
-    match known.life {
-        Life::Live => true,
-        Life::Exited | Life::Killed => false,
+    if bars_tasks(state, group) {
+        return Err(Refusal::Busy);
     }
+    Ok(Decision::Attach { task, group })
 }
 
 fn decide_exit<'e>(state: &State, task: TaskId) -> Result<Decision<'e>, Refusal>
     ensures { MatchResult result (λ decided. IsDecided state.now (event.Exit task) decided) (λ why. refusal state.now.tables (event.Exit task) ≡ Some why) }
 {
-    let Some(known) = state.spaces().task(task) else {
-        return Err(Refusal::NoTask);
-    };
-    match known.life {
-        Life::Exited => Err(Refusal::NoTask),
-        Life::Killed => Ok(Decision::Killed),
-        Life::Live => Ok(Decision::Exit(task)),
+    if running(state, task)?.is_none() {
+        return Ok(Decision::Killed);
     }
+    Ok(Decision::Exit(task))
 }
 
 fn decide_mkdir<'e>(state: &State, path: &'e str) -> Result<Decision<'e>, Refusal>
@@ -435,24 +391,15 @@ fn decide_mkdir<'e>(state: &State, path: &'e str) -> Result<Decision<'e>, Refusa
 fn decide_rmdir<'e>(state: &State, group: GroupId) -> Result<Decision<'e>, Refusal>
     ensures { MatchResult result (λ decided. IsDecided state.now (event.Rmdir group) decided) (λ why. refusal state.now.tables (event.Rmdir group) ≡ Some why) }
 {
-    match rmdir_refusal(state, group) {
-        Some(why) => Err(why),
-        None => Ok(Decision::Rmdir(group)),
-    }
-}
-
-fn rmdir_refusal(state: &State, group: GroupId) -> Option<Refusal>
-    ensures { result ≡ rmdir_refusal state.now.tables group.0 }
-{
     if !state.tree().is_live(group) {
-        return Some(Refusal::NoEntry);
+        return Err(Refusal::NoEntry);
     }
     if group == GroupId::ROOT
         || (state.tree().has_children(group) || state.spaces().has_tasks(group))
     {
-        return Some(Refusal::Busy);
+        return Err(Refusal::Busy);
     }
-    None
+    Ok(Decision::Rmdir(group))
 }
 
 fn decide_set<'e>(state: &State, group: GroupId, setting: Setting) -> Result<Decision<'e>, Refusal>

@@ -1,68 +1,55 @@
 //! What an event without a ticket will do, known before anything changes.
 
 ghost use Rattle.std.specs.Prelude.{◌≡◌};
-ghost use Rattle.book.specs.Decisions.{entries_for};
+ghost use Rattle.book.specs.Decisions.{offset_at, entries_for};
 
-use machine::event::{Op, Query, Setting};
+use machine::event::{Op, Place, Query, Setting};
 use machine::id::{FrameId, GroupId, PageId, TaskId};
 use page_state::NoRoom;
-use pages::FilePage;
+use pages::Source;
 
-/// A live task's access to a byte of one of its virtual pages.
+/// A live task's access to a byte (kernel: `struct vm_fault`).
 #[derive(Clone, Copy)]
-pub struct Touch {
+pub struct Fault {
     pub task: TaskId,
     /// The task's group.
     pub group: GroupId,
-    /// The virtual page.
-    pub at: u32,
-    /// In bytes.
-    pub offset: u32,
+    pub place: Place,
     pub op: Op,
 }
 
-/// What an access meets, and whether the charge that it needs is granted.
+impl Fault {
+    /// Where in its page the byte is.
+    pub fn offset(self) -> u32
+        ensures { result ≡ offset_at self }
+    {
+        match self.place {
+            Place::Virtual { page: _, offset } => offset,
+            Place::File {
+                file: _,
+                page: _,
+                offset,
+            } => offset,
+        }
+    }
+}
+
+/// What an access meets. A page that it needs has to be charged first.
 #[derive(Clone, Copy)]
 pub enum Meeting {
     /// A read where nothing is mapped.
     Unmapped,
-    /// A page in this frame.
+    /// A page in this frame, which it may use as it is.
     Hits(PageId, FrameId),
     /// A page in transfer.
     Transferring,
-    /// A write of this byte where nothing is mapped: a page is made.
-    NeedsPage(u8),
-    /// A write of this byte to a page in a frame that others show too: a copy is made.
-    NeedsCopy(PageId, u8),
-    /// A page on its block: it is read in.
-    NeedsSwapIn(PageId),
-    /// A page would be made, copied or read in, and there is no room for it.
-    Lacks(NoRoom),
-}
-
-/// A live task's access to a byte of a file.
-#[derive(Clone, Copy)]
-pub struct FileTouch {
-    pub task: TaskId,
-    /// The task's group.
-    pub group: GroupId,
-    pub at: FilePage,
-    /// In bytes.
-    pub offset: u32,
-    pub op: Op,
-}
-
-/// What an access to a file meets, and whether the charge that it needs is granted.
-#[derive(Clone, Copy)]
-pub enum CacheMeeting {
-    /// A page in this frame.
-    Hits(PageId, FrameId),
-    /// A page in transfer.
-    Transferring,
-    /// No page: it is read in.
-    NeedsRead,
-    /// A page would be read in, and there is no room for it.
-    Lacks(NoRoom),
+    /// A write of this byte where nothing is mapped: a page is made for the virtual page.
+    NeedsPage { at: u32, byte: u8 },
+    /// A write of this byte to memory in a frame that others map too: the virtual page gets a copy.
+    NeedsCopy { at: u32, page: PageId, byte: u8 },
+    /// A page is read in, and charged to this group: memory on its block, to the group that it is of; a page of a file
+    /// that no page holds, to the task's.
+    NeedsFetch(Source, GroupId),
 }
 
 /// What an event will do.
@@ -70,10 +57,10 @@ pub enum CacheMeeting {
 pub enum Decision<'e> {
     /// The task was killed before, and is told so.
     Killed,
-    /// An access by a live task.
-    Access(Touch, Meeting),
-    /// An access to a file by a live task.
-    FileAccess(FileTouch, CacheMeeting),
+    /// An access by a live task. The charge that it needs is granted.
+    Access(Fault, Meeting),
+    /// An access by a live task, which needs a charge for which there is no room.
+    Lacks(Fault, NoRoom),
     /// Room is not wanted any more.
     Room,
     /// This group gives the next page to a reclaim of the target.
@@ -113,8 +100,7 @@ impl Decision<'_> {
         ensures { result ≡ entries_for self.now }
     {
         match self {
-            Decision::Access(_, Meeting::NeedsSwapIn(_)) => 2,
-            Decision::FileAccess(_, CacheMeeting::NeedsRead) => 2,
+            Decision::Access(_, Meeting::NeedsFetch(_, _)) => 2,
             Decision::Take {
                 target: _,
                 group: _,

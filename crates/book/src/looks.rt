@@ -78,8 +78,8 @@ impl Book {
         Some(GroupLook {
             number: group.0,
             usage: self.state.usage(group),
-            max: self.state.max(group),
-            min: self.state.min(group),
+            max: self.state.limits(group).max,
+            min: self.state.limits(group).min,
             local: self.state.local_events(group),
         })
     }

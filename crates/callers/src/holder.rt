@@ -11,7 +11,7 @@ use machine::id::{GroupId, TaskId, TicketId};
 use machine::record::Direction;
 use machine::text::Text;
 use page_state::State;
-use pages::{End, FilePage, InTicket};
+use pages::{End, FilePage, InTicket, Source};
 use std::alloc::AllocError;
 use std::process::Abort;
 use std::test::Fail;
@@ -68,7 +68,7 @@ fn begin<R: Abort + AllocGlobal>(rt: &R, state: &mut State) -> InTicket {
     let Ok(()) = state.room_for(GroupId::ROOT) else {
         panic!(rt; "no room")
     };
-    let Ok(ticket) = state.start_in_file(rt.alloc(), FILE_PAGE, GroupId::ROOT) else {
+    let Ok(ticket) = state.start_in(rt.alloc(), Source::File(FILE_PAGE), GroupId::ROOT) else {
         panic!(rt; "no memory")
     };
     ticket

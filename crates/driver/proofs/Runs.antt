@@ -3,7 +3,11 @@ use Rattle.std.proofs.Common.{◌≡◌, ℕ, ◌≤◌, Bool, true, length, ari
 use Rattle.machine.specs.declared.command.Actor.{Actor}
 use Rattle.machine.specs.declared.command.Reply.{Reply}
 use Rattle.driver.specs.declared.turn.Outcome.{Outcome}
-use Rattle.std.specs.Prelude.{if◌then◌else◌, Ok, Err}
+use Rattle.driver.specs.declared.turn.Outcome.TheVariants.{Ends}
+use denote.Ref.{Bor}
+use Rattle.std.specs.Prelude.{if◌then◌else◌, ◌<◌, Ok, Err, Option, IfSome}
+use Rattle.machine.specs.declared.command.Answer.TheVariants.{Word}
+use Rattle.machine.specs.declared.command.Word.TheVariants.{Idle}
 use Rattle.machine.specs.declared.refusal.Refusal.{Refusal}
 use Rattle.machine.specs.declared.command.Command.{Command}
 use Rattle.driver.specs.declared.turn.Stage.{Stage}
@@ -18,9 +22,10 @@ use Rattle.machine.proofs.Values.{some_inj}
 use Rattle.book.specs.Passes.{PassOf, is_current}
 use Rattle.driver.specs.declared.desk.Desk.{Desk}
 use Rattle.driver.specs.Tickets.{blocks_in, OwnSeats}
-use Rattle.driver.specs.Desks.{world, blocks_of_desk, worker_of_desk, IsOn, IsSame}
-use Rattle.driver.specs.Turns.{judged, ends_refused}
-use Rattle.driver.specs.Schedule.{World, first_world, fits, activity_of, with_activity, outcome_of, left_of, WantTurn, wants_at, StageTurn, Turn, Goings, is_end, said_at, all_said}
+use Rattle.driver.specs.Desks.{world, with_seat, lent_to, blocks_of_desk, worker_of_desk, IsOn, IsSame}
+use Rattle.driver.specs.Turns.{Judged, judged, ends_refused}
+use Rattle.driver.specs.Schedule.{World, first_world, fits, activity_of, with_activity, outcome_of, left_of, WantTurn, wants_at, StageTurn, JudgedTurn, Turn, begun, Goings, is_end, said_at, all_said}
+use Rattle.driver.proofs.SeatLists.{activity_of-with_activity, with_activity-twice}
 
 pub Goings-more : (old : World) (actor : Actor) (earlier : List Outcome) (mid new : World) (outcome : Outcome)
     → Goings old actor earlier mid → Turn mid actor outcome new → is_end outcome ≡ false → Goings old actor (earlier ++ outcome ∷ []) new
@@ -52,13 +57,52 @@ turn_taken old caller taken new who stage outcome same others turn =
 pub turn_does : (old new : World) (who : Actor) (stage : Stage) (outcome : Outcome) → activity_of who old.seats ≡ Does stage → StageTurn old who stage outcome new → Turn old who outcome new
 turn_does old new who stage outcome is turn = rw is turn
 
-pub turn_begun : (old new : World) (who : Actor) (command : Command) (stage : Stage) (outcome : Outcome) → activity_of who old.seats ≡ Begun command → judged old.past.state.tree who command ≡ Ok stage → StageTurn old who stage outcome new
+pub turn_begun : (old new : World) (who : Actor) (command : Command) (outcome : Outcome) → activity_of who old.seats ≡ Begun command → JudgedTurn old who (judged old.past.state.tree who command) outcome new
     → Turn old who outcome new
-turn_begun old new who command stage outcome is starts turn = rw is (rw starts turn)
+turn_begun old new who command outcome is turn = rw is turn
 
-pub turn_refused : (old new : World) (who : Actor) (command : Command) (why : Refusal) → activity_of who old.seats ≡ Begun command → judged old.past.state.tree who command ≡ Err why
-    → new ≡ record old { seats = with_activity who Rests old.seats } → Turn old who (outcome_of (ends_refused why)) new
-turn_refused old new who command why is wrong stays = rw is (rw wrong (refl, stays))
+pub turn_rests : (old new : World) (who : Actor) → activity_of who old.seats ≡ Rests → new ≡ old → Turn old who (Ends (Word Idle)) new
+turn_rests old new who is stays = rw is (refl, stays)
+
+-- a command's first turn, by what became of it
+pub judged_goes : (old new : World) (who : Actor) (found : Judged) (stage : Stage) (outcome : Outcome) → Ok stage ≡ found → StageTurn old who stage outcome new → JudgedTurn old who found outcome new
+judged_goes old new who found stage outcome is turn = rw (sym is) turn
+
+pub judged_refused : (old new : World) (who : Actor) (found : Judged) (why : Refusal) → Err why ≡ found → new ≡ record old { seats = with_activity who Rests old.seats }
+    → JudgedTurn old who found (outcome_of (ends_refused why)) new
+judged_refused old new who found why is stays = rw (sym is) (refl, stays)
+
+-- the same, whatever else the actor was at before
+judged_over : (old : World) (seats : List Seat) (new : World) (who : Actor) (found : Judged) (outcome : Outcome) → ((what : Activity) → with_activity who what old.seats ≡ with_activity who what seats)
+    → JudgedTurn old who found outcome new → JudgedTurn (record old { seats = seats }) who found outcome new
+judged_over old seats new who (Err why) outcome others turn = (turn.0, turn.1 ∙ ap (λ (ss : List Seat). record old { seats = ss }) (others Rests))
+judged_over old seats new who (Ok stage) outcome others turn = turn_taken (record old { seats = seats }) old.caller old.seats new who stage outcome refl others turn
+
+pub judged_taken : (old : World) (taken : List Seat) (new : World) (who : Actor) (found : Judged) (outcome : Outcome) → taken ≡ with_activity who Rests old.seats
+    → JudgedTurn (record old { seats = taken }) who found outcome new → JudgedTurn old who found outcome new
+judged_taken old taken new who found outcome is turn =
+    judged_over (record old { seats = taken }) old.seats new who found outcome (λ what. ap (λ (ss : List Seat). with_activity who what ss) is ∙ with_activity-twice who what Rests old.seats) turn
+
+-- the first turn of a command that was lent, and of one that was not
+pub lent_turn : (old new : World) (who : Actor) (what : Command) (outcome : Outcome) → JudgedTurn old who (judged old.past.state.tree who what) outcome new
+    → Turn (record old { seats = with_activity who (Begun what) old.seats }) who outcome new
+lent_turn old new who what outcome turn =
+    let at : List Seat = with_activity who (Begun what) old.seats in
+    turn_begun (record old { seats = at }) new who what outcome (activity_of-with_activity who (Begun what) old.seats)
+    (judged_over old at new who (judged old.past.state.tree who what) outcome (λ next. sym (with_activity-twice who next (Begun what) old.seats)) turn)
+
+pub lent_begun : (w mid : World) (who : Actor) (what : Bor Command) → mid ≡ with_seat who w → lent_to mid who (Some what) ≡ begun w who what.now
+lent_begun w mid who what is =
+    ap (λ (v : World). lent_to v who (Some what)) is ∙ ap (λ (ss : List Seat). record w { seats = ss }) (with_activity-twice who (Begun what.now) (activity_of who w.seats) w.seats)
+
+-- a lent command has had its turn once all turns are spent
+pub lent_no_more : (w : World) (who : Actor) (lent : Option (Bor Command)) (turn turns : ℕ) → IfSome lent (λ (what : Bor Command). turn ≡ 0) → IfSome lent (λ (what : Bor Command). 0 < turns) → turn ≡ turns → w ≡ lent_to w who lent
+lent_no_more w who None turn turns first some spent = refl
+lent_no_more w who (Some what) turn turns first some spent = absurd (omega (arith, first, some, spent))
+
+pub if_some : {A P : Type 0} (o : Option A) → P → IfSome o (λ (x : A). P)
+if_some None p = tt
+if_some (Some x) p = p
 
 -- ---- the device
 

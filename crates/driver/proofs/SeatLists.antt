@@ -1,6 +1,6 @@
 -- Seats, one after another.
-use Rattle.std.proofs.Common.{◌≡◌, ℕ, suc, ◌<◌, Bool, true, false, List, [], ◌∷◌, ◌++◌, length, get_or, refl, sym, ap, ◌∙◌, arith}
-use Rattle.std.specs.Prelude.{if◌then◌else◌, slice_set, nat_eq, nat_lt, ◌||◌, ◌+◌, ◌≤◌, ◌==◌, cond, Option, Some, None, IfSome, IfNone, position}
+use Rattle.std.proofs.Common.{◌≡◌, ℕ, suc, ◌<◌, Bool, true, false, List, [], ◌∷◌, ◌++◌, length, length-append, get_or, refl, sym, ap, ◌∙◌, arith}
+use Rattle.std.specs.Prelude.{if◌then◌else◌, slice_set, nat_eq, nat_lt, ◌||◌, ◌+◌, ◌≤◌, ◌==◌, cond, Option, Some, None, position}
 use Rattle.std.specs.List.{list_any, position_or_len}
 use Rattle.std.proofs.lemmas.Bool.Decides.{nat_tests}
 use Rattle.std.proofs.lemmas.List.Recursion.{is_position_or_len}
@@ -10,7 +10,7 @@ use Rattle.driver.specs.declared.turn.Activity.TheVariants.{Rests}
 use Rattle.driver.specs.declared.turn.Seat.{Seat}
 use Rattle.driver.specs.Schedule.{number_of, is_of, activity_of, with_activity}
 use Rattle.driver.specs.Tickets.{OwnActivity, OwnSeats}
-use Rattle.driver.specs.Seats.{numbers_of, place_of, IsTaken}
+use Rattle.driver.specs.Seats.{numbers_of, place_of, SitsAt, IsFound}
 
 -- who sits where, by numbers
 
@@ -48,11 +48,11 @@ module _ (actor : Actor) (seats : List Seat) where
   looked_up : position (nat_eq (number_of actor)) (numbers_of seats) ≡ cond (nat_lt (place_of actor seats) (length seats)) (Some (place_of actor seats)) None
   looked_up = rw (place_of-number actor seats, length-numbers seats) refl
 
-  seat_found : (place : ℕ) → Some place ≡ position (nat_eq (number_of actor)) (numbers_of seats) → (place ≡ place_of actor seats) × (place < length seats)
+  seat_found : (place : ℕ) → Some place ≡ position (nat_eq (number_of actor)) (numbers_of seats) → SitsAt actor place seats
   seat_found place found = by_test (nat_lt (place_of actor seats) (length seats)) refl (found ∙ looked_up)
     where
-      by_test : (b : Bool) → nat_lt (place_of actor seats) (length seats) ≡ b → Some place ≡ cond b (Some (place_of actor seats)) None → (place ≡ place_of actor seats) × (place < length seats)
-      by_test true is e = let same : place ≡ place_of actor seats = cc in (same, grind (arith, nat_tests, is, same))
+      by_test : (b : Bool) → nat_lt (place_of actor seats) (length seats) ≡ b → Some place ≡ cond b (Some (place_of actor seats)) None → SitsAt actor place seats
+      by_test true is e = let same : place ≡ place_of actor seats = cc in record { is = same; within = grind (arith, nat_tests, is, same) }
       by_test false is e = cc
 
   seat_missing : None ≡ position (nat_eq (number_of actor)) (numbers_of seats) → place_of actor seats ≡ length seats
@@ -62,14 +62,9 @@ module _ (actor : Actor) (seats : List Seat) where
       by_test true is e = cc
       by_test false is e = let most = place_of-most actor seats in grind (arith, nat_tests, is, most)
 
-module _ (actor : Actor) (seats : List Seat) where
-  pub find-seated : (found : Option ℕ) → found ≡ position (nat_eq (number_of actor)) (numbers_of seats) → IfSome found (λ place. (place ≡ place_of actor seats) × (place < length seats))
-  find-seated None e = tt
-  find-seated (Some place) e = seat_found actor seats place e
-
-  pub find-unseated : (found : Option ℕ) → found ≡ position (nat_eq (number_of actor)) (numbers_of seats) → IfNone found (place_of actor seats ≡ length seats)
-  find-unseated None e = seat_missing actor seats e
-  find-unseated (Some place) e = tt
+pub found-by_number : (actor : Actor) (seats : List Seat) (found : Option ℕ) → found ≡ position (nat_eq (number_of actor)) (numbers_of seats) → IsFound actor found seats
+found-by_number actor seats None e = seat_missing actor seats e
+found-by_number actor seats (Some place) e = seat_found actor seats place e
 
 -- a seat keeps its number whatever its actor is at
 pub numbers-with_activity : (actor : Actor) (what : Activity) (seats : List Seat) → place_of actor seats < length seats → numbers_of (with_activity actor what seats) ≡ numbers_of seats
@@ -81,10 +76,6 @@ numbers-with_activity actor what (seat ∷ seats) h = at (is_of actor seat) h (n
         → numbers_of (if b then record { actor = seat.actor; activity = what } ∷ seats else seat ∷ with_activity actor what seats) ≡ number_of seat.actor ∷ numbers_of seats
     at true h ih = refl
     at false h ih = ap (λ (ns : List ℕ). number_of seat.actor ∷ ns) (ih (omega arith))
-
--- and there are as many
-pub with_activity-length : (actor : Actor) (what : Activity) (seats : List Seat) → place_of actor seats < length seats → length (with_activity actor what seats) ≡ length seats
-with_activity-length actor what seats h = sym (length-numbers (with_activity actor what seats)) ∙ ap length (numbers-with_activity actor what seats h) ∙ length-numbers seats
 
 pub numbers-push : (seats : List Seat) (seat : Seat) → numbers_of (seats ++ seat ∷ []) ≡ numbers_of seats ++ number_of seat.actor ∷ []
 numbers-push [] seat = refl
@@ -182,27 +173,27 @@ length-with_activity actor what (seat ∷ seats) h = at (is_of actor seat) h (le
     at true h ih = refl
     at false h ih = ap suc (ih (omega arith))
 
-pub activity_of-with_activity : (actor : Actor) (what : Activity) (seats : List Seat) → place_of actor seats < length seats → activity_of actor (with_activity actor what seats) ≡ what
-activity_of-with_activity actor what [] h = absurd (omega arith)
-activity_of-with_activity actor what (seat ∷ seats) h = at (is_of actor seat) refl h (activity_of-with_activity actor what seats)
-  where
-    at : (b : Bool) → is_of actor seat ≡ b → (if b then 0 else suc (place_of actor seats)) < suc (length seats)
-        → (place_of actor seats < length seats → activity_of actor (with_activity actor what seats) ≡ what)
-        → activity_of actor (if b then record { actor = seat.actor; activity = what } ∷ seats else seat ∷ with_activity actor what seats) ≡ what
-    at true e h ih = rw e refl
-    at false e h ih = rw e (ih (omega arith))
+self_test : (n : ℕ) → (n == n) ≡ true
+self_test n = grind (arith, nat_tests)
 
-pub with_activity-twice : (actor : Actor) (what first : Activity) (seats : List Seat) → place_of actor seats < length seats
-    → with_activity actor what (with_activity actor first seats) ≡ with_activity actor what seats
-with_activity-twice actor what first [] h = absurd (omega arith)
-with_activity-twice actor what first (seat ∷ seats) h = at (is_of actor seat) refl h (with_activity-twice actor what first seats)
+pub activity_of-with_activity : (actor : Actor) (what : Activity) (seats : List Seat) → activity_of actor (with_activity actor what seats) ≡ what
+activity_of-with_activity actor what [] = rw (self_test (number_of actor)) refl
+activity_of-with_activity actor what (seat ∷ seats) = at (is_of actor seat) refl (activity_of-with_activity actor what seats)
   where
-    at : (b : Bool) → is_of actor seat ≡ b → (if b then 0 else suc (place_of actor seats)) < suc (length seats)
-        → (place_of actor seats < length seats → with_activity actor what (with_activity actor first seats) ≡ with_activity actor what seats)
+    at : (b : Bool) → is_of actor seat ≡ b → activity_of actor (with_activity actor what seats) ≡ what
+        → activity_of actor (if b then record { actor = seat.actor; activity = what } ∷ seats else seat ∷ with_activity actor what seats) ≡ what
+    at true e ih = rw e refl
+    at false e ih = rw e ih
+
+pub with_activity-twice : (actor : Actor) (what first : Activity) (seats : List Seat) → with_activity actor what (with_activity actor first seats) ≡ with_activity actor what seats
+with_activity-twice actor what first [] = rw (self_test (number_of actor)) refl
+with_activity-twice actor what first (seat ∷ seats) = at (is_of actor seat) refl (with_activity-twice actor what first seats)
+  where
+    at : (b : Bool) → is_of actor seat ≡ b → with_activity actor what (with_activity actor first seats) ≡ with_activity actor what seats
         → with_activity actor what (if b then record { actor = seat.actor; activity = first } ∷ seats else seat ∷ with_activity actor first seats)
         ≡ (if b then record { actor = seat.actor; activity = what } ∷ seats else seat ∷ with_activity actor what seats)
-    at true e h ih = rw e refl
-    at false e h ih = rw e (ap (λ (ss : List Seat). seat ∷ ss) (ih (omega arith)))
+    at true e ih = rw e refl
+    at false e ih = rw e (ap (λ (ss : List Seat). seat ∷ ss) ih)
 
 -- an element that was read at the actor's place
 
@@ -219,41 +210,42 @@ exchanged-now actor what seats k seat e h is =
     let read : seat ≡ get_or seats (place_of actor seats) seat = rw e at is in
     rw e (ap (λ (a : Actor). slice_set seats (place_of actor seats) (record { actor = a; activity = what })) (ap (λ (s : Seat). s.actor) read) ∙ with_activity-at actor what seats seat within)
 
--- what an actor with a seat was at was taken from there
-pub taken-seated : (actor : Actor) (old new : List Seat) → place_of actor old < length old → new ≡ with_activity actor Rests old → IsTaken actor old new
-taken-seated actor old new h e =
+-- the seat stays where it is, whatever the actor is at
+pub still_sits : (actor : Actor) (place : ℕ) (what : Activity) (old new : List Seat) → SitsAt actor place old → new ≡ with_activity actor what old → SitsAt actor place new
+still_sits actor place what old new sits e =
+    let within : place_of actor old < length old = rw (sym sits.is) sits.within in
     record {
-      seated = λ within. rw (e, place_of-with_activity actor Rests old h, length-with_activity actor Rests old h) h;
-      rests = λ within. e;
-      others = λ within what. rw e (with_activity-twice actor what Rests old h);
-      unseated = λ none. absurd (omega (arith, h, none));
-      empty = rw e (activity_of-with_activity actor Rests old h);
+      is = sits.is ∙ sym (ap (place_of actor) e ∙ place_of-with_activity actor what old within);
+      within = (let same : length new ≡ length old = ap (λ (ss : List Seat). length ss) e ∙ length-with_activity actor what old within in let here = sits.within in omega (arith, same, here));
     }
 
--- an actor with no seat leaves all as it was
-pub taken-unseated : (actor : Actor) (old : List Seat) → place_of actor old ≡ length old → IsTaken actor old old
-taken-unseated actor old none =
+-- one that rests is left as it was by a rest
+pub still_rests : (actor : Actor) (place : ℕ) (seats : List Seat) → SitsAt actor place seats → activity_of actor seats ≡ Rests → with_activity actor Rests seats ≡ seats
+still_rests actor place seats sits rests =
+    let within : place_of actor seats < length seats = rw (sym sits.is) sits.within in
+    ap (λ (a : Activity). with_activity actor a seats) (sym rests) ∙ with_activity-same actor seats within
+
+pub still_seated : (actor : Actor) (place : ℕ) (seats : List Seat) → SitsAt actor place seats → with_activity actor (activity_of actor seats) seats ≡ seats
+still_seated actor place seats sits = with_activity-same actor seats (rw (sym sits.is) sits.within)
+
+-- a seat that was added is the last
+pub added_last : (actor : Actor) (place : ℕ) (old new : List Seat) → place_of actor old ≡ length old → place ≡ length old → new ≡ with_activity actor Rests old → SitsAt actor place new
+added_last actor place old new none here e =
+    let is : new ≡ old ++ record { actor = actor; activity = Rests } ∷ [] = e ∙ with_activity-none actor Rests old none in
     record {
-      seated = λ within. within;
-      rests = λ within. absurd (omega (arith, within, none));
-      others = λ within what. refl;
-      unseated = λ none. refl;
-      empty = activity_of-none actor old none;
+      is = here ∙ sym (ap (place_of actor) is ∙ last old none);
+      within = (let more : length new ≡ length old + 1 = ap (λ (ss : List Seat). length ss) is ∙ length-append old (record { actor = actor; activity = Rests } ∷ []) in omega (arith, more, here));
     }
-
--- one that rested leaves all as it was, too
-pub taken-rested : (actor : Actor) (old new : List Seat) → place_of actor old < length old → activity_of actor old ≡ Rests → new ≡ with_activity actor Rests old → new ≡ old
-taken-rested actor old new h rests e = e ∙ (ap (λ (a : Activity). with_activity actor a old) (sym rests) ∙ with_activity-same actor old h)
-
--- an actor that does not rest has a seat
-pub seated : (actor : Actor) (seats : List Seat) → (activity_of actor seats ≡ Rests → ⊥) → place_of actor seats < length seats
-seated actor [] busy = absurd (busy refl)
-seated actor (seat ∷ seats) busy = at (is_of actor seat) busy (seated actor seats)
   where
-    at : (b : Bool) → ((if b then seat.activity else activity_of actor seats) ≡ Rests → ⊥) → ((activity_of actor seats ≡ Rests → ⊥) → place_of actor seats < length seats)
-        → (if b then 0 else suc (place_of actor seats)) < suc (length seats)
-    at true busy ih = omega arith
-    at false busy ih = let rest = ih busy in omega (arith, rest)
+    last : (seats : List Seat) → place_of actor seats ≡ length seats → place_of actor (seats ++ record { actor = actor; activity = Rests } ∷ []) ≡ length seats
+    last [] none = rw (self_test (number_of actor)) refl
+    last (seat ∷ seats) none = at (is_of actor seat) none (last seats)
+      where
+        at : (b : Bool) → (if b then 0 else suc (place_of actor seats)) ≡ suc (length seats)
+            → (place_of actor seats ≡ length seats → place_of actor (seats ++ record { actor = actor; activity = Rests } ∷ []) ≡ length seats)
+            → (if b then 0 else suc (place_of actor (seats ++ record { actor = actor; activity = Rests } ∷ []))) ≡ suc (length seats)
+        at true h ih = absurd (omega (arith, h))
+        at false h ih = ap suc (ih (omega (arith, h)))
 
 -- tickets in hand
 

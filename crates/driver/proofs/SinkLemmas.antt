@@ -1,28 +1,29 @@
 -- What a sink has of a run that is cut short.
-use Rattle.std.proofs.Common.{◌≡◌, ℕ, suc, ◌+◌, ◌<◌, ◌≤◌, true, List, [], ◌∷◌, ◌++◌, length, take, drop, get_or, inl, inr, append-nil, length-append, refl, sym, ap, ◌∙◌, subst, arith, append_assoc, false}
+use Rattle.std.proofs.Common.{◌≡◌, ℕ, zero, suc, ◌<◌, ◌≤◌, true, List, [], ◌∷◌, ◌++◌, length, take, get_or, inl, inr, append-nil, length-append, refl, sym, ap, ◌∙◌, subst, arith, append_assoc, false}
 use Rattle.std.specs.Prelude.{◌⊎◌, Result, Ok, Err, OnErr}
 use Rattle.std.specs.List.{AllByRecursion}
-use Rattle.std.proofs.lemmas.List.{take-append-drop}
-use Rattle.std.proofs.Math.Seq.{drop-cons}
 use Rattle.machine.specs.declared.config.Config.{Config}
 use Rattle.machine.specs.declared.command.Actor.{Actor}
 use Rattle.machine.specs.declared.command.Step.{Step}
 use Rattle.machine.specs.declared.command.Step.TheVariants.{Begin, Advance, Finish}
 use Rattle.machine.specs.declared.command.Answer.TheVariants.{Word}
-use Rattle.machine.specs.declared.command.Word.TheVariants.{TurnLimit, Underway}
+use Rattle.machine.specs.declared.command.Word.TheVariants.{TurnLimit, Underway, Idle}
+use Rattle.machine.specs.declared.command.Word.{Word as Word_of}
 use Rattle.machine.specs.declared.command.Command.{Command}
 use Rattle.driver.specs.declared.turn.Activity.{Activity}
 use Rattle.driver.specs.declared.turn.Activity.TheVariants.{Rests, Begun, Does}
-use Rattle.driver.specs.Seats.{is_under_way}
+use Rattle.driver.specs.Seats.{place_of, is_under_way}
+use Rattle.driver.specs.Desks.{whole_steps}
+use Rattle.driver.proofs.SeatLists.{activity_of-none}
 use Rattle.machine.specs.declared.command.Reply.{Reply}
 use Rattle.machine.specs.Call.{Past}
 use Rattle.machine.specs.History.{at_first, Honest}
 use Rattle.block_store.specs.Device.{Disk}
 use Rattle.driver.specs.declared.turn.Outcome.{Outcome}
 use Rattle.driver.specs.declared.turn.Outcome.TheVariants.{Goes, Kills, Ends}
-use Rattle.driver.specs.Schedule.{World, first_world, activity_of, with_activity, JudgedTurn, ActivityTurn, EndsIn, RunsOut, Turn, Begins, begun, Goings, answer_by, said_at, all_said, Stepped, Runs, RunsThrough, files_on, fits}
+use Rattle.driver.specs.Schedule.{World, first_world, activity_of, with_activity, JudgedTurn, ActivityTurn, EndsIn, RunsOut, Turn, Begins, begun, Goings, Finishes, answer_by, said_at, all_said, Stepped, Runs, RunsThrough, files_on, fits}
 use Rattle.driver.specs.Turns.{Judged, judged}
-use Rattle.driver.specs.Sinks.{Heard, ArePartOf, BeginsWith, Starts, IsRightOnce, StartsStep, StartsRun, CutsStep, CutsRun}
+use Rattle.driver.specs.Sinks.{Heard, BeginsWith, Starts, IsRightOnce, StartsStep, StartsRun, CutsStep, CutsRun}
 use Rattle.driver.proofs.Faithful.{runs_are_honest}
 
 -- what holds of a call that failed holds where its result is looked at
@@ -63,7 +64,7 @@ single_turns-run old who (outcome ∷ outcomes) new h =
     (said_at who outcome, all_said who outcomes, h.0, (outcome, h.1, refl), single_turns-run h.0 who outcomes new h.3, refl)
 
 -- one step is a run
-one_step : (old : World) (step : Step) (answers : List Reply) (new : World) → Stepped old step answers new → Runs old (step ∷ []) answers new
+pub one_step : (old : World) (step : Step) (answers : List Reply) (new : World) → Stepped old step answers new → Runs old (step ∷ []) answers new
 one_step old step answers new h = (answers, [], new, h, (refl, refl), sym (append-nil answers))
 
 -- of a step that was carried out
@@ -150,30 +151,32 @@ pub runs_of : (old : World) (steps : List Step) (answers : List Reply) (pasts : 
 runs_of old [] answers pasts new h = (h.0, h.2)
 runs_of old (step ∷ steps) answers pasts new h = (h.0, h.1, h.3, h.4, runs_of h.3 steps h.1 h.2 new h.5, h.6)
 
--- and one step more
-pub RunsThrough-more : (old : World) (steps : List Step) (answers : List Reply) (pasts : List Past) (mid new : World) (step : Step) (here : List Reply)
-    → RunsThrough old steps answers pasts mid → Stepped mid step here new → RunsThrough old (steps ++ step ∷ []) (answers ++ here) (pasts ++ new.past ∷ []) new
-RunsThrough-more old [] answers pasts mid new step here h one =
-    let From : World → Type 0 = λ w. Stepped w step here new in (
-      here,
-      [],
-      [],
-      new,
-      subst From h.2 one,
-      (refl, refl, refl),
-      ap (λ (rs : List Reply). rs ++ here) h.0 ∙ sym (append-nil here),
-      ap (λ (ps : List Past). ps ++ new.past ∷ []) h.1,
-    )
-RunsThrough-more old (first ∷ steps) answers pasts mid new step here h one = (
+-- and it goes on with another
+pub RunsThrough-then : (old : World) (steps : List Step) (answers : List Reply) (pasts : List Past) (mid : World) (more : List Step) (further : List Reply) (later : List Past) (new : World)
+    → RunsThrough old steps answers pasts mid → RunsThrough mid more further later new → RunsThrough old (steps ++ more) (answers ++ further) (pasts ++ later) new
+RunsThrough-then old [] answers pasts mid more further later new h then =
+    let From : World → Type 0 = λ w. RunsThrough w more further later new in
+    let Answers : List Reply → Type 0 = λ rs. RunsThrough old more rs later new in
+    let Pasts : List Past → Type 0 = λ ps. RunsThrough old more (answers ++ further) ps new in
+    subst Pasts (ap (λ (ps : List Past). ps ++ later) (sym h.1)) (subst Answers (ap (λ (rs : List Reply). rs ++ further) (sym h.0)) (subst From h.2 then))
+RunsThrough-then old (first ∷ steps) answers pasts mid more further later new h then = (
   h.0,
-  h.1 ++ here,
-  h.2 ++ new.past ∷ [],
+  h.1 ++ further,
+  h.2 ++ later,
   h.3,
   h.4,
-  RunsThrough-more h.3 steps h.1 h.2 mid new step here h.5 one,
-  ap (λ (rs : List Reply). rs ++ here) h.6 ∙ append_assoc h.0 h.1 here,
-  ap (λ (ps : List Past). ps ++ new.past ∷ []) h.7,
+  RunsThrough-then h.3 steps h.1 h.2 mid more further later new h.5 then,
+  ap (λ (rs : List Reply). rs ++ further) h.6 ∙ append_assoc h.0 h.1 further,
+  ap (λ (ps : List Past). ps ++ later) h.7,
 )
+
+-- one step is one, and so is a command from its beginning to its end
+pub one_through : (old : World) (step : Step) (answers : List Reply) (new : World) → Stepped old step answers new → RunsThrough old (step ∷ []) answers (new.past ∷ []) new
+one_through old step answers new h = (answers, [], [], new, h, (refl, refl, refl), sym (append-nil answers), refl)
+
+pub whole_through : (old mid new : World) (who : Actor) (what : Command) (here there : List Reply) → Stepped old (Begin who what) here mid → Stepped mid (Finish who) there new
+    → RunsThrough old (whole_steps who what) (here ++ there) (mid.past ∷ new.past ∷ []) new
+whole_through old mid new who what here there begins finishes = (here, there, new.past ∷ [], mid, begins, one_through mid (Finish who) there new finishes, refl, refl)
 
 -- a sink that took some answers, and then none
 pub took_none : {S : Type 0} (took : S → S → List Reply → Type 0) → ((a b c : S) (xs ys : List Reply) → took a b xs → took b c ys → took a c (xs ++ ys)) → (a b c : S) (xs : List Reply) → took a b xs → took b c [] → took a c xs
@@ -187,29 +190,25 @@ begins_none most (step ∷ steps) = inl refl
 nothing_starts : (old : World) (step : Step) (after : Disk) → old.disk ≡ after → IsRightOnce old → StartsStep old step [] after
 nothing_starts old step after device right = record { part = []; is_part = inl refl; end = old; runs = (refl, refl); device = device; right = right }
 
-suc-is : (i : ℕ) → suc i ≡ i + 1
-suc-is i = omega arith
-
-cut_at : (steps : List Step) (i : ℕ) (step : Step) → i < length steps → step ≡ get_or steps i step → steps ≡ take i steps ++ step ∷ drop (i + 1) steps
-cut_at steps i step lt is =
-    let rest : drop i steps ≡ step ∷ drop (i + 1) steps = drop-cons steps i step lt ∙ ap (λ (s : Step). s ∷ drop (suc i) steps) (sym is) ∙ ap (λ (n : ℕ). step ∷ drop n steps) (suc-is i) in
-    sym (take-append-drop i steps) ∙ ap (λ (ss : List Step). take i steps ++ ss) rest
-
--- some steps were done, and the next was cut short
-step_starts : (old : World) (steps : List Step) (i : ℕ) (step : Step) (answers : List Reply) (mid : World) (added : List Reply) (after : Disk) → i < length steps → step ≡ get_or steps i step
-    → Runs old (take i steps) answers mid → StartsStep mid step added after → StartsRun old steps (answers ++ added) after
-step_starts old steps i step answers mid added after lt is ran starts =
+-- some steps were done, and one behind them was cut short
+starts_then : (old : World) (steps : List Step) (answers : List Reply) (mid : World) (later : List Step) (added : List Reply) (after : Disk) → Runs old steps answers mid → StartsRun mid later added after
+    → StartsRun old (steps ++ later) (answers ++ added) after
+starts_then old steps answers mid later added after ran starts =
     record {
-      done = take i steps;
-      left = step ∷ drop (i + 1) steps;
-      cut = cut_at steps i step lt is;
+      done = steps ++ starts.done;
+      left = starts.left;
+      cut = ap (λ (ss : List Step). steps ++ ss) starts.cut ∙ sym (append_assoc steps starts.done starts.left);
       part = starts.part;
-      begins = subst (λ (n : ℕ). ArePartOf n step starts.part) (runs_limit old (take i steps) answers mid ran) starts.is_part;
+      begins = subst (λ (n : ℕ). BeginsWith n starts.left starts.part) (runs_limit old steps answers mid ran) starts.begins;
       end = starts.end;
-      runs = Runs-then old (take i steps) answers mid starts.part added starts.end ran starts.runs;
+      runs = subst (λ (ss : List Step). Runs old ss (answers ++ added) starts.end) (sym (append_assoc steps starts.done starts.part)) (Runs-then old steps answers mid (starts.done ++ starts.part) added starts.end ran starts.runs);
       device = starts.device;
       right = starts.right;
     }
+
+begins_more : (most : ℕ) (left more part : List Step) → BeginsWith most left part → BeginsWith most (left ++ more) part
+begins_more most [] more part none = subst (λ (ss : List Step). BeginsWith most more ss) (sym none) (begins_none most more)
+begins_more most (step ∷ left) more part begins = begins
 
 -- a turn says one answer at most
 pub said-few : (who : Actor) (outcome : Outcome) → length (said_at who outcome) ≤ 1
@@ -231,17 +230,51 @@ module _ {S : Type 0} (took failed : S → S → List Reply → Type 0) where
   cut_behind s t u none before step begun end few fails stepped right =
       record { answers = []; begun = begun; few = few; heard = record { mid = t; takes = none; fails = fails }; starts = whole_starts before step begun end stepped right }
 
-  -- some steps were done, and the next was cut short
-  pub step_cuts : ((a b c : S) (xs ys : List Reply) → took a b xs → took b c ys → took a c (xs ++ ys)) → (a b c : S) (old : World) (steps : List Step) (i : ℕ) (step : Step) (answers : List Reply) (mid : World) (after : Disk) → i < length steps → step ≡ get_or steps i step
-      → took a b answers → Runs old (take i steps) answers mid → CutsStep took failed b c mid step after → CutsRun took failed a c old steps after
-  step_cuts more a b c old steps i step answers mid after lt is takes ran cut =
+  -- of steps the first was cut short
+  pub cuts_first : (a c : S) (old : World) (step : Step) (later : List Step) (after : Disk) → CutsStep took failed a c old step after → CutsRun took failed a c old (step ∷ later) after
+  cuts_first a c old step later after cut =
+      let starts = cut.starts in
+      record {
+        answers = cut.answers;
+        begun = cut.begun;
+        few = cut.few;
+        heard = cut.heard;
+        starts = record { done = []; left = step ∷ later; cut = refl; part = starts.part; begins = starts.is_part; end = starts.end; runs = starts.runs; device = starts.device; right = starts.right };
+      }
+
+  -- some were done, and one behind them was cut short
+  pub cuts_then : ((a b c : S) (xs ys : List Reply) → took a b xs → took b c ys → took a c (xs ++ ys)) → (a b c : S) (old : World) (steps : List Step) (answers : List Reply) (mid : World) (later : List Step) (after : Disk)
+      → took a b answers → Runs old steps answers mid → CutsRun took failed b c mid later after → CutsRun took failed a c old (steps ++ later) after
+  cuts_then more a b c old steps answers mid later after takes ran cut =
       record {
         answers = answers ++ cut.answers;
         begun = cut.begun;
         few = cut.few;
         heard = heard-more more a b c answers cut.answers cut.begun takes cut.heard;
         starts = (let same : answers ++ (cut.answers ++ cut.begun) ≡ (answers ++ cut.answers) ++ cut.begun = sym (append_assoc answers cut.answers cut.begun) in
-            subst (λ (rs : List Reply). StartsRun old steps rs after) same (step_starts old steps i step answers mid (cut.answers ++ cut.begun) after lt is ran cut.starts));
+            subst (λ (rs : List Reply). StartsRun old (steps ++ later) rs after) same (starts_then old steps answers mid later (cut.answers ++ cut.begun) after ran cut.starts));
+      }
+
+  -- and others would have come behind them
+  pub cuts_more : (a c : S) (old : World) (steps more : List Step) (after : Disk) → CutsRun took failed a c old steps after → CutsRun took failed a c old (steps ++ more) after
+  cuts_more a c old steps more after cut =
+      let starts = cut.starts in
+      record {
+        answers = cut.answers;
+        begun = cut.begun;
+        few = cut.few;
+        heard = cut.heard;
+        starts = record {
+          done = starts.done;
+          left = starts.left ++ more;
+          cut = ap (λ (ss : List Step). ss ++ more) starts.cut ∙ append_assoc starts.done starts.left more;
+          part = starts.part;
+          begins = begins_more old.turns starts.left more starts.part starts.begins;
+          end = starts.end;
+          runs = starts.runs;
+          device = starts.device;
+          right = starts.right;
+        };
       }
 
 -- from the opening world that is a schedule
@@ -273,3 +306,35 @@ pub begins_over : (old : World) (who : Actor) (what : Command) (activity : Activ
 begins_over old who what Rests under_way = absurd cc
 begins_over old who what (Begun command) under_way = (refl, refl)
 begins_over old who what (Does stage) under_way = (refl, refl)
+
+pub not_under_way : (activity : Activity) → is_under_way activity ≡ false → activity ≡ Rests
+not_under_way Rests rests = refl
+not_under_way (Begun command) rests = cc
+not_under_way (Does stage) rests = cc
+
+-- the first of some steps
+pub take_one : (steps : List Step) (step : Step) → 0 < length steps → step ≡ get_or steps 0 step → take 1 steps ≡ step ∷ []
+take_one [] step some is = absurd (omega arith)
+take_one (first ∷ steps) step some is = ap (λ (s : Step). s ∷ []) (sym is)
+
+-- what an actor with no seat is answered
+pub idle_turn : (old : World) (who : Actor) → place_of who old.seats ≡ length old.seats → Turn old who (Ends (Word Idle)) old
+idle_turn old who none = rw (activity_of-none who old.seats none) (refl, refl)
+
+pub idle_finish : (old : World) (who : Actor) (word : Word_of) → place_of who old.seats ≡ length old.seats → (old.turns ≡ 0 → word ≡ TurnLimit) → (0 < old.turns → word ≡ Idle) → Finishes old who (answer_by who (Word word)) old
+idle_finish old who word none limit idle = by_turns old.turns refl
+  where
+    by_turns : (n : ℕ) → old.turns ≡ n → Finishes old who (answer_by who (Word word)) old
+    by_turns zero is = ([], old, refl, inr (record { spent = sym is; stays = refl; answers_are = ap (λ (x : Word_of). answer_by who (Word x)) (limit is) }))
+    by_turns (suc n) is = (
+      [],
+      old,
+      refl,
+      inl (record {
+        last = Ends (Word Idle);
+        turn = idle_turn old who none;
+        ends = refl;
+        within = omega (arith, is);
+        answers_are = ap (λ (x : Word_of). answer_by who (Word x)) (idle (omega (arith, is)));
+      }),
+    )

@@ -1,13 +1,43 @@
 -- A desk, with a device, as a world of a schedule.
-use Rattle.std.specs.Prelude.{◌≡◌, ℕ, ◌≤◌, true, length}
+use denote.Ref.{Bor}
+use Rattle.std.specs.Prelude.{◌≡◌, ℕ, ◌≤◌, true, length, List, [], ◌∷◌, Option, None, Some}
+use Rattle.machine.specs.declared.command.Actor.{Actor}
+use Rattle.machine.specs.declared.command.Command.{Command}
+use Rattle.machine.specs.declared.command.Step.{Step}
+use Rattle.machine.specs.declared.command.Step.TheVariants.{Begin, Finish}
 use Rattle.block_store.specs.Device.{Disk}
 use Rattle.book.specs.Passes.{is_current}
-use Rattle.driver.specs.Schedule.{World}
+use Rattle.driver.specs.declared.turn.Activity.TheVariants.{Begun}
+use Rattle.driver.specs.declared.turn.Seat.{Seat}
+use Rattle.machine.specs.declared.command.Reply.{Reply as Told_by}
+use Rattle.machine.specs.Call.{Past}
+use Rattle.driver.specs.Schedule.{World, activity_of, with_activity, RunsThrough}
 use Rattle.driver.specs.Tickets.{blocks_in, OwnSeats}
 use Rattle.driver.specs.declared.desk.Desk.{Desk}
 
 abbrev pub world : Desk → Disk → World
 world desk disk = record { past = desk.book; caller = desk.pass.caller; disk = disk; seats = desk.seats; turns = desk.turns }
+
+-- the same once an actor has a seat
+abbrev pub with_seat : Actor → World → World
+with_seat who w = record w { seats = with_activity who (activity_of who w.seats) w.seats }
+
+-- the seats once a command that is lent to an actor, if one is, has begun
+abbrev pub lent_seats : Actor → Option (Bor Command) → List Seat → List Seat
+lent_seats who None seats = seats
+lent_seats who (Some what) seats = with_activity who (Begun what.now) seats
+
+abbrev pub lent_to : World → Actor → Option (Bor Command) → World
+lent_to w who lent = record w { seats = lent_seats who lent w.seats }
+
+-- a command from its beginning to its end
+abbrev pub whole_steps : Actor → Command → List Step
+whole_steps who what = Begin who what ∷ Finish who ∷ []
+
+-- the steps are carried out, and the sink took their answers and saw the book behind each
+abbrev pub RunsTo : {S : Type 0} → (S → S → List Told_by → Type 0) → (S → S → List Past → Type 0) → S → S → World → List Step → World → Type 0
+RunsTo took saw old new before steps after =
+    (answers : List Told_by) × (pasts : List Past) × took old new answers × saw old new pasts × RunsThrough before steps answers pasts after
 
 -- how many blocks its book uses
 abbrev pub blocks_of_desk : Desk → ℕ

@@ -1,10 +1,10 @@
 -- Places of seats.
-use Rattle.std.specs.Prelude.{◌≡◌, ℕ, Bool, true, false, suc, ◌<◌, List, [], ◌∷◌, length, map, if◌then◌else◌}
+use Rattle.std.specs.Prelude.{◌≡◌, ℕ, Bool, true, false, suc, ◌<◌, List, [], ◌∷◌, length, map, Option, None, Some, if◌then◌else◌}
 use Rattle.machine.specs.declared.command.Actor.{Actor}
 use Rattle.driver.specs.declared.turn.Activity.{Activity}
 use Rattle.driver.specs.declared.turn.Activity.TheVariants.{Rests, Begun, Does}
 use Rattle.driver.specs.declared.turn.Seat.{Seat}
-use Rattle.driver.specs.Schedule.{number_of, is_of, activity_of, with_activity}
+use Rattle.driver.specs.Schedule.{number_of, is_of}
 
 -- the numbers of those who sit there, one after another
 abbrev pub numbers_of : List Seat → List ℕ
@@ -15,13 +15,15 @@ abbrev pub place_of : Actor → List Seat → ℕ
 place_of who [] = 0
 place_of who (seat ∷ seats) = if is_of who seat then 0 else suc (place_of who seats)
 
--- what the actor was at was taken from its seat, and nothing else changed; an actor with no seat has none after
-pub record IsTaken (who : Actor) (old new : List Seat) : Type 0 where
-  pub seated : place_of who old < length old → place_of who new < length new
-  pub rests : place_of who old < length old → new ≡ with_activity who Rests old
-  pub others : place_of who old < length old → (what : Activity) → with_activity who what new ≡ with_activity who what old
-  pub unseated : place_of who old ≡ length old → new ≡ old
-  pub empty : activity_of who new ≡ Rests
+-- the actor sits there
+pub record SitsAt (who : Actor) (place : ℕ) (seats : List Seat) : Type 0 where
+  pub is : place ≡ place_of who seats
+  pub within : place < length seats
+
+-- the actor's seat was looked for, and found there, or there is none
+abbrev pub IsFound : Actor → Option ℕ → List Seat → Type 0
+IsFound who None seats = place_of who seats ≡ length seats
+IsFound who (Some place) seats = SitsAt who place seats
 
 -- a command is not answered yet
 abbrev pub is_under_way : Activity → Bool

@@ -1,6 +1,6 @@
 //! A book, and the seats of those who work on it.
 
-ghost use Rattle.std.specs.Prelude.{reverse, ◌≡◌, ◌⊎◌, ℕ, ◌+◌, ◌<◌, ◌≤◌, [], true, false, List, length, OnOk, OnErr, IfOk, IfErr};
+ghost use Rattle.std.specs.Prelude.{reverse, ◌≡◌, ◌⊎◌, ℕ, ◌+◌, ◌<◌, ◌≤◌, [], true, false, List, length, take, None, OnOk, OnErr, IfOk, IfErr, IfSome};
 ghost use Rattle.machine.specs.declared.command.Reply.{Reply as Told_by};
 ghost use Rattle.machine.specs.State.{is_config};
 ghost use Rattle.machine.specs.FirstBytes.{first_of};
@@ -9,11 +9,11 @@ ghost use Rattle.machine.specs.History.{at_first, Honest};
 ghost use Rattle.machine.specs.Call.{Past};
 ghost use Rattle.block_store.specs.Device.{Disk};
 ghost use Rattle.book.specs.Passes.{is_current};
-ghost use Rattle.driver.specs.Turns.{AwaitsAll};
-ghost use Rattle.driver.specs.Schedule.{Asks, WantTurn, StageTurn, wants_at, Turn, Advances, Finishes, Begins, Stepped, RunsThrough, activity_of, first_world};
+ghost use Rattle.driver.specs.Turns.{AwaitsAll, judged};
+ghost use Rattle.driver.specs.Schedule.{Asks, WantTurn, StageTurn, JudgedTurn, wants_at, Turn, Advances, Finishes, Begins, Stepped, activity_of, with_activity, first_world};
 ghost use Rattle.driver.specs.Tickets.{OwnEvent, OwnStage, OwnWant, OwnTransition, OwnSeats};
-ghost use Rattle.driver.specs.Seats.{place_of, is_under_way};
-ghost use Rattle.driver.specs.Desks.{world, blocks_of_desk, worker_of_desk, IsOn, IsSame};
+ghost use Rattle.driver.specs.Seats.{SitsAt, IsFound, is_under_way};
+ghost use Rattle.driver.specs.Desks.{world, with_seat, lent_to, whole_steps, RunsTo, blocks_of_desk, worker_of_desk, IsOn, IsSame};
 ghost use Rattle.driver.specs.Traced.{GivesUp};
 ghost use Rattle.driver.specs.Sinks.{CutsStep, CutsRun};
 
@@ -125,27 +125,54 @@ impl Desk {
         }
     }
 
-    /// A turn of a command that stands there, the actor having been taken from its seat.
+    /// A turn of a command that stands there. Its actor, who sits at that place, rests meanwhile.
     fn turn_stage<D: BlockDevice>(
         &mut self,
         device: &mut D,
         actor: Actor,
+        place: usize,
         stage: Stage,
     ) -> Result<Outcome, AllocError>
         requires on { IsOn self.old (D.disk device.old) }
         requires room { length self.old.seats + 2 ≤ self.old.pass.room }
         requires own { OwnStage (worker_of_desk self.old) (blocks_of_desk self.old) stage }
-        requires seated { place_of actor self.old.seats < length self.old.seats }
-        requires free { is_under_way (activity_of actor self.old.seats) ≡ false }
+        requires place { SitsAt actor place self.old.seats }
+        requires rests { activity_of actor self.old.seats ≡ Activity.Rests }
         ensures turn { IfOk result (λ outcome. StageTurn (world self.old (D.disk device.old)) actor stage outcome (world self.new (D.disk device.new))) }
+        ensures place { SitsAt actor place self.new.seats }
         ensures on { IsOn self.new (D.disk device.new) }
         ensures same { IsSame (D.disk device.old) (D.disk device.new) }
         ensures unmoved { OnErr result (D.disk device.new ≡ D.disk device.old) }
     {
         let transition = self.serve(device, stage)?;
         let (outcome, left) = seats::settle(transition);
-        self.seats.put(actor, left);
+        self.seats.put(place, actor, left);
         Ok(outcome)
+    }
+
+    /// The first turn of a command of the actor, who sits at that place and rests.
+    fn first_turn<D: BlockDevice>(
+        &mut self,
+        device: &mut D,
+        actor: Actor,
+        place: usize,
+        command: &Command,
+    ) -> Result<Outcome, AllocError>
+        requires on { IsOn self.old (D.disk device.old) }
+        requires room { length self.old.seats + 4 ≤ self.old.pass.room }
+        requires place { SitsAt actor place self.old.seats }
+        requires rests { activity_of actor self.old.seats ≡ Activity.Rests }
+        ensures turn { IfOk result (λ outcome. JudgedTurn (world self.old (D.disk device.old)) actor (judged self.old.book.state.tree actor command.now) outcome (world self.new (D.disk device.new))) }
+        ensures place { SitsAt actor place self.new.seats }
+        ensures on { IsOn self.new (D.disk device.new) }
+        ensures same { IsSame (D.disk device.old) (D.disk device.new) }
+        ensures unmoved { OnErr result (D.disk device.new ≡ D.disk device.old) }
+    {
+        let judged = judge(self.alloc, self.book.book(), &mut self.pass, actor, command)?;
+        match judged {
+            Err(cause) => Ok(seats::word(Word::Refused(cause))),
+            Ok(stage) => Ok(self.turn_stage(device, actor, place, stage)?),
+        }
     }
 
     /// Room in the pass for all that one turn asks, a path or two, an event and the merge of the mark of a page that
@@ -163,46 +190,89 @@ impl Desk {
         }
     }
 
-    /// One turn of the actor.
-    pub fn turn<D: BlockDevice>(
+    /// One turn of the actor, who sits at that place: the first of the command that is lent to it, if one is.
+    fn turn<D: BlockDevice>(
         &mut self,
         device: &mut D,
         actor: Actor,
+        place: usize,
+        lent: Option<&Command>,
     ) -> Result<Outcome, AllocError>
-        requires { IsOn self.old (D.disk device.old) }
-        ensures turn { IfOk result (λ outcome. Turn (world self.old (D.disk device.old)) actor outcome (world self.new (D.disk device.new))) }
+        requires on { IsOn self.old (D.disk device.old) }
+        requires place { SitsAt actor place self.old.seats }
+        requires rests { IfSome lent (λ _. activity_of actor self.old.seats ≡ Activity.Rests) }
+        ensures turn { IfOk result (λ outcome. Turn (lent_to (world self.old (D.disk device.old)) actor lent.entry) actor outcome (world self.new (D.disk device.new))) }
+        ensures place { SitsAt actor place self.new.seats }
         ensures on { IsOn self.new (D.disk device.new) }
         ensures same { IsSame (D.disk device.old) (D.disk device.new) }
         ensures unmoved { OnErr result (D.disk device.new ≡ D.disk device.old) }
     {
         self.make_room()?;
-        let outcome = self.take_turn(device, actor)?;
+        let outcome = self.take_turn(device, actor, place, lent)?;
         Ok(outcome)
     }
 
-    /// One turn of the actor, where the pass has room for it.
+    /// The same, where the pass has room for it.
     fn take_turn<D: BlockDevice>(
         &mut self,
         device: &mut D,
         actor: Actor,
+        place: usize,
+        lent: Option<&Command>,
     ) -> Result<Outcome, AllocError>
         requires on { IsOn self.old (D.disk device.old) }
         requires room { length self.old.seats + 4 ≤ self.old.pass.room }
-        ensures turn { IfOk result (λ outcome. Turn (world self.old (D.disk device.old)) actor outcome (world self.new (D.disk device.new))) }
+        requires place { SitsAt actor place self.old.seats }
+        requires rests { IfSome lent (λ _. activity_of actor self.old.seats ≡ Activity.Rests) }
+        ensures turn { IfOk result (λ outcome. Turn (lent_to (world self.old (D.disk device.old)) actor lent.entry) actor outcome (world self.new (D.disk device.new))) }
+        ensures place { SitsAt actor place self.new.seats }
         ensures on { IsOn self.new (D.disk device.new) }
         ensures same { IsSame (D.disk device.old) (D.disk device.new) }
         ensures unmoved { OnErr result (D.disk device.new ≡ D.disk device.old) }
     {
-        match self.seats.take(actor) {
-            Activity::Rests => Ok(seats::word(Word::Idle)),
-            Activity::Begun(command) => {
-                match judge(self.alloc, self.book.book(), &mut self.pass, actor, command) {
-                    Err(cause) => Ok(seats::word(Word::Refused(cause))),
-                    Ok(stage) => Ok(self.turn_stage(device, actor, stage)?),
-                }
-            }
-            Activity::Does(stage) => Ok(self.turn_stage(device, actor, stage)?),
+        match lent {
+            Some(command) => Ok(self.first_turn(device, actor, place, command)?),
+            None => Ok(self.next_turn(device, actor, place)?),
         }
+    }
+
+    /// A turn of what the actor is at, where none is lent.
+    fn next_turn<D: BlockDevice>(
+        &mut self,
+        device: &mut D,
+        actor: Actor,
+        place: usize,
+    ) -> Result<Outcome, AllocError>
+        requires on { IsOn self.old (D.disk device.old) }
+        requires room { length self.old.seats + 4 ≤ self.old.pass.room }
+        requires place { SitsAt actor place self.old.seats }
+        ensures turn { IfOk result (λ outcome. Turn (world self.old (D.disk device.old)) actor outcome (world self.new (D.disk device.new))) }
+        ensures place { SitsAt actor place self.new.seats }
+        ensures on { IsOn self.new (D.disk device.new) }
+        ensures same { IsSame (D.disk device.old) (D.disk device.new) }
+        ensures unmoved { OnErr result (D.disk device.new ≡ D.disk device.old) }
+    {
+        match self.seats.take(place, actor) {
+            Activity::Rests => Ok(seats::word(Word::Idle)),
+            Activity::Begun(command) => Ok(self.first_turn(device, actor, place, &command)?),
+            Activity::Does(stage) => Ok(self.turn_stage(device, actor, place, stage)?),
+        }
+    }
+
+    /// The place of the actor's seat, where it was found, and else of a new one, at which it rests.
+    fn sit(&mut self, found: Option<usize>, actor: Actor) -> Result<usize, AllocError>
+        requires { IsFound actor found self.old.seats }
+        ensures place { IfOk result (λ place. SitsAt actor place self.new.seats) }
+        ensures now { OnOk result ((disk : Disk) → world self.new disk ≡ with_seat actor (world self.old disk)) }
+        ensures seats { OnOk result (self.new.seats ≡ with_activity actor (activity_of actor self.old.seats) self.old.seats) }
+        ensures on { (disk : Disk) → IsOn self.old disk → IsOn self.new disk }
+    {
+        if let Some(place) = found {
+            return Ok(place);
+        }
+        self.make_room()?;
+        let place = self.seats.add(actor)?;
+        Ok(place)
     }
 
     /// Begins the actor's command, unless one is under way.
@@ -219,22 +289,24 @@ impl Desk {
         ensures on { (disk : Disk) → IsOn self.old disk → IsOn self.new disk }
     {
         self.book.history_is_right();
-        if self.seats.is_under_way(actor) {
+        let found = self.seats.find(actor);
+        if self.seats.is_under_way(found, actor) {
             seats::answer(sink, at, actor, Answer::Word(Word::Underway))?;
             return Ok(());
         }
         let command = command.copy(self.alloc)?;
-        self.make_room()?;
-        self.seats.seat(actor, command)?;
+        let place = self.sit(found, actor)?;
+        self.seats.put(place, actor, Activity::Begun(command));
         Ok(())
     }
 
-    /// Shows the book to the sink where the actor's next turn asks for relief.
-    fn show_relief<S: Sink>(&self, at: usize, actor: Actor, sink: &mut S)
+    /// Shows the book to the sink where the next turn of who sits at that place asks for relief.
+    fn show_relief<S: Sink>(&self, at: usize, place: usize, sink: &mut S)
+        requires { place < length self.now.seats }
         ensures quiet { S.took sink.old sink.new [] }
         ensures unseen { S.saw sink.old sink.new [] }
     {
-        if let Some(cause) = self.seats.relief_of(actor) {
+        if let Some(cause) = self.seats.relief_at(place) {
             sink.see_relief(at, self.book.book(), cause);
         }
     }
@@ -254,9 +326,44 @@ impl Desk {
         ensures on { IsOn self.new (D.disk device.new) }
         ensures same { IsSame (D.disk device.old) (D.disk device.new) }
     {
-        self.show_relief(at, actor, sink);
+        match self.seats.find(actor) {
+            None => self.advance_nothing(at, actor, sink),
+            Some(place) => self.advance_at(device, at, actor, place, sink),
+        }
+    }
+
+    /// The same of an actor who has no seat.
+    fn advance_nothing<S: Sink>(&self, at: usize, actor: Actor, sink: &mut S) -> Result<(), Cut>
+        requires { IsFound actor None self.now.seats }
+        ensures advances { OnOk result ((added : List Told_by) × S.took sink.old sink.new added × ((disk : Disk) → Advances (world self.now disk) actor added (world self.now disk))) }
+        ensures unseen { OnOk result (S.saw sink.old sink.new []) }
+        ensures cut { OnErr result ((disk : Disk) → CutsStep S.took S.failed sink.old sink.new (world self.now disk) (Step.Advance actor) disk) }
+    {
         self.book.history_is_right();
-        let shown = self.turn(device, actor)?;
+        seats::answer(sink, at, actor, Answer::Word(Word::Idle))?;
+        Ok(())
+    }
+
+    /// The same of an actor who sits at that place.
+    fn advance_at<D: BlockDevice, S: Sink>(
+        &mut self,
+        device: &mut D,
+        at: usize,
+        actor: Actor,
+        place: usize,
+        sink: &mut S,
+    ) -> Result<(), Cut>
+        requires on { IsOn self.old (D.disk device.old) }
+        requires place { SitsAt actor place self.old.seats }
+        ensures advances { OnOk result ((added : List Told_by) × S.took sink.old sink.new added × Advances (world self.old (D.disk device.old)) actor added (world self.new (D.disk device.new))) }
+        ensures unseen { OnOk result (S.saw sink.old sink.new []) }
+        ensures cut { OnErr result (CutsStep S.took S.failed sink.old sink.new (world self.old (D.disk device.old)) (Step.Advance actor) (D.disk device.new)) }
+        ensures on { IsOn self.new (D.disk device.new) }
+        ensures same { IsSame (D.disk device.old) (D.disk device.new) }
+    {
+        self.show_relief(at, place, sink);
+        self.book.history_is_right();
+        let shown = self.turn(device, actor, place, None)?;
         self.book.history_is_right();
         seats::say(sink, at, actor, shown)?;
         Ok(())
@@ -277,10 +384,51 @@ impl Desk {
         ensures on { IsOn self.new (D.disk device.new) }
         ensures same { IsSame (D.disk device.old) (D.disk device.new) }
     {
+        match self.seats.find(actor) {
+            None => self.finish_nothing(at, actor, sink),
+            Some(place) => self.finish_at(device, at, actor, place, None, sink),
+        }
+    }
+
+    /// A finish of an actor who has no seat, and so no command.
+    fn finish_nothing<S: Sink>(&self, at: usize, actor: Actor, sink: &mut S) -> Result<(), Cut>
+        requires { IsFound actor None self.now.seats }
+        ensures finishes { OnOk result ((added : List Told_by) × S.took sink.old sink.new added × ((disk : Disk) → Finishes (world self.now disk) actor added (world self.now disk))) }
+        ensures unseen { OnOk result (S.saw sink.old sink.new []) }
+        ensures cut { OnErr result ((disk : Disk) → CutsStep S.took S.failed sink.old sink.new (world self.now disk) (Step.Finish actor) disk) }
+    {
+        self.book.history_is_right();
+        seats::answer(sink, at, actor, Answer::Word(word_of_nothing(self.turns)))?;
+        Ok(())
+    }
+
+    /// A finish of the actor, who sits at that place. A command that is lent to it was begun as it is lent, and has
+    /// its first turn here.
+    fn finish_at<D: BlockDevice, S: Sink>(
+        &mut self,
+        device: &mut D,
+        at: usize,
+        actor: Actor,
+        place: usize,
+        lent: Option<&Command>,
+        sink: &mut S,
+    ) -> Result<(), Cut>
+        requires on { IsOn self.old (D.disk device.old) }
+        requires place { SitsAt actor place self.old.seats }
+        requires rests { IfSome lent (λ _. activity_of actor self.old.seats ≡ Activity.Rests) }
+        requires some { IfSome lent (λ _. 0 < self.old.turns) }
+        ensures finishes { OnOk result ((added : List Told_by) × S.took sink.old sink.new added × Finishes (lent_to (world self.old (D.disk device.old)) actor lent.entry) actor added (world self.new (D.disk device.new))) }
+        ensures unseen { OnOk result (S.saw sink.old sink.new []) }
+        ensures cut { OnErr result (CutsStep S.took S.failed sink.old sink.new (lent_to (world self.old (D.disk device.old)) actor lent.entry) (Step.Finish actor) (D.disk device.new)) }
+        ensures on { IsOn self.new (D.disk device.new) }
+        ensures same { IsSame (D.disk device.old) (D.disk device.new) }
+    {
+        let mut lent = lent;
         for _turn in 0..self.turns {
-            self.show_relief(at, actor, sink);
+            self.show_relief(at, place, sink);
             self.book.history_is_right();
-            let outcome = self.turn(device, actor)?;
+            let outcome = self.turn(device, actor, place, lent)?;
+            lent = None;
             self.book.history_is_right();
             let ends = seats::ends(&outcome);
             seats::say(sink, at, actor, outcome)?;
@@ -315,6 +463,118 @@ impl Desk {
         }
     }
 
+    /// A command of the actor from its beginning to its end: the step that begins it, which stands there, and the one
+    /// behind it, which finishes it. Where nothing is under way it is lent, and not copied.
+    fn whole<D: BlockDevice, S: Sink>(
+        &mut self,
+        device: &mut D,
+        at: usize,
+        actor: Actor,
+        command: &Command,
+        sink: &mut S,
+    ) -> Result<(), Cut>
+        requires { IsOn self.old (D.disk device.old) }
+        ensures runs { OnOk result (RunsTo S.took S.saw sink.old sink.new (world self.old (D.disk device.old)) (whole_steps actor command.now) (world self.new (D.disk device.new))) }
+        ensures cut { OnErr result (CutsRun S.took S.failed sink.old sink.new (world self.old (D.disk device.old)) (whole_steps actor command.now) (D.disk device.new)) }
+        ensures on { IsOn self.new (D.disk device.new) }
+        ensures same { IsSame (D.disk device.old) (D.disk device.new) }
+    {
+        let found = self.seats.find(actor);
+        if self.may_lend(found, actor) {
+            self.finish_lent(device, at, actor, found, command, sink)?;
+            return Ok(());
+        }
+        self.begin_and_finish(device, at, actor, command, sink)?;
+        Ok(())
+    }
+
+    /// Whether a command can be lent to the actor, whose seat was found there: nothing is under way, and a finish takes
+    /// a turn.
+    fn may_lend(&self, found: Option<usize>, actor: Actor) -> bool
+        requires { IsFound actor found self.now.seats }
+        ensures rests { result ≡ true → is_under_way (activity_of actor self.now.seats) ≡ false }
+        ensures some { result ≡ true → 0 < self.now.turns }
+    {
+        self.turns > 0 && !self.seats.is_under_way(found, actor)
+    }
+
+    /// The two steps, where nothing is under way: the command is lent for its first turn.
+    fn finish_lent<D: BlockDevice, S: Sink>(
+        &mut self,
+        device: &mut D,
+        at: usize,
+        actor: Actor,
+        found: Option<usize>,
+        command: &Command,
+        sink: &mut S,
+    ) -> Result<(), Cut>
+        requires on { IsOn self.old (D.disk device.old) }
+        requires found { IsFound actor found self.old.seats }
+        requires rests { is_under_way (activity_of actor self.old.seats) ≡ false }
+        requires some { 0 < self.old.turns }
+        ensures runs { OnOk result (RunsTo S.took S.saw sink.old sink.new (world self.old (D.disk device.old)) (whole_steps actor command.now) (world self.new (D.disk device.new))) }
+        ensures cut { OnErr result (CutsRun S.took S.failed sink.old sink.new (world self.old (D.disk device.old)) (whole_steps actor command.now) (D.disk device.new)) }
+        ensures on { IsOn self.new (D.disk device.new) }
+        ensures same { IsSame (D.disk device.old) (D.disk device.new) }
+    {
+        self.book.history_is_right();
+        let place = self.sit(found, actor)?;
+        sink.look(at, self.book.book());
+        let next = at.saturating_add(1);
+        self.finish_at(device, next, actor, place, Some(command), sink)?;
+        sink.look(next, self.book.book());
+        Ok(())
+    }
+
+    /// The two steps, one after the other.
+    fn begin_and_finish<D: BlockDevice, S: Sink>(
+        &mut self,
+        device: &mut D,
+        at: usize,
+        actor: Actor,
+        command: &Command,
+        sink: &mut S,
+    ) -> Result<(), Cut>
+        requires { IsOn self.old (D.disk device.old) }
+        ensures runs { OnOk result (RunsTo S.took S.saw sink.old sink.new (world self.old (D.disk device.old)) (whole_steps actor command.now) (world self.new (D.disk device.new))) }
+        ensures cut { OnErr result (CutsRun S.took S.failed sink.old sink.new (world self.old (D.disk device.old)) (whole_steps actor command.now) (D.disk device.new)) }
+        ensures on { IsOn self.new (D.disk device.new) }
+        ensures same { IsSame (D.disk device.old) (D.disk device.new) }
+    {
+        self.begin(at, actor, command, sink)?;
+        sink.look(at, self.book.book());
+        let next = at.saturating_add(1);
+        self.finish(device, next, actor, sink)?;
+        sink.look(next, self.book.book());
+        Ok(())
+    }
+
+    /// The first of these steps, which stands there in the schedule, or the first two, where they are a command from its
+    /// beginning to its end; and how many these were. Behind each the sink may look at the book.
+    fn run_some<D: BlockDevice, S: Sink>(
+        &mut self,
+        device: &mut D,
+        at: usize,
+        steps: &[Step],
+        sink: &mut S,
+    ) -> Result<usize, Cut>
+        requires on { IsOn self.old (D.disk device.old) }
+        requires some { 0 < length steps.now }
+        ensures few { IfOk result (λ done. (0 < done) × (done ≤ length steps.now)) }
+        ensures runs { IfOk result (λ done. RunsTo S.took S.saw sink.old sink.new (world self.old (D.disk device.old)) (take done steps.now) (world self.new (D.disk device.new))) }
+        ensures cut { OnErr result (CutsRun S.took S.failed sink.old sink.new (world self.old (D.disk device.old)) steps.now (D.disk device.new)) }
+        ensures on { IsOn self.new (D.disk device.new) }
+        ensures same { IsSame (D.disk device.old) (D.disk device.new) }
+    {
+        if let Some((actor, command)) = whole_of(steps) {
+            self.whole(device, at, actor, command, sink)?;
+            return Ok(2);
+        }
+        self.step(device, at, &steps[0], sink)?;
+        sink.look(at, self.book.book());
+        Ok(1)
+    }
+
     /// All steps of a schedule, in order. Each answer goes to the sink as it comes, and behind each step it may look at
     /// the book.
     pub fn run_all<D: BlockDevice, S: Sink>(
@@ -324,14 +584,15 @@ impl Desk {
         sink: &mut S,
     ) -> Result<(), Cut>
         requires { IsOn self.old (D.disk device.old) }
-        ensures runs { OnOk result ((answers : List Told_by) × (pasts : List Past) × S.took sink.old sink.new answers × S.saw sink.old sink.new pasts × RunsThrough (world self.old (D.disk device.old)) steps.now answers pasts (world self.new (D.disk device.new))) }
+        ensures runs { OnOk result (RunsTo S.took S.saw sink.old sink.new (world self.old (D.disk device.old)) steps.now (world self.new (D.disk device.new))) }
         ensures cut { OnErr result (CutsRun S.took S.failed sink.old sink.new (world self.old (D.disk device.old)) steps.now (D.disk device.new)) }
         ensures on { IsOn self.new (D.disk device.new) }
         ensures same { IsSame (D.disk device.old) (D.disk device.new) }
     {
-        for (at, step) in steps.iter().enumerate() {
-            self.step(device, at, step, sink)?;
-            sink.look(at, self.book.book());
+        let mut at = 0;
+        while at < steps.len() {
+            let done = self.run_some(device, at, &steps[at..], sink)?;
+            at += done;
         }
         Ok(())
     }
@@ -361,5 +622,30 @@ impl Desk {
         seats.destroy_empty();
         book.history_is_right();
         book.close()
+    }
+}
+
+/// What a finish of so many turns at most says where there is no command.
+fn word_of_nothing(turns: u32) -> Word
+    ensures none { turns ≡ 0 → result ≡ Word.TurnLimit }
+    ensures some { 0 < turns → result ≡ Word.Idle }
+{
+    if turns == 0 {
+        Word::TurnLimit
+    } else {
+        Word::Idle
+    }
+}
+
+/// The actor and its command, where the first two of these steps are that command from its beginning to its end.
+fn whole_of(steps: &[Step]) -> Option<(Actor, &Command)>
+    ensures whole { IfSome result (λ whole. take 2 steps.now ≡ whole_steps whole.0 whole.1.now) }
+    ensures two { IfSome result (λ _. 2 ≤ length steps.now) }
+{
+    match steps {
+        [Step::Begin(actor, command), Step::Finish(other), ..] if actor == other => {
+            Some((*actor, command))
+        }
+        _ => None,
     }
 }

@@ -1,11 +1,11 @@
 //! The first turn of a command: its paths are found, all of them; then a control file's name, mode and
 //! amount are judged.
 
-ghost use Rattle.std.specs.Prelude.{◌≡◌, ℕ, ◌≤◌, false, List, Option, IfOk, map, option_map};
-ghost use Rattle.driver.specs.Turns.{shell_paths, paths_of, judged_with, judged, task_judged, shell_judged, daemon_judged, with_group, with_file, reads_file, reclaims, writes_file};
-ghost use Rattle.driver.specs.Finds.{answers_of, looking};
+ghost use Rattle.std.specs.Prelude.{◌≡◌, ℕ, ◌<◌, ◌≤◌, false, IfOk, OnOk, OnErr, map, option_map};
+ghost use Rattle.book.specs.Passes.{find_of, keeping};
+ghost use Rattle.driver.specs.Turns.{shell_paths, paths_of, judged, task_judged, shell_judged, daemon_judged, with_group, with_file, reads_file, reclaims, writes_file};
+ghost use Rattle.driver.specs.Finds.{looking};
 ghost use Rattle.driver.specs.Tickets.{holds, OwnStage};
-ghost use Rattle.machine.specs.Slots.{at};
 ghost use Rattle.machine.specs.Tree.{find_group};
 ghost use Rattle.machine.specs.Control.{file_named};
 
@@ -19,145 +19,57 @@ use machine::event::Query;
 use machine::id::{GroupId, TaskId};
 use machine::refusal::Refusal;
 use machine::text::Text;
-use std::alloc::Global;
-use std::mem;
-
-/// What was found for the paths of a command, in their order.
-#[derive(Clone, Copy, Debug)]
-pub enum Found {
-    /// It has no paths.
-    Nothing,
-    One(Option<GroupId>),
-    Two(Option<GroupId>, Option<GroupId>),
-}
-
-impl Found {
-    /// The group of the first path.
-    fn first(self) -> Option<GroupId>
-        ensures { option_map (λ g. g.0) result ≡ at (answers_of self) 0 }
-    {
-        match self {
-            Found::Nothing => None,
-            Found::One(first) | Found::Two(first, _) => first,
-        }
-    }
-
-    /// The group of the second.
-    fn second(self) -> Option<GroupId>
-        ensures { option_map (λ g. g.0) result ≡ at (answers_of self) 1 }
-    {
-        match self {
-            Found::Nothing | Found::One(_) => None,
-            Found::Two(_, second) => second,
-        }
-    }
-}
+use std::alloc::{AllocError, Global};
 
 /// What becomes of a command in its first turn. All its paths are looked up, in order, before anything
-/// of it is judged, and the pass keeps them. A command that goes on has no ticket in hand yet.
+/// of it is judged, and the pass keeps them. A command that goes on has no ticket in hand yet. It fails only
+/// where memory is wanted for what is kept of the command, and refused.
 pub fn judge(
     alloc: Global,
     book: &Book,
     pass: &mut Pass,
     actor: Actor,
-    command: Command,
-) -> Result<Stage, Refusal>
+    command: &Command,
+) -> Result<Result<Stage, Refusal>, AllocError>
     requires { 2 ≤ pass.old.room }
-    ensures judged { result ≡ judged book.now.state.tree actor command }
-    ensures looked { pass.new ≡ looking book.now.state.tree (paths_of actor command) pass.old }
-    ensures holds { IfOk result (λ stage. holds stage ≡ false) }
-    ensures own { IfOk result (λ stage. (worker blocks : ℕ) → OwnStage worker blocks stage) }
-{
-    let mut command = command;
-    let found = look_up(alloc, book, pass, actor, &mut command);
-    judge_with(actor, command, found)
-}
-
-/// The groups of the paths of a command of this actor, each looked up once, in their order. The paths are
-/// handed over, and what is left of the command is judged as the whole would be.
-fn look_up(
-    alloc: Global,
-    book: &Book,
-    pass: &mut Pass,
-    actor: Actor,
-    command: &mut Command,
-) -> Found
-    requires { 2 ≤ pass.old.room }
-    ensures found { answers_of result ≡ map (find_group book.now.state.tree) (paths_of actor command.old) }
-    ensures looked { pass.new ≡ looking book.now.state.tree (paths_of actor command.old) pass.old }
-    ensures rest { (found : List (Option ℕ)) → judged_with actor command.new found ≡ judged_with actor command.old found }
+    ensures judged { IfOk result (λ answer. answer ≡ judged book.now.state.tree actor command.now) }
+    ensures looked { OnOk result (pass.new ≡ looking book.now.state.tree (paths_of actor command.now) pass.old) }
+    ensures holds { IfOk result (λ answer. IfOk answer (λ stage. holds stage ≡ false)) }
+    ensures own { IfOk result (λ answer. IfOk answer (λ stage. (worker blocks : ℕ) → OwnStage worker blocks stage)) }
+    ensures err { OnErr result (pass.new ≡ pass.old) }
 {
     match actor {
-        Actor::Task(_) | Actor::Daemon => Found::Nothing,
-        Actor::Shell | Actor::Control => look_up_shell(alloc, book, pass, command),
+        Actor::Task(task) => Ok(judge_task(task, command)),
+        Actor::Shell | Actor::Control => judge_shell(alloc, book, pass, command),
+        Actor::Daemon => Ok(judge_daemon(command)),
     }
 }
 
-fn look_up_shell(alloc: Global, book: &Book, pass: &mut Pass, command: &mut Command) -> Found
-    requires { 2 ≤ pass.old.room }
-    ensures found { answers_of result ≡ map (find_group book.now.state.tree) (shell_paths command.old) }
-    ensures looked { pass.new ≡ looking book.now.state.tree (shell_paths command.old) pass.old }
-    ensures rest { (found : List (Option ℕ)) → shell_judged command.new found ≡ shell_judged command.old found }
-{
-    match command {
-        Command::Access { .. } | Command::Fork { .. } | Command::Free { .. } => Found::Nothing,
-        Command::Exit | Command::Daemon | Command::Group(_) => Found::Nothing,
-        Command::Rmdir(path) => Found::One(book.find(pass, take(alloc, path))),
-        Command::Task { path, .. } => Found::One(book.find(pass, take(alloc, path))),
-        Command::Attach { path, .. } => Found::One(book.find(pass, take(alloc, path))),
-        Command::Set { path, .. } => Found::One(book.find(pass, take(alloc, path))),
-        Command::Cat { path, .. } => Found::One(book.find(pass, take(alloc, path))),
-        Command::Protection { target, path } => {
-            let above = book.find(pass, take(alloc, target));
-            Found::Two(above, book.find(pass, take(alloc, path)))
-        }
-    }
-}
-
-/// The path, which leaves an empty one behind.
-fn take(alloc: Global, path: &mut Text) -> Text
-    ensures { result ≡ path.old }
-{
-    mem::replace(path, Text::new(String::new(alloc)))
-}
-
-/// What becomes of a command for whose paths this was found.
-fn judge_with(actor: Actor, command: Command, found: Found) -> Result<Stage, Refusal>
-    ensures judged { result ≡ judged_with actor command (answers_of found) }
-    ensures holds { IfOk result (λ stage. holds stage ≡ false) }
-{
-    match actor {
-        Actor::Task(task) => judge_task(task, command),
-        Actor::Shell | Actor::Control => judge_shell(command, found),
-        Actor::Daemon => judge_daemon(command),
-    }
-}
-
-fn judge_task(task: u32, command: Command) -> Result<Stage, Refusal>
-    ensures judged { result ≡ task_judged task command }
+fn judge_task(task: u32, command: &Command) -> Result<Stage, Refusal>
+    ensures judged { result ≡ task_judged task command.now }
     ensures holds { IfOk result (λ stage. holds stage ≡ false) }
 {
     match command {
         Command::Access { place, op } => Ok(Stage::Try(Access {
             task: TaskId(task),
-            place,
-            op,
+            place: *place,
+            op: *op,
         })),
         Command::Fork { child } => Ok(Stage::Fork {
             task: TaskId(task),
-            child: TaskId(child),
+            child: TaskId(*child),
         }),
         Command::Free { page } => Ok(Stage::Free {
             task: TaskId(task),
-            page,
+            page: *page,
         }),
         Command::Exit => Ok(Stage::Exit(TaskId(task))),
         _ => Err(Refusal::Invalid),
     }
 }
 
-fn judge_daemon(command: Command) -> Result<Stage, Refusal>
-    ensures judged { result ≡ daemon_judged command }
+fn judge_daemon(command: &Command) -> Result<Stage, Refusal>
+    ensures judged { result ≡ daemon_judged command.now }
     ensures holds { IfOk result (λ stage. holds stage ≡ false) }
 {
     match command {
@@ -166,29 +78,71 @@ fn judge_daemon(command: Command) -> Result<Stage, Refusal>
     }
 }
 
-fn judge_shell(command: Command, found: Found) -> Result<Stage, Refusal>
-    ensures judged { result ≡ shell_judged command (answers_of found) }
-    ensures holds { IfOk result (λ stage. holds stage ≡ false) }
+fn judge_shell(
+    alloc: Global,
+    book: &Book,
+    pass: &mut Pass,
+    command: &Command,
+) -> Result<Result<Stage, Refusal>, AllocError>
+    requires { 2 ≤ pass.old.room }
+    ensures judged { IfOk result (λ answer. answer ≡ shell_judged command.now (map (find_group book.now.state.tree) (shell_paths command.now))) }
+    ensures looked { OnOk result (pass.new ≡ looking book.now.state.tree (shell_paths command.now) pass.old) }
+    ensures holds { IfOk result (λ answer. IfOk answer (λ stage. holds stage ≡ false)) }
+    ensures err { OnErr result (pass.new ≡ pass.old) }
 {
     match command {
         Command::Access { .. } | Command::Fork { .. } | Command::Free { .. } => {
-            Err(Refusal::Invalid)
+            Ok(Err(Refusal::Invalid))
         }
-        Command::Exit | Command::Daemon => Err(Refusal::Invalid),
-        Command::Group(path) => Ok(Stage::Mkdir(path)),
-        Command::Rmdir(_) => judge_rmdir(found.first()),
-        Command::Task { task, path: _ } => judge_spawn(found.first(), task),
-        Command::Attach { task, path: _ } => judge_attach(found.first(), task),
-        Command::Set {
-            path: _,
-            file,
-            text,
-        } => { judge_set(found.first(), file.as_str(), text.as_str()) }
-        Command::Cat { path: _, file } => judge_cat(found.first(), file.as_str()),
-        Command::Protection { target: _, path: _ } => {
-            judge_protection(found.first(), found.second())
+        Command::Exit | Command::Daemon => Ok(Err(Refusal::Invalid)),
+        Command::Group(path) => {
+            let path = path.copy(alloc)?;
+            Ok(Ok(Stage::Mkdir(path)))
+        }
+        Command::Rmdir(path) => {
+            let group = find(alloc, book, pass, path)?;
+            Ok(judge_rmdir(group))
+        }
+        Command::Task { task, path } => {
+            let group = find(alloc, book, pass, path)?;
+            Ok(judge_spawn(group, *task))
+        }
+        Command::Attach { task, path } => {
+            let group = find(alloc, book, pass, path)?;
+            Ok(judge_attach(group, *task))
+        }
+        Command::Set { path, file, text } => {
+            let group = find(alloc, book, pass, path)?;
+            Ok(judge_set(group, file.as_str(), text.as_str()))
+        }
+        Command::Cat { path, file } => {
+            let group = find(alloc, book, pass, path)?;
+            Ok(judge_cat(group, file.as_str()))
+        }
+        Command::Protection { target, path } => {
+            // Neither is looked up where there is no memory for both.
+            let above = target.copy(alloc)?;
+            let below = path.copy(alloc)?;
+            let target = book.find(pass, above);
+            Ok(judge_protection(target, book.find(pass, below)))
         }
     }
+}
+
+/// The group of the path, of which the pass keeps a copy.
+fn find(
+    alloc: Global,
+    book: &Book,
+    pass: &mut Pass,
+    path: &Text,
+) -> Result<Option<GroupId>, AllocError>
+    requires { 0 < pass.old.room }
+    ensures found { IfOk result (λ group. option_map (λ g. g.0) group ≡ find_group book.now.state.tree path.now) }
+    ensures kept { OnOk result (pass.new ≡ keeping pass.old (find_of path.now (find_group book.now.state.tree path.now))) }
+    ensures err { OnErr result (pass.new ≡ pass.old) }
+{
+    let path = path.copy(alloc)?;
+    Ok(book.find(pass, path))
 }
 
 fn judge_spawn(group: Option<GroupId>, task: u32) -> Result<Stage, Refusal>

@@ -1,9 +1,9 @@
 //! The seats: what each actor is at, by first appearance.
 
-ghost use Rattle.std.specs.Prelude.{◌≡◌, ℕ, ◌+◌, ◌<◌, ◌≤◌, ◌++◌, ◌∷◌, [], length, IfSome, IfNone, OnOk, OnErr, true, false};
+ghost use Rattle.std.specs.Prelude.{◌≡◌, ℕ, ◌+◌, ◌<◌, ◌≤◌, ◌++◌, ◌∷◌, [], length, None, IfOk, OnOk, OnErr, true, false};
 ghost use Rattle.driver.specs.Schedule.{number_of, with_activity, activity_of, said_at, answer_by, outcome_of, left_of, is_end};
 ghost use Rattle.driver.specs.Tickets.{OwnTransition, OwnActivity, OwnSeats};
-ghost use Rattle.driver.specs.Seats.{place_of, is_under_way, IsTaken};
+ghost use Rattle.driver.specs.Seats.{SitsAt, IsFound, is_under_way};
 
 use crate::automaton;
 use crate::sink::{Closed, Sink};
@@ -78,17 +78,35 @@ impl Seats {
     }
 
     /// The place of the actor's seat, if there is one.
-    fn find(&self, actor: Actor) -> Option<usize>
-        ensures seated { IfSome result (λ place. (place ≡ place_of actor self.now) × (place < length self.now)) }
-        ensures unseated { IfNone result (place_of actor self.now ≡ length self.now) }
+    pub fn find(&self, actor: Actor) -> Option<usize>
+        ensures { IsFound actor result self.now }
     {
         self.numbers.get_index_of(&number_of(actor))
     }
 
+    /// The place of one seat more, of an actor who has none, and rests there. It fails only where memory is wanted
+    /// and refused.
+    pub fn add(&mut self, actor: Actor) -> Result<usize, AllocError>
+        requires { IsFound actor None self.old }
+        ensures place { IfOk result (λ place. SitsAt actor place self.new) }
+        ensures now { OnOk result (self.new ≡ with_activity actor (activity_of actor self.old) self.old) }
+        ensures len { length self.new ≤ length self.old + 1 }
+        ensures own { (worker blocks : ℕ) → OwnSeats worker blocks self.old → OwnSeats worker blocks self.new }
+        ensures err { OnErr result (self.new ≡ self.old) }
+    {
+        let place = self.list.len();
+        self.list.reserve(1)?;
+        self.numbers.insert(number_of(actor))?;
+        self.list.push_reserved(Seat {
+            actor,
+            activity: Activity::Rests,
+        });
+        Ok(place)
+    }
+
     /// Puts the actor, who sits at that place, at this, and hands out what it was at.
     fn exchange(&mut self, place: usize, actor: Actor, activity: Activity) -> Activity
-        requires place { place ≡ place_of actor self.old }
-        requires within { place < length self.old }
+        requires { SitsAt actor place self.old }
         ensures was { result ≡ activity_of actor self.old }
         ensures now { self.new ≡ with_activity actor activity self.old }
         ensures len { length self.new ≡ length self.old }
@@ -96,19 +114,21 @@ impl Seats {
         mem::replace(&mut self.list[place].activity, activity)
     }
 
-    /// Whether the actor has a command that is not answered yet.
-    pub fn is_under_way(&self, actor: Actor) -> bool
+    /// Whether the actor, whose seat was found there, has a command that is not answered yet.
+    pub fn is_under_way(&self, found: Option<usize>, actor: Actor) -> bool
+        requires { IsFound actor found self.now }
         ensures { result ≡ is_under_way (activity_of actor self.now) }
     {
-        match self.find(actor) {
+        match found {
             None => false,
             Some(place) => is_at_work(&self.list[place].activity),
         }
     }
 
-    /// Why the actor's command asks for relief in its next turn, if it does.
-    pub fn relief_of(&self, actor: Actor) -> Option<Cause> {
-        let place = self.find(actor)?;
+    /// Why the command of who sits at that place asks for relief in its next turn, if it does.
+    pub fn relief_at(&self, place: usize) -> Option<Cause>
+        requires { place < length self.now }
+    {
         match &self.list[place].activity {
             Activity::Does(Stage::MakeRoom(_, cause)) => Some(*cause),
             Activity::Does(Stage::Lower(group)) => Some(Cause::Lower(*group)),
@@ -116,66 +136,29 @@ impl Seats {
         }
     }
 
-    /// Takes what the actor is at: it rests then. An actor with no seat rests, too.
-    pub fn take(&mut self, actor: Actor) -> Activity
+    /// Takes what the actor, who sits at that place, is at: it rests then.
+    pub fn take(&mut self, place: usize, actor: Actor) -> Activity
+        requires { SitsAt actor place self.old }
         ensures was { result ≡ activity_of actor self.old }
-        ensures rested { result ≡ Activity.Rests → self.new ≡ self.old }
-        ensures taken { IsTaken actor self.old self.new }
+        ensures now { self.new ≡ with_activity actor Activity.Rests self.old }
         ensures len { length self.new ≡ length self.old }
+        ensures place { SitsAt actor place self.new }
         ensures held { (worker blocks : ℕ) → OwnSeats worker blocks self.old → OwnActivity worker blocks result }
         ensures own { (worker blocks : ℕ) → OwnSeats worker blocks self.old → OwnSeats worker blocks self.new }
     {
-        match self.find(actor) {
-            None => Activity::Rests,
-            Some(place) => self.exchange(place, actor, Activity::Rests),
-        }
+        self.exchange(place, actor, Activity::Rests)
     }
 
-    /// Puts the actor, who has a seat and nothing under way, at this.
-    pub fn put(&mut self, actor: Actor, activity: Activity)
-        requires seated { place_of actor self.old < length self.old }
+    /// Puts the actor, who sits at that place and has nothing under way, at this.
+    pub fn put(&mut self, place: usize, actor: Actor, activity: Activity)
+        requires place { SitsAt actor place self.old }
         requires free { is_under_way (activity_of actor self.old) ≡ false }
         ensures put { self.new ≡ with_activity actor activity self.old }
         ensures len { length self.new ≡ length self.old }
+        ensures place { SitsAt actor place self.new }
         ensures own { (worker blocks : ℕ) → OwnSeats worker blocks self.old → OwnActivity worker blocks activity → OwnSeats worker blocks self.new }
     {
-        let place = self.find(actor).unwrap();
         let_go(self.exchange(place, actor, activity));
-    }
-
-    /// Begins the command of an actor who has nothing under way, and gives it a seat of its own where
-    /// it has none. It fails only where memory is wanted and refused.
-    pub fn seat(&mut self, actor: Actor, command: Command) -> Result<(), AllocError>
-        requires { is_under_way (activity_of actor self.old) ≡ false }
-        ensures seated { OnOk result (self.new ≡ with_activity actor (Activity.Begun command) self.old) }
-        ensures len { length self.new ≤ length self.old + 1 }
-        ensures own { (worker blocks : ℕ) → OwnSeats worker blocks self.old → OwnSeats worker blocks self.new }
-        ensures err { OnErr result (self.new ≡ self.old) }
-    {
-        match self.find(actor) {
-            None => self.add(actor, command),
-            Some(place) => {
-                let_go(self.exchange(place, actor, Activity::Begun(command)));
-                Ok(())
-            }
-        }
-    }
-
-    /// One seat more, of an actor who has none.
-    fn add(&mut self, actor: Actor, command: Command) -> Result<(), AllocError>
-        requires { place_of actor self.old ≡ length self.old }
-        ensures seated { OnOk result (self.new ≡ with_activity actor (Activity.Begun command) self.old) }
-        ensures len { length self.new ≤ length self.old + 1 }
-        ensures own { (worker blocks : ℕ) → OwnSeats worker blocks self.old → OwnSeats worker blocks self.new }
-        ensures err { OnErr result (self.new ≡ self.old) }
-    {
-        self.list.reserve(1)?;
-        self.numbers.insert(number_of(actor))?;
-        self.list.push_reserved(Seat {
-            actor,
-            activity: Activity::Begun(command),
-        });
-        Ok(())
     }
 }
 

@@ -4,14 +4,15 @@ use Rattle.std.specs.List.{AllByRecursion}
 use Rattle.std.proofs.lemmas.Bool.{lt-ltb, true≢false}
 use Rattle.machine.specs.Generations.{Listed, Row, Gens, at_seq, merged, IsGens, listed}
 use Rattle.machine.specs.Aging.{Seen, has_mark, is_marked, cleared, at_most_three, aged_row, aged}
-use Rattle.machine.specs.Eviction.{old_of, old_pages, in_turn, front_run, is_nil, has_usable, to_tail, sent_back, passed_by, settled, aged_times, AgesToOld, Picks}
+use Rattle.machine.specs.Eviction.{old_of, old_pages, in_turn, front_run, is_nil, usable_anon, has_usable, to_tail, sent_back, passed_by, settled, aged_times, AgesToOld, Picks}
 use Rattle.lru_gen.specs.Gens.{GensOf, sets}
 use Rattle.aging.specs.Groups.{seen_at}
 use Rattle.aging.proofs.GroupLemmas.{change}
 use Rattle.machine.proofs.ListedLemmas.{each-append, each-front, each-back, each-filter, each-weaker, top-each}
 use Rattle.machine.proofs.AgingLemmas.{each-marked, each-three, cleared-all}
+use Rattle.eviction.proofs.ListLemmas.{each-usable}
 use Rattle.eviction.proofs.SettleLemmas.{first-of}
-use Rattle.eviction.proofs.TurnLemmas.{passed-none, each-old_pages, length-in_turn}
+use Rattle.eviction.proofs.TurnLemmas.{is_nil-middle, passed-none, each-old_pages, length-in_turn}
 
 -- ---- the rows
 
@@ -28,10 +29,6 @@ each-aged P s step mark h =
     each-append P (aged s).gens.anon.pages (aged s).gens.file.pages
     (each-aged_row P s.gens.max_seq s.marks s.gens.anon (step s.gens.anon) mark (each-front P s.gens.anon.pages s.gens.file.pages h))
     (each-aged_row P s.gens.max_seq s.marks s.gens.file (step s.gens.file) mark (each-back P s.gens.anon.pages s.gens.file.pages h))
-
-is_nil-middle : (xs : List Listed) (l : Listed) (ys : List Listed) → is_nil (xs ++ l ∷ ys) ≡ false
-is_nil-middle [] l ys = refl
-is_nil-middle (x ∷ xs) l ys = refl
 
 is_nil-promoted : (seq : ℕ) (m : List Bool) (xs : List Listed) → is_nil (filter (λ l. not (has_mark m l)) xs ++ map (at_seq seq) (filter (has_mark m) xs)) ≡ is_nil xs
 is_nil-promoted seq m [] = refl
@@ -134,16 +131,14 @@ both-nil [] (g ∷ gs) e = absurd (omega arith)
 both-nil (f ∷ fs) gs e = absurd (let h = length-in_turn (f ∷ fs) gs in omega arith)
 
 pub old-there : (swap : Bool) (top : ℕ) (s : Seen) → Holds swap top s → top + 1 < s.gens.max_seq → old_pages swap s.gens ≡ [] → ⊥
-old-there true top s h lt e =
-    let fs = all-old top s.gens.max_seq s.gens.file.pages lt (each-back (λ l. l.seq ≤ top) s.gens.anon.pages s.gens.file.pages h.low) in
-    let gs = all-old top s.gens.max_seq s.gens.anon.pages lt (each-front (λ l. l.seq ≤ top) s.gens.anon.pages s.gens.file.pages h.low) in
-    let whole : in_turn s.gens.file.pages s.gens.anon.pages ≡ [] =
-    sym (ap (λ (zs : List Listed). in_turn zs (old_of s.gens.max_seq s.gens.anon.pages)) fs ∙ ap (λ (zs : List Listed). in_turn s.gens.file.pages zs) gs) ∙ e in
-    true≢false (sym h.usable ∙ both-nil s.gens.file.pages s.gens.anon.pages (ap (λ (zs : List Listed). length zs) whole))
-old-there false top s h lt e =
-    let fs = all-old top s.gens.max_seq s.gens.file.pages lt (each-back (λ l. l.seq ≤ top) s.gens.anon.pages s.gens.file.pages h.low) in
-    let whole : in_turn s.gens.file.pages [] ≡ [] = sym (ap (λ (zs : List Listed). in_turn zs []) fs) ∙ e in
-    true≢false (sym h.usable ∙ both-nil s.gens.file.pages [] (ap (λ (zs : List Listed). length zs) whole))
+old-there swap top s h lt e =
+    let low : Listed → Type 0 = λ l. l.seq ≤ top in
+    let anons : List Listed = usable_anon swap s.gens in
+    let fs = all-old top s.gens.max_seq s.gens.file.pages lt (each-back low s.gens.anon.pages s.gens.file.pages h.low) in
+    let gs = all-old top s.gens.max_seq anons lt (each-usable low swap s.gens.anon.pages (each-front low s.gens.anon.pages s.gens.file.pages h.low)) in
+    let whole : in_turn s.gens.file.pages anons ≡ [] =
+    sym (ap (λ (zs : List Listed). in_turn zs (old_of s.gens.max_seq anons)) fs ∙ ap (λ (zs : List Listed). in_turn s.gens.file.pages zs) gs) ∙ e in
+    true≢false (sym h.usable ∙ both-nil s.gens.file.pages anons (ap (λ (zs : List Listed). length zs) whole))
 
 -- ---- the answer
 
@@ -197,6 +192,14 @@ from-settled swap from answer to a = record {
 
 pub picks-some : (swap : Bool) (from : Seen) (answer : Option ℕ) (to : Seen) → has_usable swap from.gens ≡ true → AgesToOld swap (passed_by swap from) answer to → Picks swap from answer to
 picks-some swap from answer to u a = subst (λ (b : Bool). MatchBool b (AgesToOld swap (passed_by swap from) answer to) ((answer ≡ None) × (to ≡ from))) (sym u) a
+
+-- a search answers, or it finds nothing to take
+pub picks-cases : {X : Type 0} (swap : Bool) (from : Seen) (answer : Option ℕ) (to : Seen) → Picks swap from answer to → (has_usable swap from.gens ≡ true → AgesToOld swap (passed_by swap from) answer to → X) → (answer ≡ None → to ≡ from → X) → X
+picks-cases {X} swap from answer to picks some none = by_usable (has_usable swap from.gens) refl picks
+  where
+    by_usable : (b : Bool) → has_usable swap from.gens ≡ b → MatchBool b (AgesToOld swap (passed_by swap from) answer to) ((answer ≡ None) × (to ≡ from)) → X
+    by_usable true e a = some e a
+    by_usable false e n = none n.0 n.1
 
 pub usable-some : (swap : Bool) (g : Gens) → has_usable swap g ≡ true → 1 ≤ length (listed g)
 usable-some swap g u = some-of swap g.anon.pages g.file.pages u

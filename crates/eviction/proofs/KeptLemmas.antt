@@ -1,23 +1,24 @@
 -- What a search keeps: which pages are listed, their types, and the marks of other pages.
-use Rattle.std.proofs.Common.{◌≡◌, ℕ, zero, suc, ◌+◌, ◌≢◌, ◌⊎◌, ◌||◌, not, max, Bool, true, false, cond, eqb, List, [], ◌∷◌, ◌++◌, length, map, filter, Option, Some, None, option_map, slice_get, MatchBool, refl, sym, ap, ◌∙◌, subst, inl, inr, ⊎_elim, length-set, get_or-set_other}
+use Rattle.std.proofs.Common.{◌≡◌, ℕ, zero, suc, ◌+◌, ◌≢◌, ◌||◌, not, max, Bool, true, false, cond, eqb, List, [], ◌∷◌, ◌++◌, length, map, filter, Option, Some, option_map, slice_get, refl, sym, ap, ◌∙◌, subst, inl, inr, length-set, get_or-set_other}
 use Rattle.std.specs.List.{AllByRecursion}
 use Rattle.std.proofs.Math.Bool.{or_comm}
-use Rattle.std.proofs.lemmas.Bool.{eqb-true, eqb-false, true≢false}
+use Rattle.std.proofs.lemmas.Bool.{cases_eq, true≢false}
 use Rattle.machine.specs.declared.record.Kind.{Kind}
 use Rattle.machine.specs.declared.record.Kind.TheVariants.{Anon, File}
-use Rattle.machine.specs.Generations.{Listed, Row, Gens, of_kind, at_seq, entered, without, merged, has_page, is_listed, listed, IsGens}
+use Rattle.machine.specs.Generations.{Listed, Row, Gens, row_of, kind_of, at_seq, merged, has_page, is_listed, listed, IsGens}
 use Rattle.machine.specs.Aging.{Seen, has_mark, is_marked, at_most_three, aged_row, aged}
 use Rattle.machine.specs.Eviction.{old_pages, front_run, has_usable, to_tail, sent_back, passed_by, settled, aged_times, AgesToOld, Picks}
 use Rattle.lru_gen.specs.Gens.{GensOf, gens_of}
 use Rattle.aging.specs.Groups.{seen_at, ChangesOnly}
 use Rattle.eviction.specs.Kept.{ListsSame}
-use Rattle.machine.proofs.ListedLemmas.{each-weaker, has_page-append, none-in, in-none, has-split, has-renumbered, has-back, has-beside, each-has, listed-page}
+use Rattle.machine.proofs.ListedLemmas.{each-weaker, has_page-append, none-in, has-split, has-renumbered, has-back, has-beside, each-has, listed-page}
 use Rattle.machine.proofs.AgingLemmas.{length-cleared}
+use Rattle.lru_gen.proofs.KindLemmas.{each_sent, kind_row, sound_apart}
 use Rattle.aging.proofs.GroupLemmas.{only-other, only-then}
-use Rattle.aging.proofs.AgeLemmas.{cleared-other, apart-lists}
+use Rattle.aging.proofs.AgeLemmas.{cleared-other}
 use Rattle.eviction.proofs.ListLemmas.{each-front_run}
-use Rattle.eviction.proofs.TurnLemmas.{each-old_pages}
-use Rattle.eviction.proofs.AgeLemmas.{at-once, from-settled, picks-some}
+use Rattle.eviction.proofs.TurnLemmas.{each-old_pages, tail-sound}
+use Rattle.eviction.proofs.AgeLemmas.{at-once, from-settled, picks-some, picks-cases}
 
 -- ---- what is kept
 
@@ -84,67 +85,29 @@ kept-aged_times (suc n) s = kept-then s (aged (settled s)) (aged_times n (aged (
 
 -- ---- a page that is sent back
 
--- no page is in both rows
-abbrev AreApart : Gens → Type 0
-AreApart g = (q : ℕ) → has_page q g.file.pages ≡ true → has_page q g.anon.pages ≡ false
-
-apart-in : (gs : List Listed) (q : ℕ) (fs : List Listed) → AllByRecursion (λ f. AllByRecursion (λ l. eqb l.page f.page ≡ false) gs) fs → has_page q fs ≡ true → AllByRecursion (λ l. eqb l.page q ≡ false) gs
-apart-in gs q [] h e = absurd (true≢false (sym e))
-apart-in gs q (f ∷ fs) h e =
-    let go : (b : Bool) → eqb f.page q ≡ b → (b || has_page q fs) ≡ true → AllByRecursion (λ l. eqb l.page q ≡ false) gs =
-    λ b t k. (elim b as (λ v. eqb f.page q ≡ v → (v || has_page q fs) ≡ true → AllByRecursion (λ l. eqb l.page q ≡ false) gs) [
-      | true ↦ λ t' k'. subst (λ (n : ℕ). AllByRecursion (λ l. eqb l.page n ≡ false) gs) (eqb-true f.page q t') h.0
-      | false ↦ λ t' k'. apart-in gs q fs h.1 k'
-    ]) t k in
-    go (eqb f.page q) refl e
-
-sound-apart : (g : Gens) → IsGens g → AreApart g
-sound-apart g s q h = in-none q g.anon.pages (apart-in g.anon.pages q g.file.pages (apart-lists g.anon.pages g.file.pages s.distinct) h)
-
--- the page stands in one row alone
-abbrev OnOne : Gens → ℕ → Type 0
-OnOne g p = ((has_page p g.file.pages ≡ true) × (has_page p g.anon.pages ≡ false)) ⊎ ((has_page p g.file.pages ≡ false) × (has_page p g.anon.pages ≡ true))
-
-on-one : (g : Gens) (p : ℕ) → AreApart g → is_listed g p ≡ true → OnOne g p
-on-one g p apart h =
-    let go : (b : Bool) → has_page p g.file.pages ≡ b → (b || has_page p g.anon.pages) ≡ true → OnOne g p =
-    λ b t k. (elim b as (λ v. has_page p g.file.pages ≡ v → (v || has_page p g.anon.pages) ≡ true → OnOne g p) [ true ↦ λ t' k'. inl (t', apart p t') | false ↦ λ t' k'. inr (t', k') ]) t k in
-    go (has_page p g.file.pages) refl h
-
-tail-file : (s : Seen) (p : ℕ) → OnOne s.gens p → (q : ℕ) → has_page q (to_tail p s).gens.file.pages ≡ has_page q s.gens.file.pages
-tail-file s p one q =
-    ⊎_elim
-    (λ f. ap (λ (b : Bool). has_page q (of_kind (let k : Kind = cond b File Anon in k) (without p s.gens.file.pages) (entered p s.gens.max_seq (without p s.gens.file.pages)))) f.0 ∙ has-back p s.gens.max_seq q s.gens.file.pages f.0)
-    (λ a. ap (λ (b : Bool). has_page q (of_kind (let k : Kind = cond b File Anon in k) (without p s.gens.file.pages) (entered p s.gens.max_seq (without p s.gens.file.pages)))) a.0 ∙ has-beside p q s.gens.file.pages a.0)
-    one
-
-tail-anon : (s : Seen) (p : ℕ) → OnOne s.gens p → (q : ℕ) → has_page q (to_tail p s).gens.anon.pages ≡ has_page q s.gens.anon.pages
-tail-anon s p one q =
-    ⊎_elim
-    (λ f. ap (λ (b : Bool). has_page q (of_kind (let k : Kind = cond b File Anon in k) (entered p s.gens.max_seq (without p s.gens.anon.pages)) (without p s.gens.anon.pages))) f.0 ∙ has-beside p q s.gens.anon.pages f.1)
-    (λ a. ap (λ (b : Bool). has_page q (of_kind (let k : Kind = cond b File Anon in k) (entered p s.gens.max_seq (without p s.gens.anon.pages)) (without p s.gens.anon.pages))) a.0 ∙ has-back p s.gens.max_seq q s.gens.anon.pages a.1)
-    one
-
-kept-tail : (s : Seen) (p : ℕ) → AreApart s.gens → is_listed s.gens p ≡ true → Keeps s (to_tail p s)
-kept-tail s p apart h =
-    let one = on-one s.gens p apart h in
+kept-tail : (s : Seen) (p : ℕ) → IsGens s.gens → is_listed s.gens p ≡ true → Keeps s (to_tail p s)
+kept-tail s p g h =
+    let x : Gens = s.gens in
+    let k : Kind = kind_of x p in
+    let there = kind_row x p h in
+    let rows : (j : Kind) (q : ℕ) → has_page q (row_of j (to_tail p s).gens).pages ≡ has_page q (row_of j x).pages =
+    λ j q.
+    each_sent (λ i ps. has_page q ps ≡ has_page q (row_of i x).pages) k x p x.max_seq (has-back p x.max_seq q (row_of k x).pages there) (λ i differs.
+    has-beside p q (row_of i x).pages (sound_apart g k i differs p there)) j in
     record {
-      file = tail-file s p one;
-      anon = tail-anon s p one;
-      marks = λ q n. (let ne : q ≢ p = λ e. true≢false (sym h ∙ subst (λ (i : ℕ). is_listed s.gens i ≡ false) e n) in get_or-set_other s.marks p q false false ne);
+      file = rows File;
+      anon = rows Anon;
+      marks = λ q n. (let ne : q ≢ p = λ e. true≢false (sym h ∙ subst (λ (i : ℕ). is_listed x i ≡ false) e n) in get_or-set_other s.marks p q false false ne);
       size = length-set s.marks p false;
     }
 
-kept-apart : (a b : Seen) → Keeps a b → AreApart a.gens → AreApart b.gens
-kept-apart a b k apart q h = k.anon q ∙ apart q (sym (k.file q) ∙ h)
-
-kept-sent : (ls : List Listed) (s : Seen) → AreApart s.gens → AllByRecursion (λ l. is_listed s.gens l.page ≡ true) ls → Keeps s (sent_back ls s)
-kept-sent [] s apart h = kept-same s
-kept-sent (l ∷ ls) s apart h =
+kept-sent : (ls : List Listed) (s : Seen) → IsGens s.gens → AllByRecursion (λ l. is_listed s.gens l.page ≡ true) ls → Keeps s (sent_back ls s)
+kept-sent [] s g h = kept-same s
+kept-sent (l ∷ ls) s g h =
     let next : Seen = to_tail l.page s in
-    let k = kept-tail s l.page apart h.0 in
+    let k = kept-tail s l.page g h.0 in
     kept-then s next (sent_back ls next) k
-    (kept-sent ls next (kept-apart s next k apart) (each-weaker (λ l. is_listed s.gens l.page ≡ true) (λ l. is_listed next.gens l.page ≡ true) (λ l e. kept-listed s next k l.page ∙ e) ls h.1))
+    (kept-sent ls next (tail-sound l.page s g) (each-weaker (λ l. is_listed s.gens l.page ≡ true) (λ l. is_listed next.gens l.page ≡ true) (λ l e. kept-listed s next k l.page ∙ e) ls h.1))
 
 each-listed : (swap : Bool) (g : Gens) → AllByRecursion (λ l. is_listed g l.page ≡ true) (old_pages swap g)
 each-listed swap g =
@@ -153,7 +116,7 @@ each-listed swap g =
 
 kept-passed : (swap : Bool) (s : Seen) → IsGens s.gens → Keeps s (passed_by swap s)
 kept-passed swap s g =
-    kept-sent (front_run (has_mark s.marks) (old_pages swap s.gens)) s (sound-apart s.gens g)
+    kept-sent (front_run (has_mark s.marks) (old_pages swap s.gens)) s g
     (each-front_run (λ l. is_listed s.gens l.page ≡ true) (has_mark s.marks) (old_pages swap s.gens) (each-listed swap s.gens))
 
 -- ---- the whole search
@@ -162,11 +125,10 @@ kept-ages : (swap : Bool) (from : Seen) (answer : Option ℕ) (to : Seen) → Ag
 kept-ages swap from answer to a = subst (λ (x : Seen). Keeps from x) (sym a.leaves) (kept-settled from (aged_times a.times from) (kept-aged_times a.times from))
 
 pub kept-picks : (swap : Bool) (from : Seen) (answer : Option ℕ) (to : Seen) → IsGens from.gens → Picks swap from answer to → Keeps from to
-kept-picks swap from answer to g =
-    elim (has_usable swap from.gens) as (λ b. MatchBool b (AgesToOld swap (passed_by swap from) answer to) ((answer ≡ None) × (to ≡ from)) → Keeps from to) [
-      | true ↦ λ a. kept-then from (passed_by swap from) to (kept-passed swap from g) (kept-ages swap (passed_by swap from) answer to a)
-      | false ↦ λ n. subst (λ (x : Seen). Keeps from x) (sym n.1) (kept-same from)
-    ]
+kept-picks swap from answer to g picks =
+    picks-cases swap from answer to picks
+    (λ some a. kept-then from (passed_by swap from) to (kept-passed swap from g) (kept-ages swap (passed_by swap from) answer to a))
+    (λ none same. subst (λ (x : Seen). Keeps from x) (sym same) (kept-same from))
 
 -- the answer of a search is listed
 pub answer-listed : (swap : Bool) (from : Seen) (p : ℕ) (to : Seen) → AgesToOld swap from (Some p) to → is_listed to.gens p ≡ true
@@ -179,13 +141,10 @@ answer-listed swap from p to a =
 -- the lists of each group have the pages that they had
 kept-same_pages : (g : ℕ) (s t : GensOf) (m m' : List Bool) → ChangesOnly g s t → Keeps (seen_at g s m) (seen_at g t m') → (h : ℕ) → ListsSame (gens_of s h) (gens_of t h)
 kept-same_pages g s t m m' only k h =
-    let here : ListsSame (gens_of s g) (gens_of t g) = kept-pages (seen_at g s m) (seen_at g t m') k in
-    let go : (b : Bool) → eqb h g ≡ b → ListsSame (gens_of s h) (gens_of t h) =
-    λ b e. (elim b as (λ v. eqb h g ≡ v → ListsSame (gens_of s h) (gens_of t h)) [
-      | true ↦ λ e'. subst (λ (i : ℕ). ListsSame (gens_of s i) (gens_of t i)) (sym (eqb-true h g e')) here
-      | false ↦ λ e'. (let same : gens_of t h ≡ gens_of s h = only-other g s t only h (λ q. eqb-false h g e' q) in record { anon = λ p. ap (λ (x : Gens). has_page p x.anon.pages) same; file = λ p. ap (λ (x : Gens). has_page p x.file.pages) same })
-    ]) e in
-    go (eqb h g) refl
+    elim (cases_eq h g) [
+      | inl same ↦ subst (λ (i : ℕ). ListsSame (gens_of s i) (gens_of t i)) (sym same) (kept-pages (seen_at g s m) (seen_at g t m') k)
+      | inr other ↦ let same = only-other g s t only h other in record { anon = λ p. ap (λ (x : Gens). has_page p x.anon.pages) same; file = λ p. ap (λ (x : Gens). has_page p x.file.pages) same }
+    ]
 
 -- ---- an answer of the search
 

@@ -1,7 +1,7 @@
 -- Lists of pages: which are there, which are old, and two rows in turn.
-use Rattle.std.proofs.Common.{◌≡◌, ℕ, ◌+◌, ◌<◌, ◌≤◌, ◌⊎◌, not, ◌||◌, ◌&&◌, nat_le, Bool, true, false, cond, ltb, List, [], ◌∷◌, ◌++◌, slice_get, refl, sym, ap, ◌∙◌, inl, inr, arith}
+use Rattle.std.proofs.Common.{◌≡◌, ℕ, ◌+◌, ◌<◌, ◌≤◌, ◌⊎◌, not, ◌||◌, ◌&&◌, nat_le, Bool, true, false, cond, if◌then◌else◌, ltb, List, [], ◌∷◌, ◌++◌, slice_get, refl, ap, inl, inr, arith}
 use Rattle.std.specs.List.{AllByRecursion}
-use Rattle.std.proofs.lemmas.Bool.{lt-ltb, le-ltb, leb-true, leb-false, ltb-false}
+use Rattle.std.proofs.lemmas.Bool.{cases_Bool, lt-ltb, le-ltb, leb-true, leb-false, ltb-false}
 use Rattle.machine.specs.Generations.{Listed, at_seq, IsRising}
 use Rattle.machine.specs.Eviction.{old_of, front_run, behind_run, is_below, in_turn, is_nil}
 use Rattle.machine.proofs.ListedLemmas.{each-append}
@@ -52,12 +52,25 @@ none-old top low (x ∷ xs) t h =
 pub old_of-first : (top : ℕ) (xs : List Listed) → IsRising xs → (l : Listed) (rest : List Listed) → old_of top xs ≡ l ∷ rest → (ys : List Listed) × (xs ≡ l ∷ ys) × (rest ≡ old_of top ys)
 old_of-first top [] r l rest e = absurd (cc)
 old_of-first top (x ∷ xs) r l rest e =
-    let go : (b : Bool) → ltb (x.seq + 1) top ≡ b → cond b (x ∷ old_of top xs) (old_of top xs) ≡ l ∷ rest → (ys : List Listed) × (x ∷ xs ≡ l ∷ ys) × (rest ≡ old_of top ys) =
-    λ b t q. (elim b as (λ v. ltb (x.seq + 1) top ≡ v → cond v (x ∷ old_of top xs) (old_of top xs) ≡ l ∷ rest → (ys : List Listed) × (x ∷ xs ≡ l ∷ ys) × (rest ≡ old_of top ys)) [
-      | true ↦ λ t' q'. (xs, cc, cc)
-      | false ↦ λ t' q'. absurd (let n : old_of top xs ≡ [] = none-old top x.seq xs (ltb-false (x.seq + 1) top t') r.0 in let z : [] ≡ l ∷ rest = sym n ∙ q' in cc)
-    ]) t q in
-    go (ltb (x.seq + 1) top) refl e
+    elim (cases_Bool (ltb (x.seq + 1) top)) [
+      | inl old ↦ let both : x ∷ old_of top xs ≡ l ∷ rest = rw old at e in (xs, cc, cc)
+      | inr new ↦
+          let none : old_of top xs ≡ [] = none-old top x.seq xs (ltb-false (x.seq + 1) top new) r.0 in
+          let some : old_of top xs ≡ l ∷ rest = rw new at e in
+          absurd (cc)
+    ]
+
+-- the pages of a row that may be taken, where this says whether any may
+abbrev pub usable : Bool → List Listed → List Listed
+usable swap gs = if swap then gs else []
+
+pub each-usable : (P : Listed → Type 0) (swap : Bool) (gs : List Listed) → AllByRecursion P gs → AllByRecursion P (usable swap gs)
+each-usable P true gs h = h
+each-usable P false gs h = tt
+
+pub usable-first : (swap : Bool) (top : ℕ) (xs : List Listed) → IsRising xs → (l : Listed) (rest : List Listed) → old_of top (usable swap xs) ≡ l ∷ rest → (ys : List Listed) × (xs ≡ l ∷ ys) × (rest ≡ old_of top (usable swap ys))
+usable-first true top xs r l rest e = old_of-first top xs r l rest e
+usable-first false top xs r l rest e = absurd (cc)
 
 -- ---- two rows in turn
 
@@ -67,13 +80,10 @@ pub in_turn-first : (fs gs : List Listed) (l : Listed) (rest : List Listed) → 
 in_turn-first [] gs l rest e = inr (rest, e, refl)
 in_turn-first (f ∷ fs) [] l rest e = inl (fs, cc, cc)
 in_turn-first (f ∷ fs) (a ∷ gs) l rest e =
-    let Goal : Type 0 = ((ys : List Listed) × (f ∷ fs ≡ l ∷ ys) × (rest ≡ in_turn ys (a ∷ gs))) ⊎ ((ys : List Listed) × (a ∷ gs ≡ l ∷ ys) × (rest ≡ in_turn (f ∷ fs) ys)) in
-    let go : (b : Bool) → ltb a.seq f.seq ≡ b → cond b (a ∷ front_run (is_below f.seq) gs) [] ++ f ∷ in_turn fs (cond b (behind_run (is_below f.seq) gs) (a ∷ gs)) ≡ l ∷ rest → Goal =
-    λ b t q. (elim b as (λ v. ltb a.seq f.seq ≡ v → cond v (a ∷ front_run (is_below f.seq) gs) [] ++ f ∷ in_turn fs (cond v (behind_run (is_below f.seq) gs) (a ∷ gs)) ≡ l ∷ rest → Goal) [
-      | true ↦ λ t' q'. inr (gs, cc, cc)
-      | false ↦ λ t' q'. inl (fs, cc, cc)
-    ]) t q in
-    go (ltb a.seq f.seq) refl e
+    elim (cases_Bool (ltb a.seq f.seq)) [
+      | inl below ↦ let both : a ∷ (front_run (is_below f.seq) gs ++ f ∷ in_turn fs (behind_run (is_below f.seq) gs)) ≡ l ∷ rest = rw below at e in inr (gs, cc, cc)
+      | inr above ↦ let both : f ∷ in_turn fs (a ∷ gs) ≡ l ∷ rest = rw above at e in inl (fs, cc, cc)
+    ]
 
 -- the row that comes first: the file pages where they have the lesser number or both have it
 pub turn-file : (fs gs : List Listed) (fmin amin : ℕ) → ((l : Listed) (ys : List Listed) → fs ≡ l ∷ ys → l.seq ≡ fmin) → ((l : Listed) (ys : List Listed) → gs ≡ l ∷ ys → l.seq ≡ amin)

@@ -1,20 +1,21 @@
 -- A search leaves a group's lists sound, and all lists those of the pages that are held. What it says of the page that it takes.
-use Rattle.std.proofs.Common.{◌≡◌, ℕ, zero, suc, ◌+◌, ◌-◌, ◌≤◌, ◌≢◌, ◌||◌, not, max, min, Bool, true, false, cond, eqb, List, [], ◌∷◌, length, map, filter, set, Option, Some, None, MatchBool, refl, sym, ap, ◌∙◌, subst, arith, ⊎_elim, length-set, get_or-set_other}
+use Rattle.std.proofs.Common.{◌≡◌, ℕ, zero, suc, ◌+◌, ◌-◌, ◌≤◌, ◌≢◌, ◌||◌, not, max, min, Bool, true, false, cond, eqb, List, [], ◌∷◌, length, map, filter, set, Option, Some, refl, sym, ap, ◌∙◌, subst, arith, inl, inr, ⊎_elim, length-set, get_or-set_other}
 use Rattle.std.specs.List.{AllByRecursion}
-use Rattle.std.proofs.lemmas.Bool.{eqb-true, eqb-false, or_cases, or_from, true≢false}
+use Rattle.std.proofs.lemmas.Bool.{cases_Bool, eqb-true, eqb-false, or_cases, true≢false}
 use Rattle.machine.specs.declared.record.Kind.{Kind}
 use Rattle.machine.specs.declared.record.Kind.TheVariants.{Anon, File}
-use Rattle.machine.specs.Generations.{Listed, Row, Gens, new_gens, row_of, at_seq, has_page, is_listed, kind_of, listed, without, merged, isolated, gens_at, IsRising, AreDistinct, IsRow, IsGens}
+use Rattle.machine.specs.Generations.{Listed, Row, Gens, new_gens, row_of, at_seq, has_page, is_listed, listed, merged, gens_at, IsRising, AreDistinct, IsRow, IsGens}
 use Rattle.machine.specs.Aging.{Seen, has_mark, is_marked, at_most_three, promoted, aged_row, aged}
 use Rattle.machine.specs.Eviction.{old_pages, front_run, behind_run, has_usable, to_tail, sent_back, passed_by, least_seq, settled_row, settled_gens, settled, aged_times, AgesToOld, Picks}
 use Rattle.machine.specs.Pages.{Pages, page_at, is_held_in}
 use Rattle.machine.specs.Slots.{there_and}
 use Rattle.machine.specs.Lists.{HeldLists, seen_of, PicksOf, is_held_of, ListsHeld, AreGenerations}
-use Rattle.machine.proofs.ListedLemmas.{each-append, each-filter, each-map, each-weaker, none-in, has_page-without, has-renumbered, has-filter, none-filter, rising-filter, rising-append, distinct-filter, distinct-front, distinct-back, distinct-apart, distinct-append, distinct-split}
+use Rattle.machine.proofs.ListedLemmas.{each-append, each-filter, each-map, each-weaker, none-in, has-renumbered, rising-filter, rising-append, distinct-filter, distinct-append, distinct-split}
 use Rattle.machine.proofs.AgingLemmas.{each-marked, clear-keeps, cleared-keeps}
-use Rattle.machine.proofs.HeldLemmas.{at-set, of-held, added-sound}
-use Rattle.eviction.proofs.TurnLemmas.{turned, front_run-clear}
-use Rattle.eviction.proofs.AgeLemmas.{each-both, Holds, holds-aged, holds-first, holds-settled, old-there, passed-max}
+use Rattle.machine.proofs.HeldLemmas.{at-set, of-held}
+use Rattle.lru_gen.proofs.KindLemmas.{sound_rows}
+use Rattle.eviction.proofs.TurnLemmas.{turned, tail-sound, front_run-clear}
+use Rattle.eviction.proofs.AgeLemmas.{each-both, Holds, holds-aged, holds-first, holds-settled, old-there, passed-max, picks-cases}
 use Rattle.eviction.proofs.KeptLemmas.{Keeps, has-aged_row, kept-listed, kept-picks, answer-listed}
 
 -- ---- a row that is settled
@@ -46,34 +47,9 @@ settled-row top row r =
     }
 
 pub settled-sound : (g : Gens) → IsGens g → IsGens (settled_gens g)
-settled-sound g s = record { anon = settled-row g.max_seq g.anon s.anon; file = settled-row g.max_seq g.file s.file; distinct = s.distinct }
+settled-sound g s = sound_rows s g.max_seq (settled_row g.max_seq) (settled-row g.max_seq) (λ row d. d) (λ row q h. h)
 
 -- ---- a page that goes to the tail
-
-row-without : (p top : ℕ) (row : Row) → IsRow top row → IsRow top (let r : Row = record { min_seq = row.min_seq; pages = without p row.pages } in r)
-row-without p top row r = record {
-  within = each-filter (λ l. (row.min_seq ≤ l.seq) × (l.seq ≤ top)) (λ l. not (eqb l.page p)) row.pages r.within;
-  rising = rising-filter (λ l. not (eqb l.page p)) row.pages r.rising;
-  two = r.two;
-  four = r.four;
-}
-
-pub isolated-sound : (p : ℕ) (g : Gens) → IsGens g → IsGens (isolated p g)
-isolated-sound p g s =
-    let stays : Listed → Bool = λ l. not (eqb l.page p) in
-    record {
-      anon = row-without p g.max_seq g.anon s.anon;
-      file = row-without p g.max_seq g.file s.file;
-      distinct =
-          distinct-append (without p g.anon.pages) (without p g.file.pages) (distinct-filter stays g.anon.pages (distinct-front g.anon.pages g.file.pages s.distinct))
-          (distinct-filter stays g.file.pages (distinct-back g.anon.pages g.file.pages s.distinct))
-          (λ q h. none-filter stays q g.file.pages (distinct-apart g.anon.pages g.file.pages s.distinct q (has-filter stays q g.anon.pages h)));
-    }
-
-pub tail-sound : (p : ℕ) (s : Seen) → IsGens s.gens → IsGens (to_tail p s).gens
-tail-sound p s g =
-    added-sound p (kind_of s.gens p) s.gens.max_seq (isolated p s.gens) (isolated-sound p s.gens g)
-    (or_from (has_page p (without p s.gens.file.pages)) (has_page p (without p s.gens.anon.pages)) (has_page-without p s.gens.file.pages) (has_page-without p s.gens.anon.pages)) (omega arith) (omega arith)
 
 sent-sound : (ls : List Listed) (s : Seen) → IsGens s.gens → IsGens (sent_back ls s).gens
 sent-sound [] s g = g
@@ -108,12 +84,10 @@ record IsThree (top : ℕ) (row : Row) : Type 0 where
 
 three-row : (top : ℕ) (row : Row) → IsRow top row → IsThree top (at_most_three top row)
 three-row top row r =
-    let go : (b : Bool) → eqb (row.min_seq + 3) top ≡ b → IsThree top (let r : Row = cond b (merged row) row in r) =
-    λ b e. (elim b as (λ v. eqb (row.min_seq + 3) top ≡ v → IsThree top (let r : Row = cond v (merged row) row in r)) [
-      | true ↦ λ e'. merges (eqb-true (row.min_seq + 3) top e')
-      | false ↦ λ e'. (let ne = eqb-false (row.min_seq + 3) top e' in let four = r.four in record { sound = r; three = few row.min_seq top four ne })
-    ]) e in
-    go (eqb (row.min_seq + 3) top) refl
+    elim (cases_Bool (eqb (row.min_seq + 3) top)) [
+      | inl four ↦ rw four (merges (eqb-true (row.min_seq + 3) top four))
+      | inr fewer ↦ rw fewer (let ne = eqb-false (row.min_seq + 3) top fewer in let four = r.four in record { sound = r; three = few row.min_seq top four ne })
+    ]
   where
     few : (low top : ℕ) → top ≤ low + 3 → (low + 3 ≡ top → ⊥) → top ≤ low + 2
     few low top le ne = omega arith
@@ -168,15 +142,9 @@ distinct-aged top m row d =
     twice false = refl
 
 pub aged-sound : (s : Seen) → IsGens s.gens → IsGens (aged s).gens
-aged-sound s g = record {
-  anon = promoted-row s.gens.max_seq s.marks (at_most_three s.gens.max_seq s.gens.anon) (three-row s.gens.max_seq s.gens.anon g.anon);
-  file = promoted-row s.gens.max_seq s.marks (at_most_three s.gens.max_seq s.gens.file) (three-row s.gens.max_seq s.gens.file g.file);
-  distinct =
-      distinct-append (aged s).gens.anon.pages (aged s).gens.file.pages
-      (distinct-aged s.gens.max_seq s.marks s.gens.anon (distinct-front s.gens.anon.pages s.gens.file.pages g.distinct))
-      (distinct-aged s.gens.max_seq s.marks s.gens.file (distinct-back s.gens.anon.pages s.gens.file.pages g.distinct))
-      (λ q h. has-aged_row s.gens.max_seq s.marks q s.gens.file ∙ distinct-apart s.gens.anon.pages s.gens.file.pages g.distinct q (sym (has-aged_row s.gens.max_seq s.marks q s.gens.anon) ∙ h));
-}
+aged-sound s g =
+    let top : ℕ = s.gens.max_seq in
+    sound_rows g (top + 1) (aged_row top s.marks) (λ row r. promoted-row top s.marks (at_most_three top row) (three-row top row r)) (distinct-aged top s.marks) (λ row q h. sym (has-aged_row top s.marks q row) ∙ h)
 
 times-sound : (n : ℕ) (s : Seen) → IsGens s.gens → IsGens (aged_times n s).gens
 times-sound zero s g = g
@@ -189,29 +157,19 @@ ages-sound swap from answer to g a = subst (λ (x : Seen). IsGens x.gens) (sym a
 
 -- a search leaves the lists of the group sound
 pub picks-sound : (swap : Bool) (from : Seen) (answer : Option ℕ) (to : Seen) → IsGens from.gens → Picks swap from answer to → IsGens to.gens
-picks-sound swap from answer to g =
-    elim (has_usable swap from.gens) as (λ b. MatchBool b (AgesToOld swap (passed_by swap from) answer to) ((answer ≡ None) × (to ≡ from)) → IsGens to.gens) [
-      | true ↦ λ a. ages-sound swap (passed_by swap from) answer to (passed-sound swap from g) a
-      | false ↦ λ n. subst (λ (x : Seen). IsGens x.gens) (sym n.1) g
-    ]
+picks-sound swap from answer to g picks =
+    picks-cases swap from answer to picks (λ some a. ages-sound swap (passed_by swap from) answer to (passed-sound swap from g) a) (λ none same. subst (λ (x : Seen). IsGens x.gens) (sym same) g)
 
 -- ---- the page that is taken
 
 -- the answer is on the lists
 pub picks-listed : (swap : Bool) (from : Seen) (p : ℕ) (to : Seen) → Picks swap from (Some p) to → is_listed to.gens p ≡ true
-picks-listed swap from p to =
-    elim (has_usable swap from.gens) as (λ b. MatchBool b (AgesToOld swap (passed_by swap from) (Some p) to) ((Some p ≡ None) × (to ≡ from)) → is_listed to.gens p ≡ true) [
-      | true ↦ λ a. answer-listed swap (passed_by swap from) p to a
-      | false ↦ λ n. (let e : Some p ≡ None = n.0 in absurd (cc))
-    ]
+picks-listed swap from p to picks =
+    picks-cases swap from (Some p) to picks (λ some a. answer-listed swap (passed_by swap from) p to a) (λ none same. absurd (cc))
 
 -- an answer comes of a search that has usable pages
 picks-ages : (swap : Bool) (from : Seen) (p : ℕ) (to : Seen) → Picks swap from (Some p) to → (has_usable swap from.gens ≡ true) × AgesToOld swap (passed_by swap from) (Some p) to
-picks-ages swap from p to picks = by_usable (has_usable swap from.gens) refl picks
-  where
-    by_usable : (b : Bool) → has_usable swap from.gens ≡ b → MatchBool b (AgesToOld swap (passed_by swap from) (Some p) to) ((Some p ≡ None) × (to ≡ from)) → (has_usable swap from.gens ≡ true) × AgesToOld swap (passed_by swap from) (Some p) to
-    by_usable true e a = (e, a)
-    by_usable false e n = let q : Some p ≡ None = n.0 in absurd (cc)
+picks-ages swap from p to picks = picks-cases swap from (Some p) to picks (λ some a. (some, a)) (λ none same. absurd (cc))
 
 -- it is the first of the pages that are old after the search
 pub picks-first : (swap : Bool) (from : Seen) (p : ℕ) (to : Seen) → Picks swap from (Some p) to → (l : Listed) × (others : List Listed) × (old_pages swap to.gens ≡ l ∷ others) × (p ≡ l.page)
@@ -228,58 +186,50 @@ behind_run-clear p m (x ∷ xs) h =
     ap (λ (b : Bool). cond b (behind_run (has_mark (set m p false)) xs) (x ∷ xs)) (get_or-set_other m p x.page false false (λ q. eqb-false x.page p h.0 q))
     ∙ ap (λ (zs : List Listed). cond (is_marked m x.page) zs (x ∷ xs)) (behind_run-clear p m xs h.1)
 
--- after the search among the old pages those from the first unmarked one on are old
-sent-old : (swap : Bool) (xs : List Listed) (s : Seen) → IsGens s.gens → old_pages swap s.gens ≡ xs → old_pages swap (sent_back (front_run (has_mark s.marks) xs) s).gens ≡ behind_run (has_mark s.marks) xs
-sent-old swap [] s g e = e
-sent-old swap (x ∷ xs) s g e =
+-- after the search among the old pages those from the first unmarked one on are old, and there is as much to take
+record Passed (swap : Bool) (xs : List Listed) (s end : Seen) : Type 0 where
+  old : old_pages swap end.gens ≡ behind_run (has_mark s.marks) xs
+  usable : has_usable swap end.gens ≡ has_usable swap s.gens
+
+passed : (swap : Bool) (xs : List Listed) (s : Seen) → IsGens s.gens → old_pages swap s.gens ≡ xs → Passed swap xs s (sent_back (front_run (has_mark s.marks) xs) s)
+passed swap [] s g e = record { old = e; usable = refl }
+passed swap (x ∷ xs) s g e =
     let t = turned swap s x xs g e in
     let none = none-in x.page xs t.apart in
     let next : Seen = to_tail x.page s in
-    let later : old_pages swap (sent_back (front_run (has_mark next.marks) xs) next).gens ≡ behind_run (has_mark next.marks) xs = sent-old swap xs next (tail-sound x.page s g) t.old in
-    elim (has_mark s.marks x) as (λ b. old_pages swap (sent_back (cond b (x ∷ front_run (has_mark s.marks) xs) []) s).gens ≡ cond b (behind_run (has_mark s.marks) xs) (x ∷ xs)) [
-      | true ↦ sym (ap (λ (zs : List Listed). old_pages swap (sent_back zs next).gens) (front_run-clear x.page s.marks xs none)) ∙ later ∙ behind_run-clear x.page s.marks xs none
-      | false ↦ e
+    let later = passed swap xs next (tail-sound x.page s g) t.old in
+    let same = sym (front_run-clear x.page s.marks xs none) in
+    elim (cases_Bool (has_mark s.marks x)) [
+      | inl marked ↦
+          rw marked (record {
+            old = ap (λ (zs : List Listed). old_pages swap (sent_back zs next).gens) same ∙ later.old ∙ behind_run-clear x.page s.marks xs none ∙ rw marked refl;
+            usable = ap (λ (zs : List Listed). has_usable swap (sent_back zs next).gens) same ∙ later.usable ∙ t.usable;
+          })
+      | inr fresh ↦ rw fresh (record { old = e ∙ rw fresh refl; usable = refl })
     ]
 
 pub passed-old : (swap : Bool) (s : Seen) → IsGens s.gens → old_pages swap (passed_by swap s).gens ≡ behind_run (has_mark s.marks) (old_pages swap s.gens)
-passed-old swap s g = sent-old swap (old_pages swap s.gens) s g refl
+passed-old swap s g = (passed swap (old_pages swap s.gens) s g refl).old
 
-sent-usable : (swap : Bool) (xs : List Listed) (s : Seen) → IsGens s.gens → old_pages swap s.gens ≡ xs → has_usable swap (sent_back (front_run (has_mark s.marks) xs) s).gens ≡ has_usable swap s.gens
-sent-usable swap [] s g e = refl
-sent-usable swap (x ∷ xs) s g e =
-    let t = turned swap s x xs g e in
-    let none = none-in x.page xs t.apart in
-    let next : Seen = to_tail x.page s in
-    let later : has_usable swap (sent_back (front_run (has_mark next.marks) xs) next).gens ≡ has_usable swap next.gens = sent-usable swap xs next (tail-sound x.page s g) t.old in
-    elim (has_mark s.marks x) as (λ b. has_usable swap (sent_back (cond b (x ∷ front_run (has_mark s.marks) xs) []) s).gens ≡ has_usable swap s.gens) [
-      | true ↦ sym (ap (λ (zs : List Listed). has_usable swap (sent_back zs next).gens) (front_run-clear x.page s.marks xs none)) ∙ later ∙ t.usable
-      | false ↦ refl
-    ]
-
--- it leaves as much to take
 pub passed-usable : (swap : Bool) (s : Seen) → IsGens s.gens → has_usable swap (passed_by swap s).gens ≡ has_usable swap s.gens
-passed-usable swap s g = sent-usable swap (old_pages swap s.gens) s g refl
+passed-usable swap s g = (passed swap (old_pages swap s.gens) s g refl).usable
 
 -- the run ends at a page that fails the test, or has all
 run-ends : (test : Listed → Bool) (xs : List Listed) (l : Listed) (ls : List Listed) → behind_run test xs ≡ l ∷ ls → test l ≡ false
 run-ends test [] l ls e = absurd (cc)
 run-ends test (x ∷ xs) l ls e =
-    let go : (b : Bool) → test x ≡ b → cond b (behind_run test xs) (x ∷ xs) ≡ l ∷ ls → test l ≡ false =
-    λ b t q. (elim b as (λ v. test x ≡ v → cond v (behind_run test xs) (x ∷ xs) ≡ l ∷ ls → test l ≡ false) [
-      | true ↦ λ t' q'. run-ends test xs l ls q'
-      | false ↦ λ t' q'. (let same : x ≡ l = cc in sym (ap (λ (y : Listed). test y) same) ∙ t')
-    ]) t q in
-    go (test x) refl e
+    elim (cases_Bool (test x)) [
+      | inl passes ↦ run-ends test xs l ls (rw passes at e)
+      | inr fails ↦ let both : x ∷ xs ≡ l ∷ ls = rw fails at e in let same : x ≡ l = cc in ap test (sym same) ∙ fails
+    ]
 
 run-all : (test : Listed → Bool) (xs : List Listed) → behind_run test xs ≡ [] → AllByRecursion (λ l. test l ≡ true) xs
 run-all test [] e = tt
 run-all test (x ∷ xs) e =
-    let go : (b : Bool) → test x ≡ b → cond b (behind_run test xs) (x ∷ xs) ≡ [] → AllByRecursion (λ l. test l ≡ true) (x ∷ xs) =
-    λ b t q. (elim b as (λ v. test x ≡ v → cond v (behind_run test xs) (x ∷ xs) ≡ [] → AllByRecursion (λ l. test l ≡ true) (x ∷ xs)) [
-      | true ↦ λ t' q'. (t', run-all test xs q')
-      | false ↦ λ t' q'. absurd (cc)
-    ]) t q in
-    go (test x) refl e
+    elim (cases_Bool (test x)) [
+      | inl passes ↦ (passes, run-all test xs (rw passes at e))
+      | inr fails ↦ let both : x ∷ xs ≡ [] = rw fails at e in absurd (cc)
+    ]
 
 -- a page that is old after the search among the old pages is answered at once
 answers-first : (swap : Bool) (from : Seen) (p : ℕ) (to : Seen) (l : Listed) (ls : List Listed) → AgesToOld swap from (Some p) to → old_pages swap from.gens ≡ l ∷ ls → p ≡ l.page
@@ -328,16 +278,15 @@ few-times swap from answer to g u a = at_most a.times refl
 
 -- a search begins three generations at most
 pub few-ages : (swap : Bool) (from : Seen) (answer : Option ℕ) (to : Seen) → IsGens from.gens → Picks swap from answer to → (from.gens.max_seq ≤ to.gens.max_seq) × (to.gens.max_seq ≤ from.gens.max_seq + 3)
-few-ages swap from answer to g picks = by_usable (has_usable swap from.gens) refl picks
-  where
-    by_usable : (b : Bool) → has_usable swap from.gens ≡ b → MatchBool b (AgesToOld swap (passed_by swap from) answer to) ((answer ≡ None) × (to ≡ from)) → (from.gens.max_seq ≤ to.gens.max_seq) × (to.gens.max_seq ≤ from.gens.max_seq + 3)
-    by_usable true e a =
-        let passed = passed-max swap from (settled (passed_by swap from)) refl in
-        let times = times-max a.times (passed_by swap from) in
-        let few = few-times swap (passed_by swap from) answer to (passed-sound swap from g) (passed-usable swap from g ∙ e) a in
-        let end : to.gens.max_seq ≡ (aged_times a.times (passed_by swap from)).gens.max_seq = ap (λ (x : Seen). x.gens.max_seq) a.leaves in
-        (omega arith, omega arith)
-    by_usable false e n = let end : to.gens.max_seq ≡ from.gens.max_seq = ap (λ (x : Seen). x.gens.max_seq) n.1 in (omega arith, omega arith)
+few-ages swap from answer to g picks =
+    picks-cases swap from answer to picks
+    (λ some a.
+    let passed = passed-max swap from (settled (passed_by swap from)) refl in
+    let times = times-max a.times (passed_by swap from) in
+    let few = few-times swap (passed_by swap from) answer to (passed-sound swap from g) (passed-usable swap from g ∙ some) a in
+    let end : to.gens.max_seq ≡ (aged_times a.times (passed_by swap from)).gens.max_seq = ap (λ (x : Seen). x.gens.max_seq) a.leaves in
+    (omega arith, omega arith))
+    (λ none same. let end : to.gens.max_seq ≡ from.gens.max_seq = ap (λ (x : Seen). x.gens.max_seq) same in (omega arith, omega arith))
 
 -- ---- a search marks no page
 
@@ -351,10 +300,9 @@ times-unmarked (suc n) s p h = times-unmarked n (aged (settled s)) p (cleared-ke
 
 pub picks-unmarked : (swap : Bool) (from : Seen) (answer : Option ℕ) (to : Seen) → Picks swap from answer to → (p : ℕ) → is_marked from.marks p ≡ false → is_marked to.marks p ≡ false
 picks-unmarked swap from answer to picks p h =
-    (elim (has_usable swap from.gens) as (λ b. MatchBool b (AgesToOld swap (passed_by swap from) answer to) ((answer ≡ None) × (to ≡ from)) → is_marked to.marks p ≡ false) [
-      | true ↦ λ a. ap (λ (x : Seen). is_marked x.marks p) a.leaves ∙ times-unmarked a.times (passed_by swap from) p (sent-unmarked (front_run (has_mark from.marks) (old_pages swap from.gens)) from p h)
-      | false ↦ λ n. ap (λ (x : Seen). is_marked x.marks p) n.1 ∙ h
-    ]) picks
+    picks-cases swap from answer to picks
+    (λ some a. ap (λ (x : Seen). is_marked x.marks p) a.leaves ∙ times-unmarked a.times (passed_by swap from) p (sent-unmarked (front_run (has_mark from.marks) (old_pages swap from.gens)) from p h))
+    (λ none same. ap (λ (x : Seen). is_marked x.marks p) same ∙ h)
 
 -- ---- the lists of all groups
 

@@ -1,21 +1,46 @@
 -- One turn of the search: the first old page goes to the tail, and the others are the old ones then.
-use Rattle.std.proofs.Common.{◌≡◌, ℕ, zero, suc, ◌+◌, ◌<◌, ◌≤◌, ◌≢◌, Bool, true, false, cond, if◌then◌else◌, eqb, List, [], ◌∷◌, ◌++◌, length, filter, set, get_or, slice_get, Some, None, option_map, refl, sym, ap, ◌∙◌, subst, arith, ⊎_elim, length-append, length-set, get_or-set_other}
+use Rattle.std.proofs.Common.{◌≡◌, ℕ, zero, suc, ◌+◌, ◌<◌, ◌≤◌, ◌≢◌, ◌&&◌, not, Bool, true, false, cond, eqb, List, [], ◌∷◌, ◌++◌, length, set, get_or, slice_get, Some, None, option_map, refl, sym, ap, ◌∙◌, subst, arith, ⊎_elim, length-append, length-set, get_or-set_other}
 use Rattle.std.specs.List.{AllByRecursion}
-use Rattle.std.proofs.lemmas.Bool.{eq-eqb, eqb-false, true≢false}
+use Rattle.std.proofs.lemmas.List.Filters.{length-filter_both}
+use Rattle.std.proofs.lemmas.Bool.{eqb-false, true≢false, or_from}
 use Rattle.machine.specs.declared.record.Kind.{Kind}
 use Rattle.machine.specs.declared.record.Kind.TheVariants.{Anon, File}
-use Rattle.machine.specs.Generations.{Listed, Gens, of_kind, at_seq, entered, without, IsGens, AreDistinct, has_page, kind_of, listed, added, isolated}
+use Rattle.machine.specs.Generations.{Listed, Row, Gens, row_of, at_seq, without, IsRow, IsGens, AreDistinct, has_page, kind_of, listed, added, isolated}
 use Rattle.machine.specs.Aging.{Seen, has_mark, is_marked}
 use Rattle.machine.specs.Eviction.{is_old, old_of, old_pages, in_turn, front_run, behind_run, is_below, is_nil, has_usable, usable_anon, to_tail, sent_back, passed_by, settled, settled_gens}
-use Rattle.machine.proofs.ListedLemmas.{each-front, each-back, each-filter, none-in, in-none, without-all, top-each, distinct-middle, distinct-first, entered-tail, without-first}
-use Rattle.eviction.proofs.ListLemmas.{each-in_turn, old_of-tail, old_of-first, in_turn-first}
+use Rattle.machine.proofs.ListedLemmas.{each-front, each-back, each-filter, none-in, in-none, has_page-without, has-filter, listed-page, rising-filter, distinct-filter}
+use Rattle.machine.proofs.HeldLemmas.{added-sound}
+use Rattle.lru_gen.proofs.KindLemmas.{each_row, in_no_row, kind_is, sound_distinct, sound_apart, sound_rows}
+use Rattle.aging.proofs.PromoteLemmas.{with_pages, in-middle, moved}
+use Rattle.eviction.proofs.ListLemmas.{each-in_turn, each-usable, usable, usable-first, old_of-tail, old_of-first, in_turn-first}
 use Rattle.eviction.proofs.SettleLemmas.{first-of}
 
-abbrev two_rows : ℕ → ℕ → List Listed → ℕ → List Listed → List Bool → Seen
-two_rows top amin gs fmin fs marks = record { gens = record { max_seq = top; anon = record { min_seq = amin; pages = gs }; file = record { min_seq = fmin; pages = fs } }; marks = marks }
+-- ---- a page goes to the tail
 
-abbrev usable : Bool → List Listed → List Listed
-usable swap gs = if swap then gs else []
+abbrev without-row : ℕ → Row → Row
+without-row p row = record { min_seq = row.min_seq; pages = without p row.pages }
+
+row-without : (p top : ℕ) (row : Row) → IsRow top row → IsRow top (without-row p row)
+row-without p top row r = record {
+  within = each-filter (λ l. (row.min_seq ≤ l.seq) × (l.seq ≤ top)) (λ l. not (eqb l.page p)) row.pages r.within;
+  rising = rising-filter (λ l. not (eqb l.page p)) row.pages r.rising;
+  two = r.two;
+  four = r.four;
+}
+
+isolated-sound : (p : ℕ) (g : Gens) → IsGens g → IsGens (isolated p g)
+isolated-sound p g s =
+    sound_rows s g.max_seq (without-row p) (row-without p g.max_seq) (λ row d. distinct-filter (λ l. not (eqb l.page p)) row.pages d) (λ row q h. has-filter (λ l. not (eqb l.page p)) q row.pages h)
+
+pub tail-sound : (p : ℕ) (s : Seen) → IsGens s.gens → IsGens (to_tail p s).gens
+tail-sound p s g =
+    added-sound p (kind_of s.gens p) s.gens.max_seq (isolated p s.gens) (isolated-sound p s.gens g)
+    (or_from (has_page p (without p s.gens.file.pages)) (has_page p (without p s.gens.anon.pages)) (has_page-without p s.gens.file.pages) (has_page-without p s.gens.anon.pages)) (omega arith) (omega arith)
+
+pub each-old_pages : (P : Listed → Type 0) (swap : Bool) (g : Gens) → AllByRecursion P (listed g) → AllByRecursion P (old_pages swap g)
+each-old_pages P swap g h =
+    each-in_turn P (old_of g.max_seq g.file.pages) (old_of g.max_seq (usable_anon swap g)) (each-filter P (is_old g.max_seq) g.file.pages (each-back P g.anon.pages g.file.pages h))
+    (each-filter P (is_old g.max_seq) (usable_anon swap g) (each-usable P swap g.anon.pages (each-front P g.anon.pages g.file.pages h)))
 
 -- what the turn leaves of the old pages, and that there is as much to take
 pub record Turned (swap : Bool) (s : Seen) (l : Listed) (rest : List Listed) : Type 0 where
@@ -23,105 +48,51 @@ pub record Turned (swap : Bool) (s : Seen) (l : Listed) (rest : List Listed) : T
   pub apart : has_page l.page rest ≡ false
   pub usable : has_usable swap (to_tail l.page s).gens ≡ has_usable swap s.gens
 
-abbrev kind_in : ℕ → List Listed → Kind
-kind_in p fs = if has_page p fs then File else Anon
+pub is_nil-middle : (xs : List Listed) (l : Listed) (ys : List Listed) → is_nil (xs ++ l ∷ ys) ≡ false
+is_nil-middle [] l ys = refl
+is_nil-middle (x ∷ xs) l ys = refl
 
-file-at-tail : (top : ℕ) (l : Listed) (fs : List Listed) → has_page l.page fs ≡ false → AllByRecursion (λ l. l.seq ≤ top) fs
-    → of_kind (kind_in l.page (l ∷ fs)) (without l.page (l ∷ fs)) (entered l.page top (without l.page (l ∷ fs))) ≡ fs ++ at_seq top l ∷ []
-file-at-tail top l fs h t = rw (without-first l fs h) (rw (eq-eqb l.page l.page refl) (entered-tail l.page top fs t))
+-- a page at the tail is not old, and it may be taken where those of its type may
+old-tail : (k : Kind) (swap : Bool) (g : Gens) (xs : List Listed) (l : Listed) → old_pages swap (with_pages k (xs ++ at_seq g.max_seq l ∷ []) g) ≡ old_pages swap (with_pages k xs g)
+old-tail File swap g xs l = ap (λ (zs : List Listed). in_turn zs (old_of g.max_seq (usable_anon swap g))) (old_of-tail g.max_seq xs l)
+old-tail Anon true g xs l = ap (λ (zs : List Listed). in_turn (old_of g.max_seq g.file.pages) zs) (old_of-tail g.max_seq xs l)
+old-tail Anon false g xs l = refl
 
-anon-beside : (top : ℕ) (l : Listed) (fs gs : List Listed) → has_page l.page gs ≡ false → of_kind (kind_in l.page (l ∷ fs)) (entered l.page top (without l.page gs)) (without l.page gs) ≡ gs
-anon-beside top l fs gs h = rw (without-all l.page gs (none-in l.page gs h)) (rw (eq-eqb l.page l.page refl) refl)
+usable-tail : (k : Kind) (swap : Bool) (g : Gens) (xs : List Listed) (l : Listed) → is_nil (row_of k g).pages ≡ false → has_usable swap (with_pages k (xs ++ l ∷ []) g) ≡ has_usable swap g
+usable-tail File swap g xs l some = ap (λ (b : Bool). not (b && is_nil (usable_anon swap g))) (is_nil-middle xs l [] ∙ sym some)
+usable-tail Anon true g xs l some = ap (λ (b : Bool). not (is_nil g.file.pages && b)) (is_nil-middle xs l [] ∙ sym some)
+usable-tail Anon false g xs l some = refl
 
-anon-at-tail : (top : ℕ) (l : Listed) (fs gs : List Listed) → has_page l.page fs ≡ false → has_page l.page gs ≡ false → AllByRecursion (λ l. l.seq ≤ top) gs
-    → of_kind (kind_in l.page fs) (entered l.page top (without l.page (l ∷ gs))) (without l.page (l ∷ gs)) ≡ gs ++ at_seq top l ∷ []
-anon-at-tail top l fs gs hf h t = rw (without-first l gs h) (rw hf (entered-tail l.page top gs t))
-
-file-beside : (top : ℕ) (l : Listed) (fs gs : List Listed) → has_page l.page fs ≡ false → of_kind (kind_in l.page fs) (without l.page fs) (entered l.page top (without l.page fs)) ≡ fs
-file-beside top l fs gs hf = rw (without-all l.page fs (none-in l.page fs hf)) (rw hf refl)
-
-is_nil-tail : (xs : List Listed) (l : Listed) → is_nil (xs ++ l ∷ []) ≡ false
-is_nil-tail [] l = refl
-is_nil-tail (x ∷ xs) l = refl
-
-each-usable : (P : Listed → Type 0) (swap : Bool) (gs : List Listed) → AllByRecursion P gs → AllByRecursion P (usable swap gs)
-each-usable P true gs h = h
-each-usable P false gs h = tt
-
--- after a turn, the old pages by the rows that it leaves
-old-after : (swap : Bool) (top : ℕ) (xs ys fs gs : List Listed) → xs ≡ fs → ys ≡ gs → in_turn (old_of top xs) (old_of top (usable swap ys)) ≡ in_turn (old_of top fs) (old_of top (usable swap gs))
-old-after swap top xs ys fs gs e k = ap (λ (zs : List Listed). in_turn (old_of top zs) (old_of top (usable swap ys))) e ∙ ap (λ (zs : List Listed). in_turn (old_of top fs) (old_of top (usable swap zs))) k
-
-from-file : (swap : Bool) (top amin : ℕ) (gs : List Listed) (fmin : ℕ) (l : Listed) (fs : List Listed) (m : List Bool)
-    → has_page l.page gs ≡ false → has_page l.page fs ≡ false → AllByRecursion (λ l. l.seq ≤ top) fs
-    → Turned swap (two_rows top amin gs fmin (l ∷ fs) m) l (in_turn (old_of top fs) (old_of top (usable swap gs)))
-from-file swap top amin gs fmin l fs m hg hf t =
-    let file = file-at-tail top l fs hf t in
-    let anon = anon-beside top l fs gs hg in
+-- the first page of a row goes to the tail
+from-row : (swap : Bool) (s : Seen) (l : Listed) (k : Kind) (xs : List Listed) → IsGens s.gens → (row_of k s.gens).pages ≡ l ∷ xs → Turned swap s l (old_pages swap (with_pages k xs s.gens))
+from-row swap s l k xs g e =
+    let x : Gens = s.gens in
+    let there : has_page l.page (row_of k x).pages ≡ true = ap (λ (zs : List Listed). has_page l.page zs) e ∙ in-middle [] l xs in
+    let d : AreDistinct (l ∷ xs) = subst (λ (zs : List Listed). AreDistinct zs) e (sound_distinct g k) in
+    let after : (to_tail l.page s).gens ≡ with_pages k (xs ++ at_seq x.max_seq l ∷ []) x =
+    ap (λ (j : Kind). added l.page j x.max_seq (isolated l.page x)) (kind_is g k l.page there) ∙ moved k x [] l xs g e in
+    let none = each_row (λ j row. has_page l.page row.pages ≡ false) k (λ row. record { min_seq = row.min_seq; pages = xs }) x d.0 (λ j differs. sound_apart g k j differs l.page there) in
     record {
-      old = old-after swap top _ _ _ _ file anon ∙ ap (λ (zs : List Listed). in_turn zs (old_of top (usable swap gs))) (old_of-tail top fs l);
+      old = ap (λ (y : Gens). old_pages swap y) after ∙ old-tail k swap x xs l;
       apart =
           in-none l.page _
-          (each-in_turn (λ k. eqb k.page l.page ≡ false) (old_of top fs) (old_of top (usable swap gs)) (each-filter (λ k. eqb k.page l.page ≡ false) (is_old top) fs (none-in l.page fs hf))
-          (each-filter (λ k. eqb k.page l.page ≡ false) (is_old top) (usable swap gs) (each-usable (λ k. eqb k.page l.page ≡ false) swap gs (none-in l.page gs hg))));
-      usable = rw (file, is_nil-tail fs (at_seq top l)) refl;
+          (each-old_pages (λ i. eqb i.page l.page ≡ false) swap (with_pages k xs x) (none-in l.page _ (listed-page (with_pages k xs x) l.page ∙ in_no_row (with_pages k xs x) l.page none)));
+      usable = ap (λ (y : Gens). has_usable swap y) after ∙ usable-tail k swap x xs (at_seq x.max_seq l) (ap is_nil e);
     }
-
-from-anon : (top amin : ℕ) (l : Listed) (gs : List Listed) (fmin : ℕ) (fs : List Listed) (m : List Bool)
-    → has_page l.page gs ≡ false → has_page l.page fs ≡ false → AllByRecursion (λ l. l.seq ≤ top) gs
-    → Turned true (two_rows top amin (l ∷ gs) fmin fs m) l (in_turn (old_of top fs) (old_of top gs))
-from-anon top amin l gs fmin fs m hg hf t =
-    let file = file-beside top l fs gs hf in
-    let anon = anon-at-tail top l fs gs hf hg t in
-    record {
-      old = old-after true top _ _ _ _ file anon ∙ ap (λ (zs : List Listed). in_turn (old_of top fs) zs) (old_of-tail top gs l);
-      apart =
-          in-none l.page _
-          (each-in_turn (λ k. eqb k.page l.page ≡ false) (old_of top fs) (old_of top gs) (each-filter (λ k. eqb k.page l.page ≡ false) (is_old top) fs (none-in l.page fs hf))
-          (each-filter (λ k. eqb k.page l.page ≡ false) (is_old top) gs (none-in l.page gs hg)));
-      usable = rw (file, anon, is_nil-tail gs (at_seq top l)) refl;
-    }
-
-from-file-row : (swap : Bool) (top amin : ℕ) (gs : List Listed) (fmin : ℕ) (l : Listed) (pages fs : List Listed) (m : List Bool) (rest : List Listed)
-    → AreDistinct (gs ++ pages) → AllByRecursion (λ l. l.seq ≤ top) pages → pages ≡ l ∷ fs → rest ≡ in_turn (old_of top fs) (old_of top (usable swap gs))
-    → Turned swap (two_rows top amin gs fmin pages m) l rest
-from-file-row swap top amin gs fmin l pages fs m rest d t e r =
-    let d' : AreDistinct (gs ++ l ∷ fs) = subst (λ (zs : List Listed). AreDistinct (gs ++ zs)) e d in
-    let t' : AllByRecursion (λ l. l.seq ≤ top) (l ∷ fs) = subst (λ (zs : List Listed). AllByRecursion (λ l. l.seq ≤ top) zs) e t in
-    let apart = distinct-middle gs l fs d' in
-    subst (λ (zs : List Listed). Turned swap (two_rows top amin gs fmin zs m) l rest) (sym e)
-    (subst (λ (zs : List Listed). Turned swap (two_rows top amin gs fmin (l ∷ fs) m) l zs) (sym r) (from-file swap top amin gs fmin l fs m apart.0 apart.1 t'.1))
-
-from-anon-row : (top amin : ℕ) (l : Listed) (pages gs : List Listed) (fmin : ℕ) (fs : List Listed) (m : List Bool) (rest : List Listed)
-    → AreDistinct (pages ++ fs) → AllByRecursion (λ l. l.seq ≤ top) pages → pages ≡ l ∷ gs → rest ≡ in_turn (old_of top fs) (old_of top gs)
-    → Turned true (two_rows top amin pages fmin fs m) l rest
-from-anon-row top amin l pages gs fmin fs m rest d t e r =
-    let d' : AreDistinct ((l ∷ gs) ++ fs) = subst (λ (zs : List Listed). AreDistinct (zs ++ fs)) e d in
-    let t' : AllByRecursion (λ l. l.seq ≤ top) (l ∷ gs) = subst (λ (zs : List Listed). AllByRecursion (λ l. l.seq ≤ top) zs) e t in
-    let apart = distinct-first l gs fs d' in
-    subst (λ (zs : List Listed). Turned true (two_rows top amin zs fmin fs m) l rest) (sym e)
-    (subst (λ (zs : List Listed). Turned true (two_rows top amin (l ∷ gs) fmin fs m) l zs) (sym r) (from-anon top amin l gs fmin fs m apart.0 apart.1 t'.1))
 
 pub turned : (swap : Bool) (s : Seen) (l : Listed) (rest : List Listed) → IsGens s.gens → old_pages swap s.gens ≡ l ∷ rest → Turned swap s l rest
-turned true s l rest g e =
+turned swap s l rest g e =
+    let top : ℕ = s.gens.max_seq in
+    let files : List Listed = old_of top s.gens.file.pages in
+    let anons : List Listed = old_of top (usable_anon swap s.gens) in
     ⊎_elim
     (λ w.
-    let f = old_of-first s.gens.max_seq s.gens.file.pages g.file.rising l w.0 w.1 in
-    from-file-row true s.gens.max_seq s.gens.anon.min_seq s.gens.anon.pages s.gens.file.min_seq l s.gens.file.pages f.0 s.marks rest g.distinct (top-each s.gens.max_seq s.gens.file.min_seq s.gens.file.pages g.file.within) f.1
-    (w.2 ∙ ap (λ (zs : List Listed). in_turn zs (old_of s.gens.max_seq s.gens.anon.pages)) f.2))
+    let f = old_of-first top s.gens.file.pages g.file.rising l w.0 w.1 in
+    subst (λ (zs : List Listed). Turned swap s l zs) (sym (w.2 ∙ ap (λ (zs : List Listed). in_turn zs anons) f.2)) (from-row swap s l File f.0 g f.1))
     (λ w.
-    let f = old_of-first s.gens.max_seq s.gens.anon.pages g.anon.rising l w.0 w.1 in
-    from-anon-row s.gens.max_seq s.gens.anon.min_seq l s.gens.anon.pages f.0 s.gens.file.min_seq s.gens.file.pages s.marks rest g.distinct (top-each s.gens.max_seq s.gens.anon.min_seq s.gens.anon.pages g.anon.within) f.1
-    (w.2 ∙ ap (λ (zs : List Listed). in_turn (old_of s.gens.max_seq s.gens.file.pages) zs) f.2))
-    (in_turn-first (old_of s.gens.max_seq s.gens.file.pages) (old_of s.gens.max_seq s.gens.anon.pages) l rest e)
-turned false s l rest g e =
-    ⊎_elim
-    (λ w.
-    let f = old_of-first s.gens.max_seq s.gens.file.pages g.file.rising l w.0 w.1 in
-    from-file-row false s.gens.max_seq s.gens.anon.min_seq s.gens.anon.pages s.gens.file.min_seq l s.gens.file.pages f.0 s.marks rest g.distinct (top-each s.gens.max_seq s.gens.file.min_seq s.gens.file.pages g.file.within) f.1
-    (w.2 ∙ ap (λ (zs : List Listed). in_turn zs []) f.2))
-    (λ w. absurd (let z : [] ≡ l ∷ w.0 = w.1 in cc))
-    (in_turn-first (old_of s.gens.max_seq s.gens.file.pages) [] l rest e)
+    let f = usable-first swap top s.gens.anon.pages g.anon.rising l w.0 w.1 in
+    subst (λ (zs : List Listed). Turned swap s l zs) (sym (w.2 ∙ ap (λ (zs : List Listed). in_turn files zs) f.2)) (from-row swap s l Anon f.0 g f.1))
+    (in_turn-first files anons l rest e)
 
 -- ---- the marks of other pages
 
@@ -132,6 +103,9 @@ front_run-clear p m (x ∷ xs) h =
     rw (get_or-set_other m p x.page false false ne) (ap (λ (zs : List Listed). cond (get_or m x.page false) (x ∷ zs) []) (front_run-clear p m xs h.1))
 
 -- ---- the search goes on
+
+abbrev two_rows : ℕ → ℕ → List Listed → ℕ → List Listed → List Bool → Seen
+two_rows top amin gs fmin fs marks = record { gens = record { max_seq = top; anon = record { min_seq = amin; pages = gs }; file = record { min_seq = fmin; pages = fs } }; marks = marks }
 
 -- the least numbers tell nothing of what is sent back
 sent-settled : (ls : List Listed) (top a a' f f' : ℕ) (gs fs : List Listed) (m : List Bool) → settled (sent_back ls (two_rows top a gs f fs m)) ≡ settled (sent_back ls (two_rows top a' gs f' fs m))
@@ -183,18 +157,6 @@ looks-less swap s l rest t e k =
     let two : length (front_run (has_mark (set s.marks l.page false)) (old_pages swap (to_tail l.page s).gens)) ≡ length (front_run (has_mark s.marks) rest) = ap (λ (zs : List Listed). length zs) after in
     omega arith
 
-length-filter-le : (test : Listed → Bool) (xs : List Listed) → length (filter test xs) ≤ length xs
-length-filter-le test [] = omega arith
-length-filter-le test (x ∷ xs) =
-    let h = length-filter-le test xs in
-    elim (test x) as (λ b. length (cond b (x ∷ filter test xs) (filter test xs)) ≤ length (x ∷ xs)) [ true ↦ omega arith | false ↦ omega arith ]
-
-length-front_run : (test : Listed → Bool) (xs : List Listed) → length (front_run test xs) ≤ length xs
-length-front_run test [] = omega arith
-length-front_run test (x ∷ xs) =
-    let h = length-front_run test xs in
-    elim (test x) as (λ b. length (cond b (x ∷ front_run test xs) []) ≤ length (x ∷ xs)) [ true ↦ omega arith | false ↦ omega arith ]
-
 length-runs : (test : Listed → Bool) (xs : List Listed) → length (front_run test xs) + length (behind_run test xs) ≡ length xs
 length-runs test [] = omega arith
 length-runs test (x ∷ xs) =
@@ -215,10 +177,10 @@ length-usable false gs = omega arith
 
 pub looks-few : (test : Listed → Bool) (swap : Bool) (g : Gens) → length (front_run test (old_pages swap g)) ≤ length (listed g)
 looks-few test swap g =
-    let a = length-front_run test (old_pages swap g) in
+    let a = length-runs test (old_pages swap g) in
     let b = length-in_turn (old_of g.max_seq g.file.pages) (old_of g.max_seq (usable_anon swap g)) in
-    let c = length-filter-le (is_old g.max_seq) g.file.pages in
-    let d = length-filter-le (is_old g.max_seq) (usable_anon swap g) in
+    let c = length-filter_both (is_old g.max_seq) (λ l. not (is_old g.max_seq l)) (λ l. refl) g.file.pages in
+    let d = length-filter_both (is_old g.max_seq) (λ l. not (is_old g.max_seq l)) (λ l. refl) (usable_anon swap g) in
     let e = length-usable swap g.anon.pages in
     let f = length-append g.anon.pages g.file.pages in
     omega arith
@@ -288,8 +250,3 @@ no-first (x ∷ xs) e = absurd (cc)
 
 pub ends-none : (swap : Bool) (s : Seen) (h : Gens) → h ≡ settled_gens s.gens → None ≡ option_map (λ (l : Listed). l.page) (slice_get (old_pages swap s.gens) 0) → EndsAt swap s h
 ends-none swap s h eh e = ends-by swap s h eh (ap (λ (zs : List Listed). front_run (has_mark s.marks) zs) (no-first (old_pages swap s.gens) e))
-
-pub each-old_pages : (P : Listed → Type 0) (swap : Bool) (g : Gens) → AllByRecursion P (listed g) → AllByRecursion P (old_pages swap g)
-each-old_pages P swap g h =
-    each-in_turn P (old_of g.max_seq g.file.pages) (old_of g.max_seq (usable_anon swap g)) (each-filter P (is_old g.max_seq) g.file.pages (each-back P g.anon.pages g.file.pages h))
-    (each-filter P (is_old g.max_seq) (usable_anon swap g) (each-usable P swap g.anon.pages (each-front P g.anon.pages g.file.pages h)))

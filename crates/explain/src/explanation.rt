@@ -254,85 +254,57 @@ enum Earlier<'a> {
     FileNamed(&'a str),
 }
 
-fn is_earlier(alloc: Global, line: &[u8], earlier: Earlier<'_>) -> Result<bool, AllocError> {
+fn is_earlier(line: &[u8], earlier: Earlier<'_>) -> bool {
     let Some(text) = as_text(line) else {
-        return Ok(false);
+        return false;
     };
-    let words = words_of(alloc, text)?;
+    let words = words_of(text);
     let word = word_of(words.as_slice());
-    Ok(match earlier {
+    match earlier {
         Earlier::EndOfHeader => !is_skipped(words.as_slice()) && !is_of_header(word),
         Earlier::With(wanted) => word == Some(wanted),
         Earlier::FileNamed(name) => {
-            word == Some(Word::File) && words.get(1).is_some_and(|second| second.text() == name)
+            word == Some(Word::File)
+                && words
+                    .as_slice()
+                    .get(1)
+                    .is_some_and(|second| second.text() == name)
         }
-    })
+    }
 }
 
 /// The number of the first such line before the line of this number.
-fn earlier_line(
-    alloc: Global,
-    text: &[u8],
-    line: usize,
-    earlier: Earlier<'_>,
-) -> Result<Option<usize>, AllocError> {
+fn earlier_line(text: &[u8], line: usize, earlier: Earlier<'_>) -> Option<usize> {
     let mut rest = text;
     for number in 1..line {
         if rest.is_empty() {
-            return Ok(None);
+            return None;
         }
         let (bytes, after) = first_line(rest);
-        if is_earlier(alloc, bytes, earlier)? {
-            return Ok(Some(number));
+        if is_earlier(bytes, earlier) {
+            return Some(number);
         }
         rest = after;
     }
-    Ok(None)
+    None
 }
 
-fn header_after_commands<'w>(
-    alloc: Global,
-    text: &[u8],
-    line: usize,
-    word: Option<Word>,
-) -> Result<Option<Why<'w>>, AllocError> {
-    let Some(word) = word else {
-        return Ok(None);
-    };
-    let name = word.form().name;
-    Ok(earlier_line(alloc, text, line, Earlier::EndOfHeader)?.map(|line| Why::HeaderEnded {
-        line,
-        name,
-    }))
+fn header_after_commands<'w>(text: &[u8], line: usize, word: Option<Word>) -> Option<Why<'w>> {
+    let name = word?.form().name;
+    let line = earlier_line(text, line, Earlier::EndOfHeader)?;
+    Some(Why::HeaderEnded { line, name })
 }
 
-fn file_twice<'w>(
-    alloc: Global,
-    text: &[u8],
-    line: usize,
-    parts: &Parts<'w, '_>,
-) -> Result<Option<Why<'w>>, AllocError> {
-    let Some(name) = parts.placed(1) else {
-        return Ok(None);
-    };
-    let earlier = Earlier::FileNamed(name.text);
-    Ok(earlier_line(alloc, text, line, earlier)?.map(|line| Why::FileTwice(name, line)))
-}
-
-fn header_twice<'w>(
-    alloc: Global,
-    text: &[u8],
-    line: usize,
-    parts: &Parts<'w, '_>,
-) -> Result<Option<Why<'w>>, AllocError> {
-    let Some(word) = parts.word() else {
-        return Ok(None);
-    };
+fn header_twice<'w>(text: &[u8], line: usize, parts: &Parts<'w, '_>) -> Option<Why<'w>> {
+    let word = parts.word()?;
     if word == Word::File {
-        return file_twice(alloc, text, line, parts);
+        let name = parts.placed(1)?;
+        let earlier = Earlier::FileNamed(name.text);
+        return Some(Why::FileTwice(name, earlier_line(text, line, earlier)?));
     }
+    let line = earlier_line(text, line, Earlier::With(word))?;
     let name = word.form().name;
-    Ok(earlier_line(alloc, text, line, Earlier::With(word))?.map(|line| Why::Twice { line, name }))
+    Some(Why::Twice { line, name })
 }
 
 /// A line is for a schedule alone by its first word: no task says such a word, and behind `begin` it is
@@ -375,8 +347,8 @@ fn why<'w>(
         Cause::ExtraArgument => Ok(extra_argument(&parts)),
         Cause::BadNumber => bad_number(alloc, text, &parts),
         Cause::BadName => Ok(bad_name(&parts)),
-        Cause::HeaderAfterCommands => header_after_commands(alloc, text, line, parts.word()),
-        Cause::HeaderTwice => header_twice(alloc, text, line, &parts),
+        Cause::HeaderAfterCommands => Ok(header_after_commands(text, line, parts.word())),
+        Cause::HeaderTwice => Ok(header_twice(text, line, &parts)),
         Cause::TooManyFiles => Ok(Some(Why::FilesFull(MOST_FILES))),
         Cause::TooManyBlocks => Ok(Some(Why::BlocksFull(MOST_BLOCKS))),
         Cause::OnlyInSchedule => Ok(only_in_schedule(words)),
@@ -395,7 +367,7 @@ pub fn explain(
         return Ok(None);
     };
     let readable = as_text(line_at(text, line)).unwrap_or("");
-    let words = words_of(alloc, readable)?;
+    let words = words_of(readable);
     match why(alloc, text, line, cause, words.as_slice())? {
         Some(why) => Ok(Some(format!(in alloc; "{why}")?)),
         None => Ok(None),

@@ -1,6 +1,6 @@
 //! The workers' passes.
 
-ghost use Rattle.std.specs.Prelude.{◌≡◌, ◌<◌, ◌≤◌, [], length, OnOk, IfOk, true, false};
+ghost use Rattle.std.specs.Prelude.{◌≡◌, ◌<◌, ◌≤◌, [], length, OnOk, OnErr, IfOk, true, false};
 ghost use Rattle.machine.specs.Call.{leaves_entry};
 ghost use Rattle.book.specs.Events.{event_of, reply_of};
 ghost use Rattle.book.specs.Passes.{count_of, call_of, keeping};
@@ -190,14 +190,16 @@ impl<L: Ledger> Pass<L> {
         alloc: Global,
         book: &Book,
         actor: Actor,
-        command: Command,
-    ) -> Result<Stage, Refusal>
+        command: &Command,
+    ) -> Result<Result<Stage, Refusal>, AllocError>
         requires { 2 ≤ self.old.room }
-        ensures looked { Looked actor command self.old.kept self.new.kept result }
+        ensures looked { IfOk result (λ judged. Looked actor command.now self.old.kept self.new.kept judged) }
         ensures caller { self.new.caller ≡ self.old.caller }
-        ensures free { IfOk result (λ stage. holds stage ≡ false) }
+        ensures free { IfOk result (λ judged. IfOk judged (λ stage. holds stage ≡ false)) }
+        ensures err { OnErr result (self.new.kept ≡ self.old.kept) }
     {
-        judge(alloc, book, &mut self.pass, actor, command)
+        let judged = judge(alloc, book, &mut self.pass, actor, command)?;
+        Ok(judged)
     }
 
     /// Its part of the ledger.

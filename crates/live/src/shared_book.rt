@@ -1,6 +1,6 @@
 //! What lies under the lock.
 
-ghost use Rattle.std.specs.Prelude.{◌≡◌, ◌⊎◌, ℕ, ◌+◌, ◌<◌, ◌≤◌, [], false, length, reverse, IfOk, IfErr};
+ghost use Rattle.std.specs.Prelude.{◌≡◌, ◌⊎◌, ℕ, ◌+◌, ◌<◌, ◌≤◌, [], false, length, reverse, IfOk, IfErr, OnErr};
 ghost use Rattle.std.specs.List.{sum_by};
 ghost use Rattle.machine.specs.State.{opening_of, is_config};
 ghost use Rattle.machine.specs.History.{Honest, Right, Numbered, at_first};
@@ -18,7 +18,7 @@ use book::{Book, Event, Reply};
 use driver::turn::Stage;
 use machine::command::{Actor, Command};
 use machine::refusal::Refusal;
-use std::alloc::Global;
+use std::alloc::{AllocError, Global};
 use std::marker::Model;
 use std::sync::ledger;
 use std::sync::ledger::{Blank, Ledger, Share};
@@ -144,12 +144,13 @@ impl<L: Ledger + Opened> SharedBook<L> {
         alloc: Global,
         pass: &mut Pass<L>,
         actor: Actor,
-        command: Command,
-    ) -> Result<Stage, Refusal>
+        command: &Command,
+    ) -> Result<Result<Stage, Refusal>, AllocError>
         requires { 2 ≤ pass.old.room }
-        ensures looked { Looked actor command pass.old.kept pass.new.kept result }
+        ensures looked { IfOk result (λ judged. Looked actor command.now pass.old.kept pass.new.kept judged) }
         ensures caller { pass.new.caller ≡ pass.old.caller }
-        ensures free { IfOk result (λ stage. holds stage ≡ false) }
+        ensures free { IfOk result (λ judged. IfOk judged (λ stage. holds stage ≡ false)) }
+        ensures err { OnErr result (pass.new.kept ≡ pass.old.kept) }
     {
         pass.judge(alloc, &self.book, actor, command)
     }

@@ -296,9 +296,12 @@ impl<L: Ledger + Opened, D: SharedDevice> Live<L, D> {
         ensures caller { pass.new.caller ≡ pass.old.caller }
         ensures err { OnErr result (pass.new.kept ≡ pass.old.kept) }
     {
-        let command = command.copy(self.alloc)?;
         pass.reserve(2)?;
-        Ok(self.shared.lock(rt).judge(self.alloc, pass, actor, command))
+        let judged = self
+            .shared
+            .lock(rt)
+            .judge(self.alloc, pass, actor, command)?;
+        Ok(judged)
     }
 
     /// What was judged is answered, or run.

@@ -1,7 +1,7 @@
 -- What is kept of whether a type has a page stays as its row is.
 use Rattle.std.proofs.Common.{◌≡◌, ◌≢◌, ℕ, zero, suc, ◌+◌, ◌<◌, ◌||◌, ◌&&◌, not, nat_le, nat_lt, max, ◌-◌, Bool, true, false, if◌then◌else◌, List, [], ◌∷◌, ◌++◌, length, map, filter, eqb, get_or, set, None, refl, sym, ap, subst, ◌∙◌, arith, inl, inr, length-set}
 use Rattle.std.specs.List.{AllByRecursion, IsDistinct}
-use Rattle.std.proofs.lemmas.List.{get_or-set_same, get_or-set_other, get_or_past, get_or_read, set-get_or}
+use Rattle.std.proofs.lemmas.List.{get_or-set_same, get_or-set_other, get_or_past, set-get_or}
 use Rattle.std.proofs.lemmas.Bool.{cases_Bool, cases_eq, cases_lt, eqb-false, eq-eqb, ne_eqb, le-leb, lt-leb, or_right, or_parts, false≢true, false_from_ne_true, lt-ltb}
 use Rattle.machine.specs.declared.record.Kind.{Kind}
 use Rattle.machine.specs.declared.record.Kind.TheVariants.{Anon, File}
@@ -12,13 +12,13 @@ use Rattle.rings.specs.Rings.{list_at, has, AreApart}
 use Rattle.rings.proofs.ListLemmas.{has_first, has_behind, list_at-map_without, list_within}
 use Rattle.lru_gen.specs.declared.numbers.Numbers.{Numbers}
 use Rattle.lru_gen.specs.declared.filled.Filled.{Filled}
-use Rattle.lru_gen.specs.Gens.{GensOf, gens_of}
 use Rattle.lru_gen.specs.Lists.{slot}
 use Rattle.lru_gen.specs.Rows.{numbers_at, oldest, rows_from, groups_from, IsAlone, HaveMoved}
 use Rattle.lru_gen.specs.Filled.{no_page, filled_at, usable, flag, with_flag, joined, has_any, AreTold, IsKept}
-use Rattle.lru_gen.proofs.SlotLemmas.{cases_kind, groups_apart, kinds_apart}
+use Rattle.lru_gen.proofs.KindLemmas.{each_of, each_row}
+use Rattle.lru_gen.proofs.SlotLemmas.{groups_apart, kinds_apart}
 use Rattle.lru_gen.proofs.RowLemmas.{rows_without}
-use Rattle.lru_gen.proofs.GroupLemmas.{length_groups, within_numbers, row_at, groups_after, table_stays, Changes}
+use Rattle.lru_gen.proofs.GroupLemmas.{length_groups, row_at, groups_after, table_stays, Changes}
 use Rattle.lru_gen.proofs.ChangeLemmas.{isolated_stays}
 use Rattle.lru_gen.proofs.MoveLemmas.{table_moved, groups_moved}
 use Rattle.lru_gen.proofs.SoundLemmas.{row_stands, stands_row}
@@ -74,36 +74,12 @@ any_same : (p : ℕ) (pages : List Listed) → has_page p pages ≡ false → ha
 any_same p [] h = refl
 any_same p (l ∷ ls) h = let parts = or_parts (eqb l.page p) (has_page p ls) h in rw parts.0 refl
 
--- ---- what is kept of one type
-
-flag_set : (k : Kind) (b : Bool) (f : Filled) → flag k (with_flag k b f) ≡ b
-flag_set Anon b f = refl
-flag_set File b f = refl
-
-flag_kept : (k j : Kind) (b : Bool) (f : Filled) → j ≢ k → flag j (with_flag k b f) ≡ flag j f
-flag_kept Anon Anon b f apart = absurd (apart refl)
-flag_kept Anon File b f apart = refl
-flag_kept File Anon b f apart = refl
-flag_kept File File b f apart = absurd (apart refl)
-
-pub within_filled : (seen : GensOf) (lists : List (List ℕ)) (numbers : List Numbers) (filled : List Filled) (pages room g : ℕ) → record { groups = groups_from lists 0 numbers; pages = pages; room = room } ≡ seen → IsKept lists numbers filled → g < length seen.groups → g < length filled
-within_filled seen lists numbers filled pages room g view is within =
-    let inside = within_numbers seen lists numbers pages room g view within in
-    omega (arith, is.size)
-
--- what is read at a group's number is what is kept of it
-pub read_filled : (lists : List (List ℕ)) (numbers : List Numbers) (filled : List Filled) (g : ℕ) (found : Filled) → IsKept lists numbers filled → g < length numbers → found ≡ get_or filled g found → found ≡ filled_at filled g
-read_filled lists numbers filled g found is within read = get_or_read filled g found (omega (arith, is.size)) read no_page
-
 -- what is kept tells whether a page may be taken
-pub usable_at : (lists : List (List ℕ)) (numbers : List Numbers) (filled : List Filled) → IsKept lists numbers filled → (g : ℕ) (seen : GensOf) (pages room : ℕ) → record { groups = groups_from lists 0 numbers; pages = pages; room = room } ≡ seen → (found : Filled) → found ≡ filled_at filled g → (swap : Bool) → usable swap found ≡ has_usable swap (gens_of seen g)
-usable_at lists numbers filled is g seen pages room view found read swap =
-    let gens = gens_at (groups_from lists 0 numbers) g in
-    ap (λ (f : Filled). f.file || (swap && f.anon)) read
-    ∙ ap (λ (b : Bool). b || (swap && (filled_at filled g).anon)) (is.flags.told g File)
-    ∙ ap (λ (b : Bool). has_any gens.file.pages || (swap && b)) (is.flags.told g Anon)
+pub usable_told : (f : Filled) (gens : Gens) → ((k : Kind) → flag k f ≡ has_any (row_of k gens).pages) → (swap : Bool) → usable swap f ≡ has_usable swap gens
+usable_told f gens told swap =
+    ap (λ (b : Bool). b || (swap && f.anon)) (told File)
+    ∙ ap (λ (b : Bool). has_any gens.file.pages || (swap && b)) (told Anon)
     ∙ go swap gens.file.pages gens.anon.pages
-    ∙ ap (λ (v : GensOf). has_usable swap (gens_of v g)) view
   where
     go : (swap : Bool) (files anons : List Listed) → (has_any files || (swap && has_any anons)) ≡ not (is_nil files && is_nil (if swap then anons else []))
     go swap (l ∷ files) anons = refl
@@ -128,39 +104,35 @@ told_after filled groups g f gens among within was own = record {
       ];
 }
 
-module _ (old new : List (List ℕ)) (numbers : List Numbers) (g : ℕ) (within : g < length numbers) (n : Numbers) (to : Gens → Gens) (change : Changes old new numbers g n to) (after : List Numbers) (renumbered : after ≡ set numbers g n) (filled : List Filled) (is : IsKept old numbers filled) where
-  pub kept_with : (f : Filled) (refilled : List Filled) → refilled ≡ set filled g f → ((k : Kind) → flag k f ≡ has_any (row_of k (to (gens_at (groups_from old 0 numbers) g))).pages) → IsKept new after refilled
-  kept_with f refilled becomes own =
+module _ {old new : List (List ℕ)} {numbers : List Numbers} {g : ℕ} {n : Numbers} {to : Gens → Gens} (change : Changes old new numbers g n to) {after : List Numbers} (renumbered : after ≡ set numbers g n) {filled : List Filled} (is : IsKept old numbers filled) where
+  pub kept_with : (f : Filled) {refilled : List Filled} → refilled ≡ set filled g f → ((k : Kind) → flag k f ≡ has_any (row_of k (to (gens_at (groups_from old 0 numbers) g))).pages) → IsKept new after refilled
+  kept_with f becomes own =
       let before = groups_from old 0 numbers in
+      let inside = change.within in
       record {
-        table = table_stays old new numbers g within n to change after renumbered is.table;
-        size =
-            ap (λ (fs : List Filled). length fs) becomes ∙ length-set filled g f
-            ∙ is.size
-            ∙ sym (ap (λ (ns : List Numbers). length ns) renumbered ∙ length-set numbers g n);
+        table = table_stays change renumbered is.table;
+        size = ap length becomes ∙ length-set filled g f ∙ is.size ∙ sym (ap length renumbered ∙ length-set numbers g n);
         flags =
             subst (λ (fs : List Filled). AreTold fs (groups_from new 0 after)) (sym becomes)
-            (subst (λ (gs : List Gens). AreTold (set filled g f) gs) (sym (groups_after old new numbers g within n to change after renumbered))
+            (subst (λ (gs : List Gens). AreTold (set filled g f) gs) (sym (groups_after change renumbered))
             (told_after filled before g f (to (gens_at before g)) (omega (arith, is.size)) (omega (arith, length_groups old 0 numbers)) is.flags own));
       }
 
   -- no type gets a first page or loses its last
   pub kept_same : ((k : Kind) (gens : Gens) → has_any (row_of k (to gens)).pages ≡ has_any (row_of k gens).pages) → IsKept new after filled
   kept_same same =
-      kept_with (filled_at filled g) filled (sym (set-get_or filled g no_page)) (λ k.
+      kept_with (filled_at filled g) (sym (set-get_or filled g no_page)) (λ k.
       is.flags.told g k ∙ sym (same k (gens_at (groups_from old 0 numbers) g)))
 
+on_row_same : (change : Row → Row) → ((row : Row) → has_any (change row).pages ≡ has_any row.pages) → (k j : Kind) (gens : Gens) → has_any (row_of j (on_row k change gens)).pages ≡ has_any (row_of j gens).pages
+on_row_same change same k j gens =
+    each_row (λ i row. has_any row.pages ≡ has_any (row_of i gens).pages) k change gens (same (row_of k gens)) (λ i differs. refl) j
+
 pub merged_same : (k j : Kind) (gens : Gens) → has_any (row_of j (on_row k merged gens)).pages ≡ has_any (row_of j gens).pages
-merged_same Anon Anon gens = any_merged gens.anon
-merged_same Anon File gens = refl
-merged_same File Anon gens = refl
-merged_same File File gens = any_merged gens.file
+merged_same k j gens = on_row_same merged any_merged k j gens
 
 pub raised_same : (k j : Kind) (gens : Gens) → has_any (row_of j (on_row k raised gens)).pages ≡ has_any (row_of j gens).pages
-raised_same Anon Anon gens = refl
-raised_same Anon File gens = refl
-raised_same File Anon gens = refl
-raised_same File File gens = refl
+raised_same k j gens = on_row_same raised (λ row. refl) k j gens
 
 pub advanced_same : (j : Kind) (gens : Gens) → has_any (row_of j (advanced gens)).pages ≡ has_any (row_of j gens).pages
 advanced_same Anon gens = refl
@@ -200,29 +172,27 @@ told_moved filled groups from to here there many was =
     (told_after filled groups to both taken there (omega arith) was (λ k. own k (was.told from k) (was.told to k)))
     none
   where
+    both : (f m : Bool) (seq : ℕ) (more pages : List Listed) → m ≡ has_any more → f ≡ has_any pages → (f || m) ≡ has_any (taken_in seq more pages)
+    both f m seq more pages of_from of_to =
+        ap (λ (b : Bool). b || m) of_to ∙ ap (λ (b : Bool). has_any pages || b) of_from ∙ sym (any_taken seq more pages)
+
     own : (k : Kind) → flag k (filled_at filled from) ≡ has_any (row_of k (gens_at groups from)).pages → flag k (filled_at filled to) ≡ has_any (row_of k (gens_at groups to)).pages → flag k (joined (filled_at filled to) (filled_at filled from)) ≡ has_any (row_of k (taken_over (gens_at groups from) (gens_at groups to))).pages
-    own Anon of_from of_to =
-        ap (λ (b : Bool). b || (filled_at filled from).anon) of_to
-        ∙ ap (λ (b : Bool). has_any (gens_at groups to).anon.pages || b) of_from
-        ∙ sym (any_taken ((gens_at groups to).max_seq - 1) (gens_at groups from).anon.pages (gens_at groups to).anon.pages)
-    own File of_from of_to =
-        ap (λ (b : Bool). b || (filled_at filled from).file) of_to
-        ∙ ap (λ (b : Bool). has_any (gens_at groups to).file.pages || b) of_from
-        ∙ sym (any_taken ((gens_at groups to).max_seq - 1) (gens_at groups from).file.pages (gens_at groups to).file.pages)
+    own Anon of_from of_to = both _ _ _ _ _ of_from of_to
+    own File of_from of_to = both _ _ _ _ _ of_from of_to
 
     none : (k : Kind) → flag k no_page ≡ has_any (row_of k (emptied (gens_at groups from))).pages
     none Anon = refl
     none File = refl
 
-pub kept_moved : (lists mid new : List (List ℕ)) (numbers : List Numbers) (filled : List Filled) (is : IsKept lists numbers filled) (from to : ℕ) → from < length numbers → to < length numbers → from ≢ to → HaveMoved lists mid from to Anon (numbers_at numbers from).anon_min_seq 4 ((numbers_at numbers to).max_seq - 1) → HaveMoved mid new from to File (numbers_at numbers from).file_min_seq 4 ((numbers_at numbers to).max_seq - 1) → (both : Filled) → both ≡ joined (filled_at filled to) (filled_at filled from) → IsKept new numbers (set (set filled to both) from no_page)
-kept_moved lists mid new numbers filled is from to here there apart anon file both is_both =
-    subst (λ (f : Filled). IsKept new numbers (set (set filled to f) from no_page)) (sym is_both) (record {
-      table = table_moved lists mid new numbers is.table from to here there apart anon file;
-      size = length-set (set filled to (joined (filled_at filled to) (filled_at filled from))) from no_page ∙ length-set filled to (joined (filled_at filled to) (filled_at filled from)) ∙ is.size;
-      flags =
-          subst (λ (gs : List Gens). AreTold (set (set filled to (joined (filled_at filled to) (filled_at filled from))) from no_page) gs) (sym (groups_moved lists mid new numbers is.table from to here there apart anon file))
-          (told_moved filled (groups_from lists 0 numbers) from to (omega (arith, is.size)) (omega (arith, is.size)) (is.size ∙ sym (length_groups lists 0 numbers)) is.flags);
-    })
+pub kept_moved : {lists mid new : List (List ℕ)} {numbers : List Numbers} {filled : List Filled} (is : IsKept lists numbers filled) {from to : ℕ} → from < length numbers → to < length numbers → from ≢ to → HaveMoved lists mid from to Anon (numbers_at numbers from).anon_min_seq 4 ((numbers_at numbers to).max_seq - 1) → HaveMoved mid new from to File (numbers_at numbers from).file_min_seq 4 ((numbers_at numbers to).max_seq - 1) → {both : Filled} → both ≡ joined (filled_at filled to) (filled_at filled from) → IsKept new numbers (set (set filled to both) from no_page)
+kept_moved {lists} {mid} {new} {numbers} {filled} is {from} {to} here there apart anon file {both} is_both = record {
+  table = table_moved lists mid new numbers is.table from to here there apart anon file;
+  size = length-set (set filled to both) from no_page ∙ length-set filled to both ∙ is.size;
+  flags =
+      subst (λ (f : Filled). AreTold (set (set filled to f) from no_page) (groups_from new 0 numbers)) (sym is_both)
+      (subst (λ (gs : List Gens). AreTold (set (set filled to (joined (filled_at filled to) (filled_at filled from))) from no_page) gs) (sym (groups_moved lists mid new numbers is.table from to here there apart anon file))
+      (told_moved filled (groups_from lists 0 numbers) from to (omega (arith, is.size)) (omega (arith, is.size)) (is.size ∙ sym (length_groups lists 0 numbers)) is.flags));
+}
 
 -- ---- a page leaves
 
@@ -239,7 +209,7 @@ beside p (x ∷ before) after d some =
     at [] h = h.0
     at (y ∷ ys) h = at ys h.1
 
-module _ (lists new : List (List ℕ)) (numbers : List Numbers) (filled : List Filled) (is : IsKept lists numbers filled) (apart : AreApart lists) (p : ℕ) (becomes : new ≡ map (of_rings.without p) lists) where
+module _ {lists new : List (List ℕ)} {numbers : List Numbers} {filled : List Filled} (is : IsKept lists numbers filled) (apart : AreApart lists) (p : ℕ) (becomes : new ≡ map (of_rings.without p) lists) where
   row_less : (h : ℕ) (k : Kind) → h < length numbers → (row_of k (gens_at (groups_from new 0 numbers) h)).pages ≡ without p (rows_from lists h k (oldest k (numbers_at numbers h)) 4)
   row_less h k within =
       row_at new numbers h k within
@@ -268,7 +238,7 @@ module _ (lists new : List (List ℕ)) (numbers : List Numbers) (filled : List F
   -- it was not alone on its list
   pub kept_beside : IsAlone lists p None → IsKept new numbers filled
   kept_beside stands = record {
-    table = isolated_stays lists new numbers p is.table becomes;
+    table = isolated_stays p is.table becomes;
     size = is.size;
     flags = record { told = λ h k. told_still h k (λ within. still h k) };
   }
@@ -298,25 +268,17 @@ module _ (lists new : List (List ℕ)) (numbers : List Numbers) (filled : List F
     pub within_alone : g < length numbers
     within_alone = let inside = list_within lists l p here in omega (arith, is.table.count)
 
-    pub kept_alone : (still : Bool) (q : ℕ) (refilled : List Filled) → q ≡ oldest k (numbers_at numbers g) → still ≡ has_any (rows_from new g k q 4) → refilled ≡ set filled g (with_flag k still (filled_at filled g)) → IsKept new numbers refilled
-    kept_alone still q refilled least found renewed = record {
-      table = isolated_stays lists new numbers p is.table becomes;
-      size = ap (λ (fs : List Filled). length fs) renewed ∙ length-set filled g f ∙ is.size;
+    pub kept_alone : (still : Bool) (q : ℕ) {refilled : List Filled} → q ≡ oldest k (numbers_at numbers g) → still ≡ has_any (rows_from new g k q 4) → refilled ≡ set filled g (with_flag k still (filled_at filled g)) → IsKept new numbers refilled
+    kept_alone still q least found renewed = record {
+      table = isolated_stays p is.table becomes;
+      size = ap length renewed ∙ length-set filled g f ∙ is.size;
       flags = record {
         told = λ h j.
             ap (λ (fs : List Filled). flag j (filled_at fs h)) renewed
             ∙ elim (cases_eq h g) [
               | inl same ↦
                   subst (λ (i : ℕ). flag j (filled_at (set filled g f) i) ≡ has_any (row_of j (gens_at (groups_from new 0 numbers) i)).pages) (sym same)
-                  (ap (flag j) (get_or-set_same filled g f no_page (omega (arith, within_alone, is.size)))
-                  ∙ elim (cases_kind j k) [
-                    | inl own ↦
-                        subst (λ (i : Kind). flag i f ≡ has_any (row_of i (gens_at (groups_from new 0 numbers) g)).pages) (sym own)
-                        (flag_set k still (filled_at filled g) ∙ seen)
-                    | inr differs ↦
-                        flag_kept k j still (filled_at filled g) differs
-                        ∙ told_still g j (λ within. any_same p (rows_from lists g j (oldest j (numbers_at numbers g)) 4) (lacks g j l here (λ s e. kinds_apart g g j k s l differs (e ∙ at))))
-                  ])
+                  (ap (flag j) (get_or-set_same filled g f no_page (omega (arith, within_alone, is.size))) ∙ own j)
               | inr other ↦
                   ap (flag j) (get_or-set_other filled g h f no_page other)
                   ∙ told_still h j (λ within. any_same p (rows_from lists h j (oldest j (numbers_at numbers h)) 4) (lacks h j l here (λ s e. groups_apart g h j k s l other (e ∙ at))))
@@ -332,3 +294,8 @@ module _ (lists new : List (List ℕ)) (numbers : List Numbers) (filled : List F
             found
             ∙ ap (λ (i : ℕ). has_any (rows_from new g k i 4)) least
             ∙ ap has_any (sym (row_at new numbers g k within_alone))
+
+        own : (j : Kind) → flag j (with_flag k still (filled_at filled g)) ≡ has_any (row_of j (gens_at (groups_from new 0 numbers) g)).pages
+        own =
+            each_of (λ j b. b ≡ has_any (row_of j (gens_at (groups_from new 0 numbers) g)).pages) k still (filled_at filled g).anon (filled_at filled g).file seen (λ j differs.
+            told_still g j (λ within. any_same p (rows_from lists g j (oldest j (numbers_at numbers g)) 4) (lacks g j l here (λ s e. kinds_apart g g j k s l differs (e ∙ at)))))

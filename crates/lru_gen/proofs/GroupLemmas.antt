@@ -1,16 +1,15 @@
 -- The lists of all groups: how many there are, and what each is read from.
-use Rattle.std.proofs.Common.{◌≡◌, ◌≢◌, ℕ, zero, suc, ◌+◌, ◌*◌, ◌<◌, ◌≤◌, List, [], ◌∷◌, ◌++◌, length, get_or, set, refl, sym, ap, subst, ◌∙◌, arith, inl, inr, replicate, ◌-◌, length-set}
-use Rattle.std.proofs.lemmas.List.{get_or-set_same, get_or-set_other, ext_get_or, get_or_read, get_or_past, get_or_append_left, get_or-append_right, get_or-replicate, length-replicate}
+use Rattle.std.proofs.Common.{◌≡◌, ◌≢◌, ℕ, zero, suc, ◌+◌, ◌*◌, ◌<◌, List, [], ◌∷◌, ◌++◌, length, get_or, set, refl, sym, ap, subst, ◌∙◌, arith, inl, inr, replicate, ◌-◌, length-set}
+use Rattle.std.proofs.lemmas.List.{get_or-set_same, get_or-set_other, ext_get_or, get_or_past, get_or_append_left, get_or-append_right, get_or-replicate, length-replicate}
 use Rattle.std.proofs.lemmas.Bool.{cases_eq, cases_lt}
 use Rattle.machine.specs.declared.record.Kind.{Kind}
 use Rattle.machine.specs.declared.record.Kind.TheVariants.{Anon, File}
-use Rattle.machine.specs.Generations.{Listed, Row, Gens, new_gens, gens_at, row_of}
+use Rattle.machine.specs.Generations.{Row, Gens, new_gens, gens_at, row_of}
 use Rattle.rings.specs.Rings.{list_at}
 use Rattle.lru_gen.specs.declared.numbers.Numbers.{Numbers}
-use Rattle.lru_gen.specs.Gens.{GensOf, gens_of, sets}
 use Rattle.lru_gen.specs.Lists.{slot}
-use Rattle.lru_gen.specs.Rows.{first_numbers, numbers_at, oldest, with_oldest, rows_from, gens_from, groups_from, IsWindow, IsTable}
-use Rattle.lru_gen.proofs.SlotLemmas.{slot_within}
+use Rattle.lru_gen.specs.Rows.{first_numbers, numbers_at, oldest, rows_from, row_in, gens_from, groups_from, IsWindow, IsTable}
+use Rattle.lru_gen.proofs.KindLemmas.{row_by, both_rows}
 use Rattle.lru_gen.proofs.RowLemmas.{rows_same}
 
 pub length_groups : (lists : List (List ℕ)) (g : ℕ) (numbers : List Numbers) → length (groups_from lists g numbers) ≡ length numbers
@@ -31,15 +30,17 @@ group_at lists numbers g within =
     let at : 0 + g ≡ g = omega arith in
     group_from lists 0 numbers g within ∙ ap (λ (h : ℕ). gens_from lists h (numbers_at numbers g)) at
 
-pub same_rows : (n : Numbers) (a b c d : List Listed) → a ≡ b → c ≡ d → (let gens : Gens = record { max_seq = n.max_seq; anon = record { min_seq = n.anon_min_seq; pages = a }; file = record { min_seq = n.file_min_seq; pages = c } } in gens) ≡ record { max_seq = n.max_seq; anon = record { min_seq = n.anon_min_seq; pages = b }; file = record { min_seq = n.file_min_seq; pages = d } }
-same_rows n a b c d first second = cc
+-- a row as its lists and numbers give it
+pub row_from : (k : Kind) (lists : List (List ℕ)) (g : ℕ) (n : Numbers) → row_of k (gens_from lists g n) ≡ row_in lists g k (oldest k n)
+row_from Anon lists g n = refl
+row_from File lists g n = refl
 
 -- a group's lists stay as far as its own lists do
 pub group_same : (old new : List (List ℕ)) (g : ℕ) (n : Numbers) → ((k : Kind) (s : ℕ) → list_at new (slot g k s) ≡ list_at old (slot g k s)) → gens_from new g n ≡ gens_from old g n
-group_same old new g n same =
-    let anon = rows_same g Anon old new n.anon_min_seq 4 (λ s low high. same Anon s) in
-    let file = rows_same g File old new n.file_min_seq 4 (λ s low high. same File s) in
-    same_rows n _ _ _ _ anon file
+group_same old new g n same = both_rows (row Anon (oldest Anon n)) (row File (oldest File n))
+  where
+    row : (k : Kind) (least : ℕ) → row_in new g k least ≡ row_in old g k least
+    row k least = row_by least (rows_same g k old new least 4 (λ s low high. same k s))
 
 pub rows_none : (lists : List (List ℕ)) (g : ℕ) (k : Kind) (q n : ℕ) → ((s : ℕ) → list_at lists (slot g k s) ≡ []) → rows_from lists g k q n ≡ []
 unfolding rows_from
@@ -47,33 +48,18 @@ rows_none lists g k q zero none = refl
 rows_none lists g k q (suc n) none = rw (none q) (rows_none lists g k (q + 1) n none)
 
 pub new_group : (lists : List (List ℕ)) (g : ℕ) → ((k : Kind) (s : ℕ) → list_at lists (slot g k s) ≡ []) → gens_from lists g first_numbers ≡ new_gens
-new_group lists g none =
-    same_rows first_numbers _ [] _ [] (rows_none lists g Anon 0 4 (none Anon)) (rows_none lists g File 0 4 (none File))
-
--- ---- what a contract sees
-
-pub within_numbers : (seen : GensOf) (lists : List (List ℕ)) (numbers : List Numbers) (pages room g : ℕ) → record { groups = groups_from lists 0 numbers; pages = pages; room = room } ≡ seen → g < length seen.groups → g < length numbers
-within_numbers seen lists numbers pages room g is within =
-    let same = ap (λ (v : GensOf). length v.groups) is in
-    omega (arith, length_groups lists 0 numbers)
-
-pub seen_at : (seen : GensOf) (lists : List (List ℕ)) (numbers : List Numbers) (pages room g : ℕ) → record { groups = groups_from lists 0 numbers; pages = pages; room = room } ≡ seen → g < length seen.groups → gens_from lists g (numbers_at numbers g) ≡ gens_of seen g
-seen_at seen lists numbers pages room g is within =
-    sym (group_at lists numbers g (within_numbers seen lists numbers pages room g is within))
-    ∙ ap (λ (v : GensOf). gens_of v g) is
-
-pub same_seen : (a b : List Gens) (c d e f : ℕ) → a ≡ b → c ≡ d → e ≡ f → (let v : GensOf = record { groups = a; pages = c; room = e } in v) ≡ record { groups = b; pages = d; room = f }
-same_seen a b c d e f groups pages room = cc
+new_group lists g none = both_rows (row_by 0 (rows_none lists g Anon 0 4 (none Anon))) (row_by 0 (rows_none lists g File 0 4 (none File)))
 
 -- ---- one group has other numbers and other lists, and the others keep theirs
 
 pub record Changes (old new : List (List ℕ)) (numbers : List Numbers) (g : ℕ) (n : Numbers) (to : Gens → Gens) : Type 0 where
+  pub within : g < length numbers
   pub size : length new ≡ length old
   pub others : (h : ℕ) → h ≢ g → (k : Kind) (s : ℕ) → list_at new (slot h k s) ≡ list_at old (slot h k s)
-  pub windows : (k : Kind) → IsWindow new g k n
+  pub windows : (k : Kind) → IsWindow new g k (oldest k n) n.max_seq
   pub gens : gens_from new g n ≡ to (gens_from old g (numbers_at numbers g))
 
-module _ (old new : List (List ℕ)) (numbers : List Numbers) (g : ℕ) (within : g < length numbers) (n : Numbers) (to : Gens → Gens) (change : Changes old new numbers g n to) (after : List Numbers) (renumbered : after ≡ set numbers g n) where
+module _ {old new : List (List ℕ)} {numbers : List Numbers} {g : ℕ} {n : Numbers} {to : Gens → Gens} (change : Changes old new numbers g n to) where
   table_after : IsTable old numbers → IsTable new (set numbers g n)
   table_after is =
       let long = length-set numbers g n in
@@ -83,12 +69,12 @@ module _ (old new : List (List ℕ)) (numbers : List Numbers) (g : ℕ) (within 
         windows = λ h inside k.
             elim (cases_eq h g) [
               | inl same ↦
-                  subst (λ (i : ℕ). IsWindow new i k (numbers_at (set numbers g n) i)) (sym same)
-                  (subst (λ (m : Numbers). IsWindow new g k m) (sym (get_or-set_same numbers g n first_numbers within)) (change.windows k))
+                  subst (λ (i : ℕ). IsWindow new i k (oldest k (numbers_at (set numbers g n) i)) (numbers_at (set numbers g n) i).max_seq) (sym same)
+                  (subst (λ (m : Numbers). IsWindow new g k (oldest k m) m.max_seq) (sym (get_or-set_same numbers g n first_numbers change.within)) (change.windows k))
               | inr other ↦
                   let kept = get_or-set_other numbers g h n first_numbers other in
                   let was = is.windows h (omega arith) k in
-                  subst (λ (m : Numbers). IsWindow new h k m) (sym kept) (record {
+                  subst (λ (m : Numbers). IsWindow new h k (oldest k m) m.max_seq) (sym kept) (record {
                     two = was.two;
                     four = was.four;
                     unused = λ s above below. change.others h other k s ∙ was.unused s above below;
@@ -96,25 +82,23 @@ module _ (old new : List (List ℕ)) (numbers : List Numbers) (g : ℕ) (within 
             ];
       }
 
-  pub table_stays : IsTable old numbers → IsTable new after
-  table_stays is = subst (λ (ns : List Numbers). IsTable new ns) (sym renumbered) (table_after is)
-
   groups_become : groups_from new 0 (set numbers g n) ≡ set (groups_from old 0 numbers) g (to (gens_at (groups_from old 0 numbers) g))
   groups_become =
       let before = groups_from old 0 numbers in
       let own = to (gens_at before g) in
+      let inside = change.within in
       let long = length-set numbers g n in
       let many = length_groups old 0 numbers in
       let many_after = length_groups new 0 (set numbers g n) in
       let longer = length-set before g own in
-      ext_get_or new_gens (groups_from new 0 (set numbers g n)) (set before g own) (omega arith) (λ i inside.
+      ext_get_or new_gens (groups_from new 0 (set numbers g n)) (set before g own) (omega arith) (λ i among.
       elim (cases_eq i g) [
         | inl same ↦
             subst (λ (j : ℕ). gens_at (groups_from new 0 (set numbers g n)) j ≡ gens_at (set before g own) j) (sym same)
             (group_at new (set numbers g n) g (omega arith)
-            ∙ ap (λ (m : Numbers). gens_from new g m) (get_or-set_same numbers g n first_numbers within)
+            ∙ ap (λ (m : Numbers). gens_from new g m) (get_or-set_same numbers g n first_numbers inside)
             ∙ change.gens
-            ∙ ap to (sym (group_at old numbers g within))
+            ∙ ap to (sym (group_at old numbers g inside))
             ∙ sym (get_or-set_same before g own new_gens (omega arith)))
         | inr other ↦
             group_at new (set numbers g n) i (omega arith)
@@ -124,34 +108,11 @@ module _ (old new : List (List ℕ)) (numbers : List Numbers) (g : ℕ) (within 
             ∙ sym (get_or-set_other before g i own new_gens other)
       ])
 
-  pub groups_after : groups_from new 0 after ≡ set (groups_from old 0 numbers) g (to (gens_at (groups_from old 0 numbers) g))
-  groups_after = ap (groups_from new 0) renumbered ∙ groups_become
+  pub table_stays : {after : List Numbers} → after ≡ set numbers g n → IsTable old numbers → IsTable new after
+  table_stays renumbered is = subst (λ (ns : List Numbers). IsTable new ns) (sym renumbered) (table_after is)
 
-  pub seen_becomes : (seen : GensOf) (pages room pages_after room_after : ℕ) → record { groups = groups_from old 0 numbers; pages = pages; room = room } ≡ seen → pages_after ≡ pages → room_after ≡ room → record { groups = groups_from new 0 after; pages = pages_after; room = room_after } ≡ sets seen g (to (gens_of seen g))
-  seen_becomes seen pages room pages_after room_after is same_pages same_room =
-      subst (λ (v : GensOf). record { groups = groups_from new 0 after; pages = pages_after; room = room_after } ≡ sets v g (to (gens_of v g))) is
-      (same_seen _ _ _ _ _ _ groups_after same_pages same_room)
-
--- ---- what the code reads and writes
-
--- what is read at a group's number is what stands there
-pub read_at : (numbers : List Numbers) (g : ℕ) (found : Numbers) → g < length numbers → found ≡ get_or numbers g found → found ≡ numbers_at numbers g
-read_at numbers g found within read = get_or_read numbers g found within read first_numbers
-
-pub few_groups : (lists : List (List ℕ)) (numbers : List Numbers) (g : ℕ) → IsTable lists numbers → g < length numbers → g < 268435456
-few_groups lists numbers g is within = omega (arith, is.few)
-
-pub slot_among : (lists : List (List ℕ)) (numbers : List Numbers) (g : ℕ) (k : Kind) (seq : ℕ) → IsTable lists numbers → g < length numbers → slot g k seq < length lists
-slot_among lists numbers g k seq is within = let small = slot_within g (length numbers) seq k within in omega (arith, is.count)
-
-pub raised_number : (numbers : List Numbers) (g : ℕ) (k : Kind) (least : ℕ) (found n : Numbers) → found ≡ numbers_at numbers g → least ≡ oldest k found → n ≡ with_oldest k (least + 1) found → n ≡ with_oldest k (oldest k (numbers_at numbers g) + 1) (numbers_at numbers g)
-raised_number numbers g k least found n read least_of set_to =
-    set_to ∙ ap (λ (m : ℕ). with_oldest k (m + 1) found) least_of ∙ ap (λ (m : Numbers). with_oldest k (oldest k m + 1) m) read
-
--- a row as its lists and numbers give it
-pub row_from : (k : Kind) (lists : List (List ℕ)) (g : ℕ) (n : Numbers) → row_of k (gens_from lists g n) ≡ record { min_seq = oldest k n; pages = rows_from lists g k (oldest k n) 4 }
-row_from Anon lists g n = refl
-row_from File lists g n = refl
+  pub groups_after : {after : List Numbers} → after ≡ set numbers g n → groups_from new 0 after ≡ set (groups_from old 0 numbers) g (to (gens_at (groups_from old 0 numbers) g))
+  groups_after renumbered = ap (groups_from new 0) renumbered ∙ groups_become
 
 -- the pages of a row of the table
 pub row_at : (lists : List (List ℕ)) (numbers : List Numbers) (g : ℕ) (k : Kind) → g < length numbers → (row_of k (gens_at (groups_from lists 0 numbers) g)).pages ≡ rows_from lists g k (oldest k (numbers_at numbers g)) 4
@@ -199,6 +160,3 @@ grown lists numbers n count =
     groups_same lists (lists ++ replicate n []) (list_kept lists n) 0 (numbers ++ first_numbers ∷ [])
     ∙ groups_append lists 0 numbers (first_numbers ∷ [])
     ∙ ap (λ (last : Gens). groups_from lists 0 numbers ++ last ∷ []) (new_group lists h none)
-
-pub lists_among : (lists : List (List ℕ)) (numbers : List Numbers) (g : ℕ) → IsTable lists numbers → g < length numbers → g * 8 + 8 ≤ length lists
-lists_among lists numbers g is within = omega (arith, is.count)

@@ -1,3 +1,4 @@
+pub mod KindLemmas
 pub mod SlotLemmas
 pub mod RowLemmas
 pub mod GroupLemmas
@@ -7,3 +8,4 @@ pub mod SoundLemmas
 pub mod SearchLemmas
 pub mod LinkLemmas
 pub mod FilledLemmas
+pub mod SeenLemmas

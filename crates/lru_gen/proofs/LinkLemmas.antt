@@ -11,7 +11,6 @@ use Rattle.rings.specs.declared.ring_node.RingNode.{RingNode}
 use Rattle.rings.specs.RingNodes.{head_node}
 use Rattle.rings.specs.Rings.{list_at, last_node, IsLinkOf, KeepsLinksBut}
 use Rattle.lru_gen.specs.declared.numbers.Numbers.{Numbers}
-use Rattle.lru_gen.specs.Gens.{GensOf}
 use Rattle.lru_gen.specs.Lists.{slot, on_turn, lists_of, KeepsLinksOfMerge}
 use Rattle.lru_gen.specs.Rows.{in_seq, rows_from, groups_from, IsTable}
 use Rattle.lru_gen.proofs.SlotLemmas.{in_turn}
@@ -96,25 +95,22 @@ lists_told lists numbers is =
     let at : i ≡ 0 * 8 + i = omega arith in
     ap (λ (l : ℕ). list_at lists l) at ∙ sym (look_up lists 0 numbers i (omega (arith, is.count))))
 
-pub lists_seen : (seen : GensOf) (lists : List (List ℕ)) (numbers : List Numbers) (pages room : ℕ) → record { groups = groups_from lists 0 numbers; pages = pages; room = room } ≡ seen → IsTable lists numbers → lists ≡ lists_of seen.groups
-lists_seen seen lists numbers pages room view is = lists_told lists numbers is ∙ ap (λ (v : GensOf). lists_of v.groups) view
-
 -- ---- which links change
 
-pub few_of_add : (page : RingNode) (l m : ℕ) (a b c d : List (List ℕ)) → l ≡ m → a ≡ b → c ≡ d → KeepsLinksBut (page ∷ head_node l ∷ last_node l (list_at a l) ∷ []) a c → KeepsLinksBut (page ∷ head_node m ∷ last_node m (list_at b m) ∷ []) b d
-few_of_add page l m a b c d list old new few =
+pub few_of_add : (page : RingNode) {l m : ℕ} {a b c d : List (List ℕ)} → l ≡ m → a ≡ b → c ≡ d → KeepsLinksBut (page ∷ head_node l ∷ last_node l (list_at a l) ∷ []) a c → KeepsLinksBut (page ∷ head_node m ∷ last_node m (list_at b m) ∷ []) b d
+few_of_add page {l} {m} {a} {b} {c} {d} list old new few =
     subst (λ (x : ℕ). KeepsLinksBut (page ∷ head_node x ∷ last_node x (list_at b x) ∷ []) b d) list
     (subst (λ (ls : List (List ℕ)). KeepsLinksBut (page ∷ head_node l ∷ last_node l (list_at ls l) ∷ []) ls d) old
     (subst (λ (ls : List (List ℕ)). KeepsLinksBut (page ∷ head_node l ∷ last_node l (list_at a l) ∷ []) a ls) new few))
 
-pub few_of_isolate : (page : RingNode) (a b c d : List (List ℕ)) → a ≡ b → c ≡ d → ((link : Link) → IsLinkOf a page link → KeepsLinksBut (page ∷ link.prev ∷ link.next ∷ []) a c) → (link : Link) → IsLinkOf b page link → KeepsLinksBut (page ∷ link.prev ∷ link.next ∷ []) b d
-few_of_isolate page a b c d old new few link is =
+pub few_of_isolate : (page : RingNode) {a b c d : List (List ℕ)} → a ≡ b → c ≡ d → ((link : Link) → IsLinkOf a page link → KeepsLinksBut (page ∷ link.prev ∷ link.next ∷ []) a c) → (link : Link) → IsLinkOf b page link → KeepsLinksBut (page ∷ link.prev ∷ link.next ∷ []) b d
+few_of_isolate page {a} {b} {c} {d} old new few link is =
     subst (λ (ls : List (List ℕ)). KeepsLinksBut (page ∷ link.prev ∷ link.next ∷ []) ls d) old
     (subst (λ (ls : List (List ℕ)). KeepsLinksBut (page ∷ link.prev ∷ link.next ∷ []) a ls) new
     (few link (subst (λ (ls : List (List ℕ)). IsLinkOf ls page link) (sym old) is)))
 
-pub few_of_merge : (l m k n : ℕ) (a b c d : List (List ℕ)) → l ≡ m → k ≡ n → a ≡ b → c ≡ d → KeepsLinksOfMerge a c l k → KeepsLinksOfMerge b d m n
-few_of_merge l m k n a b c d source target old new few =
+pub few_of_merge : {l m k n : ℕ} {a b c d : List (List ℕ)} → l ≡ m → k ≡ n → a ≡ b → c ≡ d → KeepsLinksOfMerge a c l k → KeepsLinksOfMerge b d m n
+few_of_merge {l} {m} {k} {n} {a} {b} {c} {d} source target old new few =
     subst (λ (x : ℕ). KeepsLinksOfMerge b d x n) source
     (subst (λ (x : ℕ). KeepsLinksOfMerge b d l x) target
     (subst (λ (ls : List (List ℕ)). KeepsLinksOfMerge ls d l k) old

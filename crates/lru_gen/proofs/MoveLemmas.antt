@@ -6,14 +6,14 @@ use Rattle.machine.specs.declared.record.Kind.{Kind}
 use Rattle.machine.specs.declared.record.Kind.TheVariants.{Anon, File}
 use Rattle.machine.specs.Generations.{Listed, Gens, new_gens, taken_in, taken_over, emptied, handed_over, gens_at, with_gens}
 use Rattle.rings.specs.Rings.{list_at}
+use Rattle.rings.proofs.RingLemmas.{moved_length, moved_source, moved_target, moved_other}
 use Rattle.lru_gen.specs.declared.numbers.Numbers.{Numbers}
-use Rattle.lru_gen.specs.Gens.{GensOf}
 use Rattle.lru_gen.specs.Lists.{slot}
-use Rattle.lru_gen.specs.Rows.{numbers_at, oldest, in_seq, rows_from, gens_from, groups_from, IsTable, HaveMoved}
-use Rattle.lru_gen.proofs.SlotLemmas.{anon_is_no_file, file_is_no_anon, slots_apart, slots_near, same_slot, groups_apart, kinds_apart, in_turn}
+use Rattle.lru_gen.specs.Rows.{numbers_at, oldest, in_seq, rows_from, row_in, gens_from, groups_from, IsTable, HaveMoved}
+use Rattle.lru_gen.proofs.KindLemmas.{anon_is_no_file, file_is_no_anon, row_by, both_rows}
+use Rattle.lru_gen.proofs.SlotLemmas.{slots_apart, slots_near, same_slot, groups_apart, kinds_apart, in_turn}
 use Rattle.lru_gen.proofs.RowLemmas.{rows_same, rows_split, rows_taken}
-use Rattle.lru_gen.proofs.GroupLemmas.{length_groups, group_at, same_rows, same_seen, group_same, rows_none}
-use Rattle.lru_gen.proofs.ChangeLemmas.{joined_size, joined_source, joined_target, joined_others}
+use Rattle.lru_gen.proofs.GroupLemmas.{length_groups, group_at, group_same, rows_none}
 
 -- ---- one type, list by list
 
@@ -44,24 +44,24 @@ module _ (from to : ℕ) (k : Kind) (low seq : ℕ) (apart : from ≢ to) where
   pub one_moved : (old mid new : List (List ℕ)) (n source target : ℕ) → n < 4 → HaveMoved old mid from to k low n seq → source ≡ slot from k (low % 4 + n) → target ≡ slot to k seq → source < length mid → target < length mid → new ≡ set (set mid target (list_at mid target ++ list_at mid source)) source [] → HaveMoved old new from to k low (n + 1) seq
   one_moved old mid new n source target less so_far from_is to_is inside inside_too becomes =
       record {
-        size = joined_size mid new source target both differ becomes ∙ so_far.size;
+        size = moved_length mid new source target both differ becomes ∙ so_far.size;
         taken =
-            ap (list_at new) (sym to_is) ∙ joined_target mid new source target both differ becomes inside_too
+            ap (list_at new) (sym to_is) ∙ moved_target mid new source target both differ becomes inside_too target refl
             ∙ ap (λ (ps : List ℕ). ps ++ list_at mid source) (ap (list_at mid) to_is ∙ so_far.taken)
             ∙ ap (λ (ps : List ℕ). (list_at old (slot to k seq) ++ before) ++ ps) source_was
             ∙ append_assoc (list_at old (slot to k seq)) before (list_at old (slot from k (low + n)))
             ∙ ap (λ (ps : List ℕ). list_at old (slot to k seq) ++ ps) (sym (row_and_next old n));
         emptied = λ turn within.
             elim (cases_eq turn n) [
-              | inl last ↦ ap (λ (t : ℕ). list_at new (slot from k (low + t))) last ∙ ap (list_at new) (sym source_is) ∙ joined_source mid new source target both differ becomes inside
+              | inl last ↦ ap (λ (t : ℕ). list_at new (slot from k (low + t))) last ∙ ap (list_at new) (sym source_is) ∙ moved_source mid new source target both differ becomes inside source refl
               | inr earlier ↦
-                  joined_others mid new source target both differ becomes (slot from k (low + turn))
+                  moved_other mid new source target both differ becomes (slot from k (low + turn))
                   (λ same. slots_near from k low (low + turn) (low + n) (omega arith) (omega arith) (omega arith) (omega arith) (λ e. earlier (omega arith)) (same ∙ source_is))
                   (λ same. groups_apart to from k k (low + turn) seq apart (same ∙ to_is))
                   ∙ so_far.emptied turn (omega arith)
             ];
         others = λ l not_target not_source.
-            joined_others mid new source target both differ becomes l (λ same. not_source n (omega arith) (same ∙ source_is)) (λ same. not_target (same ∙ to_is))
+            moved_other mid new source target both differ becomes l (λ same. not_source n (omega arith) (same ∙ source_is)) (λ same. not_target (same ∙ to_is))
             ∙ so_far.others l not_target (λ turn within. not_source turn (omega arith));
       }
     where
@@ -84,8 +84,8 @@ module _ (from to : ℕ) (k : Kind) (low seq : ℕ) (apart : from ≢ to) where
           (λ turn within. slots_near from k low (low + n) (low + turn) (omega arith) (omega arith) (omega arith) (omega arith) (λ e. omega arith))
 
 -- by the numbers that were read
-pub moved_by : (old new : List (List ℕ)) (from to : ℕ) (k : Kind) (low low' seq seq' : ℕ) → low ≡ low' → seq ≡ seq' → HaveMoved old new from to k low 4 seq → HaveMoved old new from to k low' 4 seq'
-moved_by old new from to k low low' seq seq' least same moved =
+pub moved_by : {old new : List (List ℕ)} {from to : ℕ} {k : Kind} {low low' seq seq' : ℕ} → low ≡ low' → seq ≡ seq' → HaveMoved old new from to k low 4 seq → HaveMoved old new from to k low' 4 seq'
+moved_by {old} {new} {from} {to} {k} {low} {low'} {seq} {seq'} least same moved =
     subst (λ (n : ℕ). HaveMoved old new from to k n 4 seq') least (subst (λ (n : ℕ). HaveMoved old new from to k low 4 n) same moved)
 
 -- ---- all lists of one type
@@ -203,19 +203,17 @@ module _ (lists mid new : List (List ℕ)) (numbers : List Numbers) (is : IsTabl
       at_from : gens_at (groups_from new 0 numbers) from ≡ gens_at (handed_over from to before) from
       at_from =
           group_at new numbers from here
-          ∙ same_rows (numbers_at numbers from) _ [] _ [] (rows_none new from Anon (numbers_at numbers from).anon_min_seq 4 (λ s. (of_type Anon).emptied s)) (rows_none new from File (numbers_at numbers from).file_min_seq 4 (λ s. (of_type File).emptied s))
+          ∙ both_rows (none Anon (numbers_at numbers from).anon_min_seq) (none File (numbers_at numbers from).file_min_seq)
           ∙ ap emptied (sym (group_at lists numbers from here))
           ∙ sym (get_or-set_same first from gone new_gens (subst (λ (m : ℕ). from < m) (sym (length-set before to taken ∙ length_groups lists 0 numbers)) here))
+        where
+          none : (k : Kind) (least : ℕ) → row_in new from k least ≡ record { min_seq = least; pages = [] }
+          none k least = row_by least (rows_none new from k least 4 (of_type k).emptied)
 
       at_to : gens_at (groups_from new 0 numbers) to ≡ gens_at (handed_over from to before) to
       at_to =
           group_at new numbers to there
-          ∙ same_rows (numbers_at numbers to) _ _ _ _ (row_moved Anon) (row_moved File)
+          ∙ both_rows (row_by _ (row_moved Anon)) (row_by _ (row_moved File))
           ∙ ap (λ (x : Gens). taken_over (gens_from lists from (numbers_at numbers from)) x) (sym (group_at lists numbers to there))
           ∙ ap (λ (x : Gens). taken_over x (gens_at before to)) (sym (group_at lists numbers from here))
           ∙ sym (get_or-set_other first from to gone new_gens (λ e. apart (sym e)) ∙ get_or-set_same before to taken new_gens (subst (λ (m : ℕ). to < m) (sym (length_groups lists 0 numbers)) there))
-
-  pub seen_moved : (seen : GensOf) (pages room pages_after room_after : ℕ) → record { groups = groups_from lists 0 numbers; pages = pages; room = room } ≡ seen → pages_after ≡ pages → room_after ≡ room → record { groups = groups_from new 0 numbers; pages = pages_after; room = room_after } ≡ record seen { groups = handed_over from to seen.groups }
-  seen_moved seen pages room pages_after room_after view same_pages same_room =
-      subst (λ (v : GensOf). record { groups = groups_from new 0 numbers; pages = pages_after; room = room_after } ≡ record v { groups = handed_over from to v.groups }) view
-      (same_seen _ _ _ _ _ _ groups_moved same_pages same_room)

@@ -7,6 +7,7 @@ use Rattle.machine.specs.declared.record.Kind.{Kind}
 use Rattle.machine.specs.declared.record.Kind.TheVariants.{Anon, File}
 use Rattle.machine.specs.declared.id.PageId.{PageId}
 use Rattle.machine.specs.Generations.{Listed, has_page, after_in}
+use Rattle.machine.proofs.ListedLemmas.{has_page-append}
 use Rattle.rings.specs.declared.ring_node.Link.{Link}
 use Rattle.rings.specs.declared.ring_node.ListId.{ListId}
 use Rattle.rings.specs.declared.ring_node.RingNode.TheVariants.{Head}
@@ -18,7 +19,7 @@ use Rattle.lru_gen.specs.Rows.{in_seq, rows_from}
 use Rattle.lru_gen.specs.Filled.{has_any}
 use Rattle.lru_gen.proofs.SlotLemmas.{same_slot, slots_apart}
 use Rattle.lru_gen.proofs.RowLemmas.{rows_less, rows_split}
-use Rattle.lru_gen.proofs.SoundLemmas.{has_list, has_append, row_stands}
+use Rattle.lru_gen.proofs.SoundLemmas.{has_list, row_stands}
 
 -- ---- the first page from a turn on
 
@@ -121,7 +122,7 @@ module _ (lists : List (List ℕ)) (apart : AreApart lists) (g : ℕ) (k : Kind)
       let not_before : has before p ≡ false =
       none_before p before after (subst (λ (ps : List ℕ). IsDistinct eqb ps) stands (apart.once (slot g k s))) in
       let not_first : has_page p (early ++ first) ≡ false =
-      has_append p early first ∙ ap (λ (b : Bool). b || has_page p first) not_early ∙ has_list p s before ∙ not_before in
+      has_page-append p early first ∙ ap (λ (b : Bool). b || has_page p first) not_early ∙ has_list p s before ∙ not_before in
       let whole : rows_from lists g k q 4 ≡ (early ++ first) ++ in_seq s p ∷ (map (in_seq s) after ++ late) =
       ap (rows_from lists g k q) (sym many)
       ∙ rows_split g k lists q m (suc n)

@@ -1,22 +1,10 @@
 -- Where the generations stand among the lists.
-use Rattle.std.proofs.Common.{◌≡◌, ◌≢◌, ◌⊎◌, ℕ, ◌+◌, ◌-◌, ◌*◌, ◌/◌, ◌%◌, ◌<◌, ◌≤◌, arith, refl, sym, inl, inr}
+use Rattle.std.proofs.Common.{◌≡◌, ◌≢◌, ℕ, ◌+◌, ◌-◌, ◌*◌, ◌/◌, ◌%◌, ◌<◌, ◌≤◌, arith, refl, sym, inl, inr}
 use Rattle.std.proofs.lemmas.Bool.{cases_lt, cases_order}
 use Rattle.machine.specs.declared.record.Kind.{Kind}
 use Rattle.machine.specs.declared.record.Kind.TheVariants.{Anon, File}
 use Rattle.machine.specs.Generations.{of_kind}
 use Rattle.lru_gen.specs.Lists.{slot}
-
-pub anon_is_no_file : Anon ≢ File
-anon_is_no_file same = cc
-
-pub file_is_no_anon : File ≢ Anon
-file_is_no_anon same = cc
-
-pub cases_kind : (k j : Kind) → (k ≡ j) ⊎ (k ≢ j)
-cases_kind Anon Anon = inl refl
-cases_kind Anon File = inr anon_is_no_file
-cases_kind File Anon = inr file_is_no_anon
-cases_kind File File = inl refl
 
 kind_small : (k : Kind) → of_kind k 0 4 ≤ 4
 kind_small Anon = omega arith
@@ -53,17 +41,17 @@ pub same_slot : (g : ℕ) (k : Kind) (a b : ℕ) → a % 4 ≡ b % 4 → slot g 
 same_slot g k a b same = omega arith
 
 -- no list is that of two groups, or of two types
+pub one_slot : (g h : ℕ) (k j : Kind) (s t : ℕ) → slot h k s ≡ slot g j t → (h ≡ g) × (k ≡ j)
+one_slot g h Anon Anon s t same = (omega arith, refl)
+one_slot g h Anon File s t same = absurd (omega arith)
+one_slot g h File Anon s t same = absurd (omega arith)
+one_slot g h File File s t same = (omega arith, refl)
+
 pub groups_apart : (g h : ℕ) (k j : Kind) (s t : ℕ) → h ≢ g → slot h k s ≢ slot g j t
-groups_apart g h k j s t apart same =
-    let small = kind_small k in
-    let small_too = kind_small j in
-    apart (omega arith)
+groups_apart g h k j s t apart same = apart (one_slot g h k j s t same).0
 
 pub kinds_apart : (g h : ℕ) (k j : Kind) (s t : ℕ) → k ≢ j → slot g k s ≢ slot h j t
-kinds_apart g h Anon Anon s t apart same = apart refl
-kinds_apart g h Anon File s t apart same = omega arith
-kinds_apart g h File Anon s t apart same = omega arith
-kinds_apart g h File File s t apart same = apart refl
+kinds_apart g h k j s t apart same = apart (one_slot h g k j s t same).1
 
 -- where a list stands: of which group, type and turn
 pub record HasSlot (l : ℕ) : Type 0 where

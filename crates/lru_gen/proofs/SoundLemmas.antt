@@ -1,21 +1,21 @@
 -- What holds of all lists, from what holds of rings: no page stands in two of them, or twice in one.
-use Rattle.std.proofs.Common.{◌≡◌, ◌||◌, ℕ, zero, suc, ◌+◌, ◌<◌, ◌≤◌, Bool, true, false, List, [], ◌∷◌, ◌++◌, length, map, eqb, refl, sym, ap, subst, ◌∙◌, arith, inl, inr}
+use Rattle.std.proofs.Common.{◌≡◌, ℕ, zero, suc, ◌+◌, ◌<◌, ◌≤◌, Bool, true, false, List, [], ◌∷◌, ◌++◌, length, map, eqb, refl, sym, ap, subst, ◌∙◌, arith, inl, inr}
 use Rattle.std.specs.List.{AllByRecursion, IsDistinct}
 use Rattle.std.proofs.lemmas.List.{get_or_past}
-use Rattle.std.proofs.lemmas.List.Folds.{list_any-append}
 use Rattle.std.proofs.lemmas.Bool.{cases_eq, cases_lt, or_cases, or_left, or_right, false≢true, false_from_ne_true, eq-eqb, ne_eqb}
 use Rattle.machine.specs.declared.record.Kind.{Kind}
 use Rattle.machine.specs.declared.record.Kind.TheVariants.{Anon, File}
 use Rattle.machine.specs.Generations.{Listed, Gens, new_gens, gens_at, has_page, is_listed, is_listed_in, IsRising, AreDistinct, IsRow, IsGens, AreGens}
+use Rattle.machine.proofs.ListedLemmas.{each-append, has_page-append, distinct-append}
 use Rattle.rings.specs.Rings.{list_at, has, AreApart}
 use Rattle.rings.specs.Rings as of_rings
 use Rattle.rings.proofs.ListLemmas.{listed_from, listed_in, list_within}
 use Rattle.lru_gen.specs.declared.numbers.Numbers.{Numbers}
-use Rattle.lru_gen.specs.Gens.{GensOf}
 use Rattle.lru_gen.specs.Lists.{slot}
-use Rattle.lru_gen.specs.Rows.{numbers_at, oldest, in_seq, rows_from, gens_from, groups_from, IsWindow, IsTable}
-use Rattle.lru_gen.proofs.SlotLemmas.{slots_apart, groups_apart, kinds_apart, same_slot, anon_is_no_file, slot_of, in_turn}
-use Rattle.lru_gen.proofs.GroupLemmas.{length_groups, group_at}
+use Rattle.lru_gen.specs.Rows.{numbers_at, oldest, in_seq, rows_from, row_in, gens_from, groups_from, IsWindow, IsTable}
+use Rattle.lru_gen.proofs.KindLemmas.{anon_is_no_file, row_listed, listed_row}
+use Rattle.lru_gen.proofs.SlotLemmas.{slots_apart, groups_apart, kinds_apart, same_slot, slot_of, in_turn}
+use Rattle.lru_gen.proofs.GroupLemmas.{length_groups, group_at, row_at}
 
 same_tests : (a b : Bool) → (a ≡ true → b ≡ true) → (b ≡ true → a ≡ true) → a ≡ b
 same_tests true true to from = refl
@@ -33,9 +33,6 @@ has_list p seq (q ∷ ps) =
       | inr other ↦ rw (ne_eqb p q other, ne_eqb q p (λ same. other (sym same))) (has_list p seq ps)
     ]
 
-pub has_append : (p : ℕ) (xs ys : List Listed) → has_page p (xs ++ ys) ≡ (has_page p xs || has_page p ys)
-has_append p xs ys = list_any-append (λ (l : Listed). eqb l.page p) xs ys
-
 -- a page stands on the list of a generation
 pub record Stands (lists : List (List ℕ)) (g : ℕ) (k : Kind) (p low high : ℕ) : Type 0 where
   pub seq : ℕ
@@ -49,7 +46,7 @@ module _ (lists : List (List ℕ)) (g : ℕ) (k : Kind) where
   row_stands p q zero h = absurd (false≢true h)
   row_stands p q (suc n) h =
       let here = list_at lists (slot g k q) in
-      elim (or_cases (has_page p (map (in_seq q) here)) (has_page p (rows_from lists g k (q + 1) n)) (sym (has_append p (map (in_seq q) here) (rows_from lists g k (q + 1) n)) ∙ h)) [
+      elim (or_cases (has_page p (map (in_seq q) here)) (has_page p (rows_from lists g k (q + 1) n)) (sym (has_page-append p (map (in_seq q) here) (rows_from lists g k (q + 1) n)) ∙ h)) [
         | inl first ↦ record { seq = q; from = omega arith; below = omega arith; there = sym (has_list p q here) ∙ first }
         | inr later ↦
             let found = row_stands p (q + 1) n later in
@@ -61,7 +58,7 @@ module _ (lists : List (List ℕ)) (g : ℕ) (k : Kind) where
   stands_row p q zero s low high h = absurd (omega arith)
   stands_row p q (suc n) s low high h =
       let here = list_at lists (slot g k q) in
-      has_append p (map (in_seq q) here) (rows_from lists g k (q + 1) n)
+      has_page-append p (map (in_seq q) here) (rows_from lists g k (q + 1) n)
       ∙ elim (cases_eq s q) [
         | inl same ↦
             or_left (has_page p (map (in_seq q) here)) (has_page p (rows_from lists g k (q + 1) n)) (has_list p q here ∙ subst (λ (i : ℕ). has (list_at lists (slot g k i)) p ≡ true) same h)
@@ -71,10 +68,6 @@ module _ (lists : List (List ℕ)) (g : ℕ) (k : Kind) where
 
   -- ---- the numbers along a row
 
-  each_append : (P : Listed → Type 0) (xs ys : List Listed) → AllByRecursion P xs → AllByRecursion P ys → AllByRecursion P (xs ++ ys)
-  each_append P [] ys h t = t
-  each_append P (x ∷ xs) ys h t = (h.0, each_append P xs ys h.1 t)
-
   each_of_list : (P : Listed → Type 0) (seq : ℕ) → ((p : ℕ) → P (in_seq seq p)) → (ps : List ℕ) → AllByRecursion P (map (in_seq seq) ps)
   each_of_list P seq each [] = tt
   each_of_list P seq each (p ∷ ps) = (each p, each_of_list P seq each ps)
@@ -83,12 +76,12 @@ module _ (lists : List (List ℕ)) (g : ℕ) (k : Kind) where
   unfolding rows_from
   row_each P q zero each = tt
   row_each P q (suc n) each =
-      each_append P (map (in_seq q) (list_at lists (slot g k q))) (rows_from lists g k (q + 1) n) (each q (omega arith) (omega arith)) (row_each P (q + 1) n (λ s low high. each s (omega arith) (omega arith)))
+      each-append P (map (in_seq q) (list_at lists (slot g k q))) (rows_from lists g k (q + 1) n) (each q (omega arith) (omega arith)) (row_each P (q + 1) n (λ s low high. each s (omega arith) (omega arith)))
 
   rising_front : (seq : ℕ) (ps : List ℕ) (ys : List Listed) → AllByRecursion (λ l. seq ≤ l.seq) ys → IsRising ys → IsRising (map (in_seq seq) ps ++ ys)
   rising_front seq [] ys low rising = rising
   rising_front seq (p ∷ ps) ys low rising =
-      (each_append (λ l. seq ≤ l.seq) (map (in_seq seq) ps) ys (each_of_list (λ l. seq ≤ l.seq) seq (λ q. omega arith) ps) low, rising_front seq ps ys low rising)
+      (each-append (λ l. seq ≤ l.seq) (map (in_seq seq) ps) ys (each_of_list (λ l. seq ≤ l.seq) seq (λ q. omega arith) ps) low, rising_front seq ps ys low rising)
 
   row_rising : (q n : ℕ) → IsRising (rows_from lists g k q n)
   unfolding rows_from
@@ -96,30 +89,20 @@ module _ (lists : List (List ℕ)) (g : ℕ) (k : Kind) where
   row_rising q (suc n) =
       rising_front q (list_at lists (slot g k q)) (rows_from lists g k (q + 1) n) (row_each (λ l. q ≤ l.seq) (q + 1) n (λ s low high. each_of_list (λ l. q ≤ l.seq) s (λ p. omega arith) (list_at lists (slot g k s)))) (row_rising (q + 1) n)
 
-  row_is : (n : Numbers) → IsWindow lists g k n → IsRow n.max_seq (record { min_seq = oldest k n; pages = rows_from lists g k (oldest k n) 4 })
-  row_is n window = record {
-    within = row_each (λ l. (oldest k n ≤ l.seq) × (l.seq ≤ n.max_seq)) (oldest k n) 4 (λ s low high.
-        elim (cases_lt n.max_seq s) [
+  row_is : (least top : ℕ) → IsWindow lists g k least top → IsRow top (row_in lists g k least)
+  row_is least top window = record {
+    within = row_each (λ l. (least ≤ l.seq) × (l.seq ≤ top)) least 4 (λ s low high.
+        elim (cases_lt top s) [
           | inl above ↦
-              subst (λ (ps : List ℕ). AllByRecursion (λ l. (oldest k n ≤ l.seq) × (l.seq ≤ n.max_seq)) (map (in_seq s) ps)) (sym (window.unused s above high)) tt
-          | inr within ↦
-              each_of_list (λ l. (oldest k n ≤ l.seq) × (l.seq ≤ n.max_seq)) s (λ p. (low, within)) (list_at lists (slot g k s))
+              subst (λ (ps : List ℕ). AllByRecursion (λ l. (least ≤ l.seq) × (l.seq ≤ top)) (map (in_seq s) ps)) (sym (window.unused s above high)) tt
+          | inr within ↦ each_of_list (λ l. (least ≤ l.seq) × (l.seq ≤ top)) s (λ p. (low, within)) (list_at lists (slot g k s))
         ]);
-    rising = row_rising (oldest k n) 4;
+    rising = row_rising least 4;
     two = window.two;
     four = window.four;
   }
 
 -- ---- no page twice
-
-distinct_append : (xs ys : List Listed) → AreDistinct xs → AreDistinct ys → ((p : ℕ) → has_page p xs ≡ true → has_page p ys ≡ false) → AreDistinct (xs ++ ys)
-distinct_append [] ys d e apart = e
-distinct_append (x ∷ xs) ys d e apart =
-    let not_later : has_page x.page (xs ++ ys) ≡ false =
-    has_append x.page xs ys
-    ∙ ap (λ (b : Bool). b || has_page x.page ys) d.0
-    ∙ apart x.page (or_left (eqb x.page x.page) (has_page x.page xs) (eq-eqb x.page x.page refl)) in
-    (not_later, distinct_append xs ys d.1 e (λ p h. apart p (or_right (eqb x.page p) (has_page p xs) h)))
 
 distinct_list : (seq : ℕ) (ps : List ℕ) → IsDistinct eqb ps → AreDistinct (map (in_seq seq) ps)
 unfolding IsDistinct
@@ -136,20 +119,20 @@ module _ (lists : List (List ℕ)) (apart : AreApart lists) where
   distinct_row g k q zero few = tt
   distinct_row g k q (suc n) few =
       let here = list_at lists (slot g k q) in
-      distinct_append (map (in_seq q) here) (rows_from lists g k (q + 1) n) (distinct_list q here (apart.once (slot g k q))) (distinct_row g k (q + 1) n (omega arith)) (λ p first.
+      distinct-append (map (in_seq q) here) (rows_from lists g k (q + 1) n) (distinct_list q here (apart.once (slot g k q))) (distinct_row g k (q + 1) n (omega arith)) (λ p first.
       false_from_ne_true (has_page p (rows_from lists g k (q + 1) n)) (λ later.
       let found = row_stands lists g k p (q + 1) n later in
       slots_apart g k q found.seq (omega (arith, found.from)) (omega (arith, found.below)) (apart.one p (slot g k q) (slot g k found.seq) (sym (has_list p q here) ∙ first) found.there)))
 
-  gens_are : (g : ℕ) (n : Numbers) → ((k : Kind) → IsWindow lists g k n) → IsGens (gens_from lists g n)
+  gens_are : (g : ℕ) (n : Numbers) → ((k : Kind) → IsWindow lists g k (oldest k n) n.max_seq) → IsGens (gens_from lists g n)
   gens_are g n windows =
       let a = n.anon_min_seq in
       let f = n.file_min_seq in
       record {
-        anon = row_is lists g Anon n (windows Anon);
-        file = row_is lists g File n (windows File);
+        anon = row_is lists g Anon a n.max_seq (windows Anon);
+        file = row_is lists g File f n.max_seq (windows File);
         distinct =
-            distinct_append (rows_from lists g Anon a 4) (rows_from lists g File f 4) (distinct_row g Anon a 4 (omega arith)) (distinct_row g File f 4 (omega arith)) (λ p first.
+            distinct-append (rows_from lists g Anon a 4) (rows_from lists g File f 4) (distinct_row g Anon a 4 (omega arith)) (distinct_row g File f 4 (omega arith)) (λ p first.
             false_from_ne_true (has_page p (rows_from lists g File f 4)) (λ later.
             let found = row_stands lists g Anon p a 4 first in
             let second = row_stands lists g File p f 4 later in
@@ -189,30 +172,19 @@ module _ (lists : List (List ℕ)) (numbers : List Numbers) where
   listed_stands g p h =
       elim (cases_lt g (length numbers)) [
         | inl within ↦
-            let n = numbers_at numbers g in
-            let own = subst (λ (v : Gens). is_listed v p ≡ true) (group_at lists numbers g within) h in
-            elim (or_cases (has_page p (rows_from lists g File n.file_min_seq 4)) (has_page p (rows_from lists g Anon n.anon_min_seq 4)) own) [
-              | inl file ↦
-                  let found = row_stands lists g File p n.file_min_seq 4 file in
-                  record { within = within; kind = File; seq = found.seq; there = found.there }
-              | inr anon ↦
-                  let found = row_stands lists g Anon p n.anon_min_seq 4 anon in
-                  record { within = within; kind = Anon; seq = found.seq; there = found.there }
-            ]
+            let row = listed_row (gens_at (groups_from lists 0 numbers) g) p h in
+            let k = row.0 in
+            let found = row_stands lists g k p (oldest k (numbers_at numbers g)) 4 (ap (λ (ls : List Listed). has_page p ls) (sym (row_at lists numbers g k within)) ∙ row.1) in
+            record { within = within; kind = k; seq = found.seq; there = found.there }
         | inr past ↦
             let many = length_groups lists 0 numbers in
             absurd (false≢true (subst (λ (v : Gens). is_listed v p ≡ true) (get_or_past (groups_from lists 0 numbers) g new_gens (omega arith)) h))
       ]
 
   group_stands : (g p : ℕ) (k : Kind) (s : ℕ) → g < length numbers → oldest k (numbers_at numbers g) ≤ s → s < oldest k (numbers_at numbers g) + 4 → has (list_at lists (slot g k s)) p ≡ true → is_listed (gens_at (groups_from lists 0 numbers) g) p ≡ true
-  group_stands g p Anon s within low high h =
-      let n = numbers_at numbers g in
-      subst (λ (v : Gens). is_listed v p ≡ true) (sym (group_at lists numbers g within))
-      (or_right (has_page p (rows_from lists g File n.file_min_seq 4)) (has_page p (rows_from lists g Anon n.anon_min_seq 4)) (stands_row lists g Anon p n.anon_min_seq 4 s low high h))
-  group_stands g p File s within low high h =
-      let n = numbers_at numbers g in
-      subst (λ (v : Gens). is_listed v p ≡ true) (sym (group_at lists numbers g within))
-      (or_left (has_page p (rows_from lists g File n.file_min_seq 4)) (has_page p (rows_from lists g Anon n.anon_min_seq 4)) (stands_row lists g File p n.file_min_seq 4 s low high h))
+  group_stands g p k s within low high h =
+      row_listed (gens_at (groups_from lists 0 numbers) g) p k
+      (ap (λ (ls : List Listed). has_page p ls) (row_at lists numbers g k within) ∙ stands_row lists g k p (oldest k (numbers_at numbers g)) 4 s low high h)
 
   pub in_a_ring : (p : ℕ) → is_listed_in (groups_from lists 0 numbers) p ≡ true → of_rings.is_listed lists p ≡ true
   in_a_ring p h =
@@ -231,7 +203,7 @@ module _ (lists : List (List ℕ)) (numbers : List Numbers) where
       (group_stands at.group p at.kind turn.seq within turn.low turn.high
       (subst (λ (l : ℕ). has (list_at lists l) p ≡ true) (at.is ∙ same_slot at.group at.kind at.turn turn.seq turn.same) found.1))
 
-  same_listed : IsTable lists numbers → (p : ℕ) → of_rings.is_listed lists p ≡ is_listed_in (groups_from lists 0 numbers) p
+  pub same_listed : IsTable lists numbers → (p : ℕ) → of_rings.is_listed lists p ≡ is_listed_in (groups_from lists 0 numbers) p
   same_listed is p = same_tests _ _ (in_a_group is p) (in_a_ring p)
 
   pub groups_are : IsTable lists numbers → AreApart lists → AreGens (groups_from lists 0 numbers)
@@ -253,7 +225,3 @@ module _ (lists : List (List ℕ)) (numbers : List Numbers) where
               absurd (groups_apart g h two.kind one.kind two.seq one.seq other (apart.one p (slot h two.kind two.seq) (slot g one.kind one.seq) two.there one.there))
         ];
   }
-
-pub listed_seen : (seen : GensOf) (lists : List (List ℕ)) (numbers : List Numbers) (pages room : ℕ) → record { groups = groups_from lists 0 numbers; pages = pages; room = room } ≡ seen → IsTable lists numbers → (p : ℕ) → of_rings.is_listed lists p ≡ is_listed_in seen.groups p
-listed_seen seen lists numbers pages room view is p =
-    same_listed lists numbers is p ∙ ap (λ (v : GensOf). is_listed_in v.groups p) view

@@ -1,7 +1,7 @@
 -- Which rows the lists of all groups stand for. No public clause cites this.
 use Rattle.std.specs.Prelude.{◌≡◌, ◌≢◌, ℕ, zero, suc, ◌+◌, ◌-◌, ◌*◌, ◌/◌, ◌^◌, ◌<◌, ◌≤◌, min, List, [], ◌∷◌, ◌++◌, map, length, slice_index_or, Option, Some, None}
 use Rattle.machine.specs.declared.record.Kind.{Kind}
-use Rattle.machine.specs.Generations.{Listed, Gens, of_kind}
+use Rattle.machine.specs.Generations.{Listed, Row, Gens, of_kind}
 use Rattle.rings.specs.Rings.{list_at}
 use Rattle.rings.specs.declared.ring_node.ListId.{ListId}
 use Rattle.rings.specs.declared.ring_node.RingNode.{RingNode}
@@ -39,13 +39,17 @@ unfoldable pub rows_from : List (List ℕ) → ℕ → Kind → ℕ → ℕ → 
 rows_from lists g kind seq zero = []
 rows_from lists g kind seq (suc n) = map (in_seq seq) (list_at lists (slot g kind seq)) ++ rows_from lists g kind (seq + 1) n
 
--- the lists of one group. A row has all four lists of its type; one that is out of use is empty
+-- the row of a type, which has all four of its lists; one that is out of use is empty
+abbrev pub row_in : List (List ℕ) → ℕ → Kind → ℕ → Row
+row_in lists g kind least = record { min_seq = least; pages = rows_from lists g kind least 4 }
+
+-- the lists of one group
 abbrev pub gens_from : List (List ℕ) → ℕ → Numbers → Gens
 gens_from lists g numbers =
     record {
       max_seq = numbers.max_seq;
-      anon = record { min_seq = numbers.anon_min_seq; pages = rows_from lists g Kind.Anon numbers.anon_min_seq 4 };
-      file = record { min_seq = numbers.file_min_seq; pages = rows_from lists g Kind.File numbers.file_min_seq 4 };
+      anon = row_in lists g Kind.Anon numbers.anon_min_seq;
+      file = row_in lists g Kind.File numbers.file_min_seq;
     }
 
 -- the lists of all groups from this one on
@@ -58,16 +62,16 @@ abbrev pub room_of : ℕ → ℕ → ℕ → ℕ
 room_of lists numbers groups = min (min (lists / 8) numbers) (2 ^ 28 - 1 - groups)
 
 -- a type has two to four generations, and the lists of none are empty
-pub record IsWindow (lists : List (List ℕ)) (g : ℕ) (kind : Kind) (numbers : Numbers) : Type 0 where
-  pub two : oldest kind numbers + 1 ≤ numbers.max_seq
-  pub four : numbers.max_seq ≤ oldest kind numbers + 3
-  pub unused : (seq : ℕ) → numbers.max_seq < seq → seq < oldest kind numbers + 4 → list_at lists (slot g kind seq) ≡ []
+pub record IsWindow (lists : List (List ℕ)) (g : ℕ) (kind : Kind) (least top : ℕ) : Type 0 where
+  pub two : least + 1 ≤ top
+  pub four : top ≤ least + 3
+  pub unused : (seq : ℕ) → top < seq → seq < least + 4 → list_at lists (slot g kind seq) ≡ []
 
 -- what always holds of the lists and the numbers
 pub record IsTable (lists : List (List ℕ)) (numbers : List Numbers) : Type 0 where
   pub count : length lists ≡ length numbers * 8
   pub few : length numbers < 2 ^ 28
-  pub windows : (g : ℕ) → g < length numbers → (kind : Kind) → IsWindow lists g kind (numbers_at numbers g)
+  pub windows : (g : ℕ) → g < length numbers → (kind : Kind) → IsWindow lists g kind (oldest kind (numbers_at numbers g)) (numbers_at numbers g).max_seq
 
 -- this comes behind the page on its list: another page, or the head of the list again
 abbrev pub IsBehind : List (List ℕ) → ℕ → RingNode → Type 0

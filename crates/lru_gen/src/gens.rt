@@ -6,7 +6,9 @@ ghost use Rattle.machine.specs.Eviction.{has_usable};
 ghost use Rattle.rings.specs.declared.ring_node.Link.{Link};
 ghost use Rattle.rings.specs.RingNodes.{head_node};
 ghost use Rattle.rings.specs.Rings.{list_at, is_there, last_node, IsLinkOf, KeepsLinksBut};
+ghost use Rattle.machine.specs.declared.record.Kind.{Kind};
 ghost use Rattle.lru_gen.specs.Gens.{gens_of, sets, IsSound};
+ghost use Rattle.lru_gen.specs.Rows.{oldest};
 ghost use Rattle.lru_gen.specs.Lists.{slot, lists_of, KeepsLinksOfMerge};
 
 use crate::filled::Filled;
@@ -145,7 +147,7 @@ impl Gens {
         requires { group.0 < length self.now.groups }
         ensures { result ≡ (gens_of self.now group.0).max_seq }
     {
-        self.numbers[group.0 as usize].max_seq
+        self.numbers_of(group).max_seq
     }
 
     /// The number of a type's oldest generation.
@@ -153,7 +155,15 @@ impl Gens {
         requires { group.0 < length self.now.groups }
         ensures { result ≡ (row_of kind (gens_of self.now group.0)).min_seq }
     {
-        self.numbers[group.0 as usize].min_seq(kind)
+        self.numbers_of(group).min_seq(kind)
+    }
+
+    fn numbers_of(&self, group: GroupId) -> &Numbers
+        requires { group.0 < length self.now.groups }
+        ensures youngest { result.now.max_seq ≡ (gens_of self.now group.0).max_seq }
+        ensures oldest { (kind : Kind) → oldest kind result.now ≡ (row_of kind (gens_of self.now group.0)).min_seq }
+    {
+        &self.numbers[group.0 as usize]
     }
 
     /// The first page of a type's oldest generation.
@@ -161,7 +171,7 @@ impl Gens {
         requires { group.0 < length self.now.groups }
         ensures { option_map (λ p. p.0) result ≡ front_of (row_of kind (gens_of self.now group.0)) }
     {
-        let oldest = self.numbers[group.0 as usize].min_seq(kind);
+        let oldest = self.min_seq(group, kind);
         self.rings.front(list_of(group, kind, oldest))
     }
 
@@ -170,7 +180,7 @@ impl Gens {
         requires { group.0 < length self.now.groups }
         ensures { option_map (λ p. p.0) result ≡ option_map (λ l. l.page) (slice_get (row_of kind (gens_of self.now group.0)).pages 0) }
     {
-        let oldest = self.numbers[group.0 as usize].min_seq(kind);
+        let oldest = self.min_seq(group, kind);
         first_from(&self.rings, group, kind, oldest, 0)
     }
 
@@ -191,7 +201,7 @@ impl Gens {
         ensures { option_map (λ p. p.0) result ≡ after_in page.0 (row_of kind (gens_of self.now group.0)).pages }
     {
         self.rings.lists_are_apart();
-        let oldest = self.numbers[group.0 as usize].min_seq(kind);
+        let oldest = self.min_seq(group, kind);
         match behind(&self.rings, page) {
             RingNode::Page(next) => Some(next),
             RingNode::Head(list) => {
@@ -276,14 +286,9 @@ impl Gens {
             (slot group.0 kind (row_of kind (gens_of self.old group.0)).min_seq)
             (slot group.0 kind ((row_of kind (gens_of self.old group.0)).min_seq + 1)) }
     {
-        let numbers = &mut self.numbers[group.0 as usize];
-        // The youngest number is read as well: since it fits, so does the oldest and one.
-        let (oldest, _youngest) = (numbers.min_seq(kind), numbers.max_seq);
-        numbers.set_min_seq(kind, oldest + 1);
-        self.rings.splice_front(
-            list_of(group, kind, oldest),
-            list_of(group, kind, oldest + 1),
-        );
+        let next = self.numbers[group.0 as usize].raise_min_seq(kind);
+        self.rings
+            .splice_front(list_of(group, kind, next - 1), list_of(group, kind, next));
     }
 
     /// The oldest generation of a type, which is empty, is no more (kernel: try_to_inc_min_seq).
@@ -294,10 +299,7 @@ impl Gens {
         ensures groups { self.new ≡ sets self.old group.0 (on_row kind raised (gens_of self.old group.0)) }
         ensures links { lists_of self.new.groups ≡ lists_of self.old.groups }
     {
-        let numbers = &mut self.numbers[group.0 as usize];
-        // The youngest number is read as well: since it fits, so does the oldest and one.
-        let (oldest, _youngest) = (numbers.min_seq(kind), numbers.max_seq);
-        numbers.set_min_seq(kind, oldest + 1);
+        let _ = self.numbers[group.0 as usize].raise_min_seq(kind);
     }
 
     /// A younger generation begins, of no page yet (kernel: inc_max_seq).

@@ -1,6 +1,6 @@
 //! The sequence numbers of a group's generations, and the list of each.
 
-ghost use Rattle.std.specs.Prelude.{◌≡◌, ◌<◌, ◌^◌};
+ghost use Rattle.std.specs.Prelude.{◌≡◌, ◌+◌, ◌<◌, ◌^◌};
 ghost use Rattle.machine.specs.Generations.{of_kind};
 ghost use Rattle.lru_gen.specs.Lists.{slot};
 ghost use Rattle.lru_gen.specs.Rows.{oldest, with_oldest};
@@ -28,14 +28,25 @@ impl Numbers {
         }
     }
 
-    /// A type's oldest generation has this number from now on.
-    pub fn set_min_seq(&mut self, kind: Kind, to: u64)
+    fn set_min_seq(&mut self, kind: Kind, to: u64)
         ensures { self.new ≡ with_oldest kind to self.old }
     {
         match kind {
             Kind::Anon => self.anon_min_seq = to,
             Kind::File => self.file_min_seq = to,
         }
+    }
+
+    /// The next generation of a type is the oldest from now on. Its number is returned.
+    pub fn raise_min_seq(&mut self, kind: Kind) -> u64
+        requires { oldest kind self.old < self.old.max_seq }
+        ensures raised { self.new ≡ with_oldest kind (oldest kind self.old + 1) self.old }
+        ensures number { result ≡ oldest kind self.old + 1 }
+    {
+        // The youngest number is read as well: since it fits, so does the oldest and one.
+        let (oldest, _youngest) = (self.min_seq(kind), self.max_seq);
+        self.set_min_seq(kind, oldest + 1);
+        oldest + 1
     }
 }
 

@@ -6,17 +6,14 @@ use Rattle.std.proofs.lemmas.List.{get_or_append_left}
 use Rattle.std.proofs.lemmas.List.Sums.{sum_by-cons}
 use Rattle.std.proofs.Math.Seq.{get_or-append_seam}
 use Rattle.std.proofs.lemmas.List.Elements.{All-head, All-tail}
-use Rattle.machine.specs.declared.record.Limits.{Limits}
 use Rattle.machine.specs.Counts.{no_limits}
 use Rattle.machine.specs.Tree.{Node, no_node, node_at, is_live, IsTree, under}
 use Rattle.machine.proofs.TreeLemmas.{eq_cases, lt_cases, share-own, same_under, under_at-append, under_at-beyond, IsTree-push}
 use Rattle.group_tree.specs.Lineages.{bare, IsLineage}
 use Rattle.group_tree.proofs.LineageLemmas.{live-within}
 use Rattle.page_counter.specs.Counts.{Counts, AreCounts, usage_of}
-use Rattle.page_counter.specs.Sums.{AreKept}
-use Rattle.page_counter.specs.Tables.{IsCounters}
+use Rattle.page_counter.specs.Tables.{IsCounted}
 use Rattle.page_counter.proofs.ChargeLemmas.{count_more}
-use Rattle.page_counter.proofs.GroupSums.{AreKept-push, AreKept-remove}
 
 -- a group to which pages are charged counts them
 counts_own : (tree : List Node) → IsTree tree → (charges : List ℕ) (k d : ℕ) → k < length charges → 1 ≤ count_by (λ x. under tree (get_or charges k d) x) charges
@@ -35,11 +32,6 @@ same_counts xs ys same a [] = refl
 same_counts xs ys same a (g ∷ charges) =
     sum_by-cons (λ x. cond (under xs a x) 1 0) g charges ∙ ap (λ b. cond b 1 0 + count_by (λ x. under xs a x) charges) (same_under xs ys same a (Some g))
     ∙ ap (λ n. cond (under ys a g) 1 0 + n) (same_counts xs ys same a charges) ∙ sym (sum_by-cons (λ x. cond (under ys a x) 1 0) g charges)
-
-same_tables : (tree tree' : List Node) (limits limits' : List Limits) (usage usage' sums sums' : List ℕ) → tree' ≡ tree → limits' ≡ limits → usage' ≡ usage → sums' ≡ sums → AreKept tree limits usage sums → AreKept tree' limits' usage' sums'
-same_tables tree tree' limits limits' usage usage' sums sums' groups settings counts kept are =
-    subst (λ t. AreKept t limits' usage' sums') (sym groups)
-    (subst (λ l. AreKept tree l usage' sums') (sym settings) (subst (λ u. AreKept tree limits u sums') (sym counts) (subst (AreKept tree limits usage) (sym kept) are)))
 
 -- a group that counts no page is removed
 module _ (s : Counts) (group : ℕ) (is : IsLineage s.tree) (live : is_live s.tree group ≡ true) (uncharged : usage_of s group ≡ 0) where
@@ -72,15 +64,14 @@ module _ (s : Counts) (group : ℕ) (is : IsLineage s.tree) (live : is_live s.tr
             ap (λ u. slice_index u a) usage ∙ counted.counts a within ∙ sym (same_counts _ s.tree parent_kept a charges));
       })
 
-  pub IsCounters-remove : (new : Counts) → new.tree ≡ slice_set s.tree group (record (node_at s.tree group) { live = false }) → new.limits ≡ s.limits → new.usage ≡ s.usage → (sums : List ℕ) → IsCounters s sums → IsCounters new sums
-  IsCounters-remove new tree limits usage sums held =
+  pub IsCounted-remove : (new : Counts) → new.tree ≡ slice_set s.tree group (record (node_at s.tree group) { live = false }) → new.limits ≡ s.limits → new.usage ≡ s.usage → IsCounted s → IsCounted new
+  IsCounted-remove new tree limits usage held =
       let fewer : length new.tree ≡ length s.tree = ap length tree ∙ length-set _ _ _ in
       record {
         limits_length = ap length limits ∙ held.limits_length ∙ sym fewer;
         usage_length = ap length usage ∙ held.usage_length ∙ sym fewer;
         charges = held.charges;
         counted = AreCounts-remove new held.charges tree usage held.counted;
-        kept = same_tables _ _ _ _ _ _ _ _ tree limits usage refl (AreKept-remove s.tree s.limits s.usage sums group uncharged held.kept);
       }
 
 counts_append : (tree more : List Node) → IsTree tree → (a : ℕ) (charges : List ℕ) → All (λ x. is_live tree x ≡ true) charges → count_by (λ x. under (tree ++ more) a x) charges ≡ count_by (λ x. under tree a x) charges
@@ -106,7 +97,7 @@ same_length-push xs xs' ys ys' x y pushed_x pushed_y same =
     omega (arith, left, right, same)
 
 -- a group is made, below a live one
-module _ (s new : Counts) (p : ℕ) (sums : List ℕ) (is : IsLineage s.tree) (held : IsCounters s sums) (parent_live : is_live s.tree p ≡ true) (tree : new.tree ≡ s.tree ++ bare (Some p) ∷ []) (usage : new.usage ≡ s.usage ++ 0 ∷ []) where
+module _ (s new : Counts) (p : ℕ) (is : IsLineage s.tree) (held : IsCounted s) (parent_live : is_live s.tree p ≡ true) (tree : new.tree ≡ s.tree ++ bare (Some p) ∷ []) (usage : new.usage ≡ s.usage ++ 0 ∷ []) where
   pushed_count : (charges : List ℕ) → AreCounts s charges → (a : ℕ) → a < length (s.tree ++ bare (Some p) ∷ []) → slice_index (s.usage ++ 0 ∷ []) a ≡ count_by (λ g. under (s.tree ++ bare (Some p) ∷ []) a g) charges
   pushed_count charges counted a lt =
       elim (lt_cases a (length s.tree)) [
@@ -131,12 +122,11 @@ module _ (s new : Counts) (p : ℕ) (sums : List ℕ) (is : IsLineage s.tree) (h
         counts = λ a lt. ap (λ u. slice_index u a) usage ∙ pushed_count charges counted a lt;
       })
 
-  pub IsCounters-push : new.limits ≡ s.limits ++ no_limits ∷ [] → (sums' : List ℕ) → sums' ≡ sums ++ 0 ∷ [] → IsCounters new sums'
-  IsCounters-push limits sums' pushed =
+  pub IsCounted-push : new.limits ≡ s.limits ++ no_limits ∷ [] → IsCounted new
+  IsCounted-push limits =
       record {
         limits_length = same_length-push s.limits new.limits s.tree new.tree _ _ limits tree held.limits_length;
         usage_length = same_length-push s.usage new.usage s.tree new.tree _ _ usage tree held.usage_length;
         charges = held.charges;
         counted = AreCounts-push held.charges held.counted;
-        kept = same_tables _ _ _ _ _ _ _ _ tree limits usage pushed (AreKept-push s.tree s.limits s.usage sums p is.earlier_parents held.limits_length held.usage_length held.kept);
       }

@@ -1,13 +1,28 @@
--- The sums of what the children of each group ask for (mm/page_counter.c: children_min_usage, propagate_protected_usage).
-use Rattle.std.specs.Prelude.{◌≡◌, ℕ, ◌+◌, ◌<◌, if◌then◌else◌, List, length, slice_index}
-use Rattle.machine.specs.declared.record.Limits.{Limits}
-use Rattle.machine.specs.Protection.{children_min_usage, min_of}
+-- The sums of what the children of each group ask for by one of their settings (mm/page_counter.c: children_min_usage, propagate_protected_usage).
+use Rattle.std.specs.Prelude.{◌≡◌, ℕ, ◌+◌, ◌<◌, ◌≤◌, true, if◌then◌else◌, List, length, slice_index, slice_set}
+use Rattle.machine.specs.declared.amount.Amount.{Amount}
+use Rattle.machine.specs.Protection.{children_min_usage}
 use Rattle.machine.specs.Tree.{Node, node_at, is_child}
 
--- there is a sum for each group, and it is what the live children of the group ask for together
-pub record AreKept (tree : List Node) (limits : List Limits) (usage sums : List ℕ) : Type 0 where
+-- by group, the sum over its children; and for how many groups more there is memory
+pub record SumsOf : Type 0 where
+  pub sums : List ℕ
+  pub room : ℕ
+
+-- there is a sum for each group, and it is what the live children of the group ask for together by their setting
+pub record AreKept (tree : List Node) (setting : ℕ → Amount) (usage sums : List ℕ) : Type 0 where
   pub len : length sums ≡ length tree
-  pub kept : (p : ℕ) → p < length tree → slice_index sums p ≡ children_min_usage tree (min_of limits) (λ a. slice_index usage a) p
+  pub kept : (p : ℕ) → p < length tree → slice_index sums p ≡ children_min_usage tree setting (λ a. slice_index usage a) p
+
+-- the sums are kept by these counts now, and there is memory for as many groups more as before
+pub record GoOnKept (tree : List Node) (setting : ℕ → Amount) (usage : List ℕ) (old new : SumsOf) : Type 0 where
+  pub kept : AreKept tree setting usage new.sums
+  pub room : new.room ≡ old.room
+
+-- where g counts n pages, and that is more than it did, what the children of its parent ask for together fits in 64 bits still, by any setting
+abbrev pub ChildrenFit : List Node → List ℕ → ℕ → ℕ → Type 0
+ChildrenFit tree usage g n =
+    slice_index usage g < n → (setting : ℕ → Amount) (p : ℕ) → is_child p (node_at tree g) ≡ true → children_min_usage tree setting (λ a. slice_index (slice_set usage g n) a) p ≤ 18446744073709551615
 
 -- what the group g, where it asks for n, adds to the sum of p
 abbrev pub part : List Node → ℕ → ℕ → ℕ → ℕ

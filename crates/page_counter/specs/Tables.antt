@@ -1,5 +1,6 @@
 -- The tables that the counters stand in, by the groups' numbers.
 use Rattle.std.specs.Prelude.{◌≡◌, ℕ, ◌-◌, List, length, min, vec_len, vec_capacity}
+use Rattle.machine.specs.Protection.{min_of}
 use Rattle.page_counter.specs.Counts.{Counts, AreCounts}
 use Rattle.page_counter.specs.Sums.{AreKept}
 use Rattle.page_counter.specs.declared.counters.Counters.TheInside.{Inside}
@@ -10,13 +11,17 @@ counts_of c = record {
   tree = c.lineage.tree;
   limits = c.limits.items;
   usage = c.usage.items;
-  room = min c.lineage.room (min (vec_capacity c.limits - vec_len c.limits) (min (vec_capacity c.usage - vec_len c.usage) (vec_capacity c.sums - vec_len c.sums)));
+  room = min c.lineage.room (min (vec_capacity c.limits - vec_len c.limits) (min (vec_capacity c.usage - vec_len c.usage) c.min_sums.room));
 }
 
--- each table has one entry a group, the counts are those of some list of charges, and the sums are kept
-pub record IsCounters (s : Counts) (sums : List ℕ) : Type 0 where
+-- each table has one entry a group, and the counts are those of some list of charges
+pub record IsCounted (s : Counts) : Type 0 where
   pub limits_length : length s.limits ≡ length s.tree
   pub usage_length : length s.usage ≡ length s.tree
   pub charges : List ℕ
   pub counted : AreCounts s charges
-  pub kept : AreKept s.tree s.limits s.usage sums
+
+-- and the sums of each setting are kept
+pub record IsCounters (c : Inside) : Type 0 where
+  pub tables : IsCounted (counts_of c)
+  pub min_sums : AreKept c.lineage.tree (min_of c.limits.items) c.usage.items c.min_sums.sums

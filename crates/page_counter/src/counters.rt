@@ -6,9 +6,10 @@ ghost use Rattle.machine.specs.Counts.{no_limits, limits_at, over_at};
 ghost use Rattle.machine.specs.Tree.{IsTree, IsAbove, node_at, is_live, is_child, children, has_children, share};
 ghost use Rattle.group_tree.specs.Lineages.{bare, IsLineage};
 ghost use Rattle.group_tree.specs.Tables.{number};
-ghost use Rattle.page_counter.specs.Sums.{AreKept, Propagates};
+ghost use Rattle.page_counter.specs.Sums.{AreKept, GoOnKept, ChildrenFit};
 
 use crate::charge::{Charge, Over};
+use crate::child_sums::ChildSums;
 use group_tree::Lineage;
 use machine::amount::Amount;
 use machine::id::GroupId;
@@ -26,9 +27,7 @@ pub struct Counters {
     lineage: Lineage,
     limits: Vec<Limits>,
     usage: Vec<u64>,
-    /// What the live children of each group ask for together. It is kept, and not asked of them,
-    /// so that it costs a look however many they are.
-    sums: Vec<u64>,
+    min_sums: ChildSums,
 }
 
 impl Model for Counters {
@@ -40,7 +39,7 @@ impl Model for Counters {
 
     ghost view = { counts_of };
 
-    ghost invariant = { λ c. IsCounters (counts_of c) c.sums.items };
+    ghost invariant = { IsCounters };
 }
 
 impl Counters {
@@ -57,15 +56,14 @@ impl Counters {
         let lineage = Lineage::new(alloc)?;
         let mut limits = Vec::with_capacity(alloc, 1)?;
         let mut usage = Vec::with_capacity(alloc, 1)?;
-        let mut sums = Vec::with_capacity(alloc, 1)?;
+        let min_sums = ChildSums::new(alloc)?;
         limits.push_reserved(Limits::NONE);
         usage.push_reserved(0);
-        sums.push_reserved(0);
         Ok(Counters {
             lineage,
             limits,
             usage,
-            sums,
+            min_sums,
         })
     }
 
@@ -83,7 +81,7 @@ impl Counters {
         self.lineage.reserve()?;
         self.limits.reserve(1)?;
         self.usage.reserve(1)?;
-        self.sums.reserve(1)
+        self.min_sums.reserve()
     }
 
     /// A group more, below another, with no limit and no page charged. Its memory was asked for by
@@ -103,7 +101,7 @@ impl Counters {
         self.lineage.add(parent);
         self.limits.push_reserved(Limits::NONE);
         self.usage.push_reserved(0);
-        self.sums.push_reserved(0);
+        self.min_sums.add_reserved();
     }
 
     /// A group more, below another, with no limit and no page charged. `AllocError` where there is
@@ -188,8 +186,7 @@ impl Counters {
         let before = self.limits[group.0 as usize].min.at_most(usage);
         let after = min.at_most(usage);
         self.limits[group.0 as usize].min = min;
-        let sums = self.sums.as_mut_slice();
-        propagate_min_usage(&self.lineage, sums, group, before, after);
+        self.min_sums.propagate(&self.lineage, group, before, after);
     }
 
     /// How many of the pages that are charged to the group or below it its min protects (kernel:
@@ -207,7 +204,7 @@ impl Counters {
         requires live { is_live self.now.tree group.0 ≡ true }
         ensures { result.now ≡ children_min_usage self.now.tree (min_of self.now.limits) (usage_of self.now) group.0 }
     {
-        &self.sums[group.0 as usize]
+        self.min_sums.of(group)
     }
 
     /// How many pages are charged to the group or below it (kernel: page_counter_read).
@@ -244,8 +241,8 @@ impl Counters {
     {
         self.lineage.is_lineage();
         let usage = self.usage.as_mut_slice();
-        let sums = self.sums.as_mut_slice();
-        add_up(&self.lineage, &self.limits, usage, sums, group)?;
+        let min_sums = &mut self.min_sums;
+        add_up(&self.lineage, &self.limits, usage, min_sums, group)?;
         Ok(Charge::new(group))
     }
 
@@ -259,8 +256,8 @@ impl Counters {
         self.lineage.is_lineage();
         let group = charge.into_group();
         let usage = self.usage.as_mut_slice();
-        let sums = self.sums.as_mut_slice();
-        take_down(&self.lineage, &self.limits, usage, sums, group, None);
+        let min_sums = &mut self.min_sums;
+        take_down(&self.lineage, &self.limits, usage, min_sums, group, None);
     }
 
     /// Gives a charge to what its group hangs below: a page less at the group itself, and the same
@@ -276,13 +273,10 @@ impl Counters {
         let Some(parent) = self.lineage.parent(group) else {
             unreachable!()
         };
-        let limit = self.limits[group.0 as usize];
-        let count = self.usage[group.0 as usize];
-        let fewer = count - 1;
-        self.usage[group.0 as usize] = fewer;
-        let (before, after) = (limit.min.at_most(count), limit.min.at_most(fewer));
-        let sums = self.sums.as_mut_slice();
-        propagate_min_usage(&self.lineage, sums, group, before, after);
+        let usage = self.usage.as_mut_slice();
+        let fewer = usage[group.0 as usize] - 1;
+        let min_sums = &mut self.min_sums;
+        set_usage(&self.lineage, &self.limits, usage, min_sums, group, fewer);
         Charge::new(parent)
     }
 
@@ -326,7 +320,7 @@ fn add_up(
     lineage: &Lineage,
     limits: &[Limits],
     usage: &mut [u64],
-    sums: &mut [u64],
+    min_sums: &mut ChildSums,
     group: GroupId,
 ) -> Result<(), Over>
     requires tree { IsLineage lineage.now.tree }
@@ -335,25 +329,21 @@ fn add_up(
     requires live { is_live lineage.now.tree group.0 ≡ true }
     requires room { (a : ℕ) → a < length lineage.now.tree → slice_index usage.old a < 18446744073709551615 }
     requires within { (a : ℕ) → a < length lineage.now.tree → sum_by (λ c. slice_index usage.old c) (children lineage.now.tree a) ≤ slice_index usage.old a }
-    requires kept { AreKept lineage.now.tree limits.now usage.old sums.old }
+    requires kept { AreKept lineage.now.tree (min_of limits.now) usage.old min_sums.old.sums }
     ensures under { OnOk result (over_at lineage.now.tree limits.now (λ a. slice_index usage.old a) (Some group.0) ≡ None) }
     ensures over { IfErr result (λ limit. over_at lineage.now.tree limits.now (λ a. slice_index usage.old a) (Some group.0) ≡ Some limit.0.0) }
     ensures charged { OnOk result ((a : ℕ) → a < length lineage.now.tree → slice_index usage.new a ≡ slice_index usage.old a + share lineage.now.tree a (Some group.0)) }
     ensures err { OnErr result (usage.new ≡ usage.old) }
-    ensures kept { AreKept lineage.now.tree limits.now usage.new sums.new }
+    ensures kept { GoOnKept lineage.now.tree (min_of limits.now) usage.new min_sums.old min_sums.new }
 {
     let mut at = Some(group);
     while let Some(here) = at {
         let count = usage[here.0 as usize];
-        let limit = limits[here.0 as usize];
-        if limit.max.is_full(count) {
-            take_down(lineage, limits, usage, sums, group, Some(here));
+        if limits[here.0 as usize].max.is_full(count) {
+            take_down(lineage, limits, usage, min_sums, group, Some(here));
             return Err(Over(here));
         }
-        let more = count + 1;
-        usage[here.0 as usize] = more;
-        let (before, after) = (limit.min.at_most(count), limit.min.at_most(more));
-        propagate_min_usage(lineage, sums, here, before, after);
+        set_usage(lineage, limits, usage, min_sums, here, count + 1);
         at = lineage.parent(here);
     }
     Ok(())
@@ -365,7 +355,7 @@ fn take_down(
     lineage: &Lineage,
     limits: &[Limits],
     usage: &mut [u64],
-    sums: &mut [u64],
+    min_sums: &mut ChildSums,
     group: GroupId,
     until: Option<GroupId>,
 )
@@ -375,9 +365,9 @@ fn take_down(
     requires live { is_live lineage.now.tree group.0 ≡ true }
     requires above { IsAbove lineage.now.tree (number until) (Some group.0) }
     requires counted { (a : ℕ) → a < length lineage.now.tree → share lineage.now.tree a (Some group.0) ≤ slice_index usage.old a + share lineage.now.tree a (number until) }
-    requires kept { AreKept lineage.now.tree limits.now usage.old sums.old }
+    requires kept { AreKept lineage.now.tree (min_of limits.now) usage.old min_sums.old.sums }
     ensures taken { (a : ℕ) → a < length lineage.now.tree → slice_index usage.new a + share lineage.now.tree a (Some group.0) ≡ slice_index usage.old a + share lineage.now.tree a (number until) }
-    ensures kept { AreKept lineage.now.tree limits.now usage.new sums.new }
+    ensures kept { GoOnKept lineage.now.tree (min_of limits.now) usage.new min_sums.old min_sums.new }
 {
     let mut at = Some(group);
     while let Some(here) = at {
@@ -385,11 +375,7 @@ fn take_down(
             return;
         }
         let count = usage[here.0 as usize];
-        let min = limits[here.0 as usize].min;
-        let fewer = count - 1;
-        usage[here.0 as usize] = fewer;
-        let (before, after) = (min.at_most(count), min.at_most(fewer));
-        propagate_min_usage(lineage, sums, here, before, after);
+        set_usage(lineage, limits, usage, min_sums, here, count - 1);
         at = lineage.parent(here);
     }
 }
@@ -401,18 +387,27 @@ fn counts_fit(usage: &[u64])
     let _ = usage.len();
 }
 
-/// The group asks for `after` where it asked for `before`: the sum of the group that it hangs
-/// below, and no other, changes by as much (kernel: propagate_protected_usage).
-fn propagate_min_usage(lineage: &Lineage, sums: &mut [u64], group: GroupId, before: u64, after: u64)
+/// The group counts so many pages, and asks for what its limits let through of them (kernel: what
+/// page_counter_try_charge and page_counter_cancel do at one counter).
+fn set_usage(
+    lineage: &Lineage,
+    limits: &[Limits],
+    usage: &mut [u64],
+    min_sums: &mut ChildSums,
+    group: GroupId,
+    pages: u64,
+)
+    requires tree { IsLineage lineage.now.tree }
+    requires limits { length limits.now ≡ length lineage.now.tree }
+    requires usage { length usage.old ≡ length lineage.now.tree }
     requires live { is_live lineage.now.tree group.0 ≡ true }
-    requires sums { length sums.old ≡ length lineage.now.tree }
-    requires covered { (p : ℕ) → is_child p (node_at lineage.now.tree group.0) ≡ true → before ≤ slice_index sums.old p }
-    requires fits { (p : ℕ) → is_child p (node_at lineage.now.tree group.0) ≡ true → before < after → slice_index sums.old p + after ≤ 18446744073709551615 + before }
-    ensures { Propagates lineage.now.tree group.0 before after sums.old sums.new }
+    requires fits { ChildrenFit lineage.now.tree usage.old group.0 pages }
+    requires kept { AreKept lineage.now.tree (min_of limits.now) usage.old min_sums.old.sums }
+    ensures usage { usage.new ≡ slice_set usage.old group.0 pages }
+    ensures kept { GoOnKept lineage.now.tree (min_of limits.now) usage.new min_sums.old min_sums.new }
 {
-    let Some(parent) = lineage.parent(group) else {
-        return;
-    };
-    let sum = sums[parent.0 as usize];
-    sums[parent.0 as usize] = sum - before + after;
+    let before = usage[group.0 as usize];
+    usage[group.0 as usize] = pages;
+    let min = limits[group.0 as usize].min;
+    min_sums.propagate(lineage, group, min.at_most(before), min.at_most(pages));
 }

@@ -9,4 +9,5 @@ pub use charge::{Charge, Over};
 pub use counters::Counters;
 
 mod charge;
+mod child_sums;
 mod counters;

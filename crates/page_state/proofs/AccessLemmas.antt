@@ -1,35 +1,40 @@
 -- Pages that are read in and written, in all joined parts.
-use Rattle.std.proofs.Common.{◌≡◌, ◌∙◌, ◌<◌, ◌==◌, ◌&&◌, ℕ, true, false, cond, Option, Some, None, refl, sym, ap, subst}
+use Rattle.std.proofs.Common.{◌≡◌, ◌∙◌, ◌<◌, ◌==◌, ◌&&◌, ℕ, true, cond, Option, Some, None, refl, sym, ap, subst}
 use Rattle.machine.specs.declared.event.Op.TheVariants.{Write}
 use Rattle.machine.specs.Slots.{Changes, there_and}
-use Rattle.machine.specs.Pages.{Page, page_at, home_block, is_held, is_held_in}
+use Rattle.machine.specs.Pages.{Page, page_at, is_held, is_held_in}
 use Rattle.machine.specs.Lists.{Order}
 use Rattle.machine.specs.Step.{touched}
+use Rattle.machine.specs.State.{page_numbers}
+use Rattle.files.specs.Files.{FilesOf}
 use Rattle.pages.specs.Tickets.{TicketOf}
-use Rattle.pages.specs.PagesOf.{Label, of_file, byte_in}
+use Rattle.pages.specs.declared.source.Source.{Source}
+use Rattle.pages.specs.declared.source.Source.TheVariants as source
+use Rattle.pages.specs.Transfers.{ReadsFrom}
+use Rattle.pages.specs.PagesOf.{Label, byte_in}
 use Rattle.page_state.specs.declared.joined.State.TheInside.{Inside}
-use Rattle.page_state.specs.Holdings.{HoldingsOf, with_stored, with_lists, BeginsIn, BeginsInFile}
+use Rattle.page_state.specs.Holdings.{HoldingsOf, with_stored, with_lists, BeginsIn, BeginsFetch}
 use Rattle.page_state.specs.States.{StateOf}
-use Rattle.page_state.specs.Changes.{BeginsReadIn, BeginsRead, WritesByte}
+use Rattle.page_state.specs.Changes.{files_of, BeginsReadIn, BeginsRead, WritesByte}
 use Rattle.page_state.specs.Joined.{joined_of, IsJoined}
 use Rattle.page_state.specs.Mapped.{AreMapped}
 use Rattle.page_state.proofs.MappedLemmas.{mapped-begun, mapped-new, mapped-touched}
-use Rattle.page_state.proofs.JoinLemmas.{joined-pages}
+use Rattle.page_state.proofs.JoinLemmas.{files-opened, joined-pages}
 
 module _ (s : Inside) (is : IsJoined s) (now : HoldingsOf) where
   -- ---- read in
 
   module _ (p : ℕ) (label : Label) (block : ℕ) (ticket : TicketOf) (begins : BeginsIn s.holdings now p label block ticket) where
     -- a page that was there, and holds what it held
-    pub joined-begun : (page : Page) → page_at s.holdings.stored.pages p ≡ Some page → label.content ≡ page.content → IsJoined (record s { holdings = now })
+    joined-begun : (page : Page) → page_at s.holdings.stored.pages p ≡ Some page → label.content ≡ page.content → IsJoined (record s { holdings = now })
     joined-begun page stood same =
         joined-pages s is now s.cursors s.spaces begins.others (mapped-begun s.holdings.stored.pages s.spaces.page_tables is.mapped now.stored.pages p page _ stood begins.placed refl same) refl refl is.homes refl
 
     -- a number that was free
-    pub joined-new : page_at s.holdings.stored.pages p ≡ None → IsJoined (record s { holdings = now })
+    joined-new : page_at s.holdings.stored.pages p ≡ None → IsJoined (record s { holdings = now })
     joined-new free = joined-pages s is now s.cursors s.spaces begins.others (mapped-new s.holdings.stored.pages s.spaces.page_tables is.mapped now.stored.pages p _ free begins.placed refl) refl refl is.homes refl
 
-    pub begins-read_in : BeginsReadIn (joined_of s) (joined_of (record s { holdings = now })) p label block ticket
+    begins-read_in : BeginsReadIn (joined_of s) (joined_of (record s { holdings = now })) p label block ticket
     begins-read_in =
         let old : StateOf = joined_of s in
         record {
@@ -45,23 +50,29 @@ module _ (s : Inside) (is : IsJoined s) (now : HoldingsOf) where
           cursors = refl;
         }
 
-  -- the home block is that of the opening
-  home-same : (file q : ℕ) → home_block s.holdings.swap s.holdings.files file q ≡ home_block (joined_of s).tables.opening.swap (joined_of s).tables.opening.files file q
-  home-same file q = ap (λ (n : ℕ). home_block n s.holdings.files file q) is.swap ∙ ap (λ sizes. home_block s.config.swap sizes file q) is.files
+  -- what is read in by the files and the numbers of the opening
+  reads-same : (from : Source) (g p : ℕ) (label : Label) (block : ℕ) → ReadsFrom s.holdings.stored.pages s.holdings.numbers (record { first = s.holdings.swap; sizes = s.holdings.files }) from g p label block
+      → ReadsFrom s.holdings.stored.pages (page_numbers (joined_of s).tables.opening) (files_of (joined_of s).tables.opening) from g p label block
+  reads-same from g p label block reads =
+      subst (λ (n : ℕ). ReadsFrom s.holdings.stored.pages n (files_of (joined_of s).tables.opening) from g p label block) is.page_numbers
+      (subst (λ (files : FilesOf). ReadsFrom s.holdings.stored.pages s.holdings.numbers files from g p label block) (files-opened s is) reads)
 
-  pub begins-read : (file q g : ℕ) (ticket : TicketOf) → BeginsInFile s.holdings now file q g ticket → BeginsRead (joined_of s) (joined_of (record s { holdings = now })) file q g ticket
-  begins-read file q g ticket reads =
+  pub begins-read : (from : Source) (g : ℕ) (ticket : TicketOf) → BeginsFetch s.holdings now from g ticket → BeginsRead (joined_of s) (joined_of (record s { holdings = now })) from g ticket
+  begins-read from g ticket fetch =
       record {
-        page = reads.page;
-        in_range = subst (λ n. reads.page < n) is.page_numbers reads.in_range;
-        number_free = reads.number_free;
-        begins = subst (λ block. BeginsReadIn (joined_of s) (joined_of (record s { holdings = now })) reads.page (of_file file q g false) block ticket) (home-same file q)
-            (begins-read_in reads.page (of_file file q g false) (home_block s.holdings.swap s.holdings.files file q) ticket reads.begins);
+        page = fetch.page;
+        label = fetch.label;
+        block = fetch.block;
+        reads = reads-same from g fetch.page fetch.label fetch.block fetch.reads;
+        begins = begins-read_in fetch.page fetch.label fetch.block ticket fetch.begins;
       }
 
-  pub joined-read : (file q g : ℕ) (ticket : TicketOf) → BeginsInFile s.holdings now file q g ticket → IsJoined (record s { holdings = now })
-  joined-read file q g ticket reads =
-      joined-new reads.page (of_file file q g false) (home_block s.holdings.swap s.holdings.files file q) ticket reads.begins reads.number_free
+  pub joined-read : (from : Source) (g : ℕ) (ticket : TicketOf) → BeginsFetch s.holdings now from g ticket → IsJoined (record s { holdings = now })
+  joined-read from g ticket fetch = by_source from fetch.reads
+    where
+      by_source : (x : Source) → ReadsFrom s.holdings.stored.pages s.holdings.numbers (record { first = s.holdings.swap; sizes = s.holdings.files }) x g fetch.page fetch.label fetch.block → IsJoined (record s { holdings = now })
+      by_source (source.Swapped page) reads = joined-begun fetch.page fetch.label fetch.block ticket fetch.begins _ reads.2 refl
+      by_source (source.File at) reads = joined-new fetch.page fetch.label fetch.block ticket fetch.begins reads.3
 
   -- ---- written
 

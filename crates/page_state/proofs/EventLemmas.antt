@@ -1,5 +1,5 @@
 -- Counts of events over groups without their paths.
-use Rattle.std.proofs.Common.{◌≡◌, ℕ, ◌+◌, ◌<◌, ◌&&◌, Bool, true, false, cond, List, length, refl, sym, ap, ◌∙◌, arith}
+use Rattle.std.proofs.Common.{◌≡◌, ℕ, ◌&&◌, Bool, true, false, cond, List, length, refl, ap, ◌∙◌, arith}
 use Rattle.machine.specs.declared.record.EventCounts.{EventCounts}
 use Rattle.machine.specs.declared.record.Key.{Key}
 use Rattle.machine.specs.Tree.{Node, under, is_live}

@@ -3,10 +3,11 @@ use Rattle.std.proofs.Common.{◌≡◌, ℕ, ◌<◌, true, false, length, Opti
 use Rattle.std.specs.Prelude.{IfSome}
 use Rattle.machine.specs.Slots.{there_and}
 use Rattle.machine.specs.Tree.{is_live}
-use Rattle.machine.specs.Pages.{home_block, Residence, Held, Pages, has_frame, has_this_frame, is_held, used_frames, is_frame_taken}
+use Rattle.machine.specs.Pages.{Residence, Held, Pages, has_frame, has_this_frame, is_held, used_frames, used_swap, is_frame_taken}
 use Rattle.machine.proofs.SlotLemmas.{count_there-some}
 use Rattle.group_tree.specs.Lineages.{IsLineage}
 use Rattle.group_tree.proofs.LineageLemmas.{live-within}
+use Rattle.files.specs.Files.{FilesOf}
 use Rattle.frames.specs.Pool.{PoolOf}
 use Rattle.page_counter.specs.Counts.{Counts, usage_of, over_in}
 use Rattle.pages.specs.PagesOf.{Label, HasResidence, pages_there, AreFiled}
@@ -54,8 +55,12 @@ module _ (h : Inside) (is : IsHolding h) where
       (omega arith, omega arith)
 
   -- the home blocks stand behind the swap blocks
-  pub home-same : (file q : ℕ) → home_block h.pages.files.first h.pages.files.sizes file q ≡ home_block (holdings_of h).swap (holdings_of h).files file q
-  home-same file q = ap (λ (first : ℕ). home_block first h.pages.files.sizes file q) is.homes
+  pub files-same : h.pages.files ≡ record { first = (holdings_of h).swap; sizes = (holdings_of h).files }
+  files-same = ap (λ (first : ℕ). let files : FilesOf = record { first = first; sizes = h.pages.files.sizes } in files) is.homes
+
+  -- where a swap block is left, a slot is free
+  pub swap-left : used_swap h.pages.pages < h.slots.blocks → 0 < length h.slots.free
+  swap-left left = let all = is.kept.blocks.all in omega (arith, left, all)
 
   -- a group that is there has its lists
   pub group-listed : (g : ℕ) → is_live h.counters.tree g ≡ true → g < length h.held.lists.groups

@@ -19,7 +19,7 @@ use Rattle.machine.proofs.HeldLemmas.{goes_length, held-go_on}
 use Rattle.machine.specs.Tree.{is_live}
 use Rattle.group_tree.proofs.LineageLemmas.{live-within}
 use Rattle.aging.proofs.GroupLemmas.{unlisted-all}
-use Rattle.page_state.specs.Held.{HeldOf, entered, left}
+use Rattle.held_pages.specs.Held.{HeldOf, entered, left}
 use Rattle.counts.specs.Numbers.{times}
 use Rattle.frames.specs.Pool.{PoolOf}
 use Rattle.block_store.specs.Slots.{SlotsOf}

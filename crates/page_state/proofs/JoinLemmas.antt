@@ -10,6 +10,7 @@ use Rattle.std.proofs.lemmas.List.{length-append}
 use Rattle.machine.specs.Tasks.{lives, group_of_task}
 use Rattle.machine.specs.Step.{new_node}
 use Rattle.machine.proofs.CursorLemmas.{cursors-push}
+use Rattle.files.specs.Files.{FilesOf}
 use Rattle.group_tree.specs.Kin.{AreKin}
 use Rattle.group_tree.specs.Lineages.{bare, IsLineage}
 use Rattle.group_tree.proofs.LineageLemmas.{live-within}
@@ -20,10 +21,15 @@ use Rattle.page_state.specs.declared.joined.State.TheInside.{Inside}
 use Rattle.page_state.specs.declared.room.NoRoom.{NoRoom}
 use Rattle.page_state.specs.declared.room.NoRoom.TheVariants as lacks
 use Rattle.page_state.specs.Holdings.{HoldingsOf, Stored, with_lists, over_of, IsGranted, Lacks}
-use Rattle.page_state.specs.Changes.{HasRoom, LacksRoom}
+use Rattle.page_state.specs.Changes.{files_of, HasRoom, LacksRoom}
 use Rattle.page_state.specs.Joined.{joined_of, IsJoined}
 use Rattle.page_state.specs.Mapped.{AreMapped}
 use Rattle.page_state.proofs.KinLemmas.{kin-push, live-push, kin-over, over-live}
+
+-- the files are those of the opening
+pub files-opened : (s : Inside) → IsJoined s → record { first = s.holdings.swap; sizes = s.holdings.files } ≡ files_of (joined_of s).tables.opening
+files-opened s is =
+    ap (λ (n : ℕ). let files : FilesOf = record { first = n; sizes = s.holdings.files } in files) is.swap ∙ ap (λ (sizes : List ℕ). let files : FilesOf = record { first = s.config.swap; sizes = sizes } in files) is.files
 
 -- pages changed, and what shows them with them; the cursors of as many groups, and no group
 pub joined-pages : (s : Inside) → IsJoined s → (h : HoldingsOf) (cursors : CursorsOf) (spaces : Space) → h ≡ with_lists s.holdings h.stored h.held

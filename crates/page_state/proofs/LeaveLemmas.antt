@@ -7,6 +7,7 @@ use Rattle.machine.specs.Pages.{Content, Memory, OfFile, Page, Held, Going, page
 use Rattle.machine.specs.Reclaim.{is_takeable}
 use Rattle.machine.specs.Generations.{gens_at}
 use Rattle.machine.specs.Lists.{Youngest, ListsHeld, AreGenerations, GoesOn, TakesNext}
+use Rattle.machine.specs.State.{opening_of}
 use Rattle.machine.proofs.Values.{some_inj}
 use Rattle.machine.proofs.CursorLemmas.{cursors-set}
 use Rattle.machine.proofs.HeldLemmas.{goes-max}
@@ -33,7 +34,7 @@ same-label : (label : Label) (file q : ℕ) → label.content ≡ OfFile file q 
 same-label label file q holds clean =
     ap (λ (c : Content). let l : Label = record { content = c; group = label.group; dirty = label.dirty } in l) holds ∙ ap (λ (d : Bool). of_file file q label.group d) clean
 
-module _ (s : Inside) (is : IsJoined s) (lists : ListsHeld s.holdings.stored.pages s.holdings.held) (sound : AreGenerations s.holdings.held) (target g : ℕ) (turn : IsTurn s.holdings s.tree s.cursors.cursors target g)
+module _ (s : Inside) (is : IsJoined s) (lists : ListsHeld s.holdings.stored.pages s.holdings.held) (sound : AreGenerations s.holdings.held) (target g : ℕ) (turn : IsTurn s.holdings (opening_of s.config).recursive s.tree s.cursors.cursors target g)
     (looked : HoldingsOf) (p : ℕ) (picks : PicksPage s.holdings looked g p) where
   stored : looked.stored ≡ s.holdings.stored
   stored = ap (λ (h : HoldingsOf). h.stored) picks.others

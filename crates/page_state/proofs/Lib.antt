@@ -1,6 +1,4 @@
 pub mod QueueLemmas
-pub mod ListedLemmas
-pub mod RoomLemmas
 pub mod BalanceLemmas
 pub mod CountLemmas
 pub mod RemovalLemmas
@@ -21,6 +19,7 @@ pub mod EndingLemmas
 pub mod UnmapLemmas
 pub mod TakeLemmas
 pub mod WayLemmas
+pub mod FetchLemmas
 pub mod TouchLemmas
 pub mod GoneLemmas
 pub mod LeaveLemmas

@@ -17,7 +17,7 @@ use Rattle.machine.specs.Protection.{effective, min_of, is_unprotected_in}
 use Rattle.machine.specs.Order.{asking_order, served_by}
 use Rattle.machine.specs.declared.record.Kind.{Kind}
 use Rattle.machine.specs.declared.record.Kind.TheVariants.{Anon, File}
-use Rattle.machine.specs.Generations.{Listed, row_of, has_page, is_listed, gens_at}
+use Rattle.machine.specs.Generations.{Listed, Gens, row_of, has_page, is_listed, gens_at}
 use Rattle.machine.specs.Aging.{is_marked}
 use Rattle.machine.specs.Eviction.{is_nil, has_usable}
 use Rattle.machine.specs.Lists.{HeldLists, ListsHeld, is_held_of}
@@ -30,12 +30,11 @@ use Rattle.group_tree.proofs.LineageLemmas.{live-within}
 use Rattle.page_counter.specs.Counts.{usage_of}
 use Rattle.protection.proofs.CallerLemmas.{effective-same}
 use Rattle.pages.specs.PagesOf.{Label, label_of, labelled, HasResidence}
-use Rattle.reclaim.specs.Pass.{is_unprotected_by_counts, gives_by_lists, GivesNone}
 use Rattle.reclaim.proofs.PassLemmas.{found-passes, asked-order}
 use Rattle.page_state.specs.declared.holdings.Holdings.TheInside.{Inside}
 use Rattle.counts.specs.Numbers.{times}
 use Rattle.page_state.specs.Queue.{numbers_of}
-use Rattle.page_state.specs.Held.{KeepsRows}
+use Rattle.held_pages.specs.Held.{KeepsRows}
 use Rattle.page_state.specs.Holdings.{HoldingsOf, is_swap_left, may_take, gives_of}
 use Rattle.page_state.specs.Owned.{holdings_of, AreListed, IsHolding}
 use Rattle.page_state.proofs.KinLemmas.{kin-charged}
@@ -223,18 +222,22 @@ module _ (h : Inside) (is : IsHolding h) (tree : List Node) (are : AreKin h.coun
       by_slot None live = tt
       by_slot (Some page) live = sym (are.living page.group) ∙ live
 
-  module _ (order : IsTree tree) (target : ℕ) where
+  module _ (order : IsTree tree) (recursive : Bool) (target : ℕ) where
     pub effective-charged : (g : ℕ) → is_live tree g ≡ true → target ≢ g → under tree target g ≡ true
-        → effective false tree (min_of h.counters.limits) (usage_of h.counters) target g ≡ effective false tree (min_of h.counters.limits) (charged tree h.pages.pages) target g
-    effective-charged g live differs below = effective-same tree order target false (min_of h.counters.limits) (usage_of h.counters) (charged tree h.pages.pages) usages g (live-within tree g live) differs below
+        → effective recursive tree (min_of h.counters.limits) (usage_of h.counters) target g ≡ effective recursive tree (min_of h.counters.limits) (charged tree h.pages.pages) target g
+    effective-charged g live differs below = effective-same tree order target recursive (min_of h.counters.limits) (usage_of h.counters) (charged tree h.pages.pages) usages g (live-within tree g live) differs below
 
-    open-same : (g : ℕ) → is_live tree g ≡ true → under tree target g ≡ true → is_unprotected_in false tree h.counters.limits (charged tree h.pages.pages) target g ≡ is_unprotected_by_counts tree h.counters target g
+    -- by the counters a reclaim of the target may take from the group
+    abbrev unprotected : ℕ → Bool
+    unprotected g = is_unprotected_in recursive tree h.counters.limits (usage_of h.counters) target g
+
+    open-same : (g : ℕ) → is_live tree g ≡ true → under tree target g ≡ true → is_unprotected_in recursive tree h.counters.limits (charged tree h.pages.pages) target g ≡ unprotected g
     open-same g live below =
         elim (eq_cases g target) [
           | inl same ↦
               (let hit : (g == target) ≡ true = grind (arith, nat_tests, same) in
-              ap (λ b. b || exceeds (charged tree h.pages.pages g) (effective false tree (min_of h.counters.limits) (charged tree h.pages.pages) target g)) hit
-              ∙ sym (ap (λ b. b || exceeds (usage_of h.counters g) (effective false tree (min_of h.counters.limits) (usage_of h.counters) target g)) hit))
+              ap (λ b. b || exceeds (charged tree h.pages.pages g) (effective recursive tree (min_of h.counters.limits) (charged tree h.pages.pages) target g)) hit
+              ∙ sym (ap (λ b. b || exceeds (usage_of h.counters g) (effective recursive tree (min_of h.counters.limits) (usage_of h.counters) target g)) hit))
           | inr other ↦ same_open (g == target) (sym (usages g (live-within tree g live))) (sym (effective-charged g live (λ e. other (sym e)) below))
         ]
 
@@ -242,11 +245,24 @@ module _ (h : Inside) (is : IsHolding h) (tree : List Node) (are : AreKin h.coun
     abbrev free : Bool
     free = nat_lt (used_swap h.pages.pages) h.slots.blocks
 
+    -- by these lists the group gives one
+    abbrev pub listed_by : List Gens → Bool → ℕ → Bool
+    listed_by groups swap_free g = unprotected g && has_usable swap_free (gens_at groups g)
+
+    abbrev pub NoneListedBy : List Gens → Bool → Type 0
+    NoneListedBy groups swap_free = (g : ℕ) → is_live tree g ≡ true → under tree target g ≡ true → listed_by groups swap_free g ≡ false
+
+    abbrev listed : ℕ → Bool
+    listed = listed_by h.held.lists.groups free
+
+    abbrev NoneListed : Type 0
+    NoneListed = NoneListedBy h.held.lists.groups free
+
     -- a group below the target gives one, by the table and by the lists
-    gives_by_lists-same : (g : ℕ) → is_live tree g ≡ true → under tree target g ≡ true → gives_of (holdings_of h) tree target g ≡ gives_by_lists tree h.counters h.held.lists.groups free target g
-    gives_by_lists-same g live below =
-        any_both (is_usable free g) (λ page. (page.group == g) && may_take (holdings_of h) tree target page) (is_unprotected_by_counts tree h.counters target g) h.pages.pages (λ p. by_slot (page_at h.pages.pages p))
-        ∙ ap (λ b. is_unprotected_by_counts tree h.counters target g && b) (sym (usable-held h.pages.pages h.held.lists is.held free g))
+    listed-same : (g : ℕ) → is_live tree g ≡ true → under tree target g ≡ true → gives_of (holdings_of h) recursive tree target g ≡ listed g
+    listed-same g live below =
+        any_both (is_usable free g) (λ page. (page.group == g) && may_take (holdings_of h) recursive tree target page) (unprotected g) h.pages.pages (λ p. by_slot (page_at h.pages.pages p))
+        ∙ ap (λ b. unprotected g && b) (sym (usable-held h.pages.pages h.held.lists is.held free g))
       where
         own_bits : (t u o o' b : Bool) → u ≡ true → o ≡ o' → (((t && u) && o) && b) ≡ (o' && (t && b))
         own_bits true true true true b e same = refl
@@ -257,80 +273,80 @@ module _ (h : Inside) (is : IsHolding h) (tree : List Node) (are : AreKin h.coun
         own_bits t u true false b e same = absurd cc
         own_bits t u false true b e same = absurd cc
 
-        by_test : (page : Page) (e : Bool) → (page.group == g) ≡ e → (e && may_take (holdings_of h) tree target page) ≡ (is_unprotected_by_counts tree h.counters target g && (is_held page && (e && (not (is_anon page.content) || free))))
+        by_test : (page : Page) (e : Bool) → (page.group == g) ≡ e → (e && may_take (holdings_of h) recursive tree target page) ≡ (unprotected g && (is_held page && (e && (not (is_anon page.content) || free))))
         by_test page true hit =
             let same : page.group ≡ g = grind (arith, nat_tests, hit) in
-            own_bits (is_held page) (under tree target page.group) (is_unprotected_in false tree h.counters.limits (charged tree h.pages.pages) target page.group) (is_unprotected_by_counts tree h.counters target g) (not (is_anon page.content) || free)
-            (ap (under tree target) same ∙ below) (ap (is_unprotected_in false tree h.counters.limits (charged tree h.pages.pages) target) same ∙ open-same g live below)
-        by_test page false miss = sym (ap (λ b. is_unprotected_by_counts tree h.counters target g && b) (and_right (is_held page) false refl) ∙ and_right (is_unprotected_by_counts tree h.counters target g) false refl)
+            own_bits (is_held page) (under tree target page.group) (is_unprotected_in recursive tree h.counters.limits (charged tree h.pages.pages) target page.group) (unprotected g) (not (is_anon page.content) || free)
+            (ap (under tree target) same ∙ below) (ap (is_unprotected_in recursive tree h.counters.limits (charged tree h.pages.pages) target) same ∙ open-same g live below)
+        by_test page false miss = sym (ap (λ b. unprotected g && b) (and_right (is_held page) false refl) ∙ and_right (unprotected g) false refl)
 
-        by_slot : (slot : Option Page) → there_and (λ page. (page.group == g) && may_take (holdings_of h) tree target page) slot ≡ (is_unprotected_by_counts tree h.counters target g && there_and (is_usable free g) slot)
-        by_slot None = sym (and_right (is_unprotected_by_counts tree h.counters target g) false refl)
+        by_slot : (slot : Option Page) → there_and (λ page. (page.group == g) && may_take (holdings_of h) recursive tree target page) slot ≡ (unprotected g && there_and (is_usable free g) slot)
+        by_slot None = sym (and_right (unprotected g) false refl)
         by_slot (Some page) = by_test page (page.group == g) refl
 
     module _ (groups : IsGroupTree tree) (live : is_live tree target ≡ true) (last : Option ℕ) (group : Option GroupId)
-        (serves : option_map (λ (g : GroupId). g.0) group ≡ served_by tree (gives_by_lists tree h.counters h.held.lists.groups free target) target last) where
+        (serves : option_map (λ (g : GroupId). g.0) group ≡ served_by tree listed target last) where
       -- the group that the lists tell is the one that the table tells
-      turn_told : option_map (λ (g : GroupId). g.0) group ≡ served_by tree (gives_of (holdings_of h) tree target) target last
+      turn_told : option_map (λ (g : GroupId). g.0) group ≡ served_by tree (gives_of (holdings_of h) recursive tree target) target last
       turn_told =
           serves
           ∙ sym
-          (find_agree (gives_of (holdings_of h) tree target) (gives_by_lists tree h.counters h.held.lists.groups free target) (asking_order tree target last)
-          (λ k d lt. let here = asked-order tree target last groups live k d lt in gives_by_lists-same (get_or (asking_order tree target last) k d) here.0 here.1))
+          (find_agree (gives_of (holdings_of h) recursive tree target) listed (asking_order tree target last)
+          (λ k d lt. let here = asked-order tree target last groups live k d lt in listed-same (get_or (asking_order tree target last) k d) here.0 here.1))
 
-      turn_of : (g : Option GroupId) → option_map (λ (x : GroupId). x.0) g ≡ served_by tree (gives_of (holdings_of h) tree target) target last → IfSome g (λ x. served_by tree (gives_of (holdings_of h) tree target) target last ≡ Some x.0)
+      turn_of : (g : Option GroupId) → option_map (λ (x : GroupId). x.0) g ≡ served_by tree (gives_of (holdings_of h) recursive tree target) target last → IfSome g (λ x. served_by tree (gives_of (holdings_of h) recursive tree target) target last ≡ Some x.0)
       turn_of None told = tt
       turn_of (Some g) told = sym told
 
-      pub turn-is : IfSome group (λ g. served_by tree (gives_of (holdings_of h) tree target) target last ≡ Some g.0)
+      pub turn-is : IfSome group (λ g. served_by tree (gives_of (holdings_of h) recursive tree target) target last ≡ Some g.0)
       turn-is = turn_of group turn_told
 
-      none_taken : GivesNone tree h.counters h.held.lists.groups free target → any_there (may_take (holdings_of h) tree target) h.pages.pages ≡ false
-      none_taken none = any_there-none (may_take (holdings_of h) tree target) h.pages.pages (count_there-none (may_take (holdings_of h) tree target) h.pages.pages (λ p. by_slot p (page_at h.pages.pages p) refl (live_at p)))
+      none_taken : NoneListed → any_there (may_take (holdings_of h) recursive tree target) h.pages.pages ≡ false
+      none_taken none = any_there-none (may_take (holdings_of h) recursive tree target) h.pages.pages (count_there-none (may_take (holdings_of h) recursive tree target) h.pages.pages (λ p. by_slot p (page_at h.pages.pages p) refl (live_at p)))
         where
-          fails : (p : ℕ) (page : Page) → page_at h.pages.pages p ≡ Some page → is_live tree page.group ≡ true → may_take (holdings_of h) tree target page ≡ true → may_take (holdings_of h) tree target page ≡ false
+          fails : (p : ℕ) (page : Page) → page_at h.pages.pages p ≡ Some page → is_live tree page.group ≡ true → may_take (holdings_of h) recursive tree target page ≡ true → may_take (holdings_of h) recursive tree target page ≡ false
           fails p page there alive passes =
               let below = (and_parts (is_held page) (under tree target page.group) (and_parts (is_held page && under tree target page.group) _ (and_parts _ _ passes).0).0).1 in
               let own : (page.group == page.group) ≡ true = grind (arith, nat_tests) in
-              let given = any-some (λ (x : Page). (x.group == page.group) && may_take (holdings_of h) tree target x) h.pages.pages p
-              (ap (there_and (λ (x : Page). (x.group == page.group) && may_take (holdings_of h) tree target x)) there ∙ and_from (page.group == page.group) (may_take (holdings_of h) tree target page) own passes) in
-              let told = sym (gives_by_lists-same page.group alive below) ∙ given in
+              let given = any-some (λ (x : Page). (x.group == page.group) && may_take (holdings_of h) recursive tree target x) h.pages.pages p
+              (ap (there_and (λ (x : Page). (x.group == page.group) && may_take (holdings_of h) recursive tree target x)) there ∙ and_from (page.group == page.group) (may_take (holdings_of h) recursive tree target page) own passes) in
+              let told = sym (listed-same page.group alive below) ∙ given in
               let wrong : true ≡ false = sym told ∙ none page.group alive below in
               absurd cc
 
-          by_slot : (p : ℕ) (slot : Option Page) → page_at h.pages.pages p ≡ slot → IfSome slot (λ page. is_live tree page.group ≡ true) → there_and (may_take (holdings_of h) tree target) slot ≡ false
+          by_slot : (p : ℕ) (slot : Option Page) → page_at h.pages.pages p ≡ slot → IfSome slot (λ page. is_live tree page.group ≡ true) → there_and (may_take (holdings_of h) recursive tree target) slot ≡ false
           by_slot p None there alive = refl
           by_slot p (Some page) there alive =
-              elim (cases_Bool (may_take (holdings_of h) tree target page)) [
+              elim (cases_Bool (may_take (holdings_of h) recursive tree target page)) [
                 | inl passes ↦ fails p page there alive passes
                 | inr not_so ↦ not_so
               ]
 
-      none_of : (g : Option GroupId) → IfSome g (λ x. served_by tree (gives_of (holdings_of h) tree target) target last ≡ Some x.0) → IfNone g (GivesNone tree h.counters h.held.lists.groups free target)
-          → is_none g ≡ not (any_there (may_take (holdings_of h) tree target) h.pages.pages)
+      none_of : (g : Option GroupId) → IfSome g (λ x. served_by tree (gives_of (holdings_of h) recursive tree target) target last ≡ Some x.0) → IfNone g NoneListed
+          → is_none g ≡ not (any_there (may_take (holdings_of h) recursive tree target) h.pages.pages)
       none_of None turn none = sym (ap not (none_taken none))
       none_of (Some g) turn none =
-          let given = (found-passes (λ (x : ℕ). Unit {0}) (gives_of (holdings_of h) tree target) (asking_order tree target last) g.0 (λ k d lt. tt) turn).1 in
-          sym (ap not (any_more (there_and (λ (page : Page). (page.group == g.0) && may_take (holdings_of h) tree target page)) (there_and (may_take (holdings_of h) tree target)) h.pages.pages passes given))
+          let given = (found-passes (λ (x : ℕ). Unit {0}) (gives_of (holdings_of h) recursive tree target) (asking_order tree target last) g.0 (λ k d lt. tt) turn).1 in
+          sym (ap not (any_more (there_and (λ (page : Page). (page.group == g.0) && may_take (holdings_of h) recursive tree target page)) (there_and (may_take (holdings_of h) recursive tree target)) h.pages.pages passes given))
         where
-          passes : (slot : Option Page) → there_and (λ (page : Page). (page.group == g.0) && may_take (holdings_of h) tree target page) slot ≡ true → there_and (may_take (holdings_of h) tree target) slot ≡ true
+          passes : (slot : Option Page) → there_and (λ (page : Page). (page.group == g.0) && may_take (holdings_of h) recursive tree target page) slot ≡ true → there_and (may_take (holdings_of h) recursive tree target) slot ≡ true
           passes None e = e
           passes (Some page) e = (and_parts (page.group == g.0) _ e).1
 
       -- none has one where no page may be taken
-      pub none-is : IfNone group (GivesNone tree h.counters h.held.lists.groups free target) → is_none group ≡ not (any_there (may_take (holdings_of h) tree target) h.pages.pages)
+      pub none-is : IfNone group NoneListed → is_none group ≡ not (any_there (may_take (holdings_of h) recursive tree target) h.pages.pages)
       none-is none = none_of group turn-is none
 
 -- ---- the page that a group gives
 
-module _ (h : HoldingsOf) (target g : ℕ) where
+module _ (h : HoldingsOf) (recursive : Bool) (target g : ℕ) where
   -- what a page that may be taken says of its group
   record MayGive (tree : List Node) : Type 0 where
     pub below : under tree target g ≡ true
-    pub opened : is_unprotected_in false tree h.limits (charged tree h.stored.pages) target g ≡ true
+    pub opened : is_unprotected_in recursive tree h.limits (charged tree h.stored.pages) target g ≡ true
 
   abbrev gives_page : List Node → Page → Bool
-  gives_page tree page = (page.group == g) && may_take h tree target page
+  gives_page tree page = (page.group == g) && may_take h recursive tree target page
 
   usable_given : (tree : List Node) → any_there (gives_page tree) h.stored.pages ≡ true → any_there (is_usable (is_swap_left h) g) h.stored.pages ≡ true
   usable_given tree given = any_more (there_and (gives_page tree)) (there_and (is_usable (is_swap_left h) g)) h.stored.pages by_slot given
@@ -356,21 +372,21 @@ module _ (h : HoldingsOf) (target g : ℕ) where
           let opened = and_parts (is_held page && under tree target page.group) _ swaps.0 in
           record {
             below = ap (under tree target) (sym same) ∙ (and_parts (is_held page) _ opened.0).1;
-            opened = ap (is_unprotected_in false tree h.limits (charged tree h.stored.pages) target) (sym same) ∙ opened.1;
+            opened = ap (is_unprotected_in recursive tree h.limits (charged tree h.stored.pages) target) (sym same) ∙ opened.1;
           }
 
   -- a group whose turn it is has a page to give
-  pub turn-given : (tree : List Node) (last : Option ℕ) → served_by tree (gives_of h tree target) target last ≡ Some g → gives_of h tree target g ≡ true
-  turn-given tree last turn = (found-passes (λ (x : ℕ). Unit {0}) (gives_of h tree target) (asking_order tree target last) g (λ k d lt. tt) turn).1
+  pub turn-given : (tree : List Node) (last : Option ℕ) → served_by tree (gives_of h recursive tree target) target last ≡ Some g → gives_of h recursive tree target g ≡ true
+  turn-given tree last turn = (found-passes (λ (x : ℕ). Unit {0}) (gives_of h recursive tree target) (asking_order tree target last) g (λ k d lt. tt) turn).1
 
   -- and one on its lists
-  pub given-usable : (tree : List Node) → gives_of h tree target g ≡ true → ListsHeld h.stored.pages h.held → has_usable (is_swap_left h) (gens_at h.held.groups g) ≡ true
+  pub given-usable : (tree : List Node) → gives_of h recursive tree target g ≡ true → ListsHeld h.stored.pages h.held → has_usable (is_swap_left h) (gens_at h.held.groups g) ≡ true
   given-usable tree given lists = usable-held h.stored.pages h.held lists (is_swap_left h) g ∙ usable_given tree given
 
   -- each of its held pages may be taken, memory where a swap block is free
-  pub given-takes : (tree : List Node) → gives_of h tree target g ≡ true → (label : Label) (f : ℕ) → label.group ≡ g → (not (is_anon label.content) || is_swap_left h) ≡ true → may_take h tree target (labelled label (Held f)) ≡ true
+  pub given-takes : (tree : List Node) → gives_of h recursive tree target g ≡ true → (label : Label) (f : ℕ) → label.group ≡ g → (not (is_anon label.content) || is_swap_left h) ≡ true → may_take h recursive tree target (labelled label (Held f)) ≡ true
   given-takes tree given label f own room =
       let may = may_give tree given in
-      and_from (true && under tree target label.group && is_unprotected_in false tree h.limits (charged tree h.stored.pages) target label.group) (not (is_anon label.content) || is_swap_left h)
-      (and_from (under tree target label.group) (is_unprotected_in false tree h.limits (charged tree h.stored.pages) target label.group) (ap (under tree target) own ∙ may.below)
-      (ap (is_unprotected_in false tree h.limits (charged tree h.stored.pages) target) own ∙ may.opened)) room
+      and_from (true && under tree target label.group && is_unprotected_in recursive tree h.limits (charged tree h.stored.pages) target label.group) (not (is_anon label.content) || is_swap_left h)
+      (and_from (under tree target label.group) (is_unprotected_in recursive tree h.limits (charged tree h.stored.pages) target label.group) (ap (under tree target) own ∙ may.below)
+      (ap (is_unprotected_in recursive tree h.limits (charged tree h.stored.pages) target) own ∙ may.opened)) room

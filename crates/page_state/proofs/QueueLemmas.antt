@@ -1,14 +1,11 @@
 -- Queues after a page was taken out.
-use Rattle.std.proofs.Common.{◌≡◌, inl, inr, ℕ, zero, suc, ◌+◌, ◌<◌, ◌≤◌, ◌==◌, ◌||◌, not, cond, Bool, true, false, List, [], ◌∷◌, length, get_or, refl, sym, ap, subst, arith}
+use Rattle.std.proofs.Common.{◌≡◌, inl, inr, ℕ, ◌≤◌, ◌==◌, ◌||◌, not, Bool, true, false, List, [], ◌∷◌, refl, ap, arith}
 use Rattle.std.specs.Prelude.{count_by}
-use Rattle.std.specs.List.{All, filter, list_any}
+use Rattle.std.specs.List.{filter, list_any}
 use Rattle.std.proofs.lemmas.Bool.Decides.{eqb_tells}
-use Rattle.std.proofs.lemmas.List.Elements.{All-head, All-tail}
-use Rattle.std.proofs.lemmas.List.Sums.{sum_by-cons, length-filter}
-use Rattle.std.proofs.lemmas.List.Filters.{length-filter_both}
+use Rattle.std.proofs.lemmas.List.Sums.{sum_by-cons}
 use Rattle.machine.specs.declared.id.PageId.{PageId}
 use Rattle.machine.proofs.SlotLemmas.{one_if}
-use Rattle.counts.specs.Numbers.{times}
 use Rattle.page_state.specs.Queue.{numbers_of}
 
 module _ {T : Type 0} (test : T → Bool) where

@@ -3,7 +3,7 @@ use Rattle.std.proofs.Common.{◌≡◌, ℕ, ◌<◌, ◌==◌, ◌+◌, ◌&&�
 use Rattle.machine.specs.Slots.{Changes}
 use Rattle.machine.specs.Tree.{IsTree, under}
 use Rattle.machine.proofs.SlotLemmas.{one_if}
-use Rattle.machine.specs.Pages.{Residence, Pages, is_anon, is_number, has_swap, frame_at, block_at, is_some_number}
+use Rattle.machine.specs.Pages.{Residence, Away, Pages, is_anon, is_number, has_swap, frame_at, block_at, is_some_number}
 use Rattle.counts.specs.Numbers.{times}
 use Rattle.frames.specs.Pool.{PoolOf}
 use Rattle.block_store.specs.Slots.{SlotsOf}
@@ -13,7 +13,8 @@ use Rattle.pages.specs.declared.owned_page.Backing.{Backing}
 use Rattle.pages.specs.declared.owned_page.Backing.TheVariants as backing
 use Rattle.pages.specs.declared.owned_page.Content.{Content as Holds}
 use Rattle.pages.specs.declared.owned_page.Content.TheVariants as holds
-use Rattle.pages.specs.Records.{label_holding, label_backed, block_of, page_of}
+use Rattle.pages.specs.Backed.{is_backing_of, is_memory}
+use Rattle.pages.specs.Records.{content_of, label_holding, block_of, page_of}
 use Rattle.pages.specs.PagesOf.{Label, labelled, HasResidence}
 use Rattle.page_state.specs.Owned.{as_number, has_this_block, has_slot, is_slot, AreKept, Leaves}
 use Rattle.page_state.specs.Room.{LacksFrame}
@@ -23,31 +24,27 @@ use Rattle.page_state.proofs.HoldingLemmas.{kept-step, frame-out, block-out}
 
 -- ---- what memory in transfer has, and a page of a file has not
 
-pub slot-is : (from : Backing) (g b : ℕ) → is_slot from b ≡ true → (is_anon (label_backed from g).content ≡ true) × (Some (block_of from) ≡ Some b)
-slot-is (backing.Swap slot) g b hit = (refl, ap Some (eqb-true slot b hit))
-slot-is (backing.Home at block dirty) g b hit = absurd cc
+pub slot-is : (content : Holds) (from : Backing) (b : ℕ) → is_backing_of content from ≡ true → is_slot from b ≡ true → (is_anon (content_of content) ≡ true) × (Some (block_of from) ≡ Some b)
+slot-is holds.Memory (backing.Swap slot) b fits hit = (refl, ap Some (eqb-true slot b hit))
+slot-is (holds.OfFile at dirty) (backing.Swap slot) b fits hit = absurd cc
+slot-is content (backing.Home block) b fits hit = absurd cc
 
-pub this-slot : (from : Backing) (g b : ℕ) → one_if (is_anon (label_backed from g).content && (block_of from == b)) ≡ as_number (is_slot from b)
-this-slot (backing.Swap slot) g b = refl
-this-slot (backing.Home at block dirty) g b = refl
+this-slot : (content : Holds) (from : Backing) (b : ℕ) → is_backing_of content from ≡ true → one_if (is_anon (content_of content) && (block_of from == b)) ≡ as_number (is_slot from b)
+this-slot holds.Memory (backing.Swap slot) b fits = refl
+this-slot holds.Memory (backing.Home block) b fits = absurd cc
+this-slot (holds.OfFile at dirty) (backing.Swap slot) b fits = absurd cc
+this-slot (holds.OfFile at dirty) (backing.Home block) b fits = refl
 
-pub some-slot : (from : Backing) (g : ℕ) → one_if (is_anon (label_backed from g).content && true) ≡ as_number (has_slot from)
-some-slot (backing.Swap slot) g = refl
-some-slot (backing.Home at block dirty) g = refl
+some-slot : (content : Holds) (from : Backing) → is_backing_of content from ≡ true → one_if (is_anon (content_of content) && true) ≡ as_number (has_slot from)
+some-slot holds.Memory (backing.Swap slot) fits = refl
+some-slot holds.Memory (backing.Home block) fits = absurd cc
+some-slot (holds.OfFile at dirty) (backing.Swap slot) fits = absurd cc
+some-slot (holds.OfFile at dirty) (backing.Home block) fits = refl
 
 -- a page that is held has no block, whatever it holds
 pub no-slot : (anon : Bool) → one_if (anon && false) ≡ 0
 no-slot true = refl
 no-slot false = refl
-
--- whose a page is, whatever it holds
-pub group-held : (content : Holds) (g : ℕ) → (label_holding content g).group ≡ g
-group-held holds.Memory g = refl
-group-held (holds.OfFile at dirty) g = refl
-
-pub group-backed : (from : Backing) (g : ℕ) → (label_backed from g).group ≡ g
-group-backed (backing.Swap slot) g = refl
-group-backed (backing.Home at block dirty) g = refl
 
 -- ---- what a page leaves
 
@@ -83,10 +80,23 @@ released c c' pool pool' slots slots' label r f charge framed own back charged b
     kept
 
 -- what is backed had its slot, if it is memory
-pub backed-trades : (slots slots' : SlotsOf) (from : Backing) (g : ℕ) (r : Residence) → block_at r ≡ Some (block_of from) → ((b : ℕ) → times slots'.free b ≡ times slots.free b + as_number (is_slot from b)) → length slots'.free ≡ length slots.free + as_number (has_slot from)
-    → Trades has_this_block has_swap slots.free slots'.free (Some (labelled (label_backed from g) r)) None
-backed-trades slots slots' from g r blocked counts more =
+pub backed-trades : (slots slots' : SlotsOf) (content : Holds) (from : Backing) (g : ℕ) (r : Residence) → is_backing_of content from ≡ true → block_at r ≡ Some (block_of from) → ((b : ℕ) → times slots'.free b ≡ times slots.free b + as_number (is_slot from b))
+    → length slots'.free ≡ length slots.free + as_number (has_slot from) → Trades has_this_block has_swap slots.free slots'.free (Some (labelled (label_holding content g) r)) None
+backed-trades slots slots' content from g r fits blocked counts more =
     record {
-      counts = λ n. (let k = counts n in let here = ap (λ (o : Option ℕ). one_if (is_anon (label_backed from g).content && is_number o n)) blocked in let own = this-slot from g n in omega (arith, k, here, own));
-      len = (let here = ap (λ (o : Option ℕ). one_if (is_anon (label_backed from g).content && is_some_number o)) blocked in let own = some-slot from g in omega (arith, more, here, own));
+      counts = λ n. (let k = counts n in let here = ap (λ (o : Option ℕ). one_if (is_anon (content_of content) && is_number o n)) blocked in let own = this-slot content from n fits in omega (arith, k, here, own));
+      len = (let here = ap (λ (o : Option ℕ). one_if (is_anon (content_of content) && is_some_number o)) blocked in let own = some-slot content from fits in omega (arith, more, here, own));
+    }
+
+-- a page that is on a slot alone is memory, and had the slot
+pub away-memory : (content : Holds) → is_memory content ≡ true → is_anon (content_of content) ≡ true
+away-memory holds.Memory is = refl
+away-memory (holds.OfFile at dirty) is = absurd cc
+
+pub away-trades : (slots slots' : SlotsOf) (content : Holds) (g slot : ℕ) → is_anon (content_of content) ≡ true → ((b : ℕ) → times slots'.free b ≡ times slots.free b + one_if (slot == b)) → length slots'.free ≡ length slots.free + 1
+    → Trades has_this_block has_swap slots.free slots'.free (Some (labelled (label_holding content g) (Away slot))) None
+away-trades slots slots' content g slot anon counts more =
+    record {
+      counts = λ n. (let k = counts n in let own = ap (λ (a : Bool). one_if (a && (slot == n))) anon in omega (arith, k, own));
+      len = (let own = ap (λ (a : Bool). one_if (a && true)) anon in omega (arith, more, own));
     }

@@ -19,7 +19,7 @@ use Rattle.group_tree.proofs.LineageLemmas.{live-within}
 use Rattle.page_counter.specs.Counts.{Counts, IsOut, SameGroups, MovesUp, usage_of}
 use Rattle.pages.specs.PagesOf.{PagesOf, byte_in, Label, label_of, HasResidence}
 use Rattle.page_state.specs.declared.holdings.Holdings.TheInside.{Inside}
-use Rattle.page_state.specs.Held.{HeldOf}
+use Rattle.held_pages.specs.Held.{HeldOf}
 use Rattle.page_state.specs.Holdings.{HoldingsOf, HandsUp}
 use Rattle.page_state.specs.Owned.{holdings_of, has_this_block, is_going, as_number, IsBalanced, IsCounted, IsHolding}
 use Rattle.page_state.proofs.BalanceLemmas.{changed-count}

@@ -1,8 +1,6 @@
 -- Transfers end: a page is in its frame, or on its block alone.
 use Rattle.std.proofs.Common.{◌≡◌, ◌≢◌, ℕ, ◌+◌, ◌<◌, ◌==◌, ◌&&◌, Bool, true, false, List, length, Option, Some, refl, sym, ap, ◌∙◌, subst, arith}
 use Rattle.std.specs.Prelude.{IfSome}
-use Rattle.machine.specs.declared.id.GroupId.{GroupId}
-use Rattle.machine.specs.declared.id.PageId.{PageId}
 use Rattle.machine.specs.Slots.{Changes, there_and}
 use Rattle.machine.specs.Tree.{is_live, under, IsTree}
 use Rattle.machine.specs.Pages.{Content, Memory, OfFile, Held, Page, Pages, is_anon, has_frame, has_this_frame, has_swap, frame_at, block_at, is_number, is_some_number, is_held_at, in_transfer_at, is_held, is_in_transfer}
@@ -19,7 +17,7 @@ use Rattle.machine.specs.declared.record.Direction.TheVariants.{In, Out}
 use Rattle.pages.specs.PagesOf.{Label, labelled, HasResidence, byte_in, moving}
 use Rattle.pages.specs.Transfers.{on_block_as, page_after, Ends}
 use Rattle.page_state.specs.declared.holdings.Holdings.TheInside.{Inside}
-use Rattle.page_state.specs.Held.{HeldOf}
+use Rattle.held_pages.specs.Held.{HeldOf}
 use Rattle.page_state.specs.Relists.{JoinsAtEnd, LeavesQueue}
 use Rattle.page_state.specs.Room.{LacksFrame}
 use Rattle.machine.specs.Generations.{is_listed_in}
@@ -151,10 +149,8 @@ module _ (c : Counts) (pool : PoolOf) (slots : SlotsOf) (pages : Pages) (d : Dir
 -- ---- the holdings
 
 -- a page is settled, and the lists with it
-pub record Lands (h h' : Inside) (p : ℕ) (label : Label) (f b n : ℕ) (d : Direction) (end : End) (entry : GroupId × PageId) : Type 0 where
+pub record Lands (h h' : Inside) (p : ℕ) (label : Label) (f b n : ℕ) (d : Direction) (end : End) : Type 0 where
   pub stood : HasResidence h.pages.pages p label (moving d f b n)
-  pub same : entry.1.0 ≡ p
-  pub owned : entry.0.0 ≡ label.group
   -- the bytes as the transfer ends
   pub filled : List (Option (List ℕ))
   pub others : (q o : ℕ) → q ≢ p → byte_in filled q o ≡ byte_in h.pages.bytes q o
@@ -166,7 +162,7 @@ pub record Lands (h h' : Inside) (p : ℕ) (label : Label) (f b n : ℕ) (d : Di
   pub most_spares : h'.pool.most_spares ≡ h.pool.most_spares
   pub blocks : h'.slots.blocks ≡ h.slots.blocks
   pub held : JoinsAtEnd d end h.held h'.held label.group (kind_at label.content) p
-  pub moving : LeavesQueue h.moving h'.moving entry.1.0
+  pub moving : LeavesQueue h.moving h'.moving p
 
 -- the page that is settled may be held again, in its group
 pub relist-fits : (h : Inside) → IsHolding h → (d : Direction) (p : ℕ) (label : Label) (f b n x : ℕ) → HasResidence h.pages.pages p label (moving d f b n) → x ≡ label.group → (is_listed_in h.held.lists.groups p ≡ false) × (x < length h.held.lists.groups)
@@ -180,7 +176,7 @@ settled : (label : Label) (end : End) (f b : ℕ) → there_and is_in_transfer (
 settled label InFrame f b = refl
 settled label OnBlock f b = (off-frame label b label.content).2
 
-module _ (h h' : Inside) (is : IsHolding h) (p : ℕ) (label : Label) (f b n : ℕ) (d : Direction) (entry : GroupId × PageId) where
+module _ (h h' : Inside) (is : IsHolding h) (p : ℕ) (label : Label) (f b n : ℕ) (d : Direction) where
   abbrev from : Option Page
   from = Some (labelled label (moving d f b n))
 
@@ -188,7 +184,7 @@ module _ (h h' : Inside) (is : IsHolding h) (p : ℕ) (label : Label) (f b n : �
   to end = page_after end label f b
 
   -- the lists of those held go on to have them
-  held-lands : (end : End) → Lands h h' p label f b n d end entry → GoesOn (entry_after d) h.pages.pages h.held.lists h'.pages.pages h'.held.lists × (h'.held.numbers ≡ h.held.numbers) × (h'.held.room ≡ h.held.room)
+  held-lands : (end : End) → Lands h h' p label f b n d end → GoesOn (entry_after d) h.pages.pages h.held.lists h'.pages.pages h'.held.lists × (h'.held.numbers ≡ h.held.numbers) × (h'.held.room ≡ h.held.room)
   held-lands InFrame lands = (
     subst (λ (held : HeldLists). GoesOn (entry_after d) h.pages.pages h.held.lists h'.pages.pages held) (sym (ap (λ (held : HeldOf). held.lists) lands.held))
         (goes-in h.pages.pages h.held.lists is.held p (entry_after d) h'.pages.pages from label f lands.stood (moving-is d f b n).3 lands.ended.placed),
@@ -202,10 +198,10 @@ module _ (h h' : Inside) (is : IsHolding h) (p : ℕ) (label : Label) (f b n : �
     ap (λ (held : HeldOf). held.room) lands.held,
   )
 
-  stays-landed : (end : End) → Lands h h' p label f b n d end entry → Stays h h'
+  stays-landed : (end : End) → Lands h h' p label f b n d end → Stays h h'
   stays-landed end lands = record { groups = lands.groups; frames = lands.frames; most_spares = lands.most_spares; blocks = lands.blocks; numbers = lands.ended.numbers; page_groups = lands.ended.groups; page_frames = lands.ended.frames; page_room = lands.ended.room; held_numbers = (held-lands end lands).1; held_room = (held-lands end lands).2; moving_room = lands.moving.room; files = lands.ended.files }
 
-  pub holding-lands : (end : End) → Lands h h' p label f b n d end entry → IsHolding h'
+  pub holding-lands : (end : End) → Lands h h' p label f b n d end → IsHolding h'
   holding-lands end lands =
       let held = held-lands end lands in
       let spares = lands.spares in
@@ -222,13 +218,13 @@ module _ (h h' : Inside) (is : IsHolding h) (p : ℕ) (label : Label) (f b n : �
         generation = entry_after d;
         goes = held.0;
         apart = λ was now. true≢false (sym was ∙ (moving-is d f b n).3);
-        moving = relists-out is_in_transfer h.moving.numbers h'.moving.numbers h.pages.pages entry.1.0 p from (to end) lands.same lands.stood (settled label end f b) is.moving lands.moving.counts lands.moving.fewer;
+        moving = relists-out is_in_transfer h.moving.numbers h'.moving.numbers h.pages.pages p p from (to end) refl lands.stood (settled label end f b) is.moving lands.moving.counts lands.moving.fewer;
         spares = omega (arith, spares, going);
         tickets = omega (arith, tickets, none, moved);
       })
       is
 
-  pub lands-settles : (end : End) → Lands h h' p label f b n d end entry → Settles (holdings_of h) (holdings_of h') d p n (page_after end label f b)
+  pub lands-settles : (end : End) → Lands h h' p label f b n d end → Settles (holdings_of h) (holdings_of h') d p n (page_after end label f b)
   lands-settles end lands =
       record {
         placed = lands.ended.placed;

@@ -1,40 +1,52 @@
--- How a page in a frame leaves it, and what it is then.
-use Rattle.std.proofs.Common.{◌≡◌, ℕ, Bool, true, false, Option, refl, ap, subst, ◌∙◌}
-use Rattle.std.specs.Prelude.{IfSome}
-use Rattle.machine.specs.Pages.{Content, Memory, OfFile, Residence, Pages, IsFiled, IsFiledAs, Page}
-use Rattle.files.specs.Files.{FilesOf}
+-- How a page in a frame leaves it: by a slot, or home.
+use Rattle.std.proofs.Common.{◌≡◌, ℕ, Bool, true, false, Option, Some, None, refl, ap, arith}
+use Rattle.machine.specs.Pages.{Content, Memory, OfFile, Held, Going, has_swap, home_block, is_anon}
+use Rattle.block_store.specs.Slots.{SlotsOf}
 use Rattle.pages.specs.declared.way.WayOut.TheVariants as way
-use Rattle.pages.specs.PagesOf.{Label, labelled, memory_of, of_file, HasResidence, AreFiled, way_of}
+use Rattle.pages.specs.PagesOf.{Label, labelled, way_of}
+use Rattle.pages.specs.Transfers.{LeavesBy, block_for}
+use Rattle.page_state.specs.declared.holdings.Holdings.TheInside.{Inside}
+use Rattle.page_state.specs.Room.{TakesSlot}
+use Rattle.page_state.specs.Holdings.{GoesTo}
+use Rattle.page_state.specs.Owned.{holdings_of, has_this_block, IsHolding}
+use Rattle.page_state.proofs.BalanceLemmas.{Trades, taken-in}
 
-module _ (files : FilesOf) (label : Label) (r : Residence) where
-  -- what goes to swap is memory
-  pub to-swap : IsFiled files.first files.sizes (labelled label r) → way_of label.content label.dirty ≡ way.ToSwap → label ≡ memory_of label.group
-  to-swap filed goes = by_content label.content refl filed goes
+-- memory goes to swap
+pub swap-memory : (content : Content) (dirty : Bool) → way_of content dirty ≡ way.ToSwap → is_anon content ≡ true
+swap-memory Memory dirty goes = refl
+swap-memory (OfFile file q) true goes = absurd cc
+swap-memory (OfFile file q) false goes = absurd cc
+
+-- how a page leaves by what was taken for it
+module _ (h : Inside) (is : IsHolding h) (slots' : SlotsOf) where
+  pub record Leaving (label : Label) (slot : Option ℕ) : Type 0 where
+    pub by : LeavesBy label.content label.dirty slot
+    pub to : GoesTo (holdings_of h) label.content label.dirty (block_for h.pages.files label.content slot)
+    pub blocks : slots'.blocks ≡ h.slots.blocks
+    pub trades : (f n : ℕ) → Trades has_this_block has_swap h.slots.free slots'.free (Some (labelled label (Held f))) (Some (labelled label (Going f (block_for h.pages.files label.content slot) n)))
+
+  pub leaving : (label : Label) (slot : Option ℕ) → TakesSlot (way_of label.content label.dirty) h.slots slots' slot → Leaving label slot
+  leaving label slot takes = by_content label.content label.group label.dirty slot takes
     where
-      by_dirty : (file q : ℕ) (b : Bool) → way_of (OfFile file q) b ≡ way.ToSwap → ⊥
-      by_dirty file q true goes = cc
-      by_dirty file q false goes = cc
-
-      by_content : (content : Content) → label.content ≡ content → IsFiledAs files.first files.sizes (labelled label r) content → way_of content label.dirty ≡ way.ToSwap → label ≡ memory_of label.group
-      by_content Memory is clean goes =
-          ap (λ (c : Content). let l : Label = record { content = c; group = label.group; dirty = label.dirty } in l) is ∙ ap (λ (d : Bool). let l : Label = record { content = Memory; group = label.group; dirty = d } in l) clean
-      by_content (OfFile file q) is filed goes = absurd (by_dirty file q label.dirty goes)
-
-  -- what goes home is a page of a file that was written to
-  pub to-home : way_of label.content label.dirty ≡ way.ToHome → (file : ℕ) × (q : ℕ) × (label ≡ of_file file q label.group true)
-  to-home goes = by_content label.content refl goes
-    where
-      by_dirty : (file q : ℕ) (b : Bool) → way_of (OfFile file q) b ≡ way.ToHome → b ≡ true
-      by_dirty file q true goes = refl
-      by_dirty file q false goes = absurd cc
-
-      by_content : (content : Content) → label.content ≡ content → way_of content label.dirty ≡ way.ToHome → (file : ℕ) × (q : ℕ) × (label ≡ of_file file q label.group true)
-      by_content Memory is goes = absurd cc
-      by_content (OfFile file q) is goes = (
-        file,
-        q,
-        ap (λ (c : Content). let l : Label = record { content = c; group = label.group; dirty = label.dirty } in l) is ∙ ap (λ (d : Bool). let l : Label = record { content = OfFile file q; group = label.group; dirty = d } in l) (by_dirty file q label.dirty goes),
-      )
-
-pub stands-to-swap : (files : FilesOf) (pages : Pages) (p : ℕ) (label : Label) (r : Residence) → AreFiled files pages → HasResidence pages p label r → way_of label.content label.dirty ≡ way.ToSwap → label ≡ memory_of label.group
-stands-to-swap files pages p label r are stands goes = to-swap files label r (subst (λ (slot : Option Page). IfSome slot (IsFiled files.first files.sizes)) stands (are.filed p)) goes
+      by_content : (content : Content) (g : ℕ) (dirty : Bool) (s : Option ℕ) → TakesSlot (way_of content dirty) h.slots slots' s → Leaving (record { content = content; group = g; dirty = dirty }) s
+      by_content Memory g dirty None takes = absurd takes
+      by_content Memory g dirty (Some b) takes =
+          record {
+            by = tt;
+            to = taken-in has_this_block has_swap h.slots.blocks h.slots.free slots'.free h.pages.pages b takes.counts is.kept.blocks;
+            blocks = takes.blocks;
+            trades = λ f n. record { counts = λ m. (let k = takes.counts m in omega (arith, k)); len = (let k = takes.fewer in omega (arith, k)) };
+          }
+      by_content (OfFile file q) g true None same =
+          record {
+            by = refl;
+            to = (refl, ap (λ (first : ℕ). home_block first h.pages.files.sizes file q) is.homes);
+            blocks = ap (λ (s : SlotsOf). s.blocks) same;
+            trades = λ f n. rw same (record { counts = λ m. refl; len = refl });
+          }
+      by_content (OfFile file q) g true (Some b) takes = absurd takes
+      by_content (OfFile file q) g false s takes = absurd (dropped s takes)
+        where
+          dropped : (s : Option ℕ) → TakesSlot way.Dropped h.slots slots' s → ⊥
+          dropped None takes = takes
+          dropped (Some b) takes = takes

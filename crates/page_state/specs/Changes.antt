@@ -10,7 +10,7 @@ use Rattle.machine.specs.Pages.{Content, Memory, OfFile, Held, Coming, Going, Pa
 use Rattle.machine.specs.declared.event.Op.TheVariants.{Write}
 use Rattle.machine.specs.Counts.{no_limits, no_counts, with_event}
 use Rattle.machine.specs.Tasks.{PageTables, SetsTask, group_of_task, mapped_at, mappers, Shows, Copies, ShowsNothing}
-use Rattle.machine.specs.State.{State, page_numbers, over_in, is_frame_free}
+use Rattle.machine.specs.State.{Opening, State, page_numbers, over_in, is_frame_free}
 use Rattle.machine.specs.Access.{page_size}
 use Rattle.machine.specs.Reclaim.{is_takeable}
 use Rattle.machine.specs.Generations.{gens_at}
@@ -21,7 +21,10 @@ use Rattle.pages.specs.declared.end.End.TheVariants.{InFrame, OnBlock}
 use Rattle.pages.specs.PagesOf.{byte_in, Label, labelled, of_file, flight, HasResidence}
 use Rattle.machine.specs.declared.record.Direction.{Direction}
 use Rattle.machine.specs.declared.record.Direction.TheVariants.{In, Out}
+use Rattle.files.specs.Files.{FilesOf}
 use Rattle.pages.specs.Tickets.{TicketOf, new_ticket}
+use Rattle.pages.specs.declared.source.Source.{Source}
+use Rattle.pages.specs.Transfers.{ReadsFrom}
 use Rattle.page_state.specs.declared.room.NoRoom.{NoRoom}
 use Rattle.page_state.specs.declared.room.NoRoom.TheVariants as lacks
 use Rattle.page_state.specs.States.{StateOf, byte_shown}
@@ -37,6 +40,10 @@ pub record HasRoom (s : State) (g : ℕ) : Type 0 where
 abbrev pub LacksRoom : State → ℕ → NoRoom → Type 0
 LacksRoom s g (lacks.Over a) = (over_in s g ≡ Some a.0) × (is_live s.tree a.0 ≡ true)
 LacksRoom s g lacks.NoFrame = (over_in s g ≡ None) × (is_frame_free s ≡ false)
+
+-- the files of the opening, at home behind the swap blocks
+abbrev pub files_of : Opening → FilesOf
+files_of opening = record { first = opening.swap; sizes = opening.files }
 
 -- ---- counting
 
@@ -97,12 +104,13 @@ pub record BeginsReadIn (old new : StateOf) (p : ℕ) (label : Label) (block : �
   pub held : KeepsLists Youngest old new
   pub cursors : new.order.cursors ≡ old.order.cursors
 
--- a page of a file, charged to g, is from now on being read from its home block under a number that no page had
-pub record BeginsRead (old new : StateOf) (file q g : ℕ) (ticket : TicketOf) : Type 0 where
+-- what the source names, charged to g, is from now on being read in
+pub record BeginsRead (old new : StateOf) (from : Source) (g : ℕ) (ticket : TicketOf) : Type 0 where
   pub page : ℕ
-  pub in_range : page < page_numbers old.tables.opening
-  pub number_free : page_at old.tables.pages page ≡ None
-  pub begins : BeginsReadIn old new page (of_file file q g false) (home_block old.tables.opening.swap old.tables.opening.files file q) ticket
+  pub label : Label
+  pub block : ℕ
+  pub reads : ReadsFrom old.tables.pages (page_numbers old.tables.opening) (files_of old.tables.opening) from g page label block
+  pub begins : BeginsReadIn old new page label block ticket
 
 -- where a page that leaves its frame is written: memory to a swap block that no page has, a page of a file that was written to to its home block
 abbrev pub IsWrittenTo : State → Content → Bool → ℕ → Type 0

@@ -12,8 +12,10 @@ use Rattle.machine.specs.Counts.{over}
 use Rattle.machine.specs.Access.{page_size}
 use Rattle.machine.specs.Step.{new_page, regrouped}
 use Rattle.pages.specs.Tickets.{TicketOf, new_ticket}
+use Rattle.pages.specs.declared.source.Source.{Source}
+use Rattle.pages.specs.Transfers.{ReadsFrom}
 use Rattle.pages.specs.declared.way.WayOut.TheVariants as way
-use Rattle.pages.specs.PagesOf.{byte_in, Label, labelled, of_file, flight, HasResidence, way_of}
+use Rattle.pages.specs.PagesOf.{byte_in, Label, labelled, flight, HasResidence, way_of}
 use Rattle.machine.specs.declared.record.Direction.{Direction}
 use Rattle.machine.specs.declared.record.Direction.TheVariants.{In, Out}
 use Rattle.pages.specs.declared.flight.Flight.{Flight}
@@ -94,12 +96,13 @@ pub record BeginsIn (old new : HoldingsOf) (p : ℕ) (label : Label) (block : �
   pub order : ListsGoOn Youngest old new
   pub others : new ≡ with_lists old new.stored new.held
 
--- a page of a file, charged to g, is from now on being read from its home block under a number that no page had
-pub record BeginsInFile (old new : HoldingsOf) (file q g : ℕ) (ticket : TicketOf) : Type 0 where
+-- what the source names, charged to g, is from now on being read in
+pub record BeginsFetch (old new : HoldingsOf) (from : Source) (g : ℕ) (ticket : TicketOf) : Type 0 where
   pub page : ℕ
-  pub in_range : page < old.numbers
-  pub number_free : page_at old.stored.pages page ≡ None
-  pub begins : BeginsIn old new page (of_file file q g false) (home_block old.swap old.files file q) ticket
+  pub label : Label
+  pub block : ℕ
+  pub reads : ReadsFrom old.stored.pages old.numbers (record { first = old.swap; sizes = old.files }) from g page label block
+  pub begins : BeginsIn old new page label block ticket
 
 -- where a page that leaves its frame is written: memory to a swap block that no page has, a page of a file that was written to to its home block
 abbrev pub GoesTo : HoldingsOf → Content → Bool → ℕ → Type 0
@@ -150,18 +153,18 @@ pub record HandsUp (old new : HoldingsOf) (g parent : ℕ) : Type 0 where
 -- ---- what a reclaim takes
 
 -- the page may be taken for the target
-abbrev pub may_take : HoldingsOf → List Node → ℕ → Page → Bool
-may_take h tree target page =
-    is_held page && under tree target page.group && is_unprotected_in false tree h.limits (charged tree h.stored.pages) target page.group
+abbrev pub may_take : HoldingsOf → Bool → List Node → ℕ → Page → Bool
+may_take h recursive tree target page =
+    is_held page && under tree target page.group && is_unprotected_in recursive tree h.limits (charged tree h.stored.pages) target page.group
     && (not (is_anon page.content) || nat_lt (used_swap h.stored.pages) h.swap)
 
 -- a page of the group may
-abbrev pub gives_of : HoldingsOf → List Node → ℕ → ℕ → Bool
-gives_of h tree target g = any_there (λ page. (page.group == g) && may_take h tree target page) h.stored.pages
+abbrev pub gives_of : HoldingsOf → Bool → List Node → ℕ → ℕ → Bool
+gives_of h recursive tree target g = any_there (λ page. (page.group == g) && may_take h recursive tree target page) h.stored.pages
 
 -- it is the group's turn to give a page to the target
-abbrev pub IsTurn : HoldingsOf → List Node → List (Option ℕ) → ℕ → ℕ → Type 0
-IsTurn h tree cursors target g = served_by tree (gives_of h tree target) target (cursor_at cursors target) ≡ Some g
+abbrev pub IsTurn : HoldingsOf → Bool → List Node → List (Option ℕ) → ℕ → ℕ → Type 0
+IsTurn h recursive tree cursors target g = served_by tree (gives_of h recursive tree target) target (cursor_at cursors target) ≡ Some g
 
 -- the page that a group gives, and the lists after the search for it
 pub record PicksPage (old new : HoldingsOf) (g p : ℕ) : Type 0 where

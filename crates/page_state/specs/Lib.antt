@@ -1,7 +1,6 @@
 pub mod Holdings
 pub mod Owned
 pub mod Queue
-pub mod Held
 pub mod Relists
 pub mod Room
 pub mod Drops

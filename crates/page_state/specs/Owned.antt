@@ -91,12 +91,12 @@ pub record IsHolding (h : Inside) : Type 0 where
 -- memory in transfer has a slot; a page of a file has none
 abbrev pub has_slot : Backing → Bool
 has_slot (backing.Swap slot) = true
-has_slot (backing.Home at block dirty) = false
+has_slot (backing.Home block) = false
 
 -- it has this slot
 abbrev pub is_slot : Backing → ℕ → Bool
 is_slot (backing.Swap slot) b = slot == b
-is_slot (backing.Home at block dirty) b = false
+is_slot (backing.Home block) b = false
 
 -- the pages that own this, by number
 abbrev pub pages_of : List (Option OwnedPage) → Pages

@@ -1,5 +1,5 @@
 -- What a contract sees of a queue of pages.
-use Rattle.std.specs.Prelude.{ℕ, ◌==◌, List, map, count_by}
+use Rattle.std.specs.Prelude.{ℕ, List, map}
 use Rattle.machine.specs.declared.id.PageId.{PageId}
 
 -- the numbers of the pages, the first of the queue first; and for how many of them there is memory

@@ -8,7 +8,7 @@ use Rattle.pages.specs.declared.end.End.{End}
 use Rattle.pages.specs.declared.end.End.TheVariants.{InFrame, OnBlock}
 use Rattle.counts.specs.Numbers.{times}
 use Rattle.page_state.specs.Queue.{QueueOf}
-use Rattle.page_state.specs.Held.{HeldOf, entered}
+use Rattle.held_pages.specs.Held.{HeldOf, entered}
 
 -- a page is in the queue no more, and all others stay in their order
 pub record LeavesQueue (old new : QueueOf) (p : ℕ) : Type 0 where

@@ -2,17 +2,16 @@
 
 ghost use Rattle.std.specs.Prelude.{◌≡◌, ℕ, ◌<◌, None, true, slice_index, IfOk, IfErr, OnOk, OnErr};
 ghost use Rattle.machine.specs.Tree.{is_live};
-ghost use Rattle.machine.specs.Pages as residence;
-ghost use Rattle.machine.specs.Pages.{file_page, is_held_in};
+ghost use Rattle.machine.specs.Pages.{is_held_in};
 ghost use Rattle.machine.specs.Tasks.{lives, mapped_at};
 ghost use Rattle.machine.specs.Access.{page_size, task_pages};
-ghost use Rattle.pages.specs.PagesOf.{memory_of, HasResidence};
-ghost use Rattle.page_state.specs.Changes.{HasRoom, LacksRoom, SharesPage, MakesPage, WritesByte, MergesFrames, BeginsReadIn, BeginsRead};
+ghost use Rattle.pages.specs.Transfers.{IsReadable};
+ghost use Rattle.page_state.specs.Changes.{HasRoom, LacksRoom, SharesPage, MakesPage, WritesByte, MergesFrames, files_of, BeginsRead};
 
 use crate::joined::State;
 use crate::room::NoRoom;
 use machine::id::{GroupId, PageId, TaskId};
-use pages::{FilePage, InTicket};
+use pages::{InTicket, Source};
 use std::alloc::{AllocError, Global};
 
 impl State {
@@ -84,34 +83,22 @@ impl State {
         self.holdings.merge_marks(word, bits);
     }
 
-    /// Begins to read in memory that is on its block. It is charged to its group, which has room for it.
-    /// `AllocError` where memory is refused, and then nothing changes.
-    pub fn start_in(&mut self, alloc: Global, page: PageId) -> Result<InTicket, AllocError>
-        requires away { (g b : ℕ) × HasResidence self.old.tables.pages page.0 (memory_of g) (residence.Away b) × HasRoom self.old.tables g }
-        ensures begins { IfOk result (λ ticket. (g b : ℕ) → HasResidence self.old.tables.pages page.0 (memory_of g) (residence.Away b) → BeginsReadIn self.old self.new page.0 (memory_of g) b ticket) }
-        ensures err { OnErr result (self.new ≡ self.old) }
-    {
-        let ticket = self.holdings.start_in(alloc, page)?;
-        Ok(ticket)
-    }
-
-    /// Begins to read a page of a file, which no page holds, from its home block. It is charged to the group,
-    /// which has room for it (kernel: filemap_add_folio). `AllocError` where memory is refused, and then
-    /// nothing changes.
-    pub fn start_in_file(
+    /// Begins to read in what the source names, charged to the group, which has room for it: memory of that group on
+    /// its slot; or a page of a file that no page holds, from its home block (kernel: do_swap_page,
+    /// filemap_add_folio). `AllocError` where memory is refused, and then nothing changes.
+    pub fn start_in(
         &mut self,
         alloc: Global,
-        at: FilePage,
+        from: Source,
         group: GroupId,
     ) -> Result<InTicket, AllocError>
-        requires inside { at.page < slice_index self.old.tables.opening.files at.file }
-        requires none { file_page self.old.tables.pages at.file at.page ≡ None }
+        requires readable { IsReadable self.old.tables.pages (files_of self.old.tables.opening) from group.0 }
         requires live { is_live self.old.tables.tree group.0 ≡ true }
         requires room { HasRoom self.old.tables group.0 }
-        ensures begins { IfOk result (λ ticket. BeginsRead self.old self.new at.file at.page group.0 ticket) }
+        ensures begins { IfOk result (λ ticket. BeginsRead self.old self.new from group.0 ticket) }
         ensures err { OnErr result (self.new ≡ self.old) }
     {
-        let ticket = self.holdings.start_in_file(alloc, at, group)?;
+        let ticket = self.holdings.start_in(alloc, from, group)?;
         Ok(ticket)
     }
 }

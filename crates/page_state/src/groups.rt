@@ -7,30 +7,24 @@ ghost use Rattle.machine.specs.Tree.{is_live, under, find_group};
 ghost use Rattle.machine.specs.Counts.{is_key, limits_at, counts_by, total, local};
 ghost use Rattle.machine.specs.Generations.{gens_at};
 ghost use Rattle.machine.specs.State.{usage, stat_of, effective_min};
+ghost use Rattle.machine.specs.Step.{with_setting};
 ghost use Rattle.machine.specs.Refusals.{mkdir_refusal, rmdir_refusal, bars_children};
 ghost use Rattle.page_state.specs.Changes.{counts_event, AddsGroup, RemovesGroup, sets_limits};
 
 use crate::joined::State;
 use machine::amount::Amount;
+use machine::event::Setting;
 use machine::id::GroupId;
-use machine::record::{EventCounts, Key, MemoryStat};
+use machine::record::{EventCounts, Key, Limits, MemoryStat};
 use std::alloc::AllocError;
 
 impl State {
-    /// The most pages that may be charged to the group and below it.
-    pub fn max(&self, group: GroupId) -> Amount
+    /// The settings of the group.
+    pub fn limits(&self, group: GroupId) -> Limits
         requires { is_live self.now.tables.tree group.0 ≡ true }
-        ensures { result ≡ (limits_at self.now.tables.limits group.0).max }
+        ensures { result ≡ limits_at self.now.tables.limits group.0 }
     {
-        self.holdings.max(group)
-    }
-
-    /// Up to how many pages that it uses the group asks to be protected.
-    pub fn min(&self, group: GroupId) -> Amount
-        requires { is_live self.now.tables.tree group.0 ≡ true }
-        ensures { result ≡ (limits_at self.now.tables.limits group.0).min }
-    {
-        self.holdings.min(group)
+        self.holdings.limits(group)
     }
 
     /// How many pages are charged to the group or below it.
@@ -58,7 +52,9 @@ impl State {
         requires below { target.0 ≢ group.0 }
         ensures { result ≡ effective_min self.now.tables target.0 group.0 }
     {
-        self.holdings.protection(&self.tree, target, group)
+        let recursive = self.is_recursive();
+        self.holdings
+            .protection(&self.tree, recursive, target, group)
     }
 
     /// How often each key was counted at the group or anywhere below it.
@@ -98,20 +94,12 @@ impl State {
         self.events.count(group, key);
     }
 
-    /// Another max for the group. What is charged already stays.
-    pub fn set_max(&mut self, group: GroupId, max: Amount)
+    /// Another value for a setting of the group. What is charged already stays.
+    pub fn set(&mut self, group: GroupId, setting: Setting)
         requires { is_live self.old.tables.tree group.0 ≡ true }
-        ensures { self.new ≡ sets_limits self.old group.0 (record (limits_at self.old.tables.limits group.0) { max = max }) }
+        ensures { self.new ≡ sets_limits self.old group.0 (with_setting (limits_at self.old.tables.limits group.0) setting) }
     {
-        self.holdings.set_max(group, max);
-    }
-
-    /// Another min for the group.
-    pub fn set_min(&mut self, group: GroupId, min: Amount)
-        requires { is_live self.old.tables.tree group.0 ≡ true }
-        ensures { self.new ≡ sets_limits self.old group.0 (record (limits_at self.old.tables.limits group.0) { min = min }) }
-    {
-        self.holdings.set_min(group, min);
+        self.holdings.set(group, setting);
     }
 
     /// A group of this path below its parent, which is there. Memory is asked for before anything changes:

@@ -1,45 +1,46 @@
 //! The pages, with the frames, the charges and the swap slots that they own.
 
-ghost use Rattle.std.specs.Prelude.{◌≡◌, ◌≢◌, ℕ, ◌+◌, ◌<◌, ◌≤◌, ◌==◌, ◌^◌, ◌&&◌, ◌++◌, ◌∷◌, [], true, false, None, Some, IsSome, IfSome, IfOk, IfErr, OnOk, OnErr, nat_lt, length, not, replicate, is_none, option_map, slice_set, slice_index, List, if◌then◌else◌};
+ghost use Rattle.std.specs.Prelude.{◌≡◌, ◌≢◌, ℕ, ◌+◌, ◌<◌, ◌≤◌, ◌==◌, ◌^◌, ◌&&◌, ◌++◌, ◌∷◌, [], true, false, None, Some, IsSome, IfSome, IfOk, IfErr, OnOk, OnErr, nat_lt, length, not, replicate, is_none, option_map, slice_set, slice_index, List, Bool, if◌then◌else◌};
 ghost use Rattle.machine.specs.Slots.{Changes, any_there};
 ghost use Rattle.machine.specs.Tree.{Node, node_at, is_live, has_children, under};
 ghost use Rattle.machine.specs.Pages as residence;
-ghost use Rattle.machine.specs.Pages.{Page, page_at, file_page, is_anon, is_in_transfer, is_held_in, is_frame_taken, in_transfer, charged, charged_file, used_frames, used_swap};
+ghost use Rattle.machine.specs.Pages.{Page, page_at, is_anon, is_in_transfer, is_held_in, is_frame_taken, in_transfer, charged, charged_file, used_frames, used_swap};
 ghost use Rattle.machine.specs.declared.event.Op.TheVariants.{Write};
 ghost use Rattle.machine.specs.Counts.{no_limits, limits_at};
 ghost use Rattle.machine.specs.Protection.{effective, min_of};
 ghost use Rattle.machine.specs.Access.{page_size};
-ghost use Rattle.machine.specs.Step.{new_page, touched};
+ghost use Rattle.machine.specs.Step.{new_page, touched, with_setting};
 ghost use Rattle.group_tree.specs.Kin.{AreKin};
 ghost use Rattle.group_tree.specs.Lineages.{bare, IsLineage};
-ghost use Rattle.pages.specs.PagesOf.{pages_there, byte_in, Label, memory_of, of_file, HasResidence, is_moving_in, AreInFlight, AreFiled};
-ghost use Rattle.pages.specs.Transfers.{page_after};
+ghost use Rattle.pages.specs.PagesOf.{pages_there, byte_in, Label, HasResidence, is_moving_in, AreInFlight, AreFiled, way_of};
+ghost use Rattle.pages.specs.Transfers.{page_after, IsReadable};
 ghost use Rattle.machine.specs.declared.record.Direction.TheVariants.{In, Out};
 ghost use Rattle.machine.specs.Generations.{new_gens, gens_at};
 ghost use Rattle.machine.specs.Lists.{ListsHeld, AreGenerations, MergesMarks, with_group};
 ghost use Rattle.page_state.specs.States.{byte_shown};
-ghost use Rattle.page_state.specs.Holdings.{with_stored, IsGranted, Lacks, AddsPage, BeginsIn, BeginsInFile, BeginsOut, LeavesSo, Settles, DropsPage, may_take, gives_of, IsTurn, PicksPage, HandsUp};
+ghost use Rattle.page_state.specs.Holdings.{with_stored, IsGranted, Lacks, AddsPage, BeginsFetch, BeginsOut, LeavesSo, Settles, DropsPage, may_take, gives_of, IsTurn, PicksPage, HandsUp};
 
-use crate::held::HeldPages;
-use crate::lookup::{file_usage, group_of, is_any_under, kind_of};
+use crate::lookup::{file_usage, is_any_under};
 use crate::merging::merge_marks;
 use crate::queue::Queue;
 use crate::release::{release, release_last};
 use crate::removal::hand_up;
-use crate::room::{NoRoom, take_room, take_slot, take_spare};
+use crate::room::{NoRoom, slot_for, take_room, take_spare};
 use crate::settle::{end_transfer, fill, relist};
 use block_store::Slots;
 use files::Files;
 use frames::{FRAME_BYTES, Frame, Pool};
 use group_tree::Tree;
+use held_pages::HeldPages;
 use machine::amount::Amount;
 use machine::bytes::PageBytes;
+use machine::event::Setting;
 use machine::id::{GroupId, PageId};
-use machine::record::{Direction, Kind};
+use machine::record::{Direction, Kind, Limits};
 use page_counter::{Charge, Counters};
-use pages::{End, FilePage, InTicket, OutTicket, Pages, WayOut};
-use protection::effective;
-use reclaim::Cursors;
+use pages::{End, InTicket, OutTicket, Pages, Source, WayOut};
+use protection::Protection;
+use reclaim::{Cursors, ScanControl};
 use std::alloc::{AllocError, Global};
 use std::marker::Model;
 
@@ -156,12 +157,15 @@ impl Holdings {
         self.moving.len() as u32
     }
 
-    /// The most pages that may be charged to the group and below it.
-    pub fn max(&self, group: GroupId) -> Amount
+    /// The settings of the group.
+    pub fn limits(&self, group: GroupId) -> Limits
         requires { is_live self.now.kin group.0 ≡ true }
-        ensures { result ≡ (limits_at self.now.limits group.0).max }
+        ensures { result ≡ limits_at self.now.limits group.0 }
     {
-        self.counters.max(group)
+        Limits {
+            max: self.counters.max(group),
+            min: self.counters.min(group),
+        }
     }
 
     /// How many pages are charged to the group or below it.
@@ -179,54 +183,68 @@ impl Holdings {
         file_usage(&self.pages, tree, group)
     }
 
-    /// Another max for the group. What is charged already stays.
-    pub fn set_max(&mut self, group: GroupId, max: Amount)
+    /// Another value for a setting of the group. What is charged already stays.
+    pub fn set(&mut self, group: GroupId, setting: Setting)
         requires { is_live self.old.kin group.0 ≡ true }
-        ensures { self.new ≡ record self.old { limits = slice_set self.old.limits group.0 (record (limits_at self.old.limits group.0) { max = max }) } }
+        ensures { self.new ≡ record self.old { limits = slice_set self.old.limits group.0 (with_setting (limits_at self.old.limits group.0) setting) } }
     {
-        self.counters.set_max(group, max);
-    }
-
-    /// Up to how many pages that it uses, with all below it, the group asks to be protected.
-    pub fn min(&self, group: GroupId) -> Amount
-        requires { is_live self.now.kin group.0 ≡ true }
-        ensures { result ≡ (limits_at self.now.limits group.0).min }
-    {
-        self.counters.min(group)
-    }
-
-    /// Another min for the group.
-    pub fn set_min(&mut self, group: GroupId, min: Amount)
-        requires { is_live self.old.kin group.0 ≡ true }
-        ensures { self.new ≡ record self.old { limits = slice_set self.old.limits group.0 (record (limits_at self.old.limits group.0) { min = min }) } }
-    {
-        self.counters.set_min(group, min);
+        set_in(&mut self.counters, group, setting);
     }
 
     /// The effective `memory.min` of a group below the target, for a reclaim of the target.
-    pub fn protection(&self, tree: &Tree, target: GroupId, group: GroupId) -> Amount
+    pub fn protection(
+        &self,
+        tree: &Tree,
+        recursive: bool,
+        target: GroupId,
+        group: GroupId,
+    ) -> Amount
         requires kin { AreKin self.now.kin tree.now }
+        requires off { recursive ≡ false }
         requires live { is_live tree.now group.0 ≡ true }
         requires under { under tree.now target.0 group.0 ≡ true }
         requires below { target.0 ≢ group.0 }
-        ensures { result ≡ effective false tree.now (min_of self.now.limits) (charged tree.now self.now.stored.pages) target.0 group.0 }
+        ensures { result ≡ effective recursive tree.now (min_of self.now.limits) (charged tree.now self.now.stored.pages) target.0 group.0 }
     {
         tree.groups_form_a_tree();
-        effective(tree, &self.counters, target, group)
+        let protection = Protection {
+            tree,
+            counters: &self.counters,
+            recursive,
+            target,
+        };
+        protection.effective(group)
     }
 
     /// The group that gives the next page to a reclaim of the target: none where no page may be taken.
     /// Nothing changes.
-    pub fn next_group(&self, tree: &Tree, cursors: &Cursors, target: GroupId) -> Option<GroupId>
+    pub fn next_group(
+        &self,
+        tree: &Tree,
+        recursive: bool,
+        cursors: &Cursors,
+        target: GroupId,
+    ) -> Option<GroupId>
         requires kin { AreKin self.now.kin tree.now }
+        requires off { recursive ≡ false }
         requires live { is_live tree.now target.0 ≡ true }
         requires cursor { target.0 < length cursors.now.cursors }
-        ensures turn { IfSome result (λ g. IsTurn self.now tree.now cursors.now.cursors target.0 g.0) }
-        ensures none { is_none result ≡ not (any_there (may_take self.now tree.now target.0) self.now.stored.pages) }
+        ensures turn { IfSome result (λ g. IsTurn self.now recursive tree.now cursors.now.cursors target.0 g.0) }
+        ensures none { is_none result ≡ not (any_there (may_take self.now recursive tree.now target.0) self.now.stored.pages) }
     {
         tree.groups_form_a_tree();
+        let protection = Protection {
+            tree,
+            counters: &self.counters,
+            recursive,
+            target,
+        };
         let swap_free = self.has_swap();
-        cursors.next_group(tree, &self.counters, self.held.gens(), swap_free, target)
+        cursors.next_group(ScanControl {
+            protection,
+            gens: self.held.gens(),
+            swap_free,
+        })
     }
 
     /// The number of the group's youngest generation (kernel: `lrugen.max_seq`).
@@ -241,7 +259,7 @@ impl Holdings {
     /// The page that the group gives, which has one to give to a reclaim of the target; it stands on its
     /// list still (kernel: isolate_folios). Takes no memory.
     pub fn pick(&mut self, group: GroupId) -> PageId
-        requires gives { (tree : List Node) × (target : ℕ) × (gives_of self.old tree target group.0 ≡ true) }
+        requires gives { (recursive : Bool) × (tree : List Node) × (target : ℕ) × (gives_of self.old recursive tree target group.0 ≡ true) }
         requires young { (gens_at self.old.held.groups group.0).max_seq + 4 < 2 ^ 64 }
         ensures { PicksPage self.old self.new group.0 result.0 }
     {
@@ -355,37 +373,19 @@ impl Holdings {
         page
     }
 
-    /// Begins to read in memory that is on its block. There is room for it. The memory of the bytes that
-    /// will arrive is asked for; where it is wanting, nothing changes.
-    pub fn start_in(&mut self, alloc: Global, page: PageId) -> Result<InTicket, AllocError>
-        requires away { (g b : ℕ) × HasResidence self.old.stored.pages page.0 (memory_of g) (residence.Away b) × IsGranted self.old g }
-        ensures begins { IfOk result (λ ticket. (g b : ℕ) → HasResidence self.old.stored.pages page.0 (memory_of g) (residence.Away b) → BeginsIn self.old self.new page.0 (memory_of g) b ticket) }
-        ensures err { OnErr result (self.new ≡ self.old) }
-    {
-        self.counters.are_counted();
-        self.pages.are_in_flight();
-        let group = group_of(&self.pages, page);
-        let buffer = buffer(alloc)?;
-        let (frame, charge) = take_room(&mut self.counters, &mut self.pool, group);
-        let ticket = self.pages.start_in(page, frame, charge, buffer);
-        self.moving.push(page);
-        Ok(ticket)
-    }
-
-    /// Begins to read in a page of a file that no page holds, under a page number that was free. There is room
-    /// for it in the group. The memory of the bytes that will arrive is asked for; where it is wanting,
-    /// nothing changes.
-    pub fn start_in_file(
+    /// Begins to read in what the source names, charged to the group: memory of that group on its slot; or a page of a
+    /// file that no page holds, under a page number that was free. There is room for it. The memory of the
+    /// bytes that will arrive is asked for; where it is wanting, nothing changes.
+    pub fn start_in(
         &mut self,
         alloc: Global,
-        at: FilePage,
+        from: Source,
         group: GroupId,
     ) -> Result<InTicket, AllocError>
-        requires inside { at.page < slice_index self.old.files at.file }
-        requires none { file_page self.old.stored.pages at.file at.page ≡ None }
+        requires readable { IsReadable self.old.stored.pages (record { first = self.old.swap; sizes = self.old.files }) from group.0 }
         requires live { is_live self.old.kin group.0 ≡ true }
         requires granted { IsGranted self.old group.0 }
-        ensures begins { IfOk result (λ ticket. BeginsInFile self.old self.new at.file at.page group.0 ticket) }
+        ensures begins { IfOk result (λ ticket. BeginsFetch self.old self.new from group.0 ticket) }
         ensures err { OnErr result (self.new ≡ self.old) }
     {
         self.counters.are_counted();
@@ -393,7 +393,7 @@ impl Holdings {
         self.pages.are_filed();
         let buffer = buffer(alloc)?;
         let (frame, charge) = take_room(&mut self.counters, &mut self.pool, group);
-        let (page, ticket) = self.pages.start_in_file(at, frame, charge, buffer);
+        let (page, ticket) = self.pages.start_in(from, frame, charge, buffer);
         self.moving.push(page);
         Ok(ticket)
     }
@@ -406,10 +406,8 @@ impl Holdings {
         requires swap { (x : Page) → page_at self.old.stored.pages page.0 ≡ Some x → is_anon x.content ≡ true → used_swap self.old.stored.pages < self.old.swap }
         ensures { (label : Label) (f : ℕ) → HasResidence self.old.stored.pages page.0 label (residence.Held f) → LeavesSo self.old self.new page.0 label f result }
     {
-        self.pages.are_filed();
         match self.pages.way_out(page) {
-            WayOut::ToSwap => Some(self.start_out(page)),
-            WayOut::ToHome => Some(self.start_home(page)),
+            WayOut::ToSwap | WayOut::ToHome => Some(self.start_out(page)),
             WayOut::Dropped => {
                 self.drop_page(page);
                 None
@@ -417,36 +415,20 @@ impl Holdings {
         }
     }
 
-    /// Begins to write out memory that is in a frame, a swap block being free.
+    /// Begins to write out a page that is in a frame: memory, where a swap block is free, or a page of a file that
+    /// was written to.
     fn start_out(&mut self, page: PageId) -> OutTicket
-        requires held { (g f : ℕ) × HasResidence self.old.stored.pages page.0 (memory_of g) (residence.Held f) }
-        requires swap { used_swap self.old.stored.pages < self.old.swap }
-        ensures { (g f : ℕ) → HasResidence self.old.stored.pages page.0 (memory_of g) (residence.Held f) → BeginsOut self.old self.new page.0 (memory_of g) f result }
+        requires held { (label : Label) × (f : ℕ) × HasResidence self.old.stored.pages page.0 label (residence.Held f) × (way_of label.content label.dirty ≢ WayOut.Dropped) }
+        requires swap { (x : Page) → page_at self.old.stored.pages page.0 ≡ Some x → is_anon x.content ≡ true → used_swap self.old.stored.pages < self.old.swap }
+        ensures { (label : Label) (f : ℕ) → HasResidence self.old.stored.pages page.0 label (residence.Held f) → BeginsOut self.old self.new page.0 label f result }
     {
         self.pages.are_in_flight();
         self.pages.are_numbered();
         self.pages.are_filed();
         self.held.are_generations();
-        let slot = take_slot(&mut self.slots);
+        let slot = slot_for(self.pages.way_out(page), &mut self.slots);
         let spare = take_spare(&mut self.pool);
         let ticket = self.pages.start_out(page, slot, spare);
-        self.held.leave(page);
-        self.moving.push(page);
-        ticket
-    }
-
-    /// Begins to write a page of a file, which was written to and is in a frame, to its home block.
-    fn start_home(&mut self, page: PageId) -> OutTicket
-        requires held { (file q g f : ℕ) × HasResidence self.old.stored.pages page.0 (of_file file q g true) (residence.Held f) }
-        ensures { (file q g f : ℕ) → HasResidence self.old.stored.pages page.0 (of_file file q g true) (residence.Held f)
-            → BeginsOut self.old self.new page.0 (of_file file q g true) f result }
-    {
-        self.pages.are_in_flight();
-        self.pages.are_numbered();
-        self.pages.are_filed();
-        self.held.are_generations();
-        let spare = take_spare(&mut self.pool);
-        let ticket = self.pages.start_home(page, spare);
         self.held.leave(page);
         self.moving.push(page);
         ticket
@@ -463,10 +445,9 @@ impl Holdings {
     {
         self.pages.are_numbered();
         self.held.are_generations();
-        let group = group_of(&self.pages, page);
-        let kind = kind_of(&self.pages, page);
         fill(&mut self.pages, page, &ticket, end);
-        let buffer = end_transfer(
+        let (group, kind, buffer) = end_transfer(
+            page,
             ticket,
             end,
             &mut self.pages,
@@ -495,9 +476,8 @@ impl Holdings {
     {
         self.pages.are_numbered();
         self.held.are_generations();
-        let group = group_of(&self.pages, page);
-        let kind = kind_of(&self.pages, page);
-        let spare = end_transfer(
+        let (group, kind, spare) = end_transfer(
+            page,
             ticket,
             end,
             &mut self.pages,
@@ -566,6 +546,20 @@ impl Holdings {
         owned.destroy_empty();
         pool.close();
         slots.close();
+    }
+}
+
+/// Another value for a setting of the group.
+fn set_in(counters: &mut Counters, group: GroupId, setting: Setting)
+    requires { is_live counters.old.tree group.0 ≡ true }
+    ensures limits { counters.new.limits ≡ slice_set counters.old.limits group.0 (with_setting (limits_at counters.old.limits group.0) setting) }
+    ensures tree { counters.new.tree ≡ counters.old.tree }
+    ensures usage { counters.new.usage ≡ counters.old.usage }
+    ensures room { counters.new.room ≡ counters.old.room }
+{
+    match setting {
+        Setting::Max(max) => counters.set_max(group, max),
+        Setting::Min(min) => counters.set_min(group, min),
     }
 }
 

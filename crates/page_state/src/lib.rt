@@ -13,7 +13,6 @@ pub use room::NoRoom;
 mod accesses;
 mod endings;
 mod groups;
-mod held;
 mod holdings;
 mod joined;
 mod lookup;

@@ -12,28 +12,6 @@ use machine::id::{GroupId, PageId};
 use machine::record::Kind;
 use pages::Pages;
 
-/// The group of a page that is there.
-pub fn group_of(pages: &Pages, page: PageId) -> GroupId
-    requires { IsSome (page_at pages.now.pages page.0) }
-    ensures { (x : Page) → page_at pages.now.pages page.0 ≡ Some x → result.0 ≡ x.group }
-{
-    let Some(group) = pages.group(page) else {
-        unreachable!()
-    };
-    group
-}
-
-/// Of which type a page is that is there.
-pub fn kind_of(pages: &Pages, page: PageId) -> Kind
-    requires { IsSome (page_at pages.now.pages page.0) }
-    ensures { (x : Page) → page_at pages.now.pages page.0 ≡ Some x → result ≡ kind_at x.content }
-{
-    let Some(kind) = pages.kind(page) else {
-        unreachable!()
-    };
-    kind
-}
-
 /// How many pages of files are charged to the group or below it.
 pub fn file_usage(pages: &Pages, tree: &Tree, group: GroupId) -> u64
     ensures { result ≡ charged_file tree.now pages.now.pages group.0 }

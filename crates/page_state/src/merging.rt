@@ -4,7 +4,7 @@ ghost use Rattle.std.specs.Prelude.{◌≡◌, ◌<◌};
 ghost use Rattle.machine.specs.Lists.{MarksThose, MergesMarks};
 ghost use Rattle.page_state.specs.Merging.{is_at_place};
 
-use crate::held::HeldPages;
+use held_pages::HeldPages;
 use pages::Pages;
 
 /// The pages that are held in the frames of these bits are marked as accessed: bit b is that of frame

@@ -1,6 +1,6 @@
 //! What a reclaim takes, and how it begins to leave.
 
-ghost use Rattle.std.specs.Prelude.{◌≡◌, Some, true, is_some, IfSome};
+ghost use Rattle.std.specs.Prelude.{◌≡◌, Some, true, false, is_some, IfSome};
 ghost use Rattle.machine.specs.Tree.{is_live};
 ghost use Rattle.machine.specs.Reclaim.{has_takeable, has_transfer};
 ghost use Rattle.machine.specs.Lists.{served};
@@ -12,6 +12,15 @@ use machine::id::GroupId;
 use pages::OutTicket;
 
 impl State {
+    /// Whether protection is recursive, which no opening says yet (kernel: memory_recursiveprot).
+    pub(crate) fn is_recursive(&self) -> bool
+        ensures opening { result ≡ self.now.tables.opening.recursive }
+        ensures off { result ≡ false }
+    {
+        let _ = &self.config;
+        false
+    }
+
     /// The group that gives the next page to a reclaim of the target. There is one exactly where a page may
     /// be taken.
     pub fn next_group(&self, target: GroupId) -> Option<GroupId>
@@ -19,7 +28,9 @@ impl State {
         ensures next { IfSome result (λ g. served self.now.tables self.now.order target.0 ≡ Some g.0) }
         ensures takeable { is_some result ≡ has_takeable self.now.tables target.0 }
     {
-        self.holdings.next_group(&self.tree, &self.cursors, target)
+        let recursive = self.is_recursive();
+        self.holdings
+            .next_group(&self.tree, recursive, &self.cursors, target)
     }
 
     /// Whether a page of a group at or under the target is in transfer, and may come free.

@@ -10,7 +10,7 @@ use crate::room::give_room;
 use block_store::Slots;
 use frames::Pool;
 use page_counter::Counters;
-use pages::{Backing, OwnedPage};
+use pages::{Backing, OwnedPage, Place};
 
 /// Gives back what a page owned that is gone.
 pub fn release(owned: OwnedPage, counters: &mut Counters, pool: &mut Pool, slots: &mut Slots)
@@ -23,31 +23,20 @@ pub fn release(owned: OwnedPage, counters: &mut Counters, pool: &mut Pool, slots
     ensures blocks { slots.new.blocks ≡ slots.old.blocks }
 {
     counters.are_counted();
-    match owned {
-        OwnedPage::Held {
+    let OwnedPage { content: _, place } = owned;
+    match place {
+        Place::Frame { frame, charge } => give_room(frame, charge, counters, pool),
+        Place::Moving {
             frame,
             charge,
-            content: _,
-        } => give_room(frame, charge, counters, pool),
-        OwnedPage::Coming {
-            frame,
-            charge,
-            from,
+            direction: _,
+            backing,
             ticket: _,
         } => {
             give_room(frame, charge, counters, pool);
-            give_backing(from, slots);
+            give_backing(backing, slots);
         }
-        OwnedPage::Going {
-            frame,
-            charge,
-            to,
-            ticket: _,
-        } => {
-            give_room(frame, charge, counters, pool);
-            give_backing(to, slots);
-        }
-        OwnedPage::Away { group: _, slot } => slots.give(slot),
+        Place::Away { group: _, slot } => slots.give(slot),
     }
 }
 
@@ -61,11 +50,7 @@ fn give_backing(backing: Backing, slots: &mut Slots)
 {
     match backing {
         Backing::Swap(slot) => slots.give(slot),
-        Backing::Home {
-            at: _,
-            block: _,
-            dirty: _,
-        } => {}
+        Backing::Home(_) => {}
     }
 }
 

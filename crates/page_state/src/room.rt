@@ -1,15 +1,16 @@
 //! Room for a page: a charge and a frame, taken together and given back together.
 
-ghost use Rattle.std.specs.Prelude.{◌≡◌, ℕ, ◌+◌, ◌<◌, true, length, None};
+ghost use Rattle.std.specs.Prelude.{◌≡◌, ◌≢◌, ℕ, ◌+◌, ◌<◌, true, length, None};
 ghost use Rattle.machine.specs.Tree.{is_live};
 ghost use Rattle.counts.specs.Numbers.{times};
 ghost use Rattle.page_counter.specs.Counts.{Charges, IsOut, usage_of, over_in};
-ghost use Rattle.page_state.specs.Room.{LacksFrame, LacksBlock, TakesRoom};
+ghost use Rattle.page_state.specs.Room.{LacksFrame, TakesSlot, TakesRoom};
 
 use block_store::{Slot, Slots};
 use frames::{Frame, Pool, Spare};
 use machine::id::GroupId;
 use page_counter::{Charge, Counters};
+use pages::WayOut;
 
 /// Why a page cannot be charged to a group and brought into a frame.
 #[derive(Clone, Copy, Debug, PartialEq, Eq)]
@@ -50,15 +51,18 @@ pub fn give_room(frame: Frame, charge: Charge, counters: &mut Counters, pool: &m
     counters.uncharge(charge);
 }
 
-/// Takes a free swap slot; there is one.
-pub fn take_slot(slots: &mut Slots) -> Slot
-    requires { 0 < length slots.old.free }
-    ensures { LacksBlock slots.old slots.new result }
+/// The slot by which a page that has to be written leaves its frame: memory by a free one, of which there is one
+/// then, and a page of a file by none.
+pub fn slot_for(way: WayOut, slots: &mut Slots) -> Option<Slot>
+    requires written { way ≢ WayOut.Dropped }
+    requires free { way ≡ WayOut.ToSwap → 0 < length slots.old.free }
+    ensures { TakesSlot way slots.old slots.new result }
 {
-    let Some(slot) = slots.take() else {
-        unreachable!()
-    };
-    slot
+    match way {
+        WayOut::ToSwap => Some(slots.take().unwrap()),
+        WayOut::ToHome => None,
+        WayOut::Dropped => unreachable!(),
+    }
 }
 
 /// Takes a spare; there is one.

@@ -2,6 +2,7 @@
 
 ghost use Rattle.std.specs.Prelude.{◌≡◌, ◌≢◌, ℕ, ◌<◌, false, length, slice_index};
 ghost use Rattle.machine.specs.Generations.{is_listed_in};
+ghost use Rattle.machine.specs.Lists.{kind_at};
 ghost use Rattle.machine.specs.Pages as residence;
 ghost use Rattle.page_counter.specs.Counts.{SameGroups};
 ghost use Rattle.machine.specs.declared.record.Direction.{Direction as Direction_of};
@@ -10,15 +11,15 @@ ghost use Rattle.pages.specs.Transfers.{Ends};
 ghost use Rattle.page_state.specs.Owned.{AreKept};
 ghost use Rattle.page_state.specs.Relists.{JoinsAtEnd, LeavesQueue};
 
-use crate::held::HeldPages;
 use crate::queue::Queue;
 use crate::room::give_room;
 use block_store::Slots;
 use frames::Pool;
+use held_pages::HeldPages;
 use machine::id::{GroupId, PageId};
 use machine::record::{Direction, Kind};
 use page_counter::Counters;
-use pages::{Carries, End, Freed, InTicket, Pages, Ticket};
+use pages::{Carries, End, Freed, InTicket, Pages, Settled, Ticket};
 
 /// The page has the bytes that the ticket read, where its read-in has ended in its frame.
 pub fn fill(pages: &mut Pages, page: PageId, ticket: &InTicket, end: End)
@@ -28,40 +29,48 @@ pub fn fill(pages: &mut Pages, page: PageId, ticket: &InTicket, end: End)
     ensures others { pages.new ≡ record pages.old { bytes = pages.new.bytes } }
 {
     match end {
-        End::InFrame => pages.fill(ticket),
+        End::InFrame => pages.fill(page, ticket),
         End::OnBlock => {}
     }
 }
 
-/// The transfer has ended so, and what the page owns no more goes back. Hands out what the ticket
-/// carried.
+/// The transfer of the page has ended so, and what the page owns no more goes back. Hands out the page's group and
+/// type, and what the ticket carried.
 pub fn end_transfer<B: Carries>(
+    page: PageId,
     ticket: Ticket<B>,
     end: End,
     pages: &mut Pages,
     counters: &mut Counters,
     pool: &mut Pool,
     slots: &mut Slots,
-) -> B
-    requires stands { (d : Direction_of) × (p : ℕ) × (label : Label) × (f b : ℕ) × HasResidence pages.old.pages p label (moving d f b ticket.number) }
+) -> (GroupId, Kind, B)
+    requires stands { (d : Direction_of) × (label : Label) × (f b : ℕ) × HasResidence pages.old.pages page.0 label (moving d f b ticket.number) }
     requires kept { AreKept counters.old pool.old slots.old pages.old.pages }
-    ensures ends { (d : Direction_of) (p : ℕ) (label : Label) (f b : ℕ) → HasResidence pages.old.pages p label (moving d f b ticket.number) → Ends pages.old pages.new p label f b ticket.number end }
+    ensures ends { (d : Direction_of) (label : Label) (f b : ℕ) → HasResidence pages.old.pages page.0 label (moving d f b ticket.number) → Ends pages.old pages.new page.0 label f b ticket.number end }
+    ensures label { (d : Direction_of) (label : Label) (f b : ℕ) → HasResidence pages.old.pages page.0 label (moving d f b ticket.number) → (result.0.0 ≡ label.group) × (result.1 ≡ kind_at label.content) }
     ensures kept { AreKept counters.new pool.new slots.new pages.new.pages }
     ensures groups { SameGroups counters.old counters.new }
     ensures frames { pool.new.frames ≡ pool.old.frames }
     ensures spares { pool.new.spares ≡ pool.old.spares }
     ensures most_spares { pool.new.most_spares ≡ pool.old.most_spares }
     ensures blocks { slots.new.blocks ≡ slots.old.blocks }
-    ensures carried { B.bytes result ≡ ticket.bytes }
+    ensures carried { B.bytes result.2 ≡ ticket.bytes }
 {
     counters.are_counted();
-    let (freed, carried) = pages.settle(ticket, end);
+    let Settled {
+        group,
+        kind,
+        freed,
+        carried,
+    } = pages.settle(page, ticket, end);
+    let told = (group, kind, carried);
     match freed {
         Freed::Slot(slot) => slots.give(slot),
         Freed::Room(frame, charge) => give_room(frame, charge, counters, pool),
         Freed::Nothing => {}
     }
-    carried
+    told
 }
 
 /// The page is in transfer in this direction no more, and is listed where it is in its frame.

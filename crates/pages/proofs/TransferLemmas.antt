@@ -1,12 +1,12 @@
 -- Pages after the change of what one of them owns, as transfers begin and end.
-use Rattle.std.proofs.Common.{◌≡◌, ◌≢◌, ℕ, ◌+◌, ◌<◌, ◌==◌, Bool, true, false, List, [], ◌∷◌, ◌++◌, length, map, set, Option, Some, None, is_some, refl, sym, ap, ◌∙◌, subst, inl, inr, arith}
+use Rattle.std.proofs.Common.{◌≡◌, ◌≢◌, ℕ, ◌+◌, ◌<◌, ◌==◌, true, false, List, [], ◌∷◌, ◌++◌, length, map, set, Option, Some, None, is_some, refl, sym, ap, ◌∙◌, subst, inl, inr, arith}
 use Rattle.std.specs.Prelude.{option_map, IfSome, IsSome, slice_index}
 use Rattle.std.proofs.lemmas.Bool.{eqb-true}
 use Rattle.std.proofs.lemmas.Bool.Decides.{eqb_tells}
 use Rattle.std.proofs.lemmas.List.{length-map, length-set}
 use Rattle.slab.specs.Slab.{Slab, get, slab_len, HasRoomFor, Updates}
 use Rattle.machine.specs.Slots.{at, there_and, Changes}
-use Rattle.machine.specs.Pages.{Content, Memory, OfFile, Residence, Held, Page, Pages, page_at, is_held, in_transfer_at, frame_at, block_at, is_number, is_frame_taken, is_page_of, IsFiled}
+use Rattle.machine.specs.Pages.{Content, Memory, OfFile, Residence, Going, Page, Pages, page_at, is_held, in_transfer_at, frame_at, block_at, is_number, is_frame_taken, is_page_of, IsFiled}
 use Rattle.machine.specs.declared.id.PageId.{PageId}
 use Rattle.machine.proofs.Values.{some_inj, unlike}
 use Rattle.machine.proofs.FileLemmas.{holds_page}
@@ -21,15 +21,15 @@ use Rattle.pages.specs.declared.owned_page.FilePage.{FilePage}
 use Rattle.pages.specs.declared.owned_page.Content.{Content as Holds}
 use Rattle.pages.specs.declared.owned_page.Content.TheVariants as holds
 use Rattle.files.specs.Files.{FilesOf}
-use Rattle.pages.specs.PagesOf.{Label, label_of, labelled, of_file, moving, flight, byte_of, byte_in, HasResidence, is_under_ticket, IsInTransfer, AreInFlight}
+use Rattle.pages.specs.PagesOf.{Label, label_of, labelled, moving, flight, byte_of, byte_in, HasResidence, AreInFlight}
 use Rattle.pages.specs.Tickets.{new_ticket}
-use Rattle.pages.specs.Transfers.{Starts, Ends, on_block_as, page_after, IsFreed}
+use Rattle.pages.specs.Transfers.{Starts, Ends, on_block_as, page_after, IsFreed, LeavesBy, block_for}
 use Rattle.rings.specs.Rings.{RingsOf, list_at, without}
-use Rattle.pages.specs.Records.{page_of, bytes_of, label_holding, file_at, place_in, is_of, AreMembers, AreCached, AreHome, AreFramed, view_of, ArePages}
+use Rattle.pages.specs.Records.{page_of, bytes_of, content_of, is_dirty, label_holding, file_at, place_in, is_of, AreMembers, AreCached, AreHome, AreFramed, view_of, ArePages}
 use Rattle.pages.proofs.TableLemmas.{at-map, is_some-map, map-set, place_within, Changes-map, Changes-set, taken-changes, free-page}
 use Rattle.pages.proofs.FlightLemmas.{under, under-moving, IsSettled, IsSettled-is, AreInFlight-begun, AreInFlight-ended}
 use Rattle.pages.proofs.MemberLemmas.{AreMembers-kept, AreMembers-gone, AreMembers-added}
-use Rattle.pages.proofs.CacheLemmas.{AreHome-changes, AreCached-kept, AreCached-left, filed-after}
+use Rattle.pages.proofs.CacheLemmas.{AreHome-changes, AreCached-kept, AreCached-left, left-inside, filed-after}
 use Rattle.pages.proofs.FrameLemmas.{frames_page, AreFramed-kept, AreFramed-comes}
 
 abbrev pub pages_of : List (Option OwnedPage) → Pages
@@ -55,38 +55,14 @@ moving-transfer : (d : Direction) (f b n : ℕ) → in_transfer_at (moving d f b
 moving-transfer In f b n = refl
 moving-transfer Out f b n = refl
 
--- the flight of a ticket
-module _ (owned : List (Option OwnedPage)) (flights : List (Option Flight)) (n : ℕ) (page : PageId) (in_flight : AreInFlight (pages_of owned) flights) (known : option_map (λ (f : Flight). f.page) (at flights n) ≡ Some page) where
-  under_at : (slot : Option Flight) → option_map (λ (f : Flight). f.page) slot ≡ Some page → IfSome slot (IsInTransfer (pages_of owned) n) → is_under_ticket (pages_of owned) page.0 n ≡ true
-  under_at None is moves = absurd (cc)
-  under_at (Some f) is moves =
-      let same : f.page ≡ page = cc in
-      ap (λ q. is_under_ticket (pages_of owned) q.0 n) (sym same) ∙ under-moving _ f.direction moves.label moves.frame moves.block n moves.stands
-
-  page_at_slot : (slot : Option Flight) (p : ℕ) → option_map (λ (f : Flight). f.page) slot ≡ Some page → option_map (λ (f : Flight). f.page.0) slot ≡ Some p → page.0 ≡ p
-  page_at_slot None p is listed = absurd (cc)
-  page_at_slot (Some f) p is listed =
-      let same : f.page ≡ page = cc in
-      let number : f.page.0 ≡ p = cc in
-      ap (λ q. q.0) (sym same) ∙ number
-
-  -- its page is in transfer under it
-  pub flight-under : is_under_ticket (pages_of owned) page.0 n ≡ true
-  flight-under = under_at (at flights n) known (in_flight.known n)
-
-  pub flight-there : IsSome (at owned page.0)
-  flight-there = under-owned (at owned page.0) n (ap (λ slot. under slot n) (sym (at-map page_of owned page.0)) ∙ flight-under)
-
-  -- and it is the only one
-  pub flight-page : (d : Direction) (p : ℕ) (label : Label) (f b : ℕ) → HasResidence (pages_of owned) p label (moving d f b n) → page.0 ≡ p
-  flight-page d p label f b stands = page_at_slot (at flights n) p known (in_flight.listed p n (under-moving _ d label f b n stands))
-
-  pub flight-stands : (d : Direction) (p : ℕ) (label : Label) (f b : ℕ) → HasResidence (pages_of owned) p label (moving d f b n) → HasResidence (pages_of owned) page.0 label (moving d f b n)
-  flight-stands d p label f b stands = subst (λ q. HasResidence (pages_of owned) q label (moving d f b n)) (sym (flight-page d p label f b stands)) stands
+-- a page that is in transfer
+module _ (owned : List (Option OwnedPage)) (d : Direction) (p : ℕ) (label : Label) (f b n : ℕ) (stands : HasResidence (pages_of owned) p label (moving d f b n)) where
+  pub moving-there : IsSome (at owned p)
+  moving-there = under-owned (at owned p) n (ap (λ slot. under slot n) (sym (at-map page_of owned p)) ∙ under-moving _ d label f b n stands)
 
   -- what it owns is that of a page in transfer
-  pub flight-moves : (d : Direction) (p : ℕ) (label : Label) (f b : ℕ) → HasResidence (pages_of owned) p label (moving d f b n) → (k : OwnedPage) → at owned page.0 ≡ Some k → in_transfer_at (page_of k).residence ≡ true
-  flight-moves d p label f b stands k was = ap (λ page. in_transfer_at page.residence) (owned-stands owned page.0 k _ was (flight-stands d p label f b stands)) ∙ moving-transfer d f b n
+  pub moving-owned : (k : OwnedPage) → at owned p ≡ Some k → in_transfer_at (page_of k).residence ≡ true
+  moving-owned k was = ap (λ page. in_transfer_at page.residence) (owned-stands owned p k _ was stands) ∙ moving-transfer d f b n
 
 -- a ticket that a page is in transfer under is in flight
 pub flight-listed : (owned : List (Option OwnedPage)) (flights : Slab Flight) (d : Direction) (p : ℕ) (label : Label) (f b n : ℕ) → AreInFlight (pages_of owned) flights.slots → HasResidence (pages_of owned) p label (moving d f b n) → IsSome (get flights n)
@@ -283,15 +259,15 @@ moving-block In f b n = refl
 moving-block Out f b n = refl
 
 -- the steps of an ending: the transfer is unlisted, and what its page owns is another thing, or nothing
-pub record Landing {T : Type 0} (numbers numbers' : Slab T) (old new : List (Option OwnedPage)) (places room : ℕ) (flights later : Slab Flight) (members members' : RingsOf) (files : FilesOf) (cache cache' : List (Option PageId)) (n : ℕ) (number : PageId) (from : OwnedPage) (to : Option OwnedPage) (label : Label) (frame block : ℕ) (end : End) : Type 0 where
+pub record Landing {T : Type 0} (numbers numbers' : Slab T) (old new : List (Option OwnedPage)) (places room : ℕ) (flights later : Slab Flight) (members members' : RingsOf) (files : FilesOf) (cache cache' : List (Option PageId)) (n p : ℕ) (from : OwnedPage) (to : Option OwnedPage) (label : Label) (frame block : ℕ) (end : End) : Type 0 where
   pub are : ArePages numbers old places flights members files cache
-  pub page : option_map (λ (f : Flight). f.page) (at flights.slots n) ≡ Some number
+  pub moved : under (page_at (pages_of old) p) n ≡ true
   pub unlisted : Changes flights.slots later.slots n None
   pub len : slab_len later + 1 ≡ slab_len flights
   pub fits : HasRoomFor later 1
   pub capacity : later.capacity ≡ flights.capacity
-  pub was : at old number.0 ≡ Some from
-  pub changes : Changes old new number.0 to
+  pub was : at old p ≡ Some from
+  pub changes : Changes old new p to
   pub same_places : room ≡ places
   pub own_label : label_of (page_of from) ≡ label
   pub own_frame : frame_at (page_of from).residence ≡ Some frame
@@ -300,13 +276,13 @@ pub record Landing {T : Type 0} (numbers numbers' : Slab T) (old new : List (Opt
   pub kept : end ≡ InFrame → option_map bytes_of to ≡ Some (bytes_of from)
   pub beside : Fits numbers numbers' new members members' files cache cache'
 
-module _ {T : Type 0} {numbers numbers' : Slab T} {old new : List (Option OwnedPage)} {places room : ℕ} {flights later : Slab Flight} {members members' : RingsOf} {files : FilesOf} {cache cache' : List (Option PageId)} {n : ℕ} {number : PageId} {from : OwnedPage} {to : Option OwnedPage} {label : Label} {frame block : ℕ} {end : End} (landing : Landing numbers numbers' old new places room flights later members members' files cache cache' n number from to label frame block end) where
-  landed : Changes (pages_of old) (pages_of new) number.0 (option_map page_of to)
-  landed = Changes-map page_of old new number.0 to landing.changes
+module _ {T : Type 0} {numbers numbers' : Slab T} {old new : List (Option OwnedPage)} {places room : ℕ} {flights later : Slab Flight} {members members' : RingsOf} {files : FilesOf} {cache cache' : List (Option PageId)} {n p : ℕ} {from : OwnedPage} {to : Option OwnedPage} {label : Label} {frame block : ℕ} {end : End} (landing : Landing numbers numbers' old new places room flights later members members' files cache cache' n p from to label frame block end) where
+  landed : Changes (pages_of old) (pages_of new) p (option_map page_of to)
+  landed = Changes-map page_of old new p to landing.changes
 
   after_filed : IfSome (option_map page_of to) (IsFiled files.first files.sizes)
   after_filed =
-      let home = own-filed files old number.0 from landing.are.filed landing.was in
+      let home = own-filed files old p from landing.are.filed landing.was in
       subst (λ slot. IfSome slot (IsFiled files.first files.sizes)) (sym landing.after)
       (filed-after files.first files.sizes end label (page_of from).residence frame block (subst (λ l. IsFiled files.first files.sizes (labelled l (page_of from).residence)) landing.own_label home))
 
@@ -314,22 +290,18 @@ module _ {T : Type 0} {numbers numbers' : Slab T} {old new : List (Option OwnedP
   Landing-are =
       let is = landing.are in
       Fits-are landing.beside is landing.same_places landing.capacity
-      (AreInFlight-ended (pages_of old) (pages_of new) number.0 (option_map page_of to) landed flights.slots later.slots n is.in_flight (flight-under old flights.slots n number is.in_flight landing.page) landing.unlisted (IsSettled-is _ _ landing.after (settled-after end label frame block)))
-      (AreHome-changes files (pages_of old) (pages_of new) number.0 (option_map page_of to) landed after_filed is.filed)
+      (AreInFlight-ended (pages_of old) (pages_of new) p (option_map page_of to) landed flights.slots later.slots n is.in_flight landing.moved landing.unlisted (IsSettled-is _ _ landing.after (settled-after end label frame block)))
+      (AreHome-changes files (pages_of old) (pages_of new) p (option_map page_of to) landed after_filed is.filed)
 
   -- the page has its frame still, or none
   pub Landing-framed : (by_frame : List (Option PageId)) → AreFramed by_frame (pages_of old) → AreFramed by_frame (pages_of new)
   Landing-framed by_frame are =
-      framed-kept by_frame old new number.0 to landing.changes are from frame landing.was landing.own_frame
+      framed-kept by_frame old new p to landing.changes are from frame landing.was landing.own_frame
       (λ g has. frames-after end label frame block g (sym (ap (frames_page g) landing.after) ∙ has))
 
-  module _ (d : Direction) (p : ℕ) (l : Label) (f b : ℕ) (stands : HasResidence (pages_of old) p l (moving d f b n)) where
-    -- the page of the ticket is the one that is in transfer under it
-    Landing-page : number.0 ≡ p
-    Landing-page = flight-page old flights.slots n number landing.are.in_flight landing.page d p l f b stands
-
+  module _ (d : Direction) (l : Label) (f b : ℕ) (stands : HasResidence (pages_of old) p l (moving d f b n)) where
     from_is : page_of from ≡ labelled l (moving d f b n)
-    from_is = owned-stands old number.0 from _ landing.was (flight-stands old flights.slots n number landing.are.in_flight landing.page d p l f b stands)
+    from_is = owned-stands old p from _ landing.was stands
 
     Landing-label : label ≡ l
     Landing-label = sym landing.own_label ∙ ap label_of from_is
@@ -344,7 +316,7 @@ module _ {T : Type 0} {numbers numbers' : Slab T} {old new : List (Option OwnedP
     Landing-ends frames =
         let is = landing.after ∙ ap (λ x. page_after end x frame block) Landing-label ∙ ap (λ x. page_after end l x block) Landing-frame ∙ ap (λ x. page_after end l f x) Landing-block in
         record {
-          placed = changed-page old new number.0 to landing.changes p _ Landing-page is;
+          placed = changed-page old new p to landing.changes p _ refl is;
           unlisted = landing.unlisted;
           more = (let len = landing.len in let fits = landing.fits in let capacity = landing.capacity in omega (arith, len, fits, capacity));
           numbers = landing.beside.same_numbers;
@@ -352,8 +324,8 @@ module _ {T : Type 0} {numbers numbers' : Slab T} {old new : List (Option OwnedP
           room = rw (landing.beside.same_room, landing.beside.same_groups) refl;
           files = refl;
           frames = refl;
-          bytes = λ in_frame. changed-byte-kept old new number.0 to landing.changes from landing.was (landing.kept in_frame);
-          others = λ k o apart. changed-byte-apart old new number.0 to landing.changes k o (λ same. apart (same ∙ Landing-page));
+          bytes = λ in_frame. changed-byte-kept old new p to landing.changes from landing.was (landing.kept in_frame);
+          others = λ k o apart. changed-byte-apart old new p to landing.changes k o apart;
         }
 
     pub Landing-freed : (freed : Freed) → IsFreed label frame block end freed → IsFreed l f b end freed
@@ -469,21 +441,6 @@ held-within owned p held = place_within owned p (there (at owned p) (ap (there_a
     there None is = absurd (cc)
     there (Some k) is = refl
 
--- ---- what a page in a frame holds
-
-pub holding-group : (content : Holds) (g : ℕ) → (label_holding content g).group ≡ g
-holding-group holds.Memory g = refl
-holding-group (holds.OfFile at dirty) g = refl
-
-pub holding-file : (content : Holds) (charge file q g : ℕ) (dirty : Bool) → label_holding content charge ≡ of_file file q g dirty → content ≡ holds.OfFile (record { file = file; page = q }) dirty
-holding-file holds.Memory charge file q g dirty is = absurd (let not = ap (λ label. label.content) is in cc)
-holding-file (holds.OfFile at d) charge file q g dirty is =
-    let content = ap (λ label. label.content) is in
-    let one : at.file ≡ file = cc in
-    let other : at.page ≡ q = cc in
-    let soiled : d ≡ dirty = ap (λ label. label.dirty) is in
-    ap (λ x. holds.OfFile (record { file = x; page = at.page }) d) one ∙ ap (λ x. holds.OfFile (record { file = file; page = x }) d) other ∙ ap (λ x. holds.OfFile (record { file = file; page = q }) x) soiled
-
 -- ---- a page in a frame that is written to
 
 -- it is there
@@ -499,13 +456,22 @@ pub touched-there : (slot : Option OwnedPage) (page : Page) → option_map page_
 touched-there None page is = absurd (cc)
 touched-there (Some k) page is = (k, refl, some_inj is)
 
--- a page of a file in a frame, which was written to
-module _ (owned : List (Option OwnedPage)) (p : ℕ) (k : OwnedPage) (content : Holds) (charge : ℕ) (was : at owned p ≡ Some k) (label : label_of (page_of k) ≡ label_holding content charge)
-    (file q g f : ℕ) (stands : HasResidence (pages_of owned) p (of_file file q g true) (Held f)) where
-  -- what it holds
-  pub held-content : content ≡ holds.OfFile (record { file = file; page = q }) true
-  held-content = holding-file content charge file q g true (sym label ∙ ap label_of (owned-stands owned p k _ was stands))
+-- ---- a page that leaves its frame
 
-  -- its file has it
-  pub held-inside : (files : FilesOf) → AreHome files (pages_of owned) → q < slice_index files.sizes file
-  held-inside files home = (subst (IsFiled files.first files.sizes) (owned-stands owned p k _ was stands) (own-filed files owned p k home was)).0
+-- what a page was that was taken out
+module _ (files : FilesOf) (owned : List (Option OwnedPage)) (p : ℕ) (k : OwnedPage) (content : Holds) (charge : ℕ) (was : at owned p ≡ Some k) (group : (page_of k).group ≡ charge) (holds : k.content ≡ content) where
+  pub taken-label : (label : Label) (r : Residence) → HasResidence (pages_of owned) p label r → label_holding content charge ≡ label
+  taken-label label r stands = sym (ap (label_holding k.content) group ∙ ap (λ h. label_holding h charge) holds) ∙ ap label_of (owned-stands owned p k _ was stands)
+
+  pub taken-leaves : (slot : Option ℕ) (label : Label) (r : Residence) → HasResidence (pages_of owned) p label r → LeavesBy label.content label.dirty slot → LeavesBy (content_of content) (is_dirty content) slot
+  taken-leaves slot label r stands by = subst (λ (l : Label). LeavesBy l.content l.dirty slot) (sym (taken-label label r stands)) by
+
+  pub taken-inside : AreHome files (pages_of owned) → IfSome (file_at (content_of content)) (λ a. a.page < slice_index files.sizes a.file)
+  taken-inside home = subst (λ h. IfSome (file_at (content_of h)) (λ a. a.page < slice_index files.sizes a.file)) holds (left-inside files (page_of k) (own-filed files owned p k home was))
+
+-- it is at home still
+pub leaves-filed : (files : FilesOf) (content : Holds) (g frame n : ℕ) (slot : Option ℕ) → LeavesBy (content_of content) (is_dirty content) slot → IfSome (file_at (content_of content)) (λ a. a.page < slice_index files.sizes a.file)
+    → IsFiled files.first files.sizes (labelled (label_holding content g) (Going frame (block_for files (content_of content) slot) n))
+leaves-filed files holds.Memory g frame n slot by inside = refl
+leaves-filed files (holds.OfFile at dirty) g frame n None by inside = (inside, (refl, by))
+leaves-filed files (holds.OfFile at dirty) g frame n (Some slot) by inside = absurd by

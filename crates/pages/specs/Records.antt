@@ -1,48 +1,62 @@
 -- What a contract sees of pages, by what they are made of: the numbers that pages have, what the pages own, the transfers in flight, and
 -- the lists of the groups' pages.
-use Rattle.std.specs.Prelude.{◌≡◌, ◌≢◌, ℕ, ◌-◌, ◌^◌, ◌<◌, ◌==◌, Bool, true, List, [], length, min, sum, slice_index, Option, Some, None, IfSome, map, option_map, is_some}
+use Rattle.std.specs.Prelude.{◌≡◌, ◌≢◌, ℕ, ◌-◌, ◌^◌, ◌<◌, ◌==◌, Bool, true, false, List, [], length, min, sum, slice_index, Option, Some, None, IfSome, map, option_map, is_some}
 use Rattle.slab.specs.Slab.{Slab, get, slab_len}
 use Rattle.rings.specs.Rings.{RingsOf, list_at, has}
 use Rattle.machine.specs.Slots.{at, there_and}
-use Rattle.machine.specs.Pages.{Content, Memory, OfFile, Held, Coming, Going, Away, Page, Pages, page_at, has_this_frame, is_page_of, home_block, IsFiled}
+use Rattle.machine.specs.Pages.{Content, Memory, OfFile, Residence, Held, Away, Page, Pages, page_at, has_this_frame, is_page_of, home_block, IsFiled}
 use Rattle.machine.specs.declared.id.PageId.{PageId}
 use Rattle.pages.specs.declared.flight.Flight.{Flight}
 use Rattle.pages.specs.declared.owned_page.OwnedPage.{OwnedPage}
-use Rattle.pages.specs.declared.owned_page.OwnedPage.TheVariants as owned_page
+use Rattle.pages.specs.declared.owned_page.Place.{Place}
+use Rattle.pages.specs.declared.owned_page.Place.TheVariants as place
 use Rattle.pages.specs.declared.owned_page.FilePage.{FilePage}
 use Rattle.pages.specs.declared.owned_page.Content.{Content as Holds}
 use Rattle.pages.specs.declared.owned_page.Content.TheVariants as holds
 use Rattle.pages.specs.declared.owned_page.Backing.{Backing}
 use Rattle.pages.specs.declared.owned_page.Backing.TheVariants as backing
 use Rattle.files.specs.Files.{FilesOf}
-use Rattle.pages.specs.PagesOf.{PagesOf, memory_of, of_file, labelled, Label, byte_of, AreInFlight}
+use Rattle.pages.specs.PagesOf.{PagesOf, labelled, moving, Label, byte_of, AreInFlight}
+
+-- what a page holds, and whether it was written to since its home block had its bytes
+abbrev pub content_of : Holds → Content
+content_of holds.Memory = Memory
+content_of (holds.OfFile at dirty) = OfFile at.file at.page
+
+abbrev pub is_dirty : Holds → Bool
+is_dirty holds.Memory = false
+is_dirty (holds.OfFile at dirty) = dirty
 
 -- a page of this group that holds this
 abbrev pub label_holding : Holds → ℕ → Label
-label_holding holds.Memory g = memory_of g
-label_holding (holds.OfFile at dirty) g = of_file at.file at.page g dirty
-
--- a page of this group that is read from here, or written to here; and the block
-abbrev pub label_backed : Backing → ℕ → Label
-label_backed (backing.Swap slot) g = memory_of g
-label_backed (backing.Home at block dirty) g = of_file at.file at.page g dirty
+label_holding content g = record { content = content_of content; group = g; dirty = is_dirty content }
 
 abbrev pub block_of : Backing → ℕ
 block_of (backing.Swap slot) = slot
-block_of (backing.Home at block dirty) = block
+block_of (backing.Home block) = block
+
+-- whose a page is that is there, and where it is
+abbrev pub group_at : Place → ℕ
+group_at (place.Frame frame charge) = charge
+group_at (place.Moving frame charge direction backing ticket) = charge
+group_at (place.Away group slot) = group.0
+
+abbrev pub residence_at : Place → Residence
+residence_at (place.Frame frame charge) = Held frame.number
+residence_at (place.Moving frame charge direction backing ticket) = moving direction frame.number (block_of backing) ticket.0
+residence_at (place.Away group slot) = Away slot
 
 -- the page that owns these
 abbrev pub page_of : OwnedPage → Page
-page_of (owned_page.Held frame charge content) = labelled (label_holding content charge) (Held frame.number)
-page_of (owned_page.Coming frame charge from ticket) = labelled (label_backed from charge) (Coming frame.number (block_of from) ticket.0)
-page_of (owned_page.Going frame charge to ticket) = labelled (label_backed to charge) (Going frame.number (block_of to) ticket.0)
-page_of (owned_page.Away group slot) = labelled (memory_of group.0) (Away slot)
+page_of owned = labelled (label_holding owned.content (group_at owned.place)) (residence_at owned.place)
+
+abbrev pub bytes_at : Place → List ℕ
+bytes_at (place.Frame frame charge) = frame.bytes
+bytes_at (place.Moving frame charge direction backing ticket) = frame.bytes
+bytes_at (place.Away group slot) = []
 
 abbrev pub bytes_of : OwnedPage → List ℕ
-bytes_of (owned_page.Held frame charge content) = frame.bytes
-bytes_of (owned_page.Coming frame charge from ticket) = frame.bytes
-bytes_of (owned_page.Going frame charge to ticket) = frame.bytes
-bytes_of (owned_page.Away group slot) = []
+bytes_of owned = bytes_at owned.place
 
 -- one byte of a page is written, and no other changes
 pub record WritesByte (old new : Option (List ℕ)) (offset byte : ℕ) : Type 0 where

@@ -1,7 +1,7 @@
 -- How transfers begin and end.
-use Rattle.std.specs.Prelude.{◌≡◌, ◌≢◌, ℕ, ◌+◌, ◌<◌, true, false, Option, Some, None, slice_index}
+use Rattle.std.specs.Prelude.{◌≡◌, ◌≢◌, ℕ, ◌+◌, ◌<◌, Bool, true, false, Option, Some, None, slice_index}
 use Rattle.machine.specs.Slots.{at, Changes}
-use Rattle.machine.specs.Pages.{Content, Memory, OfFile, Held, Away, Page, is_anon}
+use Rattle.machine.specs.Pages.{Content, Memory, OfFile, Held, Away, Page, Pages, page_at, file_page, home_block, is_anon}
 use Rattle.machine.specs.Access.{page_size}
 use Rattle.machine.specs.declared.record.Direction.{Direction}
 use Rattle.machine.specs.declared.record.Direction.TheVariants.{In, Out}
@@ -10,7 +10,10 @@ use Rattle.pages.specs.declared.end.End.TheVariants.{InFrame, OnBlock}
 use Rattle.pages.specs.declared.end.Freed.{Freed}
 use Rattle.pages.specs.declared.end.Freed.TheVariants as freed
 use Rattle.pages.specs.Tickets.{TicketOf, new_ticket}
-use Rattle.pages.specs.PagesOf.{PagesOf, byte_in, Label, labelled, moving, flight}
+use Rattle.pages.specs.declared.source.Source.{Source}
+use Rattle.pages.specs.declared.source.Source.TheVariants as source
+use Rattle.files.specs.Files.{FilesOf}
+use Rattle.pages.specs.PagesOf.{PagesOf, byte_in, Label, labelled, memory_of, of_file, moving, flight, HasResidence}
 
 -- a transfer of a page begins, in this direction, under a ticket that was free
 pub record Starts (old new : PagesOf) (p : ℕ) (label : Label) (direction : Direction) (frame block : ℕ) (ticket : TicketOf) : Type 0 where
@@ -29,6 +32,41 @@ pub record Starts (old new : PagesOf) (p : ℕ) (label : Label) (direction : Dir
 pub record StartsIn (old new : PagesOf) (p : ℕ) (label : Label) (frame block : ℕ) (ticket : TicketOf) : Type 0 where
   pub starts : Starts old new p label In frame block ticket
   pub bytes : (q o : ℕ) → q ≢ p → byte_in new.bytes q o ≡ byte_in old.bytes q o
+
+-- what is read in, charged to g: memory of that group on its slot; or a page of a file, from its home block, under a number that no page has
+abbrev pub ReadsFrom : Pages → ℕ → FilesOf → Source → ℕ → ℕ → Label → ℕ → Type 0
+ReadsFrom pages numbers files (source.Swapped page) g p label block = (page.0 ≡ p) × (label ≡ memory_of g) × HasResidence pages p label (Away block)
+ReadsFrom pages numbers files (source.File at) g p label block =
+    (p < numbers) × (label ≡ of_file at.file at.page g false) × (block ≡ home_block files.first files.sizes at.file at.page) × (page_at pages p ≡ None)
+
+-- it can be: the page is there; or the file has it, and no page holds it
+abbrev pub IsReadable : Pages → FilesOf → Source → ℕ → Type 0
+IsReadable pages files (source.Swapped page) g = (block : ℕ) × HasResidence pages page.0 (memory_of g) (Away block)
+IsReadable pages files (source.File at) g = (at.page < slice_index files.sizes at.file) × (file_page pages at.file at.page ≡ None)
+
+-- what is read in comes to be a page
+abbrev pub is_new : Source → Bool
+is_new (source.Swapped page) = false
+is_new (source.File at) = true
+
+-- that is read into a frame from now on
+pub record StartsFrom (old new : PagesOf) (from : Source) (g p frame : ℕ) (ticket : TicketOf) : Type 0 where
+  pub label : Label
+  pub block : ℕ
+  pub reads : ReadsFrom old.pages old.numbers old.files from g p label block
+  pub starts : StartsIn old new p label frame block ticket
+
+-- how a page that has to be written leaves its frame: memory by a slot, a page of a file by none
+abbrev pub LeavesBy : Content → Bool → Option ℕ → Type 0
+LeavesBy Memory dirty (Some slot) = Unit {0}
+LeavesBy (OfFile file q) dirty None = dirty ≡ true
+LeavesBy content dirty slot = ⊥
+
+-- and to which block: the slot's, or its home
+abbrev pub block_for : FilesOf → Content → Option ℕ → ℕ
+block_for files (OfFile file q) slot = home_block files.first files.sizes file q
+block_for files Memory (Some slot) = slot
+block_for files Memory None = 0
 
 -- a page in a frame is written to a block; the ticket has a copy of its bytes
 pub record StartsOut (old new : PagesOf) (p : ℕ) (label : Label) (frame block : ℕ) (ticket : TicketOf) : Type 0 where

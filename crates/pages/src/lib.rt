@@ -20,21 +20,24 @@ ghost use Rattle.machine.specs.declared.event.Op.TheVariants.{Write};
 ghost use Rattle.machine.specs.Lists.{kind_at};
 ghost use Rattle.machine.specs.Step.{new_page, touched};
 ghost use Rattle.pages.specs.PagesOf.{is_held_frame, frame_holder, pages_there, byte_in, Label, memory_of, of_file, HasResidence, residence_of, moving, is_moving_in, is_flight_to, IsInTransfer, AreInFlight, AreFiled, way_of};
-ghost use Rattle.pages.specs.Transfers.{StartsIn, StartsOut, Ends, IsFreed};
+ghost use Rattle.pages.specs.Transfers.{StartsIn, IsReadable, is_new, StartsFrom, LeavesBy, block_for, StartsOut, Ends, IsFreed};
 ghost use Rattle.machine.specs.declared.record.Direction.{Direction};
 ghost use Rattle.pages.specs.Records.{page_of};
 
-pub use end::{End, Freed};
+pub use end::{End, Freed, Settled};
 pub use flight::Flight;
-pub use owned_page::{Backing, Content, FilePage, OwnedPage};
+pub use owned_page::{Backing, Content, FilePage, OwnedPage, Place};
 pub use residence::Residence;
+pub use source::Source;
 pub use ticket::{Carries, InTicket, OutTicket, Ticket};
 pub use way::WayOut;
 
+mod content;
 mod end;
 mod flight;
 mod owned_page;
 mod residence;
+mod source;
 mod table;
 mod ticket;
 mod way;
@@ -50,10 +53,10 @@ use slab::Slab;
 use std::alloc::{AllocError, Global};
 use std::marker::Model;
 use table::{
-    bytes_at, divide, file_of, file_page_of, fill_at, group_of, home, home_place, into_away,
-    into_held, into_moving, is_in_frame, kind_of, land, leave, list, note, open_members,
-    open_numbers, open_places, owned_at, page_under, place, read_at, regrouped, residence_of,
-    set_bytes_but, set_zeros_but, take_at, told_at, unlist, write_at,
+    backing_for, begin, bytes_at, divide, fill_at, group_of, home, home_place, into_away,
+    into_held, into_moving, is_in_frame, land, leave, note, open_members, open_numbers,
+    open_places, owned_at, place, read_at, regrouped, residence_of, set_bytes_but, set_zeros_but,
+    take_at, told_at, unlist, write_at,
 };
 
 // Each group has a list, and lists are counted in 31 bits.
@@ -222,16 +225,11 @@ impl Pages {
         let page = PageId(self.numbers.insert_reserved(()) as u32);
         note(&mut self.by_frame, frame.number(), page);
         let group = charge.group();
-        let content = Content::Memory;
-        place(
-            &mut self.owned,
-            page,
-            OwnedPage::Held {
-                frame,
-                charge,
-                content,
-            },
-        );
+        let owned = OwnedPage {
+            content: Content::Memory,
+            place: Place::Frame { frame, charge },
+        };
+        place(&mut self.owned, page, owned);
         self.members.push_back(ListId(group.0), page);
         page
     }
@@ -261,7 +259,7 @@ impl Pages {
         ensures { result ≡ option_map (λ page. kind_at page.content) (page_at self.now.pages page.0) }
     {
         match owned_at(&self.owned, page) {
-            Some(owned) => Some(kind_of(owned)),
+            Some(owned) => Some(owned.content.kind()),
             None => None,
         }
     }
@@ -308,7 +306,7 @@ impl Pages {
         ensures { (label : Label) (residence : PageResidence) → HasResidence self.now.pages page.0 label residence → result ≡ way_of label.content label.dirty }
     {
         match owned_at(&self.owned, page) {
-            Some(owned) => table::way_of(owned),
+            Some(owned) => owned.content.way_out(),
             None => unreachable!(),
         }
     }
@@ -347,9 +345,31 @@ impl Pages {
         write_at(&mut self.owned[page.0 as usize], offset, byte);
     }
 
-    /// Memory on its block is from now on being read into the frame. Whoever has the ticket reads the
-    /// block. Takes no memory: the buffer is the caller's.
+    /// What the source names is from now on being read from its block into the frame: memory from its slot; or a
+    /// page of a file from its home block, under a page number that is free for it. Whoever has the ticket
+    /// reads the block. Takes no memory: the buffer is the caller's.
     pub fn start_in(
+        &mut self,
+        from: Source,
+        frame: Frame,
+        charge: Charge,
+        buffer: Box<[u8; FRAME_BYTES]>,
+    ) -> (PageId, InTicket)
+        requires readable { IsReadable self.old.pages self.old.files from charge }
+        requires room { is_new from ≡ true → pages_there self.old.pages < self.old.numbers }
+        requires group { charge < self.old.groups }
+        requires unused { is_frame_taken self.old.pages frame.number ≡ false }
+        requires framed { frame.number < self.old.frames }
+        requires tickets { 0 < self.old.tickets }
+        ensures { StartsFrom self.old self.new from charge result.0.0 frame.number result.1 }
+    {
+        match from {
+            Source::Swapped(page) => (page, self.start_memory(page, frame, charge, buffer)),
+            Source::File(at) => self.start_file(at, frame, charge, buffer),
+        }
+    }
+
+    fn start_memory(
         &mut self,
         page: PageId,
         frame: Frame,
@@ -365,26 +385,20 @@ impl Pages {
         note(&mut self.by_frame, frame.number(), page);
         let slot = into_away(take_at(&mut self.owned, page));
         let block = slot.block();
-        let ticket = list(
+        let (ticket, coming) = begin(
             &mut self.flights,
-            Flight {
-                page,
-                direction: Direction::In,
-            },
-        );
-        let coming = OwnedPage::Coming {
+            page,
+            Direction::In,
+            Content::Memory,
             frame,
             charge,
-            from: Backing::Swap(slot),
-            ticket,
-        };
+            Backing::Swap(slot),
+        );
         place(&mut self.owned, page, coming);
         InTicket::new(ticket, block, buffer)
     }
 
-    /// A page of a file that no page holds is from now on being read from its home block into the frame,
-    /// under a page number that is free for it. Takes no memory: the buffer is the caller's.
-    pub fn start_in_file(
+    fn start_file(
         &mut self,
         at: FilePage,
         frame: Frame,
@@ -408,23 +422,15 @@ impl Pages {
         let page = PageId(self.numbers.insert_reserved(()) as u32);
         note(&mut self.by_frame, frame.number(), page);
         let group = charge.group();
-        let ticket = list(
+        let (ticket, coming) = begin(
             &mut self.flights,
-            Flight {
-                page,
-                direction: Direction::In,
-            },
-        );
-        let coming = OwnedPage::Coming {
+            page,
+            Direction::In,
+            Content::OfFile { at, dirty: false },
             frame,
             charge,
-            from: Backing::Home {
-                at,
-                block,
-                dirty: false,
-            },
-            ticket,
-        };
+            Backing::Home(block),
+        );
         place(&mut self.owned, page, coming);
         self.members.push_back(ListId(group.0), page);
         self.cache[index] = Some(page);
@@ -432,62 +438,27 @@ impl Pages {
         (page, ticket)
     }
 
-    /// Memory in a frame is from now on being written to the slot. The ticket has a copy of its bytes
-    /// in the spare. Takes no memory.
-    pub fn start_out(&mut self, page: PageId, slot: Slot, mut spare: Spare) -> OutTicket
-        requires held { (g f : ℕ) × HasResidence self.old.pages page.0 (memory_of g) (Held f) }
+    /// The page, which is in a frame, is from now on being written out: memory to the slot, a page of a file that
+    /// was written to to its home block, and by no slot. The ticket has a copy of its bytes in the spare.
+    /// Takes no memory.
+    pub fn start_out(&mut self, page: PageId, slot: Option<Slot>, mut spare: Spare) -> OutTicket
+        requires held { (label : Label) × (f : ℕ) × HasResidence self.old.pages page.0 label (Held f) × LeavesBy label.content label.dirty slot }
         requires room { 0 < self.old.tickets }
-        ensures { (g f : ℕ) → HasResidence self.old.pages page.0 (memory_of g) (Held f) → StartsOut self.old self.new page.0 (memory_of g) f slot result }
-    {
-        let (frame, charge, _) = into_held(take_at(&mut self.owned, page));
-        spare.fill(frame.bytes());
-        let block = slot.block();
-        let ticket = list(
-            &mut self.flights,
-            Flight {
-                page,
-                direction: Direction::Out,
-            },
-        );
-        let going = OwnedPage::Going {
-            frame,
-            charge,
-            to: Backing::Swap(slot),
-            ticket,
-        };
-        place(&mut self.owned, page, going);
-        OutTicket::new(ticket, block, spare)
-    }
-
-    /// A page of a file in a frame, which was written to, is from now on being written to its home block.
-    /// The ticket has a copy of its bytes in the spare. Takes no memory.
-    pub fn start_home(&mut self, page: PageId, mut spare: Spare) -> OutTicket
-        requires held { (file q g f : ℕ) × HasResidence self.old.pages page.0 (of_file file q g true) (Held f) }
-        requires room { 0 < self.old.tickets }
-        ensures { (file q g f : ℕ) → HasResidence self.old.pages page.0 (of_file file q g true) (Held f)
-            → StartsOut self.old self.new page.0 (of_file file q g true) f (home_block self.old.files.first self.old.files.sizes file q) result }
+        ensures { (label : Label) (f : ℕ) → HasResidence self.old.pages page.0 label (Held f) → StartsOut self.old self.new page.0 label f (block_for self.old.files label.content slot) result }
     {
         let (frame, charge, content) = into_held(take_at(&mut self.owned, page));
-        let at = file_page_of(content);
         spare.fill(frame.bytes());
-        let block = home(&self.files, at.file, at.page);
-        let ticket = list(
+        let backing = backing_for(&self.files, content, slot);
+        let block = backing.block();
+        let (ticket, going) = begin(
             &mut self.flights,
-            Flight {
-                page,
-                direction: Direction::Out,
-            },
-        );
-        let going = OwnedPage::Going {
+            page,
+            Direction::Out,
+            content,
             frame,
             charge,
-            to: Backing::Home {
-                at,
-                block,
-                dirty: true,
-            },
-            ticket,
-        };
+            backing,
+        );
         place(&mut self.owned, page, going);
         OutTicket::new(ticket, block, spare)
     }
@@ -501,31 +472,29 @@ impl Pages {
         self.flights.get(ticket.0 as usize).copied()
     }
 
-    /// The page that is being read in has the bytes that the ticket read. Takes no memory.
-    pub fn fill(&mut self, ticket: &InTicket)
-        requires { (p : ℕ) × (label : Label) × (f b : ℕ) × HasResidence self.old.pages p label (Coming f b ticket.now.number) }
-        ensures bytes { (p : ℕ) (label : Label) (f b : ℕ) → HasResidence self.old.pages p label (Coming f b ticket.now.number) → (q o : ℕ) → byte_in self.new.bytes q o
-            ≡ (if q == p then slice_index ticket.now.bytes o else byte_in self.old.bytes q o) }
+    /// The page that is being read in under the ticket has the bytes that the ticket read. Takes no memory.
+    pub fn fill(&mut self, page: PageId, ticket: &InTicket)
+        requires { (label : Label) × (f b : ℕ) × HasResidence self.old.pages page.0 label (Coming f b ticket.now.number) }
+        ensures bytes { (q o : ℕ) → byte_in self.new.bytes q o ≡ (if q == page.0 then slice_index ticket.now.bytes o else byte_in self.old.bytes q o) }
         ensures others { self.new ≡ record self.old { bytes = self.new.bytes } }
     {
-        let page = page_under(&self.flights, ticket.number());
         fill_at(&mut self.owned[page.0 as usize], ticket.read());
     }
 
-    /// The transfer has ended, and its ticket with it: the page is in its frame or on its block, where a page
-    /// of a file is no page any more. Hands out what the page owns no more, and what the ticket carried.
-    /// Takes no memory.
-    pub fn settle<B: Carries>(&mut self, ticket: Ticket<B>, end: End) -> (Freed, B)
-        requires { (d : Direction) × (p : ℕ) × (label : Label) × (f b : ℕ) × HasResidence self.old.pages p label (moving d f b ticket.number) }
-        ensures ends { (d : Direction) (p : ℕ) (label : Label) (f b : ℕ) → HasResidence self.old.pages p label (moving d f b ticket.number) → Ends self.old self.new p label f b ticket.number end }
-        ensures freed { (d : Direction) (p : ℕ) (label : Label) (f b : ℕ) → HasResidence self.old.pages p label (moving d f b ticket.number) → IsFreed label f b end result.0 }
-        ensures carried { B.bytes result.1 ≡ ticket.bytes }
+    /// The transfer of the page, which is under way under the ticket, has ended, and the ticket with it: the page is in its
+    /// frame or on its block, where a page of a file is no page any more. Hands out what the page owns no
+    /// more, and what the ticket carried. Takes no memory.
+    pub fn settle<B: Carries>(&mut self, page: PageId, ticket: Ticket<B>, end: End) -> Settled<B>
+        requires { (d : Direction) × (label : Label) × (f b : ℕ) × HasResidence self.old.pages page.0 label (moving d f b ticket.number) }
+        ensures ends { (d : Direction) (label : Label) (f b : ℕ) → HasResidence self.old.pages page.0 label (moving d f b ticket.number) → Ends self.old self.new page.0 label f b ticket.number end }
+        ensures freed { (d : Direction) (label : Label) (f b : ℕ) → HasResidence self.old.pages page.0 label (moving d f b ticket.number) → IsFreed label f b end result.freed }
+        ensures label { (d : Direction) (label : Label) (f b : ℕ) → HasResidence self.old.pages page.0 label (moving d f b ticket.number) → (result.group.0 ≡ label.group) × (result.kind ≡ kind_at label.content) }
+        ensures carried { B.bytes result.carried ≡ ticket.bytes }
     {
-        let page = unlist(&mut self.flights, ticket.number());
-        let moving = take_at(&mut self.owned, page);
-        let at = file_of(&moving);
-        let (frame, charge, backing) = into_moving(moving);
-        let (owned, freed) = divide(frame, charge, backing, end);
+        unlist(&mut self.flights, ticket.number());
+        let (frame, charge, backing, content) = into_moving(take_at(&mut self.owned, page));
+        let group = charge.group();
+        let (owned, freed) = divide(frame, charge, backing, content, end);
         land(
             &mut self.numbers,
             &mut self.owned,
@@ -533,10 +502,15 @@ impl Pages {
             &mut self.cache,
             &self.files,
             page,
-            at,
+            content.file(),
             owned,
         );
-        (freed, ticket.into_carried())
+        Settled {
+            group,
+            kind: content.kind(),
+            freed,
+            carried: ticket.into_carried(),
+        }
     }
 
     /// The page is of the group that its group hangs below, and so is its charge, if it has one (kernel:
@@ -569,14 +543,13 @@ impl Pages {
         ensures others { self.new ≡ record self.old { pages = self.new.pages; bytes = self.new.bytes } }
     {
         let owned = take_at(&mut self.owned, page);
-        let at = file_of(&owned);
         leave(
             &mut self.numbers,
             &mut self.members,
             &mut self.cache,
             &self.files,
             page,
-            at,
+            owned.content.file(),
         );
         owned
     }

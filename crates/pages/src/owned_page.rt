@@ -1,8 +1,12 @@
-//! What a page owns.
+//! What a page holds, times where it is.
+
+ghost use Rattle.std.specs.Prelude.{◌≡◌, true};
+ghost use Rattle.pages.specs.Backed.{is_backed};
 
 use block_store::Slot;
 use frames::Frame;
 use machine::id::{GroupId, TicketId};
+use machine::record::Direction;
 use page_counter::Charge;
 
 /// A page of a file (kernel: `mapping` and `index` of a `struct folio`).
@@ -14,7 +18,7 @@ pub struct FilePage {
     pub page: u32,
 }
 
-/// What a page in a frame holds.
+/// What a page holds, wherever it is.
 #[derive(Clone, Copy, Debug, PartialEq, Eq)]
 pub enum Content {
     /// Memory of tasks.
@@ -24,45 +28,58 @@ pub enum Content {
     OfFile { at: FilePage, dirty: bool },
 }
 
-/// Where a page in transfer is read from, or written to.
+/// The block that a page in transfer is read from, or written to.
 #[must_use]
 pub enum Backing {
-    /// Memory of tasks: a swap slot, which is the page's.
+    /// Of memory of tasks: a swap slot, which is the page's.
     Swap(Slot),
-    /// A page of a file: its home block, which nobody owns.
-    Home {
-        at: FilePage,
-        block: u32,
-        dirty: bool,
-    },
+    /// Of a page of a file: its home block, which nobody owns.
+    Home(u32),
 }
 
-/// What a page owns, by where it is. Each part of it has to be spent.
+impl Backing {
+    ghost use Rattle.pages.specs.Records.{block_of};
+
+    /// The block's number.
+    pub(crate) fn block(&self) -> u32
+        ensures { result ≡ block_of self.now }
+    {
+        match self {
+            Backing::Swap(slot) => slot.block(),
+            Backing::Home(block) => *block,
+        }
+    }
+}
+
+/// Where a page is, with what it owns there. Each part of it has to be spent.
 #[must_use]
-pub enum OwnedPage {
+pub enum Place {
     /// In a frame.
-    Held {
+    Frame {
         frame: Frame,
         charge: Charge,
-        content: Content,
     },
-    /// Being read into the frame.
-    Coming {
+    /// On its way between the frame and a block.
+    Moving {
         frame: Frame,
         charge: Charge,
-        from: Backing,
+        direction: Direction,
+        backing: Backing,
         ticket: TicketId,
     },
-    /// Being written from the frame.
-    Going {
-        frame: Frame,
-        charge: Charge,
-        to: Backing,
-        ticket: TicketId,
-    },
-    /// On the slot alone: no frame, and no charge. Memory of tasks alone is.
+    /// On the slot alone: no frame, and no charge.
     Away {
         group: GroupId,
         slot: Slot,
     },
+}
+
+/// A page: what it holds, and where it is. It has to be spent.
+///
+/// Memory is never on its way from or to a home block, nor a page of a file from or to a slot or on one alone.
+#[must_use]
+pub struct OwnedPage {
+    pub content: Content,
+    pub place: Place,
+    pub ghost backed: { is_backed content place ≡ true },
 }

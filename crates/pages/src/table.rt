@@ -1,18 +1,21 @@
 //! The places of pages by their numbers, the numbers of pages and of transfers, and the groups' lists.
 
-ghost use Rattle.std.specs.Prelude.{◌≡◌, ℕ, ◌+◌, ◌-◌, ◌<◌, sum, Bool, ◌≤◌, ◌==◌, ◌∷◌, [], Some, None, true, false, IsSome, IfSome, IfOk, map, option_map, option_copied, length, slice_index, vec_len, vec_capacity, if◌then◌else◌};
+ghost use Rattle.std.specs.Prelude.{◌≡◌, ℕ, ◌+◌, ◌-◌, ◌<◌, sum, Bool, ◌≤◌, ◌==◌, ◌∷◌, [], Option, Some, None, is_some, true, false, IsSome, IfSome, IfOk, map, option_map, option_copied, length, slice_index, vec_len, vec_capacity, if◌then◌else◌};
 ghost use Rattle.slab.specs.Slab.{slab_len, HasRoomFor, ContainsKey, Updates};
 ghost use Rattle.rings.specs.Rings.{is_listed, without};
 ghost use Rattle.machine.specs.Slots.{at, there_and, Changes};
 ghost use Rattle.machine.specs.Pages.{Coming, in_transfer_at, is_held, is_held_at, has_frame, frame_at, block_at, home_block};
+ghost use Rattle.machine.specs.declared.record.Direction.{Direction as Direction_of};
 ghost use Rattle.machine.specs.Tree.{node_at};
 ghost use Rattle.page_counter.specs.Counts.{IsOut, MovesUp, SameGroups};
 ghost use Rattle.machine.specs.Access.{page_size};
 ghost use Rattle.pages.specs.PagesOf as pages;
-ghost use Rattle.pages.specs.PagesOf.{is_held_frame, Label, label_of, labelled};
-ghost use Rattle.pages.specs.Transfers.{page_after, IsFreed};
+ghost use Rattle.pages.specs.PagesOf.{is_held_frame, Label, labelled, flight};
+ghost use Rattle.pages.specs.Transfers.{page_after, IsFreed, LeavesBy, block_for};
 ghost use Rattle.pages.specs.declared.end.End.TheVariants as end_of;
-ghost use Rattle.pages.specs.Records.{page_of, bytes_of, label_holding, label_backed, block_of, file_at, place_in, WritesByte};
+ghost use Rattle.pages.specs.declared.owned_page.Content.{Content as Content_of};
+ghost use Rattle.pages.specs.Backed.{is_backing_of, is_backed};
+ghost use Rattle.pages.specs.Records.{page_of, bytes_of, bytes_at, content_of, is_dirty, label_holding, group_at, residence_at, block_of, file_at, place_in, WritesByte};
 ghost use Rattle.machine.specs.Lists.{kind_at};
 ghost use Rattle.machine.specs.Step.{touched};
 ghost use Rattle.machine.specs.declared.event.Op.TheVariants.{Write};
@@ -20,14 +23,14 @@ ghost use Rattle.pages.specs.declared.owned_page.FilePage.{FilePage as FilePage_
 
 use crate::end::{End, Freed};
 use crate::flight::Flight;
-use crate::owned_page::{Backing, Content, FilePage, OwnedPage};
+use crate::owned_page::{Backing, Content, FilePage, OwnedPage, Place};
 use crate::residence::Residence;
 use crate::way::WayOut;
 use block_store::Slot;
 use files::Files;
 use frames::{FRAME_BYTES, Frame};
 use machine::id::{FrameId, GroupId, PageId, TicketId};
-use machine::record::Kind;
+use machine::record::{Direction, Kind};
 use page_counter::{Charge, Counters};
 use rings::Rings;
 use slab::Slab;
@@ -48,11 +51,10 @@ pub(crate) fn owned_at(slots: &[Option<OwnedPage>], page: PageId) -> Option<&Own
 pub(crate) fn group_of(owned: &OwnedPage) -> GroupId
     ensures { result.0 ≡ (page_of owned.now).group }
 {
-    match owned {
-        OwnedPage::Held { charge, .. } => charge.group(),
-        OwnedPage::Coming { charge, .. } => charge.group(),
-        OwnedPage::Going { charge, .. } => charge.group(),
-        OwnedPage::Away { group, .. } => *group,
+    match &owned.place {
+        Place::Frame { charge, .. } => charge.group(),
+        Place::Moving { charge, .. } => charge.group(),
+        Place::Away { group, .. } => *group,
     }
 }
 
@@ -60,11 +62,20 @@ pub(crate) fn group_of(owned: &OwnedPage) -> GroupId
 pub(crate) fn residence_of(owned: &OwnedPage) -> Residence
     ensures { result ≡ pages.residence_of (page_of owned.now).residence }
 {
-    match owned {
-        OwnedPage::Held { frame, .. } => Residence::Held(frame.number()),
-        OwnedPage::Coming { .. } => Residence::Coming,
-        OwnedPage::Going { .. } => Residence::Going,
-        OwnedPage::Away { slot, .. } => Residence::Away(slot.block()),
+    match &owned.place {
+        Place::Frame { frame, .. } => Residence::Held(frame.number()),
+        Place::Moving { direction, .. } => moving_residence(*direction),
+        Place::Away { slot, .. } => Residence::Away(slot.block()),
+    }
+}
+
+/// Where a page is that goes this way.
+fn moving_residence(direction: Direction) -> Residence
+    ensures { (f b n : ℕ) → result ≡ pages.residence_of (pages.moving direction f b n) }
+{
+    match direction {
+        Direction::In => Residence::Coming,
+        Direction::Out => Residence::Going,
     }
 }
 
@@ -74,8 +85,8 @@ pub(crate) fn read_at(owned: &OwnedPage, offset: usize) -> u8
     requires within { offset < page_size }
     ensures { result ≡ slice_index (bytes_of owned.now) offset }
 {
-    match owned {
-        OwnedPage::Held { frame, .. } => frame.read(offset),
+    match &owned.place {
+        Place::Frame { frame, .. } => frame.read(offset),
         _ => unreachable!(),
     }
 }
@@ -86,7 +97,17 @@ pub(crate) fn bytes_at(slots: &[Option<OwnedPage>], page: PageId) -> &[u8; FRAME
     ensures { option_map bytes_of (at slots.now page.0) ≡ Some result.now }
 {
     match owned_at(slots, page) {
-        Some(OwnedPage::Held { frame, .. }) => frame.bytes(),
+        Some(owned) => frame_bytes(&owned.place),
+        None => unreachable!(),
+    }
+}
+
+fn frame_bytes(place: &Place) -> &[u8; FRAME_BYTES]
+    requires { is_held_at (residence_at place.now) ≡ true }
+    ensures { bytes_at place.now ≡ result.now }
+{
+    match place {
+        Place::Frame { frame, .. } => frame.bytes(),
         _ => unreachable!(),
     }
 }
@@ -111,68 +132,11 @@ fn write_in(owned: &mut OwnedPage, offset: usize, byte: u8)
     ensures page { page_of owned.new ≡ touched (page_of owned.old) (Write byte) }
     ensures bytes { WritesByte (Some (bytes_of owned.old)) (Some (bytes_of owned.new)) offset byte }
 {
-    match owned {
-        OwnedPage::Held { frame, content, .. } => {
-            frame.write(offset, byte);
-            soil(content);
-        }
+    match &mut owned.place {
+        Place::Frame { frame, .. } => frame.write(offset, byte),
         _ => unreachable!(),
     }
-}
-
-/// It was written to: a page of a file is dirty from now on.
-fn soil(content: &mut Content)
-    ensures memory { content.old ≡ Content.Memory → content.new ≡ content.old }
-    ensures file { (at : FilePage_of) (dirty : Bool) → content.old ≡ Content.OfFile at dirty → content.new ≡ Content.OfFile at true }
-{
-    match content {
-        Content::Memory => {}
-        Content::OfFile { dirty, .. } => *dirty = true,
-    }
-}
-
-/// What the page holds: memory of tasks, or a page of a file.
-pub(crate) fn kind_of(owned: &OwnedPage) -> Kind
-    ensures { result ≡ kind_at (page_of owned.now).content }
-{
-    match owned {
-        OwnedPage::Held { content, .. } => match content {
-            Content::Memory => Kind::Anon,
-            Content::OfFile { .. } => Kind::File,
-        },
-        OwnedPage::Coming { from, .. } => kind_behind(from),
-        OwnedPage::Going { to, .. } => kind_behind(to),
-        OwnedPage::Away { .. } => Kind::Anon,
-    }
-}
-
-fn kind_behind(backing: &Backing) -> Kind
-    ensures { (g : ℕ) → result ≡ kind_at (label_backed backing.now g).content }
-{
-    match backing {
-        Backing::Swap(_) => Kind::Anon,
-        Backing::Home { .. } => Kind::File,
-    }
-}
-
-/// How the page in a frame would leave it.
-pub(crate) fn way_of(owned: &OwnedPage) -> WayOut
-    requires { is_held (page_of owned.now) ≡ true }
-    ensures { result ≡ pages.way_of (page_of owned.now).content (page_of owned.now).dirty }
-{
-    match owned {
-        OwnedPage::Held { content, .. } => match content {
-            Content::Memory => WayOut::ToSwap,
-            Content::OfFile { dirty, .. } => {
-                if *dirty {
-                    WayOut::ToHome
-                } else {
-                    WayOut::Dropped
-                }
-            }
-        },
-        _ => unreachable!(),
-    }
+    owned.content.make_dirty();
 }
 
 /// Other bytes in place of all of those of the page that is being read in there.
@@ -182,7 +146,21 @@ pub(crate) fn fill_at(slot: &mut Option<OwnedPage>, bytes: &[u8; FRAME_BYTES])
     ensures bytes { option_map bytes_of slot.new ≡ Some bytes.now }
 {
     match slot {
-        Some(OwnedPage::Coming { frame, .. }) => frame.fill(bytes),
+        Some(owned) => fill_in(&mut owned.place, bytes),
+        None => unreachable!(),
+    }
+}
+
+/// The same, of where the page is.
+fn fill_in(place: &mut Place, bytes: &[u8; FRAME_BYTES])
+    requires { in_transfer_at (residence_at place.old) ≡ true }
+    ensures residence { residence_at place.new ≡ residence_at place.old }
+    ensures group { group_at place.new ≡ group_at place.old }
+    ensures backed { (content : Content_of) → is_backed content place.new ≡ is_backed content place.old }
+    ensures bytes { bytes_at place.new ≡ bytes.now }
+{
+    match place {
+        Place::Moving { frame, .. } => frame.fill(bytes),
         _ => unreachable!(),
     }
 }
@@ -246,44 +224,40 @@ fn reach(slots: &mut Vec<Option<OwnedPage>>, number: usize)
     }
 }
 
-/// What a page in a frame owns.
+/// What a page in a frame owns, and what it holds.
 pub(crate) fn into_held(owned: OwnedPage) -> (Frame, Charge, Content)
     requires { is_held_at (page_of owned).residence ≡ true }
     ensures frame { frame_at (page_of owned).residence ≡ Some result.0.number }
     ensures bytes { bytes_of owned ≡ result.0.bytes }
-    ensures label { label_of (page_of owned) ≡ label_holding result.2 result.1 }
+    ensures group { (page_of owned).group ≡ result.1 }
+    ensures content { owned.content ≡ result.2 }
 {
-    match owned {
-        OwnedPage::Held {
-            frame,
-            charge,
-            content,
-        } => (frame, charge, content),
+    let OwnedPage { content, place } = owned;
+    match place {
+        Place::Frame { frame, charge } => (frame, charge, content),
         _ => unreachable!(),
     }
 }
 
-/// What a page in transfer owns.
-pub(crate) fn into_moving(owned: OwnedPage) -> (Frame, Charge, Backing)
+/// What a page in transfer owns, and what it holds.
+pub(crate) fn into_moving(owned: OwnedPage) -> (Frame, Charge, Backing, Content)
     requires { in_transfer_at (page_of owned).residence ≡ true }
     ensures frame { frame_at (page_of owned).residence ≡ Some result.0.number }
     ensures bytes { bytes_of owned ≡ result.0.bytes }
-    ensures label { label_of (page_of owned) ≡ label_backed result.2 result.1 }
+    ensures group { (page_of owned).group ≡ result.1 }
     ensures block { block_at (page_of owned).residence ≡ Some (block_of result.2) }
+    ensures content { owned.content ≡ result.3 }
+    ensures backed { is_backing_of result.3 result.2 ≡ true }
 {
-    match owned {
-        OwnedPage::Coming {
+    let OwnedPage { content, place } = owned;
+    match place {
+        Place::Moving {
             frame,
             charge,
-            from,
+            direction: _,
+            backing,
             ticket: _,
-        } => (frame, charge, from),
-        OwnedPage::Going {
-            frame,
-            charge,
-            to,
-            ticket: _,
-        } => (frame, charge, to),
+        } => (frame, charge, backing, content),
         _ => unreachable!(),
     }
 }
@@ -293,51 +267,72 @@ pub(crate) fn divide(
     frame: Frame,
     charge: Charge,
     backing: Backing,
+    content: Content,
     end: End,
 ) -> (Option<OwnedPage>, Freed)
-    ensures page { option_map page_of result.0 ≡ page_after end (label_backed backing charge) frame.number (block_of backing) }
+    requires { is_backing_of content backing ≡ true }
+    ensures page { option_map page_of result.0 ≡ page_after end (label_holding content charge) frame.number (block_of backing) }
     ensures bytes { end ≡ end_of.InFrame → option_map bytes_of result.0 ≡ Some frame.bytes }
-    ensures freed { IsFreed (label_backed backing charge) frame.number (block_of backing) end result.1 }
+    ensures freed { IsFreed (label_holding content charge) frame.number (block_of backing) end result.1 }
 {
-    match (backing, end) {
-        (Backing::Swap(slot), End::InFrame) => {
-            let content = Content::Memory;
-            let held = OwnedPage::Held {
-                frame,
-                charge,
-                content,
-            };
-            (Some(held), Freed::Slot(slot))
+    match end {
+        End::InFrame => {
+            let place = Place::Frame { frame, charge };
+            (Some(OwnedPage { content, place }), freed_backing(backing))
         }
-        (Backing::Swap(slot), End::OnBlock) => {
+        End::OnBlock => {
             let group = charge.group();
-            let away = OwnedPage::Away { group, slot };
-            (Some(away), Freed::Room(frame, charge))
+            (left_on(content, group, backing), Freed::Room(frame, charge))
         }
-        (
-            Backing::Home {
-                at,
-                block: _,
-                dirty,
-            },
-            End::InFrame,
-        ) => {
-            let content = Content::OfFile { at, dirty };
-            let held = OwnedPage::Held {
-                frame,
-                charge,
-                content,
-            };
-            (Some(held), Freed::Nothing)
-        }
-        (
-            Backing::Home {
-                at: _,
-                block: _,
-                dirty: _,
-            },
-            End::OnBlock,
-        ) => (None, Freed::Room(frame, charge)),
+    }
+}
+
+/// What a page in its frame owns no more of where it came from.
+fn freed_backing(backing: Backing) -> Freed
+    ensures { (content : Content_of) (g f : ℕ) → is_backing_of content backing ≡ true → IsFreed (label_holding content g) f (block_of backing) end_of.InFrame result }
+{
+    match backing {
+        Backing::Swap(slot) => Freed::Slot(slot),
+        Backing::Home(_) => Freed::Nothing,
+    }
+}
+
+/// What a page out of its frame owns: a page of a file is no page any more.
+fn left_on(content: Content, group: GroupId, backing: Backing) -> Option<OwnedPage>
+    requires { is_backing_of content backing ≡ true }
+    ensures { (f : ℕ) → option_map page_of result ≡ page_after end_of.OnBlock (label_holding content group.0) f (block_of backing) }
+{
+    match backing {
+        Backing::Swap(slot) => Some(OwnedPage {
+            content,
+            place: Place::Away { group, slot },
+        }),
+        Backing::Home(_) => None,
+    }
+}
+
+/// Where a page that leaves its frame is written: to the slot, or home.
+pub(crate) fn backing_for(files: &Files, content: Content, slot: Option<Slot>) -> Backing
+    requires by { LeavesBy (content_of content) (is_dirty content) slot }
+    requires inside { IfSome (file_at (content_of content)) (λ a. a.page < slice_index files.now.sizes a.file) }
+    ensures backed { is_backing_of content result ≡ true }
+    ensures block { block_of result ≡ block_for files.now (content_of content) slot }
+{
+    match slot {
+        Some(slot) => Backing::Swap(slot),
+        None => Backing::Home(home_of(files, content)),
+    }
+}
+
+/// The home block of what a page holds that is a page of a file.
+fn home_of(files: &Files, content: Content) -> u32
+    requires file { is_some (file_at (content_of content)) ≡ true }
+    requires inside { IfSome (file_at (content_of content)) (λ a. a.page < slice_index files.now.sizes a.file) }
+    ensures { (slot : Option ℕ) → result ≡ block_for files.now (content_of content) slot }
+{
+    match content {
+        Content::OfFile { at, .. } => home(files, at.file, at.page),
+        Content::Memory => unreachable!(),
     }
 }
 
@@ -346,8 +341,9 @@ pub(crate) fn into_away(owned: OwnedPage) -> Slot
     requires { frame_at (page_of owned).residence ≡ None }
     ensures { block_at (page_of owned).residence ≡ Some result }
 {
-    match owned {
-        OwnedPage::Away { group: _, slot } => slot,
+    let OwnedPage { content: _, place } = owned;
+    match place {
+        Place::Away { group: _, slot } => slot,
         _ => unreachable!(),
     }
 }
@@ -363,39 +359,42 @@ pub(crate) fn regrouped(owned: OwnedPage, parent: GroupId, counters: &mut Counte
     ensures uncharged { has_frame (page_of owned) ≡ false → counters.new ≡ counters.old }
     ensures groups { SameGroups counters.old counters.new }
 {
-    match owned {
-        OwnedPage::Held {
-            frame,
-            charge,
-            content,
-        } => OwnedPage::Held {
-            frame,
-            charge: counters.move_up(charge),
-            content,
-        },
-        OwnedPage::Coming {
-            frame,
-            charge,
-            from,
-            ticket,
-        } => OwnedPage::Coming {
-            frame,
-            charge: counters.move_up(charge),
-            from,
-            ticket,
-        },
-        OwnedPage::Going {
-            frame,
-            charge,
-            to,
-            ticket,
-        } => OwnedPage::Going {
+    let OwnedPage { content, place } = owned;
+    let place = moved_up(place, parent, counters);
+    OwnedPage { content, place }
+}
+
+/// The same, of where the page is.
+fn moved_up(place: Place, parent: GroupId, counters: &mut Counters) -> Place
+    requires below { (node_at counters.old.tree (group_at place)).parent ≡ Some parent.0 }
+    requires out { is_some (frame_at (residence_at place)) ≡ true → IsOut counters.old (group_at place) }
+    ensures group { group_at result ≡ parent.0 }
+    ensures residence { residence_at result ≡ residence_at place }
+    ensures bytes { bytes_at result ≡ bytes_at place }
+    ensures backed { (content : Content_of) → is_backed content result ≡ is_backed content place }
+    ensures charged { is_some (frame_at (residence_at place)) ≡ true → MovesUp counters.old counters.new (group_at place) }
+    ensures uncharged { is_some (frame_at (residence_at place)) ≡ false → counters.new ≡ counters.old }
+    ensures groups { SameGroups counters.old counters.new }
+{
+    match place {
+        Place::Frame { frame, charge } => Place::Frame {
             frame,
             charge: counters.move_up(charge),
-            to,
+        },
+        Place::Moving {
+            frame,
+            charge,
+            direction,
+            backing,
+            ticket,
+        } => Place::Moving {
+            frame,
+            charge: counters.move_up(charge),
+            direction,
+            backing,
             ticket,
         },
-        OwnedPage::Away { group: _, slot } => OwnedPage::Away {
+        Place::Away { group: _, slot } => Place::Away {
             group: parent,
             slot,
         },
@@ -426,36 +425,47 @@ pub(crate) fn open_members(alloc: Global, numbers: u32) -> Result<Rings, AllocEr
     Ok(members)
 }
 
-/// A transfer more is in flight. Its ticket's number was free.
-pub(crate) fn list(flights: &mut Slab<Flight>, flight: Flight) -> TicketId
+/// The page sets out in this direction, from or to this block, under a ticket that was free: the ticket, and
+/// what the page owns from now on.
+pub(crate) fn begin(
+    flights: &mut Slab<Flight>,
+    page: PageId,
+    direction: Direction,
+    content: Content,
+    frame: Frame,
+    charge: Charge,
+    backing: Backing,
+) -> (TicketId, OwnedPage)
     requires room { HasRoomFor flights.old 1 }
     requires countable { flights.old.capacity ≤ u32.MAX }
-    ensures free { at flights.old.slots result.0 ≡ None }
-    ensures listed { Changes flights.old.slots flights.new.slots result.0 (Some flight) }
+    requires backed { is_backing_of content backing ≡ true }
+    ensures free { at flights.old.slots result.0.0 ≡ None }
+    ensures listed { Changes flights.old.slots flights.new.slots result.0.0 (Some (flight page.0 direction)) }
     ensures len { slab_len flights.new ≡ slab_len flights.old + 1 }
     ensures capacity { flights.new.capacity ≡ flights.old.capacity }
+    ensures page { page_of result.1 ≡ labelled (label_holding content charge) (pages.moving direction frame.number (block_of backing) result.0.0) }
+    ensures bytes { bytes_of result.1 ≡ frame.bytes }
 {
-    TicketId(flights.insert_reserved(flight) as u32)
+    let ticket = TicketId(flights.insert_reserved(Flight { page, direction }) as u32);
+    let place = Place::Moving {
+        frame,
+        charge,
+        direction,
+        backing,
+        ticket,
+    };
+    (ticket, OwnedPage { content, place })
 }
 
-/// The page of the transfer of a ticket.
-pub(crate) fn page_under(flights: &Slab<Flight>, ticket: TicketId) -> PageId
-    requires { ContainsKey flights.now ticket.0 }
-    ensures { option_map (λ flight. flight.page) (at flights.now.slots ticket.0) ≡ Some result }
-{
-    flights[ticket.0 as usize].page
-}
-
-/// The transfer of a ticket has ended: its page. The ticket's number is free again.
-pub(crate) fn unlist(flights: &mut Slab<Flight>, ticket: TicketId) -> PageId
+/// The transfer of a ticket has ended, and the ticket's number is free again.
+pub(crate) fn unlist(flights: &mut Slab<Flight>, ticket: TicketId)
     requires { ContainsKey flights.old ticket.0 }
-    ensures page { option_map (λ flight. flight.page) (at flights.old.slots ticket.0) ≡ Some result }
     ensures unlisted { Changes flights.old.slots flights.new.slots ticket.0 None }
     ensures len { slab_len flights.new + 1 ≡ slab_len flights.old }
     ensures room { HasRoomFor flights.new 1 }
     ensures capacity { flights.new.capacity ≡ flights.old.capacity }
 {
-    flights.remove(ticket.0 as usize).page
+    let _ = flights.remove(ticket.0 as usize);
 }
 
 /// The home block of a page that the file has.
@@ -514,32 +524,17 @@ pub(crate) fn is_in_frame(slots: &[Option<OwnedPage>], page: PageId, number: usi
     ensures { result ≡ there_and (is_held_frame number) (option_map page_of (at slots.now page.0)) }
 {
     match owned_at(slots, page) {
-        Some(OwnedPage::Held { frame, .. }) => frame.number().0 as usize == number,
+        Some(owned) => is_frame(&owned.place, number),
+        None => false,
+    }
+}
+
+fn is_frame(place: &Place, number: usize) -> bool
+    ensures { (label : Label) → result ≡ is_held_frame number (labelled label (residence_at place.now)) }
+{
+    match place {
+        Place::Frame { frame, .. } => frame.number().0 as usize == number,
         _ => false,
-    }
-}
-
-/// The page of a file that the page holds, if it holds one.
-pub(crate) fn file_of(owned: &OwnedPage) -> Option<FilePage>
-    ensures { result ≡ file_at (page_of owned.now).content }
-{
-    match owned {
-        OwnedPage::Held { content, .. } => match content {
-            Content::Memory => None,
-            Content::OfFile { at, .. } => Some(*at),
-        },
-        OwnedPage::Coming { from, .. } => file_behind(from),
-        OwnedPage::Going { to, .. } => file_behind(to),
-        OwnedPage::Away { .. } => None,
-    }
-}
-
-fn file_behind(backing: &Backing) -> Option<FilePage>
-    ensures { (g : ℕ) → result ≡ file_at (label_backed backing.now g).content }
-{
-    match backing {
-        Backing::Swap(_) => None,
-        Backing::Home { at, .. } => Some(*at),
     }
 }
 
@@ -603,16 +598,5 @@ pub(crate) fn land(
     match after {
         Some(owned) => place(slots, page, owned),
         None => leave(numbers, members, cache, files, page, file_page),
-    }
-}
-
-/// The page of a file that a page holds.
-pub(crate) fn file_page_of(content: Content) -> FilePage
-    requires { (at : FilePage_of) × (dirty : Bool) × (content ≡ Content.OfFile at dirty) }
-    ensures { (at : FilePage_of) (dirty : Bool) → content ≡ Content.OfFile at dirty → result ≡ at }
-{
-    match content {
-        Content::OfFile { at, .. } => at,
-        Content::Memory => unreachable!(),
     }
 }

@@ -23,35 +23,71 @@
 //! `/p/a` and `/p/b` have 6.
 #![tactic(auto)]
 
-ghost use Rattle.std.specs.Prelude.{◌≡◌, ◌≢◌, not, true, false};
-ghost use Rattle.machine.specs.Protection.{part_of, effective, min_of, is_unprotected_in};
-ghost use Rattle.machine.specs.Tree.{is_live, under};
+ghost use Rattle.std.specs.Prelude.{◌≡◌, false};
+ghost use Rattle.machine.specs.Protection.{part_of};
 ghost use Rattle.group_tree.specs.Kin.{AreKin};
-ghost use Rattle.page_counter.specs.Counts.{usage_of};
 
 use group_tree::Tree;
 use machine::amount::Amount;
 use machine::id::GroupId;
 use page_counter::Counters;
 
-/// A group's effective `memory.min`: while it uses no more, with all below it, a reclaim of the
-/// target takes no page of its own (kernel: effective_protection). The target is above the group.
-pub fn effective(tree: &Tree, counters: &Counters, target: GroupId, group: GroupId) -> Amount
-    requires kin { AreKin counters.now.tree tree.now }
-    requires live { is_live tree.now group.0 ≡ true }
-    requires under { under tree.now target.0 group.0 ≡ true }
-    requires below { target.0 ≢ group.0 }
-    ensures { result ≡ effective false tree.now (min_of counters.now.limits) (usage_of counters.now) target.0 group.0 }
-{
-    let Some(parent) = tree.parent(group) else {
-        unreachable!()
-    };
-    if parent == target {
-        return counters.min(group);
+/// A reclaim of the target, as the protection of the groups below it sees it (kernel: the arguments
+/// of mem_cgroup_calculate_protection).
+#[derive(Clone, Copy)]
+pub struct Protection<'t, 'c> {
+    /// The groups.
+    pub tree: &'t Tree,
+    /// Their limits, and what they use.
+    pub counters: &'c Counters,
+    /// Whether a group has a part of what its siblings leave, too (kernel:
+    /// CGRP_ROOT_MEMORY_RECURSIVE_PROT).
+    pub recursive: bool,
+    /// The group that is reclaimed from, with all below it (kernel: target_mem_cgroup).
+    pub target: GroupId,
+    /// The counters are those of these groups.
+    pub ghost kin: { AreKin counters.now.tree tree.now },
+    /// No code gives that part yet.
+    pub ghost off: { recursive ≡ false },
+}
+
+impl<'t, 'c> Protection<'t, 'c> {
+    ghost use Rattle.std.specs.Prelude.{◌≢◌, not, true};
+    ghost use Rattle.machine.specs.Tree.{is_live, under};
+    ghost use Rattle.protection.specs.Effective.{effective_by, is_unprotected_by};
+
+    /// A group's effective `memory.min`: while it uses no more, with all below it, a reclaim of the
+    /// target takes no page of its own (kernel: effective_protection). The target is above the group.
+    pub fn effective(self, group: GroupId) -> Amount
+        requires live { is_live self.tree.now group.0 ≡ true }
+        requires under { under self.tree.now self.target.0 group.0 ≡ true }
+        requires below { self.target.0 ≢ group.0 }
+        ensures { result ≡ effective_by self.entry group.0 }
+    {
+        let Some(parent) = self.tree.parent(group) else {
+            unreachable!()
+        };
+        if parent == self.target {
+            return self.counters.min(group);
+        }
+        let above = self.effective(parent);
+        let siblings = *self.counters.children_min_usage(parent);
+        part_of(above, siblings, self.counters.min_usage(group))
     }
-    let above = effective(tree, counters, target, parent);
-    let siblings = *counters.children_min_usage(parent);
-    part_of(above, siblings, counters.min_usage(group))
+
+    /// Whether a reclaim of the target may take nothing from the group, since it uses no more than its
+    /// effective `memory.min` (kernel: mem_cgroup_below_min). The target itself is never protected.
+    pub fn is_protected(self, group: GroupId) -> bool
+        requires live { is_live self.tree.now group.0 ≡ true }
+        requires under { under self.tree.now self.target.0 group.0 ≡ true }
+        ensures { result ≡ not (is_unprotected_by self.entry group.0) }
+    {
+        if group == self.target {
+            return false;
+        }
+        let kept = self.effective(group);
+        !kept.exceeded_by(self.counters.usage(group))
+    }
 }
 
 /// A group's part of its parent's effective value, `above`, where it asks for `own`, and all
@@ -68,19 +104,4 @@ fn part_of(above: Amount, siblings: u64, own: u64) -> Amount
     // The product may be larger than any count. The part is at most what is asked for.
     let part = u128::from(own) * u128::from(value) / u128::from(siblings);
     Amount::Pages(part as u64)
-}
-
-/// Whether a reclaim of the target may take nothing from the group, since it uses no more than its
-/// effective `memory.min` (kernel: mem_cgroup_below_min). The target itself is never protected.
-pub fn is_protected(tree: &Tree, counters: &Counters, target: GroupId, group: GroupId) -> bool
-    requires kin { AreKin counters.now.tree tree.now }
-    requires live { is_live tree.now group.0 ≡ true }
-    requires under { under tree.now target.0 group.0 ≡ true }
-    ensures { result ≡ not (is_unprotected_in false tree.now counters.now.limits (usage_of counters.now) target.0 group.0) }
-{
-    if group == target {
-        return false;
-    }
-    let kept = effective(tree, counters, target, group);
-    !kept.exceeded_by(counters.usage(group))
 }

@@ -8,15 +8,14 @@ use Rattle.std.proofs.lemmas.Bool.Decides.{nat_tests}
 use Rattle.std.proofs.lemmas.List.Elements.{All-head, All-tail, All-append, All-take, All-drop}
 use Rattle.std.proofs.lemmas.List.Folds.{find-append, list_any-append, list_any_at, Any-from_list_any}
 use Rattle.machine.specs.declared.id.GroupId.{GroupId}
-use Rattle.machine.specs.Generations.{Gens}
 use Rattle.machine.specs.Order.{round_from, place_in, asking_order, served_by}
 use Rattle.machine.specs.Tree.{Node, is_live, under, preorder}
 use Rattle.group_tree.specs.Groups.{IsGroupTree}
 use Rattle.group_tree.specs.Tables.{number}
 use Rattle.group_tree.specs.Walk.{behind}
 use Rattle.group_tree.proofs.PreorderLemmas.{preorder-has}
-use Rattle.page_counter.specs.Counts.{Counts}
-use Rattle.reclaim.specs.Pass.{gives_by_lists, IsGiver, GivesNone}
+use Rattle.reclaim.specs.declared.scan_control.ScanControl.{ScanControl}
+use Rattle.reclaim.specs.Pass.{gives_by, IsGiver, GivesNone}
 use Rattle.reclaim.specs.Walk.{is_at, behind_last, up_to, AreAsked}
 use Rattle.reclaim.proofs.WalkLemmas.{up_to-none, parts}
 
@@ -154,26 +153,31 @@ around : (test : ℕ → Bool) (gs : List ℕ) (last : Option ℕ) → (list_any
 around test gs None = ap (list_any test) (up_to-none gs)
 around test gs (Some last) = around_place test gs last
 
-module _ (tree : List Node) (counts : Counts) (lists : List Gens) (swap_free : Bool) (target : ℕ) where
-  module _ (groups : IsGroupTree tree) (live : is_live tree target ≡ true) (last : Option ℕ) where
-    one_serves : (g : ℕ) → served_by tree (gives_by_lists tree counts lists swap_free target) target last ≡ Some g → IsGiver tree counts lists swap_free target g
-    one_serves g found =
-        let is = found-passes (λ a. (is_live tree a ≡ true) × (under tree target a ≡ true)) (gives_by_lists tree counts lists swap_free target) (asking_order tree target last) g (asked-order tree target last groups live) found in
-        record { live = is.0.0; below = is.0.1; gives = is.1 }
+module _ (sc : ScanControl) (groups : IsGroupTree sc.protection.tree.now) (last : Option ℕ) where
+  abbrev tree : List Node
+  tree = sc.protection.tree.now
 
-    none_serves : served_by tree (gives_by_lists tree counts lists swap_free target) target last ≡ None → GivesNone tree counts lists swap_free target
-    none_serves nothing g there below =
-        among (gives_by_lists tree counts lists swap_free target) g (preorder tree target)
-        (preorder-has tree groups target g live ∙ ap (λ b. b && under tree target g) there ∙ below)
-        (sym (around (gives_by_lists tree counts lists swap_free target) (preorder tree target) last) ∙ sym (list_any-append (gives_by_lists tree counts lists swap_free target) (behind_last (preorder tree target) last) (up_to (preorder tree target) last))
-        ∙ ap (list_any (gives_by_lists tree counts lists swap_free target)) (parts (preorder tree target) last) ∙ none-passes (gives_by_lists tree counts lists swap_free target) (asking_order tree target last) nothing)
+  abbrev target : ℕ
+  target = sc.protection.target.0
 
-    -- the group that is served has a page to give
-    pub giver-served : (group : Option GroupId) → number group ≡ served_by tree (gives_by_lists tree counts lists swap_free target) target last → IfSome group (λ g. IsGiver tree counts lists swap_free target g.0)
-    giver-served None e = tt
-    giver-served (Some g) e = one_serves g.0 (sym e)
+  one_serves : (g : ℕ) → served_by tree (gives_by sc) target last ≡ Some g → IsGiver sc g
+  one_serves g found =
+      let is = found-passes (λ a. (is_live tree a ≡ true) × (under tree target a ≡ true)) (gives_by sc) (asking_order tree target last) g (asked-order tree target last groups sc.live) found in
+      record { live = is.0.0; below = is.0.1; gives = is.1 }
 
-    -- and where none is served, none has
-    pub none-serves : (group : Option GroupId) → number group ≡ served_by tree (gives_by_lists tree counts lists swap_free target) target last → IfNone group (GivesNone tree counts lists swap_free target)
-    none-serves None e = none_serves (sym e)
-    none-serves (Some g) e = tt
+  none_serves : served_by tree (gives_by sc) target last ≡ None → GivesNone sc
+  none_serves nothing g there below =
+      among (gives_by sc) g (preorder tree target)
+      (preorder-has tree groups target g sc.live ∙ ap (λ b. b && under tree target g) there ∙ below)
+      (sym (around (gives_by sc) (preorder tree target) last) ∙ sym (list_any-append (gives_by sc) (behind_last (preorder tree target) last) (up_to (preorder tree target) last))
+      ∙ ap (list_any (gives_by sc)) (parts (preorder tree target) last) ∙ none-passes (gives_by sc) (asking_order tree target last) nothing)
+
+  -- the group that is served has a page to give
+  pub giver-served : (group : Option GroupId) → number group ≡ served_by tree (gives_by sc) target last → IfSome group (λ g. IsGiver sc g.0)
+  giver-served None e = tt
+  giver-served (Some g) e = one_serves g.0 (sym e)
+
+  -- and where none is served, none has
+  pub none-serves : (group : Option GroupId) → number group ≡ served_by tree (gives_by sc) target last → IfNone group (GivesNone sc)
+  none-serves None e = none_serves (sym e)
+  none-serves (Some g) e = tt

@@ -2,15 +2,10 @@
 
 ghost use Rattle.std.specs.Prelude.{◌≡◌, ◌+◌, ◌<◌, ◌≤◌, ◌++◌, ◌∷◌, [], true, length, option_map, slice_set, Some, None, IfSome, IfNone, IfOk, OnOk, OnErr, IsOk};
 ghost use Rattle.machine.specs.Order.{served_by, cursor_at};
-ghost use Rattle.machine.specs.Tree.{is_live};
-ghost use Rattle.group_tree.specs.Kin.{AreKin};
-ghost use Rattle.reclaim.specs.Pass.{gives_by_lists, IsGiver, GivesNone};
+ghost use Rattle.reclaim.specs.Pass.{gives_by, IsGiver, GivesNone};
 
-use crate::pass::served;
-use group_tree::Tree;
-use lru_gen::Gens;
+use crate::scan_control::ScanControl;
 use machine::id::GroupId;
-use page_counter::Counters;
 use std::alloc::{AllocError, Global};
 use std::marker::Model;
 
@@ -91,32 +86,20 @@ impl Cursors {
         self.last[group.0 as usize] = None;
     }
 
-    /// The group that gives the next page to a reclaim of the target. Nothing changes.
-    ///
-    /// `gens` has the pages that may be taken, by group. `None` where no group at or below the target
-    /// has a page to give.
-    pub fn next_group(
-        &self,
-        tree: &Tree,
-        counters: &Counters,
-        gens: &Gens,
-        swap_free: bool,
-        target: GroupId,
-    ) -> Option<GroupId>
-        requires kin { AreKin counters.now.tree tree.now }
-        requires live { is_live tree.now target.0 ≡ true }
-        requires cursor { target.0 < length self.now.cursors }
-        requires places { length tree.now ≤ length gens.now.groups }
+    /// The group that gives the next page to a reclaim of the target. Nothing changes. `None` where no
+    /// group at or below the target has a page to give.
+    pub fn next_group(&self, scan: ScanControl<'_, '_, '_>) -> Option<GroupId>
+        requires { scan.protection.target.0 < length self.now.cursors }
         // It is the one whose turn it is.
         ensures group { option_map (λ g. g.0) result
-            ≡ served_by tree.now (gives_by_lists tree.now counters.now gens.now.groups swap_free target.0) target.0 (cursor_at self.now.cursors target.0) }
+            ≡ served_by scan.entry.protection.tree.now (gives_by scan.entry) scan.entry.protection.target.0 (cursor_at self.now.cursors scan.entry.protection.target.0) }
         // There is one exactly where one has a page to give.
-        ensures giver { IfSome result (λ g. IsGiver tree.now counters.now gens.now.groups swap_free target.0 g.0) }
-        ensures none { IfNone result (GivesNone tree.now counters.now gens.now.groups swap_free target.0) }
+        ensures giver { IfSome result (λ g. IsGiver scan.entry g.0) }
+        ensures none { IfNone result (GivesNone scan.entry) }
     {
-        tree.groups_form_a_tree();
-        let last = self.last[target.0 as usize];
-        served(tree, counters, gens, swap_free, target, last)
+        scan.protection.tree.groups_form_a_tree();
+        let last = self.last[scan.protection.target.0 as usize];
+        scan.served(last)
     }
 
     /// The group gives a page to a reclaim of the target: the target's cursor goes to it. It takes no

@@ -29,6 +29,8 @@
 #![tactic(auto)]
 
 pub use cursors::Cursors;
+pub use scan_control::ScanControl;
 
 mod cursors;
 mod pass;
+mod scan_control;

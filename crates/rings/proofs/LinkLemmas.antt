@@ -1,5 +1,5 @@
 -- How single writes of links make up the changes that keep rings.
-use Rattle.std.proofs.Common.{◌≡◌, ◌≢◌, Some, None, is_some, refl, sym, ap, subst, ◌∙◌}
+use Rattle.std.proofs.Common.{◌≡◌, ◌≢◌, true, Option, Some, None, is_some, refl, sym, ap, subst, ◌∙◌}
 use Rattle.std.proofs.lemmas.Option.{same_Some, none-some}
 use Rattle.std.specs.Prelude.{option_map}
 use Rattle.rings.specs.declared.ring_node.RingNode.{RingNode}
@@ -16,6 +16,18 @@ same_next t a a' b b' same h k = same_Some b b' (sym h.next ∙ ap (next_of t) s
 
 pub same_prev : (t : Links) (a a' b b' : RingNode) → b ≡ b' → IsJoined t a b → IsJoined t a' b' → a ≡ a'
 same_prev t a a' b b' same h k = same_Some a a' (sym h.prev ∙ ap (prev_of t) same ∙ k.prev)
+
+-- what is joined has a link
+module _ (t : Links) (a b : RingNode) (h : IsJoined t a b) where
+  some_mapped : (f : Link → RingNode) (o : Option Link) (n : RingNode) → option_map f o ≡ Some n → is_some o ≡ true
+  some_mapped f None n is = absurd (none-some n is)
+  some_mapped f (Some link) n is = refl
+
+  pub first_there : is_some (link_at t a) ≡ true
+  first_there = some_mapped (λ (link : Link). link.next) (link_at t a) b h.next
+
+  pub second_there : is_some (link_at t b) ≡ true
+  second_there = some_mapped (λ (link : Link). link.prev) (link_at t b) a h.prev
 
 -- what a link says is what the node is joined with
 pub prev_is : (t : Links) (a b : RingNode) (link : Link) → link_at t b ≡ Some link → IsJoined t a b → a ≡ link.prev

@@ -1,6 +1,7 @@
 -- RingsOf of numbers: what is in one, and what stays without one number.
 use Rattle.std.proofs.Common.{◌≡◌, ◌≢◌, ℕ, zero, suc, ◌<◌, true, false, List, [], ◌∷◌, ◌++◌, map, length, refl, sym, ap, ◌∙◌, inl, inr, arith, eqb, eq-eqb}
 use Rattle.std.proofs.lemmas.Bool.{false≢true, true≢false, eqb-true, cases_Bool, or_cases, or_parts, or_left, or_right}
+use Rattle.std.proofs.lemmas.List.Folds.{list_any-append}
 use Rattle.std.specs.List.{AllByRecursion, IsDistinct}
 use Rattle.rings.specs.Rings.{list_at, has, is_listed, without}
 
@@ -8,16 +9,33 @@ pub has_first : (p : ℕ) (xs : List ℕ) → has (p ∷ xs) p ≡ true
 has_first p xs = or_left (eqb p p) (has xs p) (eq-eqb p p refl)
 
 pub has_more : (xs ys : List ℕ) (p : ℕ) → has xs p ≡ true → has (xs ++ ys) p ≡ true
-has_more [] ys p h = absurd (false≢true h)
-has_more (x ∷ xs) ys p h =
-    elim (or_cases (eqb p x) (has xs p) h) [
-      | inl here ↦ or_left (eqb p x) (has (xs ++ ys) p) here
-      | inr later ↦ or_right (eqb p x) (has (xs ++ ys) p) (has_more xs ys p later)
-    ]
+has_more xs ys p h = list_any-append (λ (q : ℕ). eqb p q) xs ys ∙ or_left (has xs p) (has ys p) h
 
 pub has_behind : (xs ys : List ℕ) (p : ℕ) → has ys p ≡ true → has (xs ++ ys) p ≡ true
-has_behind [] ys p h = h
-has_behind (x ∷ xs) ys p h = or_right (eqb p x) (has (xs ++ ys) p) (has_behind xs ys p h)
+has_behind xs ys p h = list_any-append (λ (q : ℕ). eqb p q) xs ys ∙ or_right (has xs p) (has ys p) h
+
+pub has_round : (xs ys zs : List ℕ) (p : ℕ) → has (xs ++ zs) p ≡ true → has (xs ++ (ys ++ zs)) p ≡ true
+has_round xs ys zs p h =
+    elim (or_cases (has xs p) (has zs p) (sym (list_any-append (λ (q : ℕ). eqb p q) xs zs) ∙ h)) [
+      | inl front ↦ has_more xs (ys ++ zs) p front
+      | inr rest ↦ has_behind xs (ys ++ zs) p (has_behind ys zs p rest)
+    ]
+
+-- a list parts at a number that it has
+pub record IsSplit (p : ℕ) (xs : List ℕ) : Type 0 where
+  pub before : List ℕ
+  pub after : List ℕ
+  pub whole : xs ≡ before ++ p ∷ after
+
+pub split : (p : ℕ) (xs : List ℕ) → has xs p ≡ true → IsSplit p xs
+split p [] h = absurd (false≢true h)
+split p (x ∷ xs) h =
+    elim (or_cases (eqb p x) (has xs p) h) [
+      | inl here ↦ record { before = []; after = xs; whole = ap (λ (n : ℕ). n ∷ xs) (sym (eqb-true p x here)) }
+      | inr later ↦
+          let rest = split p xs later in
+          record { before = x ∷ rest.before; after = rest.after; whole = ap (λ (ys : List ℕ). x ∷ ys) rest.whole }
+    ]
 
 pub has_still : (xs : List ℕ) (p q : ℕ) → q ≢ p → has xs q ≡ true → has (without p xs) q ≡ true
 has_still [] p q apart h = h

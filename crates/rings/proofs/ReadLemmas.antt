@@ -10,34 +10,34 @@ use Rattle.rings.specs.declared.ring_node.RingNode.TheVariants.{Page, Head}
 use Rattle.rings.specs.declared.ring_node.Link.{Link}
 use Rattle.rings.specs.declared.links.Links.{Links}
 use Rattle.rings.specs.RingNodes.{page_node, head_node, page_of}
-use Rattle.rings.specs.Rings.{list_at, has, is_listed, is_there, AreApart, IsLinkOf, IsAfter, IsBefore, IsOther, KeepsLinksBut, first_node, last_from, last_node}
+use Rattle.rings.specs.Rings.{list_at, has, is_listed, is_there, AreApart, IsLinkOf, IsAfter, IsBefore, first_node, last_from, last_node}
 use Rattle.rings.specs.Links.{link_at, IsJoined}
 use Rattle.rings.specs.Chains.{IsChain, IsRings}
-use Rattle.rings.proofs.LinkLemmas.{prev_is, next_is}
+use Rattle.rings.proofs.LinkLemmas.{second_there, prev_is, next_is}
 use Rattle.rings.proofs.ListLemmas.{listed_from, listed_in, list_within, nothing_twice, has_behind, has_first}
-use Rattle.rings.proofs.ChainLemmas.{placed, joined_before, chain_is_distinct, first_is, last_is, chain_at, page_within}
-use Rattle.rings.proofs.RingLemmas.{one_list}
+use Rattle.rings.proofs.RingLemmas.{at_listed, one_list}
+use Rattle.rings.proofs.ChainLemmas.{chain_rest, chain_is_distinct, first_is, last_is, page_within}
 
 pub some_copied : (o : Option (Bor Link)) → is_some o ≡ is_some (option_copied o)
 some_copied None = refl
 some_copied (Some link) = refl
 
-pub joined_there : (t : Links) (a b : RingNode) → IsJoined t a b → is_some (link_at t b) ≡ true
-joined_there t a b k = by_link (link_at t b) k.prev
-  where
-    by_link : (o : Option Link) → option_map (λ (link : Link). link.prev) o ≡ Some a → is_some o ≡ true
-    by_link None h = absurd (none-some a h)
-    by_link (Some link) h = refl
+pub first_page_is : (l : ℕ) (xs : List ℕ) → page_of (first_node l xs) ≡ slice_get xs 0
+first_page_is l [] = refl
+first_page_is l (x ∷ xs) = refl
 
-module _ (t : Links) (lists : List (List ℕ)) (r : IsRings t lists) where
+last_page_is : (n : RingNode) (xs : List ℕ) → page_of (last_from n xs) ≡ last_or (page_of n) xs
+last_page_is n [] = refl
+last_page_is n (x ∷ xs) = last_page_is (page_node x) xs
+
+module _ {t : Links} {lists : List (List ℕ)} (r : IsRings t lists) where
   -- a page has a link where it is in a list, and else none
   pub page_linked : (p : ℕ) → is_some (link_at t (page_node p)) ≡ is_listed lists p
   page_linked p =
       elim (cases_Bool (is_listed lists p)) [
         | inl listed ↦
             let found = listed_in lists p listed in
-            let before = joined_before t p (head_node found.0) (head_node found.0) (list_at lists found.0) found.1 (r.rings found.0 (list_within lists found.0 p found.1)) in
-            joined_there t before.0 (page_node p) before.1 ∙ sym listed
+            second_there t _ (page_node p) (at_listed r found.0 p found.1).prev ∙ sym listed
         | inr unlisted ↦
             false_from_ne_true _ (λ linked.
             let found = r.listed p linked in
@@ -63,25 +63,24 @@ module _ (t : Links) (lists : List (List ℕ)) (r : IsRings t lists) where
   page_link : (p : ℕ) (link : Link) → link_at t (page_node p) ≡ Some link → IsLinkOf lists (page_node p) link
   page_link p link read =
       let found = r.listed p (ap is_some read) in
-      let l = found.0 in
-      let place = placed t l p (head_node l) (list_at lists l) found.1 (r.rings l (list_within lists l p found.1)) in
+      let at = at_listed r found.0 p found.1 in
       record {
-        list = l;
-        before = place.before;
-        after = place.after;
-        stands = place.stands;
-        prev = sym (prev_is t _ (page_node p) link read place.prev);
-        next = sym (next_is t (page_node p) _ link read place.next);
+        list = found.0;
+        before = at.before;
+        after = at.after;
+        stands = at.whole;
+        prev = sym (prev_is t _ (page_node p) link read at.prev);
+        next = sym (next_is t (page_node p) _ link read (first_is t found.0 (page_node p) at.after at.on));
       }
 
-  head_link : (l : ℕ) (link : Link) → slice_get t.heads.items l ≡ Some link → IsLinkOf lists (head_node l) link
+  pub head_link : (l : ℕ) (link : Link) → slice_get t.heads.items l ≡ Some link → IsLinkOf lists (head_node l) link
   head_link l link read =
       let within : l < length lists = omega (arith, slice_get_within t.heads.items l link read, r.count) in
       let chain = r.rings l within in
       record {
         within = within;
         prev = sym (prev_is t _ (head_node l) link read (last_is t (head_node l) (head_node l) (list_at lists l) chain));
-        next = sym (next_is t (head_node l) _ link read (first_is t l (list_at lists l) chain));
+        next = sym (next_is t (head_node l) _ link read (first_is t l (head_node l) (list_at lists l) chain));
       }
 
   some_link : (node : RingNode) (link : Link) → link_at t node ≡ Some link → IsLinkOf lists node link
@@ -97,13 +96,11 @@ module _ (t : Links) (lists : List (List ℕ)) (r : IsRings t lists) where
   pub listed_within : (p : ℕ) → is_listed lists p ≡ true → p < length t.pages.items
   listed_within p listed =
       let found = listed_in lists p listed in
-      let l = found.0 in
-      let before = joined_before t p (head_node l) (head_node l) (list_at lists l) found.1 (r.rings l (list_within lists l p found.1)) in
-      page_within t p before.0 before.1
+      page_within t p (second_there t _ (page_node p) (at_listed r found.0 p found.1).prev)
 
   pub are_apart : AreApart lists
   are_apart = record {
-    one = λ p l m h k. one_list t lists p l m r h k;
+    one = λ p l m h k. one_list r p l m h k;
     once = λ l.
         elim (cases_lt l (length lists)) [
           | inl within ↦ chain_is_distinct t l (head_node l) (list_at lists l) (r.rings l within)
@@ -116,20 +113,9 @@ module _ (t : Links) (lists : List (List ℕ)) (r : IsRings t lists) where
   neighbours l p before after stands =
       let here : has (list_at lists l) p ≡ true =
       ap (λ (ps : List ℕ). has ps p) stands ∙ has_behind before (p ∷ after) p (has_first p after) in
-      chain_at t l p (head_node l) before after
-      (subst (λ (ps : List ℕ). IsChain t (head_node l) ps (head_node l)) stands (r.rings l (list_within lists l p here)))
-
-  first_page_is : (l : ℕ) (xs : List ℕ) → page_of (first_node l xs) ≡ slice_get xs 0
-  first_page_is l [] = refl
-  first_page_is l (x ∷ xs) = refl
-
-  last_page_is : (n : RingNode) (xs : List ℕ) → page_of (last_from n xs) ≡ last_or (page_of n) xs
-  last_page_is n [] = refl
-  last_page_is n (x ∷ xs) = last_page_is (page_node x) xs
-
-  -- the successor of a head is the first page
-  pub front_is : (l : ℕ) (link : Link) → slice_get t.heads.items l ≡ Some link → page_of link.next ≡ slice_get (list_at lists l) 0
-  front_is l link read = ap page_of (head_link l link read).next ∙ first_page_is l (list_at lists l)
+      let ring = subst (λ (ps : List ℕ). IsChain t (head_node l) ps (head_node l)) stands (r.rings l (list_within lists l p here)) in
+      let rest = chain_rest t (head_node l) (head_node l) before (p ∷ after) ring in
+      (rest.0, first_is t l (page_node p) after rest.1)
 
   pub after_is : (p : ℕ) (link : Link) → link_at t (page_node p) ≡ Some link → IsAfter lists p (page_of link.next)
   after_is p link read l before after stands =
@@ -140,17 +126,6 @@ module _ (t : Links) (lists : List (List ℕ)) (r : IsRings t lists) where
       ap page_of (sym (prev_is t _ (page_node p) link read (neighbours l p before after stands).0))
       ∙ last_page_is (head_node l) before
 
-  -- a head is joined with what its link names
-  pub joined_ahead : (l : ℕ) (link : Link) (next : RingNode) → l < length lists → link_at t (head_node l) ≡ Some link → next ≡ link.next → IsJoined t (head_node l) next
-  joined_ahead l link next within read named =
-      let first = first_is t l (list_at lists l) (r.rings l within) in
-      subst (λ (n : RingNode). IsJoined t (head_node l) n) (next_is t (head_node l) _ link read first ∙ sym named) first
-
-  pub joined_behind : (l : ℕ) (link : Link) (prev : RingNode) → l < length lists → link_at t (head_node l) ≡ Some link → prev ≡ link.prev → IsJoined t prev (head_node l)
-  joined_behind l link prev within read named =
-      let last = last_is t (head_node l) (head_node l) (list_at lists l) (r.rings l within) in
-      subst (λ (n : RingNode). IsJoined t n (head_node l)) (prev_is t _ (head_node l) link read last ∙ sym named) last
-
 -- ---- what the lists say is what is stored
 
 link_by_parts : (a b : Link) → a.prev ≡ b.prev → a.next ≡ b.next → a ≡ b
@@ -158,7 +133,7 @@ link_by_parts a b prev next =
     ap (λ (n : RingNode). let link : Link = record { prev = n; next = a.next } in link) prev
     ∙ ap (λ (n : RingNode). let link : Link = record { prev = b.prev; next = n } in link) next
 
-module _ (t : Links) (lists : List (List ℕ)) (r : IsRings t lists) where
+module _ {t : Links} {lists : List (List ℕ)} (r : IsRings t lists) where
   joined_link : (n a b : RingNode) (link : Link) → IsJoined t a n → IsJoined t n b → link.prev ≡ a → link.next ≡ b → link_at t n ≡ Some link
   joined_link n a b link before behind prev next = by_link (link_at t n) before.prev behind.next
     where
@@ -169,13 +144,12 @@ module _ (t : Links) (lists : List (List ℕ)) (r : IsRings t lists) where
 
   pub read_link : (n : RingNode) (link : Link) → IsLinkOf lists n link → link_at t n ≡ Some link
   read_link (Page p) link is =
-      let both = neighbours t lists r is.list p.0 is.before is.after is.stands in
+      let both = neighbours r is.list p.0 is.before is.after is.stands in
       joined_link (Page p) _ _ link both.0 both.1 is.prev is.next
   read_link (Head l) link is =
       let ring = r.rings l.0 is.within in
-      joined_link (Head l) _ _ link (last_is t (head_node l.0) (head_node l.0) (list_at lists l.0) ring) (first_is t l.0 (list_at lists l.0) ring) is.prev is.next
+      joined_link (Head l) _ _ link (last_is t (head_node l.0) (head_node l.0) (list_at lists l.0) ring) (first_is t l.0 (head_node l.0) (list_at lists l.0) ring) is.prev is.next
 
--- where all links but these stay, the lists say so
-pub links_kept : (old new : Links) (before after : List (List ℕ)) (nodes : List RingNode) → IsRings old before → IsRings new after → ((n : RingNode) → IsOther n nodes → link_at new n ≡ link_at old n) → KeepsLinksBut nodes before after
-links_kept old new before after nodes r s same n other link is =
-    some_link new after s n link (same n other ∙ read_link old before r n link is)
+-- where a node's link stays, the lists say so
+pub link_kept : {old new : Links} {before after : List (List ℕ)} → IsRings old before → IsRings new after → (n : RingNode) → link_at new n ≡ link_at old n → (link : Link) → IsLinkOf before n link → IsLinkOf after n link
+link_kept r s n same link is = some_link s n link (same ∙ read_link r n link is)

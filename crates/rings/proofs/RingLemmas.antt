@@ -1,16 +1,16 @@
 -- How the three changes of the links change the lists that they stand for.
-use Rattle.std.proofs.Common.{◌≡◌, ◌≢◌, ℕ, ◌<◌, true, false, List, [], ◌∷◌, ◌++◌, map, length, set, is_some, refl, sym, ap, subst, ◌∙◌, inl, inr, arith, eqb, length-set}
+use Rattle.std.proofs.Common.{◌≡◌, ◌≢◌, ◌⊎◌, ℕ, ◌<◌, ◌≤◌, true, false, List, [], ◌∷◌, ◌++◌, map, length, set, is_some, refl, sym, ap, subst, ◌∙◌, inl, inr, arith, eqb, length-set, length-append}
 use Rattle.std.proofs.lemmas.Bool.{false≢true, eqb-true, eqb-false, or_parts, cases_eq, cases_Bool, false_from_ne_true}
 use Rattle.std.proofs.lemmas.List.{get_or-set_same, get_or-set_other, get_or-map, ext_get_or, length-map}
 use Rattle.rings.specs.declared.ring_node.RingNode.{RingNode}
 use Rattle.rings.specs.declared.links.Links.{Links}
-use Rattle.rings.specs.RingNodes.{page_node, head_node}
-use Rattle.rings.specs.Rings.{list_at, has, without}
+use Rattle.rings.specs.RingNodes.{page_node, head_node, IsCounted}
+use Rattle.rings.specs.Rings.{list_at, has, without, first_node}
 use Rattle.rings.specs.Links.{link_at, IsJoined, SameSize, Adds, Removes, Splices}
-use Rattle.rings.specs.Chains.{IsChain, IsRings, AreCountable}
-use Rattle.rings.proofs.ListLemmas.{has_first, has_more, has_behind, has_still, without_none, list_within}
-use Rattle.rings.proofs.LinkLemmas.{same_next}
-use Rattle.rings.proofs.ChainLemmas.{same_page, same_head, page_is_no_head, head_is_no_page, one_chain, chain_from, no_way_back}
+use Rattle.rings.specs.Chains.{IsChain, IsRings, IsGap, AreCountable}
+use Rattle.rings.proofs.ListLemmas.{has_first, has_more, has_behind, has_round, has_still, without_none, list_within}
+use Rattle.rings.proofs.LinkLemmas.{first_there, second_there}
+use Rattle.rings.proofs.ChainLemmas.{same_page, same_head, page_is_no_head, head_is_no_page, one_chain, chain_rest, first_is, IsAt, at_page, counted, no_way_back}
 
 -- ---- chains through a change that keeps what joins such nodes
 
@@ -42,11 +42,43 @@ list_other lists l m xs apart = get_or-set_other lists l m xs [] apart
 
 -- ---- no page is in two lists
 
-pub one_list : (t : Links) (lists : List (List ℕ)) (p l m : ℕ) → IsRings t lists → has (list_at lists l) p ≡ true → has (list_at lists m) p ≡ true → l ≡ m
-one_list t lists p l m r h k =
-    let first = chain_from t p (head_node l) (head_node l) (list_at lists l) h (r.rings l (list_within lists l p h)) in
-    let second = chain_from t p (head_node m) (head_node m) (list_at lists m) k (r.rings m (list_within lists m p k)) in
-    (one_chain t l m (page_node p) first.0 second.0 first.1 second.1).1
+module _ {t : Links} {lists : List (List ℕ)} (r : IsRings t lists) where
+  -- where a listed page stands
+  pub at_listed : (l p : ℕ) → has (list_at lists l) p ≡ true → IsAt t (head_node l) (head_node l) p (list_at lists l)
+  at_listed l p h = at_page t (head_node l) (head_node l) p (list_at lists l) h (r.rings l (list_within lists l p h))
+
+  pub one_list : (p l m : ℕ) → has (list_at lists l) p ≡ true → has (list_at lists m) p ≡ true → l ≡ m
+  one_list p l m h k = (one_chain t l m (page_node p) _ _ (at_listed l p h).on (at_listed m p k).on).1
+
+-- ---- one list becomes another
+
+-- a page that was in a list is in this one now, or in another still
+abbrev IsFound : List (List ℕ) → ℕ → List ℕ → ℕ → Type 0
+IsFound lists l xs q = (has xs q ≡ true) ⊎ ((m : ℕ) × (m ≢ l) × (has (list_at lists m) q ≡ true))
+
+still_found : (lists : List (List ℕ)) (l : ℕ) (xs : List ℕ) (q : ℕ) → (has (list_at lists l) q ≡ true → has xs q ≡ true) → (m : ℕ) × (has (list_at lists m) q ≡ true) → IsFound lists l xs q
+still_found lists l xs q keeps found =
+    elim (cases_eq found.0 l) [
+      | inl same ↦ inl (keeps (subst (λ (n : ℕ). has (list_at lists n) q ≡ true) same found.1))
+      | inr apart ↦ inr (found.0, apart, found.1)
+    ]
+
+one_becomes : (old new : Links) (lists : List (List ℕ)) (l : ℕ) (xs : List ℕ) → IsRings old lists → l < length lists → SameSize old new → IsChain new (head_node l) xs (head_node l) → ((m : ℕ) → m ≢ l → IsChain old (head_node m) (list_at lists m) (head_node m) → IsChain new (head_node m) (list_at lists m) (head_node m)) → ((q : ℕ) → is_some (link_at new (page_node q)) ≡ true → IsFound lists l xs q) → IsRings new (set lists l xs)
+one_becomes old new lists l xs r within size own others found = record {
+  countable = still_countable old new size r.countable;
+  count = length-set lists l xs ∙ r.count ∙ sym size.heads;
+  rings = λ m inside.
+      elim (cases_eq m l) [
+        | inl same ↦
+            rw (list_same lists l m xs same within) (subst (λ (n : ℕ). IsChain new (head_node n) xs (head_node n)) (sym same) own)
+        | inr apart ↦ rw (list_other lists l m xs apart) (others m apart (r.rings m (omega (arith, length-set lists l xs))))
+      ];
+  listed = λ q linked.
+      elim (found q linked) [
+        | inl here ↦ (l, rw (list_same lists l l xs refl within) here)
+        | inr there ↦ (there.0, rw (list_other lists l there.0 xs there.1) there.2)
+      ];
+}
 
 -- ---- a page comes to the end of a list
 
@@ -68,36 +100,13 @@ chain_added_elsewhere old new p l m apart adds xs k =
 
 pub added : (old new : Links) (lists : List (List ℕ)) (p l : ℕ) → IsRings old lists → l < length lists → Adds old new (page_node p) (head_node l) → IsRings new (set lists l (list_at lists l ++ p ∷ []))
 added old new lists p l r within adds =
-    let longer = list_at lists l ++ p ∷ [] in
-    record {
-      countable = still_countable old new adds.size r.countable;
-      count = length-set lists l longer ∙ r.count ∙ sym adds.size.heads;
-      rings = λ m inside.
-          let listed : m < length lists = omega (arith, length-set lists l longer) in
-          elim (cases_eq m l) [
-            | inl same ↦
-                rw (list_same lists l m longer same within)
-                (subst (λ (n : ℕ). IsChain new (head_node n) longer (head_node n)) (sym same) (chain_added old new p l adds (list_at lists l) (r.rings l within)))
-            | inr apart ↦
-                rw (list_other lists l m longer apart)
-                (chain_added_elsewhere old new p l m apart adds (list_at lists m) (r.rings m listed))
-          ];
-      listed = λ q linked.
-          elim (cases_eq q p) [
-            | inl same ↦
-                (l, rw (list_same lists l l longer refl within) (has_behind (list_at lists l) (p ∷ []) q (subst (λ (n : ℕ). has (n ∷ []) q ≡ true) same (has_first q []))))
-            | inr other ↦
-                let found = r.listed q (sym (adds.there (page_node q) (λ same. other (same_page q p same))) ∙ linked) in (
-                  found.0,
-                  elim (cases_eq found.0 l) [
-                    | inl same ↦
-                        rw (list_same lists l found.0 longer same within)
-                        (has_more (list_at lists l) (p ∷ []) q (subst (λ (n : ℕ). has (list_at lists n) q ≡ true) same found.1))
-                    | inr apart ↦ rw (list_other lists l found.0 longer apart) found.1
-                  ],
-                )
-          ];
-    }
+    one_becomes old new lists l (list_at lists l ++ p ∷ []) r within adds.size (chain_added old new p l adds (list_at lists l) (r.rings l within)) (λ m apart k. chain_added_elsewhere old new p l m apart adds (list_at lists m) k) (λ q linked.
+    elim (cases_eq q p) [
+      | inl same ↦ inl (has_behind (list_at lists l) (p ∷ []) q (subst (λ (n : ℕ). has (n ∷ []) q ≡ true) same (has_first q [])))
+      | inr other ↦
+          still_found lists l (list_at lists l ++ p ∷ []) q (λ h. has_more (list_at lists l) (p ∷ []) q h)
+          (r.listed q (sym (adds.there (page_node q) (λ same. other (same_page q p same))) ∙ linked))
+    ])
 
 -- ---- a page leaves its list
 
@@ -134,34 +143,13 @@ chain_removed old new p l removes a apart (x ∷ xs) k =
 pub removed : (old new : Links) (lists : List (List ℕ)) (p l : ℕ) → IsRings old lists → has (list_at lists l) p ≡ true → Removes old new (page_node p) → IsRings new (set lists l (without p (list_at lists l)))
 removed old new lists p l r here removes =
     let within = list_within lists l p here in
-    let shorter = without p (list_at lists l) in
-    record {
-      countable = still_countable old new removes.size r.countable;
-      count = length-set lists l shorter ∙ r.count ∙ sym removes.size.heads;
-      rings = λ m inside.
-          let listed : m < length lists = omega (arith, length-set lists l shorter) in
-          elim (cases_eq m l) [
-            | inl same ↦
-                rw (list_same lists l m shorter same within)
-                (subst (λ (n : ℕ). IsChain new (head_node n) shorter (head_node n)) (sym same) (chain_removed old new p l removes (head_node l) (head_is_no_page l p) (list_at lists l) (r.rings l within)))
-            | inr apart ↦
-                let none : has (list_at lists m) p ≡ false =
-                false_from_ne_true (has (list_at lists m) p) (λ h. apart (one_list old lists p m l r h here)) in
-                rw (list_other lists l m shorter apart)
-                (chain_without old new p m removes (head_node m) (head_is_no_page m p) (list_at lists m) none (r.rings m listed))
-          ];
-      listed = λ q linked.
-          let other : q ≢ p = λ same. false≢true (sym (ap is_some removes.gone) ∙ ap (λ (n : ℕ). is_some (link_at new (page_node n))) (sym same) ∙ linked) in
-          let found = r.listed q (sym (removes.there (page_node q) (λ same. other (same_page q p same))) ∙ linked) in (
-            found.0,
-            elim (cases_eq found.0 l) [
-              | inl same ↦
-                  rw (list_same lists l found.0 shorter same within)
-                  (has_still (list_at lists l) p q other (subst (λ (n : ℕ). has (list_at lists n) q ≡ true) same found.1))
-              | inr apart ↦ rw (list_other lists l found.0 shorter apart) found.1
-            ],
-          );
-    }
+    one_becomes old new lists l (without p (list_at lists l)) r within removes.size (chain_removed old new p l removes (head_node l) (head_is_no_page l p) (list_at lists l) (r.rings l within)) (λ m apart k.
+    let none : has (list_at lists m) p ≡ false =
+    false_from_ne_true (has (list_at lists m) p) (λ h. apart (one_list r p m l h here)) in
+    chain_without old new p m removes (head_node m) (head_is_no_page m p) (list_at lists m) none k) (λ q linked.
+    let other : q ≢ p = λ same. false≢true (sym (ap is_some removes.gone) ∙ ap (λ (n : ℕ). is_some (link_at new (page_node n))) (sym same) ∙ linked) in
+    still_found lists l (without p (list_at lists l)) q (has_still (list_at lists l) p q other)
+    (r.listed q (sym (removes.there (page_node q) (λ same. other (same_page q p same))) ∙ linked)))
 
 -- each list loses the page, since no other has it
 each_loses : (t : Links) (lists : List (List ℕ)) (p l : ℕ) → IsRings t lists → has (list_at lists l) p ≡ true → (m : ℕ) → list_at (set lists l (without p (list_at lists l))) m ≡ without p (list_at lists m)
@@ -172,7 +160,7 @@ each_loses t lists p l r here m =
           ∙ ap (λ (n : ℕ). without p (list_at lists n)) (sym same)
       | inr apart ↦
           let none : has (list_at lists m) p ≡ false =
-          false_from_ne_true (has (list_at lists m) p) (λ h. apart (one_list t lists p m l r h here)) in
+          false_from_ne_true (has (list_at lists m) p) (λ h. apart (one_list r p m l h here)) in
           list_other lists l m (without p (list_at lists l)) apart ∙ sym (without_none p (list_at lists m) none)
     ]
 
@@ -182,155 +170,150 @@ all_lose t lists p l r here =
     ext_get_or [] (set lists l shorter) (map (without p) lists) (length-set lists l shorter ∙ sym (length-map lists (without p))) (λ m within.
     each_loses t lists p l r here m ∙ sym (get_or-map (without p) lists m [] [] (omega (arith, length-set lists l shorter))))
 
--- ---- a whole list comes in front of another
-
-module _ (old new : Links) (s t : ℕ) (apart : s ≢ t) (first : RingNode) (gap : IsJoined old (head_node t) first) (splices : Splices old new (head_node s) (head_node t) first) where
-  -- neither of the two heads
-  abbrev IsElse : RingNode → Type 0
-  IsElse a = (a ≢ head_node s) × (a ≢ head_node t)
-
-  page_is_else : (p : ℕ) → IsElse (page_node p)
-  page_is_else p = (page_is_no_head p s, page_is_no_head p t)
-
-  pair_stays : (a : RingNode) → IsElse a → (p : ℕ) → IsJoined old a (page_node p) → IsJoined new a (page_node p)
-  pair_stays a else p k = splices.others a (page_node p) k else.0 (page_is_no_head p s) else.1
-
-  -- from what was last in the source on goes the target
-  chain_behind : (a : RingNode) → IsJoined old a (head_node s) → (ys : List ℕ) → IsChain old (head_node t) ys (head_node t) → IsChain new a ys (head_node t)
-  chain_behind a k [] h = splices.back a (head_node t) k h
-  chain_behind a k (y ∷ ys) h =
-      (splices.back a (page_node y) k h.0, chain_stays old new IsElse page_is_else pair_stays (head_node t) (head_node t) (λ b else e. splices.others b (head_node t) e else.0 (λ same. apart (sym (same_head t s same))) else.1) (page_node y) ys (page_is_else y) h.1)
-
-  chain_in_front : (xs ys : List ℕ) → 0 < length xs → IsChain old (head_node s) xs (head_node s) → IsChain old (head_node t) ys (head_node t) → IsChain new (head_node t) (xs ++ ys) (head_node t)
-  chain_in_front [] ys some k h = absurd (omega arith)
-  chain_in_front (x ∷ xs) ys some k h =
-      (splices.front (head_node t) (page_node x) gap k.0, chain_goes_on old new IsElse page_is_else pair_stays (head_node s) (head_node t) ys (λ a _ e. chain_behind a e ys h) (page_node x) xs (page_is_else x) k.1)
-
-  elsewhere_in_front : (m : ℕ) → m ≢ s → m ≢ t → (xs : List ℕ) → IsChain old (head_node m) xs (head_node m) → IsChain new (head_node m) xs (head_node m)
-  elsewhere_in_front m not_s not_t xs k =
-      let else : IsElse (head_node m) = (λ same. not_s (same_head m s same), λ same. not_t (same_head m t same)) in
-      chain_stays old new IsElse page_is_else pair_stays (head_node m) (head_node m) (λ a from e. splices.others a (head_node m) e from.0 else.0 from.1) (head_node m) xs else k
-
--- ---- a whole list comes behind another
-
-module _ (old new : Links) (s t : ℕ) (apart : s ≢ t) (last : RingNode) (gap : IsJoined old last (head_node t)) (splices : Splices old new (head_node s) last (head_node t)) where
-  abbrev IsNotSource : RingNode → Type 0
-  IsNotSource a = a ≢ head_node s
-
-  pages_not_source : (p : ℕ) → IsNotSource (page_node p)
-  pages_not_source p = page_is_no_head p s
-
-  page_stays : (a : RingNode) → IsNotSource a → (p : ℕ) → IsJoined old a (page_node p) → IsJoined new a (page_node p)
-  page_stays a from p k =
-      splices.others a (page_node p) k from (page_is_no_head p s) (λ same. page_is_no_head p t (same_next old a last (page_node p) (head_node t) same k gap))
-
-  chain_at_back : (xs ys : List ℕ) → 0 < length xs → IsChain old (head_node s) xs (head_node s) → IsChain old (head_node t) ys (head_node t) → IsChain new (head_node t) (ys ++ xs) (head_node t)
-  chain_at_back [] ys some k h = absurd (omega arith)
-  chain_at_back (x ∷ xs) ys some k h =
-      chain_goes_on old new IsNotSource pages_not_source page_stays (head_node t) (head_node t) (x ∷ xs)
-      (λ a _ e. (splices.front a (page_node x) e k.0, chain_stays old new IsNotSource pages_not_source page_stays (head_node s) (head_node t) (λ b _ f. splices.back b (head_node t) f gap) (page_node x) xs (page_is_no_head x s) k.1))
-      (head_node t) ys (λ same. apart (sym (same_head t s same))) h
-
-  elsewhere_at_back : (m : ℕ) → m ≢ s → m ≢ t → (xs : List ℕ) → IsChain old (head_node m) xs (head_node m) → IsChain new (head_node m) xs (head_node m)
-  elsewhere_at_back m not_s not_t xs k =
-      chain_stays old new IsNotSource pages_not_source page_stays (head_node m) (head_node m)
-      (λ a from e. splices.others a (head_node m) e from (λ same. not_s (same_head m s same)) (λ same. not_t (same_head m t (same_next old a last (head_node m) (head_node t) same e gap))))
-      (head_node m) xs (λ same. not_s (same_head m s same)) k
-
--- ---- the lists after it
+-- ---- a whole list comes between two neighbours in another
 
 -- the target's list becomes this, and the source's is empty
-abbrev pub moved : List (List ℕ) → ℕ → ℕ → List ℕ → List (List ℕ)
-moved lists s t both = set (set lists t both) s []
+module _ (lists new : List (List ℕ)) (s t : ℕ) (both : List ℕ) (apart : s ≢ t) (becomes : new ≡ set (set lists t both) s []) where
+  pub moved_length : length new ≡ length lists
+  moved_length = ap length becomes ∙ length-set (set lists t both) s [] ∙ length-set lists t both
 
-module _ (lists : List (List ℕ)) (s t : ℕ) (both : List ℕ) (s_within : s < length lists) (t_within : t < length lists) (apart : s ≢ t) where
-  moved_source : (m : ℕ) → m ≡ s → list_at (moved lists s t both) m ≡ []
-  moved_source m same = list_same (set lists t both) s m [] same (omega (arith, length-set lists t both))
+  pub moved_source : s < length lists → (m : ℕ) → m ≡ s → list_at new m ≡ []
+  moved_source within m same =
+      ap (λ (all : List (List ℕ)). list_at all m) becomes
+      ∙ list_same (set lists t both) s m [] same (omega (arith, length-set lists t both))
 
-  moved_target : (m : ℕ) → m ≡ t → list_at (moved lists s t both) m ≡ both
-  moved_target m same =
-      list_other (set lists t both) s m [] (λ e. apart (sym e ∙ same)) ∙ list_same lists t m both same t_within
+  pub moved_target : t < length lists → (m : ℕ) → m ≡ t → list_at new m ≡ both
+  moved_target within m same =
+      ap (λ (all : List (List ℕ)). list_at all m) becomes
+      ∙ list_other (set lists t both) s m [] (λ e. apart (sym e ∙ same))
+      ∙ list_same lists t m both same within
 
-  moved_other : (m : ℕ) → m ≢ s → m ≢ t → list_at (moved lists s t both) m ≡ list_at lists m
-  moved_other m not_s not_t = list_other (set lists t both) s m [] not_s ∙ list_other lists t m both not_t
+  pub moved_other : (m : ℕ) → m ≢ s → m ≢ t → list_at new m ≡ list_at lists m
+  moved_other m not_s not_t =
+      ap (λ (all : List (List ℕ)). list_at all m) becomes
+      ∙ list_other (set lists t both) s m [] not_s
+      ∙ list_other lists t m both not_t
 
-  moved_length : length (moved lists s t both) ≡ length lists
-  moved_length = length-set (set lists t both) s [] ∙ length-set lists t both
+-- what is known of the lists before
+pub record CanSplice (links : Links) (lists : List (List ℕ)) (s t : ℕ) (a b : RingNode) : Type 0 where
+  pub rings : IsRings links lists
+  pub source : s < length lists
+  pub target : t < length lists
+  pub apart : s ≢ t
+  pub some : 0 < length (list_at lists s)
+  pub gap : IsGap lists t a b
 
--- what a splice keeps, whichever side it is on
-record IsMoved (old new : Links) (lists : List (List ℕ)) (s t : ℕ) (both : List ℕ) : Type 0 where
-  emptied : IsJoined new (head_node s) (head_node s)
-  target : IsChain new (head_node t) both (head_node t)
-  others : (m : ℕ) → m ≢ s → m ≢ t → m < length lists → IsChain new (head_node m) (list_at lists m) (head_node m)
-  from_source : (q : ℕ) → has (list_at lists s) q ≡ true → has both q ≡ true
-  from_target : (q : ℕ) → has (list_at lists t) q ≡ true → has both q ≡ true
-  there : (n : RingNode) → is_some (link_at new n) ≡ is_some (link_at old n)
-  size : SameSize old new
+module _ {old : Links} {lists : List (List ℕ)} {s t : ℕ} {before after : RingNode} (can : CanSplice old lists s t before after) where
+  abbrev front : List ℕ
+  front = can.gap.front
 
-spliced : (old new : Links) (lists : List (List ℕ)) (s t : ℕ) (both : List ℕ) → IsRings old lists → s < length lists → t < length lists → s ≢ t → IsMoved old new lists s t both → IsRings new (moved lists s t both)
-spliced old new lists s t both r s_within t_within apart move =
-    let long = moved_length lists s t both s_within t_within apart in
-    record {
-      countable = still_countable old new move.size r.countable;
-      count = long ∙ r.count ∙ sym move.size.heads;
-      rings = λ m inside.
-          elim (cases_eq m s) [
-            | inl same ↦
-                rw (moved_source lists s t both s_within t_within apart m same)
-                (subst (λ (n : ℕ). IsJoined new (head_node n) (head_node n)) (sym same) move.emptied)
-            | inr not_s ↦
-                elim (cases_eq m t) [
-                  | inl same ↦
-                      rw (moved_target lists s t both s_within t_within apart m same)
-                      (subst (λ (n : ℕ). IsChain new (head_node n) both (head_node n)) (sym same) move.target)
-                  | inr not_t ↦
-                      rw (moved_other lists s t both s_within t_within apart m not_s not_t) (move.others m not_s not_t (omega arith))
-                ]
-          ];
-      listed = λ q linked.
-          let found = r.listed q (sym (move.there (page_node q)) ∙ linked) in
-          elim (cases_eq found.0 s) [
-            | inl same ↦ (
-              t,
-              rw (moved_target lists s t both s_within t_within apart t refl)
-                  (move.from_source q (subst (λ (n : ℕ). has (list_at lists n) q ≡ true) same found.1)),
-            )
-            | inr not_s ↦
-                elim (cases_eq found.0 t) [
-                  | inl same ↦ (
-                    t,
-                    rw (moved_target lists s t both s_within t_within apart t refl)
-                        (move.from_target q (subst (λ (n : ℕ). has (list_at lists n) q ≡ true) same found.1)),
-                  )
-                  | inr not_t ↦ (found.0, rw (moved_other lists s t both s_within t_within apart found.0 not_s not_t) found.1)
-                ]
-          ];
-    }
+  abbrev rest : List ℕ
+  rest = can.gap.rest
 
-pub spliced_front : (old new : Links) (lists : List (List ℕ)) (s t : ℕ) (first : RingNode) → IsRings old lists → s < length lists → t < length lists → s ≢ t → 0 < length (list_at lists s) → IsJoined old (head_node t) first → Splices old new (head_node s) (head_node t) first → IsRings new (moved lists s t (list_at lists s ++ list_at lists t))
-spliced_front old new lists s t first r s_within t_within apart some gap splices =
-    let xs = list_at lists s in
-    let ys = list_at lists t in
-    spliced old new lists s t (xs ++ ys) r s_within t_within apart (record {
-      emptied = splices.emptied;
-      target = chain_in_front old new s t apart first gap splices xs ys some (r.rings s s_within) (r.rings t t_within);
-      others = λ m not_s not_t within. elsewhere_in_front old new s t apart first gap splices m not_s not_t (list_at lists m) (r.rings m within);
-      from_source = λ q h. has_more xs ys q h;
-      from_target = λ q h. has_behind xs ys q h;
-      there = splices.there;
-      size = splices.size;
-    })
+  target_ring : IsChain old (head_node t) (front ++ rest) (head_node t)
+  target_ring = subst (λ (ps : List ℕ). IsChain old (head_node t) ps (head_node t)) can.gap.whole (can.rings.rings t can.target)
 
-pub spliced_back : (old new : Links) (lists : List (List ℕ)) (s t : ℕ) (last : RingNode) → IsRings old lists → s < length lists → t < length lists → s ≢ t → 0 < length (list_at lists s) → IsJoined old last (head_node t) → Splices old new (head_node s) last (head_node t) → IsRings new (moved lists s t (list_at lists t ++ list_at lists s))
-spliced_back old new lists s t last r s_within t_within apart some gap splices =
-    let xs = list_at lists s in
-    let ys = list_at lists t in
-    spliced old new lists s t (ys ++ xs) r s_within t_within apart (record {
-      emptied = splices.emptied;
-      target = chain_at_back old new s t apart last gap splices xs ys some (r.rings s s_within) (r.rings t t_within);
-      others = λ m not_s not_t within. elsewhere_at_back old new s t apart last gap splices m not_s not_t (list_at lists m) (r.rings m within);
-      from_source = λ q h. has_behind ys xs q h;
-      from_target = λ q h. has_more ys xs q h;
-      there = splices.there;
-      size = splices.size;
-    })
+  -- from the first of the two go the pages of the rest
+  rest_from : IsChain old before rest (head_node t)
+  rest_from =
+      subst (λ (n : RingNode). IsChain old n rest (head_node t)) (sym can.gap.prev) (chain_rest old (head_node t) (head_node t) front rest target_ring)
+
+  pub gap_joined : IsJoined old before after
+  gap_joined = subst (λ (n : RingNode). IsJoined old before n) (sym can.gap.next) (first_is old t before rest rest_from)
+
+  pub before_counted : IsCounted before
+  before_counted = counted old can.rings.countable before (first_there old before after gap_joined)
+
+  pub after_counted : IsCounted after
+  after_counted = counted old can.rings.countable after (second_there old before after gap_joined)
+
+  pub before_not_source : before ≢ head_node s
+  before_not_source same =
+      can.apart (one_chain old s t (head_node s) (list_at lists s) rest (can.rings.rings s can.source) (subst (λ (n : RingNode). IsChain old n rest (head_node t)) same rest_from)).1
+
+  pub after_not_source : after ≢ head_node s
+  after_not_source = by_rest rest can.gap.next
+    where
+      by_rest : (ys : List ℕ) → after ≡ first_node t ys → after ≢ head_node s
+      by_rest [] is same = can.apart (same_head s t (sym same ∙ is))
+      by_rest (y ∷ ys) is same = page_is_no_head y s (sym is ∙ same)
+
+  module _ {new : Links} (splices : Splices old new (head_node s) before after) where
+    -- from other nodes go other chains
+    not_before : (m : ℕ) (a : RingNode) (xs : List ℕ) → IsChain old a xs (head_node m) → (m ≡ t → length xs ≢ length rest) → a ≢ before
+    not_before m a xs k differs same =
+        let one = one_chain old m t before xs rest (subst (λ (n : RingNode). IsChain old n xs (head_node m)) same k) rest_from in
+        differs one.1 (ap length one.0)
+
+    -- a chain of another list stays, and so does what comes behind the second of the two
+    stays : (m : ℕ) (a : RingNode) (xs : List ℕ) → m ≢ s → a ≢ head_node s → (m ≡ t → length xs < length rest) → IsChain old a xs (head_node m) → IsChain new a xs (head_node m)
+    stays m a [] other from short k =
+        splices.others a (head_node m) k from (λ same. other (same_head m s same)) (not_before m a [] k (λ e. let less = short e in omega arith))
+    stays m a (x ∷ xs) other from short k =
+        (splices.others a (page_node x) k.0 from (page_is_no_head x s) (not_before m a (x ∷ xs) k (λ e. let less = short e in omega arith)), stays m (page_node x) xs other (page_is_no_head x s) (λ e. let less = short e in omega arith) k.1)
+
+    -- behind the last page of the source comes the rest
+    rest_behind : (a : RingNode) → IsJoined old a (head_node s) → (ys : List ℕ) → length ys ≤ length rest → IsChain old before ys (head_node t) → IsChain new a ys (head_node t)
+    rest_behind a h [] few k = splices.back a (head_node t) h k
+    rest_behind a h (y ∷ ys) few k =
+        (splices.back a (page_node y) h k.0, stays t (page_node y) ys (λ e. can.apart (sym e)) (page_is_no_head y s) (λ e. omega arith) k.1)
+
+    source_goes_on : (a : RingNode) (xs : List ℕ) → a ≢ head_node s → IsChain old a xs (head_node s) → IsChain new a (xs ++ rest) (head_node t)
+    source_goes_on a [] from k = rest_behind a k rest (omega arith) rest_from
+    source_goes_on a (x ∷ xs) from k =
+        (splices.others a (page_node x) k.0 from (page_is_no_head x s) (not_before s a (x ∷ xs) k (λ e. absurd (can.apart e))), source_goes_on (page_node x) xs (page_is_no_head x s) k.1)
+
+    -- behind the first of the two comes the source
+    source_behind : (a : RingNode) → IsJoined old a after → (xs : List ℕ) → 0 < length xs → IsChain old (head_node s) xs (head_node s) → IsChain new a (xs ++ rest) (head_node t)
+    source_behind a h [] some k = absurd (omega arith)
+    source_behind a h (x ∷ xs) some k =
+        (splices.front a (page_node x) h k.0, source_goes_on (page_node x) xs (page_is_no_head x s) k.1)
+
+    target_goes_on : (a : RingNode) (xs : List ℕ) → a ≢ head_node s → IsChain old a (xs ++ rest) (head_node t) → IsChain new a (xs ++ (list_at lists s ++ rest)) (head_node t)
+    target_goes_on a [] from k =
+        source_behind a (subst (λ (n : RingNode). IsJoined old a n) (sym can.gap.next) (first_is old t a rest k)) (list_at lists s) can.some (can.rings.rings s can.source)
+    target_goes_on a (x ∷ xs) from k =
+        let more : (x ∷ xs) ++ rest ≡ x ∷ (xs ++ rest) = refl in
+        let size = length-append xs rest in
+        (splices.others a (page_node x) k.0 from (page_is_no_head x s) (not_before t a (x ∷ (xs ++ rest)) k (λ _ e. omega arith)), target_goes_on (page_node x) xs (page_is_no_head x s) k.1)
+
+    -- the source stands between the two, and is empty
+    pub spliced : IsRings new (set (set lists t (front ++ (list_at lists s ++ rest))) s [])
+    spliced =
+        let both = front ++ (list_at lists s ++ rest) in
+        let lists_then = set (set lists t both) s [] in
+        let long = moved_length lists lists_then s t both can.apart refl in
+        record {
+          countable = still_countable old new splices.size can.rings.countable;
+          count = long ∙ can.rings.count ∙ sym splices.size.heads;
+          rings = λ m inside.
+              elim (cases_eq m s) [
+                | inl same ↦
+                    rw (moved_source lists lists_then s t both can.apart refl can.source m same)
+                    (subst (λ (n : ℕ). IsJoined new (head_node n) (head_node n)) (sym same) splices.emptied)
+                | inr not_s ↦
+                    elim (cases_eq m t) [
+                      | inl same ↦
+                          rw (moved_target lists lists_then s t both can.apart refl can.target m same)
+                          (subst (λ (n : ℕ). IsChain new (head_node n) both (head_node n)) (sym same)
+                          (target_goes_on (head_node t) front (λ e. can.apart (sym (same_head t s e))) target_ring))
+                      | inr not_t ↦
+                          rw (moved_other lists lists_then s t both can.apart refl m not_s not_t)
+                          (stays m (head_node m) (list_at lists m) not_s (λ e. not_s (same_head m s e)) (λ e. absurd (not_t e)) (can.rings.rings m (omega arith)))
+                    ]
+              ];
+          listed = λ q linked.
+              let found = can.rings.listed q (sym (splices.there (page_node q)) ∙ linked) in
+              let in_both : has both q ≡ true → (l : ℕ) × (has (list_at lists_then l) q ≡ true) =
+              λ h. (t, rw (moved_target lists lists_then s t both can.apart refl can.target t refl) h) in
+              elim (cases_eq found.0 s) [
+                | inl same ↦
+                    in_both (has_behind front (list_at lists s ++ rest) q (has_more (list_at lists s) rest q (subst (λ (n : ℕ). has (list_at lists n) q ≡ true) same found.1)))
+                | inr not_s ↦
+                    elim (cases_eq found.0 t) [
+                      | inl same ↦
+                          in_both (has_round front (list_at lists s) rest q (ap (λ (ps : List ℕ). has ps q) (sym can.gap.whole) ∙ subst (λ (n : ℕ). has (list_at lists n) q ≡ true) same found.1))
+                      | inr not_t ↦ (found.0, rw (moved_other lists lists_then s t both can.apart refl found.0 not_s not_t) found.1)
+                    ]
+              ];
+        }

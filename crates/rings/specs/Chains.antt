@@ -1,10 +1,10 @@
 -- Which lists the links stand for. No public clause cites this.
-use Rattle.std.specs.Prelude.{◌≡◌, ℕ, ◌<◌, zero, suc, true, List, [], ◌∷◌, map, length, Option, Some, None, is_some}
+use Rattle.std.specs.Prelude.{◌≡◌, ℕ, ◌<◌, zero, suc, true, List, [], ◌∷◌, ◌++◌, map, length, Option, Some, None, is_some}
 use Rattle.rings.specs.declared.ring_node.RingNode.{RingNode}
 use Rattle.rings.specs.declared.ring_node.RingNode.TheVariants.{Page, Head}
 use Rattle.rings.specs.declared.links.Links.{Links}
 use Rattle.rings.specs.RingNodes.{page_node, head_node}
-use Rattle.rings.specs.Rings.{list_at, has}
+use Rattle.rings.specs.Rings.{list_at, has, first_node, last_node}
 use Rattle.rings.specs.Links.{link_at, next_of, IsJoined}
 
 -- from the first node through these pages to the second, each joined with the next
@@ -25,6 +25,14 @@ pub record IsRings (links : Links) (lists : List (List ℕ)) : Type 0 where
   pub rings : (l : ℕ) → l < length lists → IsChain links (head_node l) (list_at lists l) (head_node l)
   -- a page with a link is in a list
   pub listed : (p : ℕ) → is_some (link_at links (page_node p)) ≡ true → (l : ℕ) × (has (list_at lists l) p ≡ true)
+
+-- these are neighbours in a list, which parts between them
+pub record IsGap (lists : List (List ℕ)) (l : ℕ) (a b : RingNode) : Type 0 where
+  pub front : List ℕ
+  pub rest : List ℕ
+  pub whole : list_at lists l ≡ front ++ rest
+  pub prev : a ≡ last_node l front
+  pub next : b ≡ first_node l rest
 
 -- the pages from a node on, up to a head, and no more than so many
 abbrev pub pages_from : Links → ℕ → Option RingNode → List ℕ

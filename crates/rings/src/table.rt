@@ -2,6 +2,7 @@
 
 ghost use Rattle.std.specs.Prelude.{◌≡◌, ◌≢◌, ℕ, ◌+◌, ◌<◌, ◌≤◌, ◌^◌, ◌==◌, ◌++◌, ◌∷◌, [], not, map, true, false, length, option_map, option_copied, slice_get, slice_set, is_none, is_some, None, replicate, IfSome, IfOk, OnOk, IsOk};
 ghost use Rattle.rings.specs.declared.ring_node.Link.{Link};
+ghost use Rattle.rings.specs.Chains.{IsGap};
 ghost use Rattle.rings.specs.Rings.{list_at, is_listed, without, is_there, AreApart, IsLinkOf, IsAfter, IsBefore, KeepsLinksBut, first_node, last_node};
 
 use crate::end::FIRST_HEAD;
@@ -137,7 +138,14 @@ impl Rings {
         requires { list.0 < length self.now.lists }
         ensures { option_map (λ page. page.0) result ≡ slice_get (list_at self.now.lists list.0) 0 }
     {
-        self.links.link(RingNode::Head(list)).next().page()
+        self.head(list).next().page()
+    }
+
+    fn head(&self, list: ListId) -> &Link
+        requires { list.0 < length self.now.lists }
+        ensures { IsLinkOf self.now.lists (RingNode.Head list) result.now }
+    {
+        self.links.link(RingNode::Head(list))
     }
 
     /// Whether a list has no page (kernel: `list_empty`).
@@ -211,9 +219,8 @@ impl Rings {
         if self.is_empty(source) {
             return;
         }
-        let head = RingNode::Head(target);
-        let first = self.links.link(head).next();
-        self.links.splice(RingNode::Head(source), head, first);
+        let first = self.head(target).next();
+        self.splice(source, target, RingNode::Head(target), first);
     }
 
     /// All pages of one list come, in their order, behind those of another, and the list that they
@@ -235,9 +242,27 @@ impl Rings {
         if self.is_empty(source) {
             return;
         }
-        let head = RingNode::Head(target);
-        let last = self.links.link(head).prev();
-        self.links.splice(RingNode::Head(source), last, head);
+        let last = self.head(target).prev();
+        self.splice(source, target, last, RingNode::Head(target));
+    }
+
+    // All pages of a list that has some come, in their order, between two neighbours in another.
+    fn splice(&mut self, source: ListId, target: ListId, before: RingNode, after: RingNode)
+        requires source { source.0 < length self.old.lists }
+        requires target { target.0 < length self.old.lists }
+        requires apart { source.0 ≢ target.0 }
+        requires some { (length (list_at self.old.lists source.0) == 0) ≡ false }
+        requires gap { IsGap self.old.lists target.0 before after }
+        ensures lists { (gap : IsGap self.old.lists target.0 before after) → self.new.lists ≡ slice_set
+            (slice_set self.old.lists target.0 (gap.front ++ (list_at self.old.lists source.0 ++ gap.rest)))
+            source.0 [] }
+        ensures few { KeepsLinksBut
+            (RingNode.Head source ∷ before ∷ first_node source.0 (list_at self.old.lists source.0)
+            ∷ last_node source.0 (list_at self.old.lists source.0) ∷ after ∷ [])
+            self.old.lists self.new.lists }
+        ensures others { self.new ≡ record self.old { lists = self.new.lists } }
+    {
+        self.links.splice(RingNode::Head(source), before, after);
     }
 
     /// Nothing is done: what always holds. No page is in two lists, or twice in one; the number of each

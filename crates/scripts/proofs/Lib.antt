@@ -1,6 +1,8 @@
 pub mod WordLemmas
 pub mod NumeralLemmas
 pub mod Splits
+pub mod LongLines
+pub mod FitLemmas
 pub mod LineCuts
 pub mod WorkLemmas
 pub mod RowLemmas

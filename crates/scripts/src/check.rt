@@ -1,12 +1,13 @@
 //! Which fault a line with a known word has.
 
-ghost use Rattle.std.specs.Prelude.{◌≡◌, ◌+◌, nat_lt, sum, length, IfNone};
-ghost use Rattle.std.specs.List.{list_any};
+ghost use Rattle.std.specs.Prelude.{◌≡◌, ◌+◌, nat_lt, sum, length, fold, IfNone};
+ghost use Rattle.std.specs.List.{list_any, zip};
 ghost use Rattle.std.specs.Option.{option_map};
 ghost use Rattle.machine.specs.State.{sizes_of};
 ghost use Rattle.scripts.specs.Forms.{form_of};
 ghost use Rattle.scripts.specs.Context.{around};
 ghost use Rattle.scripts.specs.Faults.{word_fits, number_fits, name_fits, all_fit, task_fits, marks_fit, names_again, files_full, blocks_with, first_of, word_faults, now};
+ghost use Rattle.scripts.specs.Lines.{no_misfit, with_argument, header_faults};
 ghost use Rattle.scripts.specs.Meaning.{has_name};
 
 use crate::context::Context;
@@ -61,31 +62,57 @@ fn task_fits(task: Option<&Token<'_>>) -> bool
     }
 }
 
-fn words_fit(kinds: &[Kind], words: &[Token<'_>]) -> bool
-    ensures { result ≡ all_fit word_fits kinds.now words.now }
-{
-    kinds
-        .iter()
-        .zip(words)
-        .all(|(kind, word)| word_fits(*kind, word))
+/// Whether each argument is such a word, such a number and such a name as its place asks for.
+#[derive(Clone, Copy)]
+struct Fits {
+    words: bool,
+    numbers: bool,
+    names: bool,
 }
 
-fn numbers_fit(kinds: &[Kind], words: &[Token<'_>]) -> bool
-    ensures { result ≡ all_fit number_fits kinds.now words.now }
+fn with_argument(fits: Fits, kind: Kind, word: &Token<'_>) -> Fits
+    ensures { result ≡ with_argument fits (kind, word.now) }
 {
-    kinds
-        .iter()
-        .zip(words)
-        .all(|(kind, word)| number_fits(*kind, word))
+    match kind {
+        Kind::Number { .. } => Fits {
+            numbers: number_fits(kind, word) && fits.numbers,
+            ..fits
+        },
+        Kind::Path | Kind::Name => Fits {
+            names: name_fits(kind, word) && fits.names,
+            ..fits
+        },
+        Kind::Actor => Fits {
+            words: word_fits(kind, word) && fits.words,
+            numbers: number_fits(kind, word) && fits.numbers,
+            ..fits
+        },
+        Kind::Call => Fits {
+            words: word_fits(kind, word) && fits.words,
+            ..fits
+        },
+        Kind::Any | Kind::Line => fits,
+    }
 }
 
-fn names_fit(kinds: &[Kind], words: &[Token<'_>]) -> bool
-    ensures { result ≡ all_fit name_fits kinds.now words.now }
+/// One pass over the arguments.
+fn with_all(kinds: &[Kind], words: &[Token<'_>]) -> Fits
+    ensures { result ≡ fold with_argument no_misfit (zip kinds.now words.now) }
 {
-    kinds
-        .iter()
-        .zip(words)
-        .all(|(kind, word)| name_fits(*kind, word))
+    let none = Fits {
+        words: true,
+        numbers: true,
+        names: true,
+    };
+    kinds.iter().zip(words).fold(none, |fits, (kind, word)| with_argument(fits, *kind, word))
+}
+
+fn fits_of(kinds: &[Kind], words: &[Token<'_>]) -> Fits
+    ensures words { result.words ≡ all_fit word_fits kinds.now words.now }
+    ensures numbers { result.numbers ≡ all_fit number_fits kinds.now words.now }
+    ensures names { result.names ≡ all_fit name_fits kinds.now words.now }
+{
+    with_all(kinds, words)
 }
 
 /// Whether the daemon's marks, if the line gives them, are in order and within the frames.
@@ -149,35 +176,13 @@ fn blocks_full(config: &Config, word: Word, arguments: &[Token<'_>]) -> bool
     }
 }
 
-/// The first fault of a line with this word, which stands behind a task's number where there is one.
-pub fn fault_of_word(
-    context: &Context,
-    manner: Manner,
-    task: Option<&Token<'_>>,
-    word: Word,
-    arguments: &[Token<'_>],
-) -> Option<Cause>
-    ensures fault { result ≡ first_of (word_faults context.now.mode (around context.now) manner (option_map now task.entry) word arguments.now) }
-    ensures count { IfNone result (length arguments.now ≡ length (form_of word).arguments) }
+/// Which fault a line has by what stands before it, if it is of the header.
+fn fault_of_header(context: &Context, word: Word, arguments: &[Token<'_>]) -> Option<Cause>
+    requires { length arguments.now ≡ length (form_of word).arguments }
+    ensures { result ≡ first_of (header_faults (around context.now) word arguments.now) }
 {
-    let kinds = word.form().arguments;
-    if !may_stand(manner, word) || !words_fit(kinds, arguments) {
-        return Some(Cause::UnknownWord);
-    }
-    if arguments.len() < kinds.len() {
-        return Some(Cause::MissingArgument);
-    }
-    if arguments.len() > kinds.len() {
-        return Some(Cause::ExtraArgument);
-    }
-    if !task_fits(task) || !numbers_fit(kinds, arguments) {
-        return Some(Cause::BadNumber);
-    }
-    if !marks_fit(context.frames, word, arguments) {
-        return Some(Cause::BadNumber);
-    }
-    if !names_fit(kinds, arguments) {
-        return Some(Cause::BadName);
+    if !word.form().header {
+        return None;
     }
     if context.is_late(word) {
         return Some(Cause::HeaderAfterCommands);
@@ -190,6 +195,43 @@ pub fn fault_of_word(
     }
     if blocks_full(&context.config, word, arguments) {
         return Some(Cause::TooManyBlocks);
+    }
+    None
+}
+
+/// The first fault of a line with this word, which stands behind a task's number where there is one.
+pub fn fault_of_word(
+    context: &Context,
+    manner: Manner,
+    task: Option<&Token<'_>>,
+    word: Word,
+    arguments: &[Token<'_>],
+) -> Option<Cause>
+    ensures fault { result ≡ first_of (word_faults context.now.mode (around context.now) manner (option_map now task.entry) word arguments.now) }
+    ensures count { IfNone result (length arguments.now ≡ length (form_of word).arguments) }
+{
+    let kinds = word.form().arguments;
+    let fits = fits_of(kinds, arguments);
+    if !may_stand(manner, word) || !fits.words {
+        return Some(Cause::UnknownWord);
+    }
+    if arguments.len() < kinds.len() {
+        return Some(Cause::MissingArgument);
+    }
+    if arguments.len() > kinds.len() {
+        return Some(Cause::ExtraArgument);
+    }
+    if !task_fits(task) || !fits.numbers {
+        return Some(Cause::BadNumber);
+    }
+    if !marks_fit(context.frames, word, arguments) {
+        return Some(Cause::BadNumber);
+    }
+    if !fits.names {
+        return Some(Cause::BadName);
+    }
+    if let Some(cause) = fault_of_header(context, word, arguments) {
+        return Some(cause);
     }
     if is_scheduled(manner, word) && context.mode.is_run() {
         return Some(Cause::OnlyInSchedule);

@@ -1,9 +1,8 @@
 //! The words that lines begin with, and what follows each.
 
 ghost use Rattle.std.specs.Prelude.{◌≡◌};
-ghost use Rattle.std.specs.Option.{option_copied};
 ghost use Rattle.scripts.specs.declared.forms.Word.{Word};
-ghost use Rattle.scripts.specs.Forms.{row, header, header_many, shell, task, daemon, part, border, form_of, is_named, word_named, is_line, takes_line, may_stand, is_scheduled, actor_named, call_named};
+ghost use Rattle.scripts.specs.Forms.{row, header, header_many, shell, task, daemon, part, border, form_of, word_named, is_line, takes_line, may_stand, is_scheduled, actor_named, call_named};
 
 use machine::command::Actor;
 use machine::limit::{LAST_NUMBER, MOST_ENTRIES, MOST_FRAMES, MOST_SWAP};
@@ -137,34 +136,6 @@ const BYTE: Kind = Kind::Number {
     most: 255,
 };
 
-const WORDS: [Word; 25] = [
-    Word::Frames,
-    Word::Swap,
-    Word::File,
-    Word::Watermarks,
-    Word::Trace,
-    Word::Fault,
-    Word::Group,
-    Word::Rmdir,
-    Word::Task,
-    Word::Attach,
-    Word::Set,
-    Word::Cat,
-    Word::Protection,
-    Word::Write,
-    Word::Read,
-    Word::FileWrite,
-    Word::FileRead,
-    Word::Fork,
-    Word::Free,
-    Word::Exit,
-    Word::Daemon,
-    Word::Begin,
-    Word::Step,
-    Word::Finish,
-    Word::Go,
-];
-
 fn header(name: &'static str, arguments: &'static [Kind]) -> Form
     ensures { row result ≡ header name.now arguments.now }
 {
@@ -267,14 +238,6 @@ fn border(name: &'static str, arguments: &'static [Kind]) -> Form
     }
 }
 
-impl Form {
-    fn is_named(&self, speaker: Speaker, text: &str) -> bool
-        ensures { result ≡ is_named speaker text.now (row self.now) }
-    {
-        self.speaker == speaker && self.name == text
-    }
-}
-
 impl Word {
     /// How a line with this word is written. This is the table of words.
     pub fn form(self) -> Form
@@ -308,25 +271,59 @@ impl Word {
             Word::Go => border("go", &[]),
         }
     }
+}
 
-    fn is_named(self, speaker: Speaker, text: &str) -> bool
-        ensures { result ≡ is_named speaker text.now (form_of self) }
-    {
-        self.form().is_named(speaker, text)
+/// The word of this name that a task has.
+fn word_of_task(text: &str) -> Option<Word>
+    ensures { result ≡ word_named Speaker.Task text.now }
+{
+    match text {
+        "write" => Some(Word::Write),
+        "read" => Some(Word::Read),
+        "fwrite" => Some(Word::FileWrite),
+        "fread" => Some(Word::FileRead),
+        "fork" => Some(Word::Fork),
+        "free" => Some(Word::Free),
+        "exit" => Some(Word::Exit),
+        _ => None,
     }
 }
 
-fn find_word(speaker: Speaker, text: &str) -> Option<&'static Word>
-    ensures { option_copied result ≡ word_named speaker text.now }
+/// The word of this name that the shell has.
+fn word_of_shell(text: &str) -> Option<Word>
+    ensures { result ≡ word_named Speaker.Shell text.now }
 {
-    WORDS.iter().find(|word| word.is_named(speaker, text))
+    match text {
+        "frames" => Some(Word::Frames),
+        "swap" => Some(Word::Swap),
+        "file" => Some(Word::File),
+        "watermarks" => Some(Word::Watermarks),
+        "trace" => Some(Word::Trace),
+        "fault" => Some(Word::Fault),
+        "group" => Some(Word::Group),
+        "rmdir" => Some(Word::Rmdir),
+        "task" => Some(Word::Task),
+        "attach" => Some(Word::Attach),
+        "set" => Some(Word::Set),
+        "cat" => Some(Word::Cat),
+        "prot" => Some(Word::Protection),
+        "daemon" => Some(Word::Daemon),
+        "begin" => Some(Word::Begin),
+        "step" => Some(Word::Step),
+        "finish" => Some(Word::Finish),
+        "go" => Some(Word::Go),
+        _ => None,
+    }
 }
 
 /// The word of this name that the speaker has.
 pub fn word_named(speaker: Speaker, text: &str) -> Option<Word>
     ensures { result ≡ word_named speaker text.now }
 {
-    find_word(speaker, text).copied()
+    match speaker {
+        Speaker::Shell => word_of_shell(text),
+        Speaker::Task => word_of_task(text),
+    }
 }
 
 fn is_line(arguments: &[Kind]) -> bool

@@ -80,21 +80,22 @@ fn is_frames(word: Option<Word>) -> bool
     }
 }
 
-fn part_of(alloc: Global, line: &[u8]) -> Result<Part, AllocError>
-    ensures { IfOk result (λ part. IsPart part line.now) }
+#[tactic(auto, using(crate::proofs::LongLines::word_kept, crate::proofs::LongLines::skipped_kept))]
+fn part_of(line: &[u8]) -> Part
+    ensures { IsPart result line.now }
 {
     let Some(text) = as_text(line) else {
-        return Ok(Part::Behind);
+        return Part::Behind;
     };
-    let words = words_of(alloc, text)?;
+    let words = words_of(text);
     let word = word_of(words.as_slice());
     if !is_skipped(words.as_slice()) && !is_of_header(word) {
-        return Ok(Part::Behind);
+        return Part::Behind;
     }
     if is_frames(word) {
-        return Ok(Part::Frames);
+        return Part::Frames;
     }
-    Ok(Part::Other)
+    Part::Other
 }
 
 fn frames_of(item: &Item) -> u32
@@ -132,7 +133,7 @@ pub fn header_frames(alloc: Global, text: &[u8]) -> Result<u32, AllocError>
     let mut rest = text;
     while !rest.is_empty() {
         let (line, after) = first_line(rest);
-        match part_of(alloc, line)? {
+        match part_of(line) {
             Part::Other => rest = after,
             Part::Frames => return frames_asked(alloc, line),
             Part::Behind => return Ok(DEFAULT_FRAMES),

@@ -3,11 +3,14 @@
 ghost use Rattle.std.specs.Prelude.{◌≡◌, position, length, IfOk};
 ghost use Rattle.std.specs.Option.{option_map};
 ghost use Rattle.machine.specs.declared.command.Command.TheVariants.{Protection};
+ghost use Rattle.scripts.specs.declared.meaning.Item.TheVariants.{Does};
 ghost use Rattle.scripts.specs.Forms.{form_of};
 ghost use Rattle.scripts.specs.Faults.{now};
-ghost use Rattle.scripts.specs.Meaning.{number_value, byte_value, actor_of, actor_value, call_value, marks_of, access_to, has_name, file_number, file_access_to, file_of, word_means, only_begun};
+ghost use Rattle.scripts.specs.Meaning.{number_value, byte_value, actor_of, actor_value, call_value, marks_of, access_to, has_name, file_number, file_access_to, file_of, word_means};
+ghost use Rattle.scripts.specs.Lines.{as_it_stands, Reads};
 
-use crate::forms::{DeviceCall, Word, actor_named, call_named};
+use crate::fault::LineError;
+use crate::forms::{DeviceCall, Manner, Word, actor_named, call_named};
 use crate::words::Token;
 use machine::command::{Actor, Command};
 use machine::config::{File, Watermarks};
@@ -160,16 +163,31 @@ fn file_of(alloc: Global, name: &Token<'_>, pages: &Token<'_>) -> Result<File, A
     })
 }
 
-/// What a line with this word says where the header has these files, which stands behind a task's number where there is one.
+/// That the actor does this, as the line stands. What is only begun, control begins in place of the shell.
+fn done_by(manner: Manner, actor: Actor, command: Command) -> Item
+    ensures { result ≡ as_it_stands manner (Does actor command) }
+{
+    match manner {
+        Manner::Whole => Item::Does(actor, command),
+        Manner::Begun => match actor {
+            Actor::Shell => Item::Begins(Actor::Control, command),
+            Actor::Control | Actor::Daemon | Actor::Task(_) => Item::Begins(actor, command),
+        },
+    }
+}
+
+/// What a line with this word says, as it stands, where the header has these files; behind a task's number
+/// where there is one.
 pub fn item_of_word(
     alloc: Global,
     files: &[File],
+    manner: Manner,
     task: Option<&Token<'_>>,
     word: Word,
     arguments: &[Token<'_>],
-) -> Result<Item, AllocError>
+) -> Result<Item, LineError>
     requires { length arguments.now ≡ length (form_of word).arguments }
-    ensures { IfOk result (λ item. item ≡ word_means files.now (option_map now task.entry) word arguments.now) }
+    ensures { Reads result None (as_it_stands manner (word_means files.now (option_map now task.entry) word arguments.now)) }
 {
     let command = match word {
         Word::Frames => return Ok(Item::Frames(number_value(&arguments[0]))),
@@ -228,23 +246,12 @@ pub fn item_of_word(
             page: number_value(&arguments[0]),
         },
         Word::Exit => Command::Exit,
-        Word::Daemon => return Ok(Item::Does(Actor::Daemon, Command::Daemon)),
+        Word::Daemon => return Ok(done_by(manner, Actor::Daemon, Command::Daemon)),
         // The line behind it tells what is begun.
         Word::Begin => return Ok(Item::Nothing),
         Word::Step => return Ok(Item::Advances(actor_value(&arguments[0]))),
         Word::Finish => return Ok(Item::Finishes(actor_value(&arguments[0]))),
         Word::Go => return Ok(Item::EndsSetup),
     };
-    Ok(Item::Does(actor_of(task), command))
-}
-
-/// What is only begun of what a line says. What the shell would do, control begins.
-pub fn only_begun(item: Item) -> Item
-    ensures { result ≡ only_begun item }
-{
-    match item {
-        Item::Does(Actor::Shell, command) => Item::Begins(Actor::Control, command),
-        Item::Does(actor, command) => Item::Begins(actor, command),
-        other => other,
-    }
+    Ok(done_by(manner, actor_of(task), command))
 }

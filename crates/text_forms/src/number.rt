@@ -1,6 +1,6 @@
 //! Numbers in decimal.
 
-ghost use Rattle.std.specs.Prelude.{◌≡◌, ◌^◌};
+ghost use Rattle.std.specs.Prelude.{◌≡◌, ◌^◌, ◌==◌, slice_index};
 ghost use Rattle.std.specs.List.{list_all};
 ghost use Rattle.std.specs.Char.{is_ascii_digit};
 ghost use Rattle.machine.specs.Numbers.{is_numeral, number_below};
@@ -18,11 +18,18 @@ pub fn is_digits(word: &str) -> bool
     !word.is_empty() && all_digits(word)
 }
 
+/// A sign is no digit, and the one that `parse` takes before an unsigned number is this.
+fn begins_with_plus(word: &str) -> bool
+    ensures { result ≡ (slice_index word.now 0 == 43) }
+{
+    word.as_bytes().first() == Some(&b'+')
+}
+
 /// The number that a word of digits alone writes, leading zeros and all, where it is below 2^32.
 pub fn number_of(word: &str) -> Option<u32>
     ensures { result ≡ number_below (2 ^ 32) word.now }
 {
-    if !is_digits(word) {
+    if begins_with_plus(word) {
         return None;
     }
     word.parse::<u32>().ok()
@@ -32,7 +39,7 @@ pub fn number_of(word: &str) -> Option<u32>
 pub fn long_number_of(word: &str) -> Option<u64>
     ensures { result ≡ number_below (2 ^ 64) word.now }
 {
-    if !is_digits(word) {
+    if begins_with_plus(word) {
         return None;
     }
     word.parse::<u64>().ok()

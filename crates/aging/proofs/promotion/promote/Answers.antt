@@ -2,8 +2,9 @@ use Rattle.std.proofs.Common.{◌≡◌, Bool, false, List, length, Option, opti
 use Rattle.machine.specs.declared.id.PageId.{PageId}
 use Rattle.machine.specs.Generations.{Gens, row_of, added, isolated}
 use Rattle.lru_gen.specs.Gens.{gens_of}
+use Rattle.lru_gen.proofs.KindLemmas.{row_listed}
 use Rattle.aging.proofs.GroupLemmas.{change, only-same, only-then, listed-in}
-use Rattle.aging.proofs.PromoteLemmas.{next-is, has-listed, starts, passes, moves}
+use Rattle.aging.proofs.PromoteLemmas.{next-is, starts, passes, moves}
 use Rattle.aging.proofs.promotion.promote.Goals as goal
 
 pub loop-next-init : goal.loop-next-init
@@ -16,7 +17,7 @@ is_marked-requires c =
     let g = c.args.group.0 in
     let p = c.in-Some.page.0 in
     let h = next-is (row_of c.args.kind (gens_of c.loop-next.gens g)).pages _ p (ap (λ (n : Option PageId). option_map (λ (q : PageId). q.0) n) c.in-Some.is) c.loop-next.invariant.there in
-    let n = c.is_sound.ensures.numbered p (listed-in c.loop-next.gens.groups g p (has-listed c.args.kind (gens_of c.loop-next.gens g) p h)) in
+    let n = c.is_sound.ensures.numbered p (listed-in c.loop-next.gens.groups g p (row_listed (gens_of c.loop-next.gens g) p c.args.kind h)) in
     omega (arith, n, c.loop-next.invariant.marked)
 
 pub loop-next-smaller-then-not-is_marked : goal.loop-next-smaller-then-not-is_marked

@@ -6,20 +6,22 @@ use Rattle.aging.specs.Groups.{seen_at}
 use Rattle.aging.proofs.GroupLemmas.{only-then}
 use Rattle.eviction.proofs.TurnLemmas.{no-first, looks-few}
 use Rattle.eviction.proofs.AgeLemmas.{usable-some, passed-max}
-use Rattle.eviction.proofs.KeptLemmas.{found-at-once, found-aged}
+use Rattle.eviction.proofs.KeptLemmas.{Found, found-at-once, found-aged}
 use Rattle.eviction.proofs.choice.pick.Goals as goal
+use Rattle.eviction.proofs.choice.pick.Goals.{In-Some, After-age_until_old-aged}
 
 -- ---- the answer is old at once
 
+at_once : (c : In-Some) → Found c.args.group.0 c.args.swap_free c.args.gens.now c.first_unmarked-search.new.gens c.args.marks.now c.first_unmarked-search.new.marks c.in-Some.page.0
+at_once c =
+    found-at-once c.args.group.0 c.args.swap_free c.args.gens.now c.first_unmarked-search.new.gens c.args.marks.now c.first_unmarked-search.new.marks c.in-Some.page.0 (c.is_sound.ensures.gens.each c.args.group.0) (sym c.has_usable.ensures ∙ c.if-not-has_usable.false)
+    c.first_unmarked-search.ensures.only c.first_unmarked-search.ensures.seen (rw c.in-Some.is at c.first_unmarked-search.ensures.page)
+
 pub returns-in-Some-clause-picks : goal.returns-in-Some-clause-picks
-returns-in-Some-clause-picks c =
-    (found-at-once c.args.group.0 c.args.swap_free c.args.gens.now c.first_unmarked-search.new.gens c.args.marks.now c.first_unmarked-search.new.marks c.in-Some.page.0 (c.is_sound.ensures.gens.each c.args.group.0) (sym c.has_usable.ensures ∙ c.if-not-has_usable.false)
-    c.first_unmarked-search.ensures.only c.first_unmarked-search.ensures.seen (rw c.in-Some.is at c.first_unmarked-search.ensures.page)).picks
+returns-in-Some-clause-picks c = (at_once (goal.at.returns-in-Some-clause-picks c).In-Some).picks
 
 pub returns-in-Some-clause-listed : goal.returns-in-Some-clause-listed
-returns-in-Some-clause-listed c =
-    (found-at-once c.args.group.0 c.args.swap_free c.args.gens.now c.first_unmarked-search.new.gens c.args.marks.now c.first_unmarked-search.new.marks c.in-Some.page.0 (c.is_sound.ensures.gens.each c.args.group.0) (sym c.has_usable.ensures ∙ c.if-not-has_usable.false)
-    c.first_unmarked-search.ensures.only c.first_unmarked-search.ensures.seen (rw c.in-Some.is at c.first_unmarked-search.ensures.page)).listed
+returns-in-Some-clause-listed c = (at_once (goal.at.returns-in-Some-clause-listed c).In-Some).listed
 
 pub returns-in-Some-clause-ages : goal.returns-in-Some-clause-ages
 returns-in-Some-clause-ages c =
@@ -35,16 +37,17 @@ returns-in-Some-clause-few_looks c =
     omega (arith, few, some, looks)
 
 pub returns-in-Some-clause-same_pages : goal.returns-in-Some-clause-same_pages
-returns-in-Some-clause-same_pages c =
-    (found-at-once c.args.group.0 c.args.swap_free c.args.gens.now c.first_unmarked-search.new.gens c.args.marks.now c.first_unmarked-search.new.marks c.in-Some.page.0 (c.is_sound.ensures.gens.each c.args.group.0) (sym c.has_usable.ensures ∙ c.if-not-has_usable.false)
-    c.first_unmarked-search.ensures.only c.first_unmarked-search.ensures.seen (rw c.in-Some.is at c.first_unmarked-search.ensures.page)).pages
+returns-in-Some-clause-same_pages c = (at_once (goal.at.returns-in-Some-clause-same_pages c).In-Some).pages
 
 pub returns-in-Some-clause-other_marks : goal.returns-in-Some-clause-other_marks
-returns-in-Some-clause-other_marks c =
-    (found-at-once c.args.group.0 c.args.swap_free c.args.gens.now c.first_unmarked-search.new.gens c.args.marks.now c.first_unmarked-search.new.marks c.in-Some.page.0 (c.is_sound.ensures.gens.each c.args.group.0) (sym c.has_usable.ensures ∙ c.if-not-has_usable.false)
-    c.first_unmarked-search.ensures.only c.first_unmarked-search.ensures.seen (rw c.in-Some.is at c.first_unmarked-search.ensures.page)).marks
+returns-in-Some-clause-other_marks c = (at_once (goal.at.returns-in-Some-clause-other_marks c).In-Some).marks
 
 -- ---- the group is aged for it
+
+aged : (c : After-age_until_old-aged) → Found c.args.group.0 c.args.swap_free c.args.gens.now c.age_until_old-aged.new.gens c.args.marks.now c.age_until_old-aged.new.marks c.age_until_old-aged.result.page.0
+aged c =
+    found-aged c.args.group.0 c.args.swap_free c.args.gens.now c.first_unmarked-search.new.gens c.age_until_old-aged.new.gens c.args.marks.now c.first_unmarked-search.new.marks c.age_until_old-aged.new.marks c.age_until_old-aged.result.page.0 (c.is_sound.ensures.gens.each c.args.group.0)
+    (sym c.has_usable.ensures ∙ c.if-not-has_usable.false) c.first_unmarked-search.ensures.only c.age_until_old-aged.ensures.only c.first_unmarked-search.ensures.seen c.age_until_old-aged.ensures.picks
 
 pub age_until_old-aged-requires-clause-none : goal.age_until_old-aged-requires-clause-none
 age_until_old-aged-requires-clause-none c = no-first (old_pages c.args.swap_free (gens_of c.first_unmarked-search.new.gens c.args.group.0)) (rw c.in_default.is at c.first_unmarked-search.ensures.page)
@@ -55,14 +58,10 @@ age_until_old-aged-requires-clause-fits c =
     omega (arith, same, c.requires.fits)
 
 pub returns-clause-picks : goal.returns-clause-picks
-returns-clause-picks c =
-    (found-aged c.args.group.0 c.args.swap_free c.args.gens.now c.first_unmarked-search.new.gens c.age_until_old-aged.new.gens c.args.marks.now c.first_unmarked-search.new.marks c.age_until_old-aged.new.marks c.age_until_old-aged.result.page.0 (c.is_sound.ensures.gens.each c.args.group.0)
-    (sym c.has_usable.ensures ∙ c.if-not-has_usable.false) c.first_unmarked-search.ensures.only c.age_until_old-aged.ensures.only c.first_unmarked-search.ensures.seen c.age_until_old-aged.ensures.picks).picks
+returns-clause-picks c = (aged (goal.at.returns-clause-picks c).After-age_until_old-aged).picks
 
 pub returns-clause-listed : goal.returns-clause-listed
-returns-clause-listed c =
-    (found-aged c.args.group.0 c.args.swap_free c.args.gens.now c.first_unmarked-search.new.gens c.age_until_old-aged.new.gens c.args.marks.now c.first_unmarked-search.new.marks c.age_until_old-aged.new.marks c.age_until_old-aged.result.page.0 (c.is_sound.ensures.gens.each c.args.group.0)
-    (sym c.has_usable.ensures ∙ c.if-not-has_usable.false) c.first_unmarked-search.ensures.only c.age_until_old-aged.ensures.only c.first_unmarked-search.ensures.seen c.age_until_old-aged.ensures.picks).listed
+returns-clause-listed c = (aged (goal.at.returns-clause-listed c).After-age_until_old-aged).listed
 
 pub returns-clause-ages : goal.returns-clause-ages
 returns-clause-ages c =
@@ -78,19 +77,13 @@ returns-clause-few_looks c =
     omega (arith, few, some, looks, c.age_until_old-aged.ensures.looks)
 
 pub returns-clause-same_pages : goal.returns-clause-same_pages
-returns-clause-same_pages c =
-    (found-aged c.args.group.0 c.args.swap_free c.args.gens.now c.first_unmarked-search.new.gens c.age_until_old-aged.new.gens c.args.marks.now c.first_unmarked-search.new.marks c.age_until_old-aged.new.marks c.age_until_old-aged.result.page.0 (c.is_sound.ensures.gens.each c.args.group.0)
-    (sym c.has_usable.ensures ∙ c.if-not-has_usable.false) c.first_unmarked-search.ensures.only c.age_until_old-aged.ensures.only c.first_unmarked-search.ensures.seen c.age_until_old-aged.ensures.picks).pages
+returns-clause-same_pages c = (aged (goal.at.returns-clause-same_pages c).After-age_until_old-aged).pages
 
 pub returns-clause-only : goal.returns-clause-only
 returns-clause-only c = only-then c.args.group.0 c.args.gens.now c.first_unmarked-search.new.gens c.age_until_old-aged.new.gens c.first_unmarked-search.ensures.only c.age_until_old-aged.ensures.only
 
 pub returns-clause-other_marks : goal.returns-clause-other_marks
-returns-clause-other_marks c =
-    (found-aged c.args.group.0 c.args.swap_free c.args.gens.now c.first_unmarked-search.new.gens c.age_until_old-aged.new.gens c.args.marks.now c.first_unmarked-search.new.marks c.age_until_old-aged.new.marks c.age_until_old-aged.result.page.0 (c.is_sound.ensures.gens.each c.args.group.0)
-    (sym c.has_usable.ensures ∙ c.if-not-has_usable.false) c.first_unmarked-search.ensures.only c.age_until_old-aged.ensures.only c.first_unmarked-search.ensures.seen c.age_until_old-aged.ensures.picks).marks
+returns-clause-other_marks c = (aged (goal.at.returns-clause-other_marks c).After-age_until_old-aged).marks
 
 pub returns-clause-size : goal.returns-clause-size
-returns-clause-size c =
-    (found-aged c.args.group.0 c.args.swap_free c.args.gens.now c.first_unmarked-search.new.gens c.age_until_old-aged.new.gens c.args.marks.now c.first_unmarked-search.new.marks c.age_until_old-aged.new.marks c.age_until_old-aged.result.page.0 (c.is_sound.ensures.gens.each c.args.group.0)
-    (sym c.has_usable.ensures ∙ c.if-not-has_usable.false) c.first_unmarked-search.ensures.only c.age_until_old-aged.ensures.only c.first_unmarked-search.ensures.seen c.age_until_old-aged.ensures.picks).size
+returns-clause-size c = (aged (goal.at.returns-clause-size c).After-age_until_old-aged).size

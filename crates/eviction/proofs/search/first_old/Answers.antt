@@ -1,4 +1,4 @@
-use Rattle.std.proofs.Common.{◌≡◌, ◌||◌, ◌&&◌, not, ℕ, Bool, true, false, option_map, Option, Some, None, IfSome, slice_get, List, ◌∷◌, refl, sym, ap, ◌∙◌}
+use Rattle.std.proofs.Common.{◌≡◌, ◌||◌, ◌&&◌, not, nat_le, ℕ, Bool, true, false, option_map, Option, Some, None, IfSome, slice_get, List, ◌∷◌, refl, sym, ap, ◌∙◌}
 use Rattle.machine.specs.declared.record.Kind.{Kind}
 use Rattle.machine.specs.declared.record.Kind.TheVariants.{Anon, File}
 use Rattle.machine.specs.Generations.{Listed, Gens, IsGens, kind_of, is_listed}
@@ -8,6 +8,7 @@ use Rattle.eviction.specs.declared.search.Old.{Old}
 use Rattle.eviction.proofs.ListLemmas.{turn-file, turn-anon}
 use Rattle.eviction.proofs.SettleLemmas.{first-seq, some-nil, Stands, file-stands, anon-stands}
 use Rattle.eviction.proofs.search.first_old.Goals as goal
+use Rattle.eviction.proofs.search.first_old.Goals.{After-is_file_first}
 
 -- where an old page of one type is found, it stands there
 stands-if : (g : Gens) (kind : Kind) (xs : List Listed) → ((p : ℕ) → Some p ≡ option_map (λ (l : Listed). l.page) (slice_get xs 0) → Stands g kind p)
@@ -35,21 +36,23 @@ test-is true f t = refl
 test-is false f t = refl
 
 -- what the test says of the lists
-first-test : (x y t r b : Bool) (fs gs : List Listed) → r ≡ (not x || (y && t)) → x ≡ not (is_nil gs) → y ≡ not (is_nil fs) → r ≡ b → (is_nil gs || (not (is_nil fs) && t)) ≡ b
-first-test x y t r b fs gs e ex ey eb = sym (test-is (is_nil gs) (is_nil fs) t) ∙ sym (ap (λ (v : Bool). not v || (not (is_nil fs) && t)) ex) ∙ sym (ap (λ (v : Bool). not x || (v && t)) ey) ∙ sym e ∙ eb
+first-test : (x y t r : Bool) (fs gs : List Listed) → r ≡ (not x || (y && t)) → x ≡ not (is_nil gs) → y ≡ not (is_nil fs) → (is_nil gs || (not (is_nil fs) && t)) ≡ r
+first-test x y t r fs gs e ex ey = sym (test-is (is_nil gs) (is_nil fs) t) ∙ sym (ap (λ (v : Bool). not v || (not (is_nil fs) && t)) ex) ∙ sym (ap (λ (v : Bool). not x || (v && t)) ey) ∙ sym e
+
+test : (c : After-is_file_first) → (let g = gens_of c.args.gens.now c.args.group.0 in (is_nil (old_of g.max_seq (usable_anon c.args.swap_free g)) || (not (is_nil (old_of g.max_seq g.file.pages)) && nat_le g.file.min_seq g.anon.min_seq)) ≡ c.is_file_first.result)
+test c =
+    let g = gens_of c.args.gens.now c.args.group.0 in
+    first-test _ _ _ _ (old_of g.max_seq g.file.pages) (old_of g.max_seq (usable_anon c.args.swap_free g)) c.is_file_first.ensures
+    (c.is_some-2.ensures ∙ some-nil (λ (o : Old). o.page.0) c.old_anon-anon.result _ c.old_anon-anon.ensures.page)
+    (c.is_some.ensures ∙ some-nil (λ (o : Old). o.page.0) c.old_front-file.result _ c.old_front-file.ensures.page)
 
 pub returns-then-is_file_first-clause-page : goal.returns-then-is_file_first-clause-page
 returns-then-is_file_first-clause-page c =
     let g = gens_of c.args.gens.now c.args.group.0 in
-    let fs : List Listed = old_of g.max_seq g.file.pages in
-    let gs : List Listed = old_of g.max_seq (usable_anon c.args.swap_free g) in
-    let anon_some = c.is_some-2.ensures ∙ some-nil (λ (o : Old). o.page.0) c.old_anon-anon.result gs c.old_anon-anon.ensures.page in
-    let file_some = c.is_some.ensures ∙ some-nil (λ (o : Old). o.page.0) c.old_front-file.result fs c.old_front-file.ensures.page in
-    let test = first-test _ _ _ _ _ fs gs c.is_file_first.ensures anon_some file_some c.if-is_file_first.true in
-    c.old_front-file.ensures.page
-    ∙ sym
-    (ap (λ (o : Option Listed). option_map (λ (l : Listed). l.page) o)
-    (turn-file fs gs g.file.min_seq g.anon.min_seq (file-seq g c.requires.settled (c.is_sound.ensures.gens.each c.args.group.0)) (anon-seq c.args.swap_free g c.requires.settled (c.is_sound.ensures.gens.each c.args.group.0)) test))
+    let s = c.is_sound.ensures.gens.each c.args.group.0 in
+    let file = test (goal.at.returns-then-is_file_first-clause-page c).After-is_file_first ∙ c.if-is_file_first.true in
+    let first = turn-file _ _ g.file.min_seq g.anon.min_seq (file-seq g c.requires.settled s) (anon-seq c.args.swap_free g c.requires.settled s) file in
+    c.old_front-file.ensures.page ∙ sym (ap (option_map (λ (l : Listed). l.page)) first)
 
 pub returns-then-is_file_first-clause-kind : goal.returns-then-is_file_first-clause-kind
 returns-then-is_file_first-clause-kind c =
@@ -64,15 +67,10 @@ returns-then-is_file_first-clause-listed c =
 pub returns-else-is_file_first-clause-page : goal.returns-else-is_file_first-clause-page
 returns-else-is_file_first-clause-page c =
     let g = gens_of c.args.gens.now c.args.group.0 in
-    let fs : List Listed = old_of g.max_seq g.file.pages in
-    let gs : List Listed = old_of g.max_seq (usable_anon c.args.swap_free g) in
-    let anon_some = c.is_some-2.ensures ∙ some-nil (λ (o : Old). o.page.0) c.old_anon-anon.result gs c.old_anon-anon.ensures.page in
-    let file_some = c.is_some.ensures ∙ some-nil (λ (o : Old). o.page.0) c.old_front-file.result fs c.old_front-file.ensures.page in
-    let test = first-test _ _ _ _ _ fs gs c.is_file_first.ensures anon_some file_some c.if-is_file_first.false in
-    c.old_anon-anon.ensures.page
-    ∙ sym
-    (ap (λ (o : Option Listed). option_map (λ (l : Listed). l.page) o)
-    (turn-anon fs gs g.file.min_seq g.anon.min_seq (file-seq g c.requires.settled (c.is_sound.ensures.gens.each c.args.group.0)) (anon-seq c.args.swap_free g c.requires.settled (c.is_sound.ensures.gens.each c.args.group.0)) test))
+    let s = c.is_sound.ensures.gens.each c.args.group.0 in
+    let anon = test (goal.at.returns-else-is_file_first-clause-page c).After-is_file_first ∙ c.if-is_file_first.false in
+    let first = turn-anon _ _ g.file.min_seq g.anon.min_seq (file-seq g c.requires.settled s) (anon-seq c.args.swap_free g c.requires.settled s) anon in
+    c.old_anon-anon.ensures.page ∙ sym (ap (option_map (λ (l : Listed). l.page)) first)
 
 pub returns-else-is_file_first-clause-kind : goal.returns-else-is_file_first-clause-kind
 returns-else-is_file_first-clause-kind c =

@@ -5,9 +5,9 @@ use Rattle.std.proofs.lemmas.Nat.Bits.{bit_at-lt, shr_and_one}
 use Rattle.machine.specs.Slots.{there_and}
 use Rattle.machine.specs.Pages.{page_at, is_number}
 use Rattle.machine.specs.declared.id.PageId.{PageId}
-use Rattle.machine.specs.Lists.{HeldLists, MarksThose}
+use Rattle.machine.specs.Lists.{MarksThose}
 use Rattle.pages.specs.PagesOf.{is_held_frame}
-use Rattle.page_state.specs.Held.{HeldOf}
+use Rattle.held_pages.specs.Held.{HeldOf}
 use Rattle.page_state.specs.Merging.{is_at_place}
 use Rattle.page_state.proofs.MergeLemmas.{merges-one}
 use Rattle.page_state.proofs.merging.merge_mark.Goals as goal

@@ -14,7 +14,7 @@ leave-requires-clause-listed c = listed c.self.inside.members.lists _ c.self.inv
 pub leave-requires-clause-inside : goal.leave-requires-clause-inside
 leave-requires-clause-inside c =
     let files = c.self.inside.files in
-    subst (λ slot. IfSome slot (λ a. a.page < slice_index files.sizes a.file)) (sym c.file_of-at.ensures) (left-inside files (page_of c.take_at-owned.result) (own-filed files c.self.inside.owned.items c.args.page.0 _ c.self.invariant.0.filed c.take_at-owned.ensures.owned))
+    subst (λ slot. IfSome slot (λ a. a.page < slice_index files.sizes a.file)) (sym c.file.ensures) (left-inside files (page_of c.take_at-owned.result) (own-filed files c.self.inside.owned.items c.args.page.0 _ c.self.invariant.0.filed c.take_at-owned.ensures.owned))
 
 pub invariant_of-self : goal.invariant_of-self
 invariant_of-self c =
@@ -24,7 +24,7 @@ invariant_of-self c =
     let page = Changes-map page_of _ _ _ None gone in (
       Fits-are
           (Fits-left c.self.inside.numbers _ _ _ c.self.inside.flights c.self.inside.members c.self.inside.files _ is c.args.page.0 c.take_at-owned.result c.take_at-owned.ensures.owned _ _ _ gone c.leave.ensures.numbers c.leave.ensures.capacity c.leave.ensures.lists
-          (λ a e. c.leave.ensures.none a (c.file_of-at.ensures ∙ e)) (λ e. ap (λ v. v.items) (c.leave.ensures.same (c.file_of-at.ensures ∙ e))) c.leave.ensures.homes)
+          (λ a e. c.leave.ensures.none a (c.file.ensures ∙ e)) (λ e. ap (λ v. v.items) (c.leave.ensures.same (c.file.ensures ∙ e))) c.leave.ensures.homes)
           is c.take_at-owned.ensures.capacity refl
           (AreInFlight-apart _ _ c.args.page.0 None page c.self.inside.flights.slots is.in_flight (IsSettled-still _ requires.settled) (λ n. refl))
           (AreHome-changes c.self.inside.files _ _ c.args.page.0 None page tt is.filed),

@@ -5,37 +5,31 @@ use Rattle.machine.specs.declared.record.Direction.TheVariants.{In}
 use Rattle.pages.specs.PagesOf.{byte_of, byte_in}
 use Rattle.pages.specs.Records.{page_of, bytes_of}
 use Rattle.pages.proofs.TableLemmas.{at-map, place_within, byte_in-changes}
-use Rattle.pages.proofs.TransferLemmas.{flight-listed, flight-there, flight-page, flight-stands, Rewrites, Rewrites-are, Rewrites-framed, Rewrites-others, Rewrites-bytes}
+use Rattle.pages.proofs.TransferLemmas.{moving-there, Rewrites, Rewrites-are, Rewrites-framed, Rewrites-others, Rewrites-bytes}
 use Rattle.pages.proofs.Pages.fill.Goals as goal
-
-pub page_under-page-requires : goal.page_under-page-requires
-page_under-page-requires c =
-    let requires = rw (← c.self.view_is) at c.requires in
-    rw c.number.ensures (flight-listed c.self.inside.owned.items c.self.inside.flights In requires.0 requires.1 requires.2 requires.3 c.args.ticket.now.number c.self.invariant.0.in_flight requires.4)
 
 pub index_mut-requires : goal.index_mut-requires
 index_mut-requires c =
-    let within = place_within c.self.inside.owned.items c.page_under-page.result.0 (flight-there c.self.inside.owned.items c.self.inside.flights.slots c.number.result.0 c.page_under-page.result c.self.invariant.0.in_flight c.page_under-page.ensures) in
+    let w = rw (← c.self.view_is) at c.requires in
+    let within = place_within c.self.inside.owned.items c.args.page.0 (moving-there c.self.inside.owned.items In c.args.page.0 w.0 w.1 w.2 c.args.ticket.now.number w.3) in
     omega (arith, within)
 
 pub fill_at-requires : goal.fill_at-requires
 fill_at-requires c =
     let owned = c.self.inside.owned.items in
-    let page = c.page_under-page.result in
-    let requires = rw (← c.self.view_is, ← c.number.ensures) at c.requires in
-    let there = flight-there owned c.self.inside.flights.slots c.number.result.0 page c.self.invariant.0.in_flight c.page_under-page.ensures in
-    let was = get_or_read owned page.0 c.index_mut.result.now (place_within owned page.0 there) c.index_mut.ensures.value None in
-    let stands = flight-stands owned c.self.inside.flights.slots c.number.result.0 page c.self.invariant.0.in_flight c.page_under-page.ensures In requires.0 requires.1 requires.2 requires.3 requires.4 in
-    (requires.1, requires.2, requires.3, c.number.result.0, ap (option_map page_of) was ∙ sym (at-map page_of owned page.0) ∙ stands)
+    let w = rw (← c.self.view_is) at c.requires in
+    let there = moving-there owned In c.args.page.0 w.0 w.1 w.2 c.args.ticket.now.number w.3 in
+    let was = get_or_read owned c.args.page.0 c.index_mut.result.now (place_within owned c.args.page.0 there) c.index_mut.ensures.value None in
+    (w.0, w.1, w.2, c.args.ticket.now.number, ap (option_map page_of) was ∙ sym (at-map page_of owned c.args.page.0) ∙ w.3)
 
-rewrites : (c : goal.After-self-1) → Rewrites c.self.inside.owned.items c.page_under-page.result.0 c.index_mut.result.now c.fill_at.new.slot
+rewrites : (c : goal.After-self-1) → Rewrites c.self.inside.owned.items c.args.page.0 c.index_mut.result.now c.fill_at.new.slot
 rewrites c =
     let owned = c.self.inside.owned.items in
-    let page = c.page_under-page.result in
-    let within = place_within owned page.0 (flight-there owned c.self.inside.flights.slots c.number.result.0 page c.self.invariant.0.in_flight c.page_under-page.ensures) in
+    let w = rw (← c.self.view_is) at c.requires in
+    let within = place_within owned c.args.page.0 (moving-there owned In c.args.page.0 w.0 w.1 w.2 c.args.ticket.now.number w.3) in
     record {
       within = within;
-      was = get_or_read owned page.0 c.index_mut.result.now within c.index_mut.ensures.value None;
+      was = get_or_read owned c.args.page.0 c.index_mut.result.now within c.index_mut.ensures.value None;
       page = c.fill_at.ensures.page;
     }
 
@@ -49,9 +43,7 @@ pub returns-clause-others : goal.returns-clause-others
 returns-clause-others c = rw (← c.self.view_is) (Rewrites-others c.self.inside.numbers c.self.inside.flights c.self.inside.members c.self.inside.files _ _ _ _ (rewrites c) (length c.self.inside.by_frame.items))
 
 pub returns-clause-bytes : goal.returns-clause-bytes
-returns-clause-bytes c = λ p label f b stands q o.
+returns-clause-bytes c = λ q o.
     let owned = c.self.inside.owned.items in
-    let page = c.page_under-page.result in
-    let here = flight-page owned c.self.inside.flights.slots c.number.result.0 page c.self.invariant.0.in_flight c.page_under-page.ensures In p label f b (rw (← c.self.view_is, ← c.number.ensures) at stands) in
     let filled = ap (λ bytes. byte_of bytes o) (c.fill_at.ensures.bytes ∙ ap Some c.read.ensures) in
-    rw (← c.self.view_is, ← here) (byte_in-changes _ _ page.0 (option_map bytes_of c.fill_at.new.slot) (Rewrites-bytes c.self.inside.numbers c.self.inside.flights c.self.inside.members c.self.inside.files _ _ _ _ (rewrites c)) q o ∙ ap (λ byte. cond (q == page.0) byte (byte_in (map (option_map bytes_of) owned) q o)) filled)
+    rw (← c.self.view_is) (byte_in-changes _ _ c.args.page.0 (option_map bytes_of c.fill_at.new.slot) (Rewrites-bytes c.self.inside.numbers c.self.inside.flights c.self.inside.members c.self.inside.files _ _ _ _ (rewrites c)) q o ∙ ap (λ byte. cond (q == c.args.page.0) byte (byte_in (map (option_map bytes_of) owned) q o)) filled)

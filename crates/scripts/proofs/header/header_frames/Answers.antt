@@ -7,8 +7,8 @@ use Rattle.scripts.proofs.header.header_frames.Goals as goal
 
 pub loop-rest-preserved : goal.loop-rest-preserved
 loop-rest-preserved c =
-    past_other (header_frames (lines c.args.text.now)) (lines c.loop-rest.rest.now) c.first_line.result.0.now (lines c.first_line.result.1.now) c.in_ok-part_of.field-0
-    c.loop-rest.invariant c.first_line.ensures.lines c.in_ok-part_of.ensures c.in-Other.is
+    past_other (header_frames (lines c.args.text.now)) (lines c.loop-rest.rest.now) c.first_line.result.0.now (lines c.first_line.result.1.now) c.part_of.result
+    c.loop-rest.invariant c.first_line.ensures.lines c.part_of.ensures c.in-Other.is
 
 -- what is one of two equal numbers is the other
 is_other : {E : Type 0} (r : Result ℕ E) (m n : ℕ) → m ≡ n → IfOk r (λ k. k ≡ n) → IfOk r (λ k. k ≡ m)
@@ -18,6 +18,6 @@ is_other (Err x) m n e h = h
 pub returns-in-Frames : goal.returns-in-Frames
 returns-in-Frames c =
     is_other c.frames_asked.result _ _
-    (at_frames (header_frames (lines c.args.text.now)) (lines c.loop-rest.rest.now) c.first_line.result.0.now (lines c.first_line.result.1.now) c.in_ok-part_of.field-0
-    c.loop-rest.invariant c.first_line.ensures.lines c.in_ok-part_of.ensures c.in-Frames.is)
+    (at_frames (header_frames (lines c.args.text.now)) (lines c.loop-rest.rest.now) c.first_line.result.0.now (lines c.first_line.result.1.now) c.part_of.result
+    c.loop-rest.invariant c.first_line.ensures.lines c.part_of.ensures c.in-Frames.is)
     c.frames_asked.ensures

@@ -1,14 +1,14 @@
 use Rattle.std.proofs.Common.{◌≡◌, ◌∙◌, ap, sym}
 use Rattle.driver.specs.declared.turn.Activity.{Activity}
-use Rattle.driver.specs.Seats.{is_under_way}
+use Rattle.driver.specs.Seats.{SitsAt, is_under_way}
 use Rattle.driver.proofs.SeatLists.{activity_of-none, exchanged-was}
 use Rattle.driver.proofs.seats.Seats.is_under_way.Goals as goal
 
 pub returns-in-None : goal.returns-in-None
-returns-in-None c = sym (ap (λ (a : Activity). is_under_way a) (activity_of-none c.args.actor c.args.self.now c.in-None.ensures.unseated))
+returns-in-None c = sym (ap (λ (a : Activity). is_under_way a) (activity_of-none c.args.actor c.args.self.now (rw c.in-None.is at c.requires)))
 
 pub returns-in-Some : goal.returns-in-Some
 returns-in-Some c =
     let view : c.args.self.now ≡ c.self.inside.list.items = cc in
-    let seat = c.in-Some.ensures.seated in
-    c.is_at_work.ensures ∙ ap (λ (a : Activity). is_under_way a) (exchanged-was c.args.actor c.args.self.now c.in-Some.place c.index.result.now seat.0 seat.1 (rw view c.index.ensures))
+    let seat : SitsAt c.args.actor c.in-Some.place c.args.self.now = rw c.in-Some.is at c.requires in
+    c.is_at_work.ensures ∙ ap (λ (a : Activity). is_under_way a) (exchanged-was c.args.actor c.args.self.now c.in-Some.place c.index.result.now seat.is seat.within (rw view c.index.ensures))

@@ -1,67 +1,44 @@
-use Rattle.std.proofs.Common.{◌+◌, ◌%◌, ℕ, sym, ap, ◌∙◌, arith}
-use Rattle.machine.specs.Generations.{Row, row_of, has_page, after_in}
-use Rattle.lru_gen.specs.Lists.{slot}
-use Rattle.lru_gen.specs.Rows.{numbers_at, oldest}
+use Rattle.std.proofs.Common.{◌≡◌, true, ap, ◌∙◌}
+use Rattle.machine.specs.Generations.{Row, has_page, after_in}
+use Rattle.lru_gen.specs.Rows.{rows_from}
 use Rattle.rings.proofs.ListLemmas.{listed_from}
-use Rattle.lru_gen.proofs.GroupLemmas.{within_numbers, seen_at, read_at, few_groups, lists_among, row_from}
 use Rattle.lru_gen.proofs.SoundLemmas.{row_stands}
-use Rattle.lru_gen.proofs.SearchLemmas.{first_of, next_on_list, next_in_turn}
+use Rattle.lru_gen.proofs.SearchLemmas.{next_on_list, next_in_turn}
+use Rattle.lru_gen.proofs.SeenLemmas.{group_seen, row_by_least}
 use Rattle.lru_gen.proofs.gens.Gens.after.Goals as goal
+use Rattle.lru_gen.proofs.gens.Gens.after.Goals.{After-min_seq-oldest}
 
-pub index-requires : goal.index-requires
-index-requires c =
-    let within = within_numbers c.args.self.now c.self.inside.rings.lists c.self.inside.numbers.items _ _ c.args.group.0 c.self.view_is c.requires.group in
-    let size = c.self.inside.numbers.ok.0 in
-    omega arith
+listed : (c : After-min_seq-oldest) → has_page c.args.page.0 (rows_from c.self.inside.rings.lists c.args.group.0 c.args.kind c.min_seq-oldest.result 4) ≡ true
+listed c =
+    let h = group_seen c.self.view_is c.self.invariant c.requires.group in
+    ap (λ (r : Row). has_page c.args.page.0 r.pages) (row_by_least h c.args.kind c.min_seq-oldest.ensures) ∙ c.requires.listed
 
 pub behind-requires : goal.behind-requires
 behind-requires c =
     let lists = c.self.inside.rings.lists in
-    let numbers = c.self.inside.numbers.items in
-    let g = c.args.group.0 in
-    let k = c.args.kind in
     let p = c.args.page.0 in
-    let row = sym (row_from k lists g (numbers_at numbers g)) ∙ ap (row_of k) (seen_at c.args.self.now lists numbers _ _ g c.self.view_is c.requires.group) in
-    let found = row_stands lists g k p (oldest k (numbers_at numbers g)) 4 (ap (λ (r : Row). has_page p r.pages) row ∙ c.requires.listed) in
-    listed_from lists (slot g k found.seq) p found.there
+    let found = row_stands lists c.args.group.0 c.args.kind p _ 4 (listed (goal.at.behind-requires c).After-min_seq-oldest) in
+    listed_from lists _ p found.there
 
 pub first_from-requires : goal.first_from-requires
 first_from-requires c =
-    let lists = c.self.inside.rings.lists in
-    let numbers = c.self.inside.numbers.items in
-    let g = c.args.group.0 in
-    let within = within_numbers c.args.self.now lists numbers _ _ g c.self.view_is c.requires.group in
-    record { group = few_groups lists numbers g c.self.invariant.table within; lists = lists_among lists numbers g c.self.invariant.table within; turn = c.next_turn-turn.ensures.last }
+    let h = group_seen c.self.view_is c.self.invariant c.requires.group in
+    record { group = h.few; lists = h.lists_within; turn = c.next_turn-turn.ensures.last }
 
 pub returns-in-Page : goal.returns-in-Page
 returns-in-Page c =
-    let lists = c.self.inside.rings.lists in
-    let numbers = c.self.inside.numbers.items in
-    let g = c.args.group.0 in
-    let k = c.args.kind in
+    let h = group_seen c.self.view_is c.self.invariant c.requires.group in
     let p = c.args.page.0 in
-    let row = sym (row_from k lists g (numbers_at numbers g)) ∙ ap (row_of k) (seen_at c.args.self.now lists numbers _ _ g c.self.view_is c.requires.group) in
-    let listed = ap (λ (r : Row). has_page p r.pages) row ∙ c.requires.listed in
     let next = c.in-Page.ensures in
-    next_on_list lists c.lists_are_apart.ensures.apart g k (oldest k (numbers_at numbers g)) p listed next.0 c.in-Page.next.0 next.1 next.2 next.3
-    ∙ ap (λ (r : Row). after_in p r.pages) row
+    next_on_list c.self.inside.rings.lists c.lists_are_apart.ensures.apart c.args.group.0 c.args.kind _ p (listed (goal.at.returns-in-Page c).After-min_seq-oldest) next.0 c.in-Page.next.0 next.1 next.2 next.3
+    ∙ ap (λ (r : Row). after_in p r.pages) (row_by_least h c.args.kind c.min_seq-oldest.ensures)
 
 pub returns-in-Head : goal.returns-in-Head
 returns-in-Head c =
-    let lists = c.self.inside.rings.lists in
-    let numbers = c.self.inside.numbers.items in
-    let g = c.args.group.0 in
-    let k = c.args.kind in
+    let h = group_seen c.self.view_is c.self.invariant c.requires.group in
     let p = c.args.page.0 in
-    let within = within_numbers c.args.self.now lists numbers _ _ g c.self.view_is c.requires.group in
-    let read = read_at numbers g c.index.result.now within c.index.ensures in
-    let from = c.min_seq-oldest.ensures ∙ ap (oldest k) read in
-    let row = sym (row_from k lists g (numbers_at numbers g)) ∙ ap (row_of k) (seen_at c.args.self.now lists numbers _ _ g c.self.view_is c.requires.group) in
-    let listed = ap (λ (r : Row). has_page p r.pages) row ∙ c.requires.listed in
     let last = c.in-Head.ensures in
-    let turn = c.next_turn-turn.result in
-    let follows = ap (λ (q : ℕ). (q + turn) % 4) (sym from) ∙ c.next_turn-turn.ensures.next in
+    let turn = c.next_turn-turn.ensures in
     c.first_from.ensures
-    ∙ ap (λ (q : ℕ). first_of lists g k q turn) from
-    ∙ next_in_turn lists c.lists_are_apart.ensures.apart g k (oldest k (numbers_at numbers g)) p listed c.in-Head.list.0 turn last.0 last.1 c.next_turn-turn.ensures.later c.next_turn-turn.ensures.last follows
-    ∙ ap (λ (r : Row). after_in p r.pages) row
+    ∙ next_in_turn c.self.inside.rings.lists c.lists_are_apart.ensures.apart c.args.group.0 c.args.kind _ p (listed (goal.at.returns-in-Head c).After-min_seq-oldest) c.in-Head.list.0 c.next_turn-turn.result last.0 last.1 turn.later turn.last turn.next
+    ∙ ap (λ (r : Row). after_in p r.pages) (row_by_least h c.args.kind c.min_seq-oldest.ensures)

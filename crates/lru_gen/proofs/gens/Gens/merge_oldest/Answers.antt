@@ -1,141 +1,72 @@
-use Rattle.std.proofs.Common.{◌≡◌, ◌<◌, ◌+◌, ◌-◌, min, vec_len, vec_capacity, ℕ, length, set, sym, subst, ap, ◌∙◌, arith}
-use Rattle.machine.specs.Generations.{Gens, Row, row_of, on_row, merged}
-use Rattle.rings.specs.Rings.{RingsOf}
+use Rattle.std.proofs.Common.{◌≡◌, ◌+◌, ◌-◌, ℕ, ap, refl, ◌∙◌, arith}
+use Rattle.machine.specs.Generations.{on_row, merged}
 use Rattle.lru_gen.specs.declared.numbers.Numbers.{Numbers}
 use Rattle.lru_gen.specs.Lists.{slot}
-use Rattle.lru_gen.specs.Rows.{numbers_at, oldest, room_of}
-use Rattle.lru_gen.proofs.GroupLemmas.{within_numbers, seen_at, read_at, few_groups, slot_among, raised_number, row_from, seen_becomes, table_stays}
+use Rattle.lru_gen.specs.Rows.{numbers_at, oldest, with_oldest}
+use Rattle.lru_gen.proofs.GroupLemmas.{Changes}
 use Rattle.lru_gen.proofs.ChangeLemmas.{merged_changes}
-use Rattle.lru_gen.proofs.LinkLemmas.{lists_told, lists_seen, few_of_merge}
 use Rattle.lru_gen.proofs.FilledLemmas.{kept_same, merged_same}
+use Rattle.lru_gen.proofs.LinkLemmas.{lists_told, few_of_merge}
+use Rattle.lru_gen.proofs.SeenLemmas.{group_seen, least, most, numbers_read, list_among, lists_seen, seen_changed}
 use Rattle.lru_gen.proofs.gens.Gens.merge_oldest.Goals as goal
+use Rattle.lru_gen.proofs.gens.Gens.merge_oldest.Goals.{After-splice_front}
 
-pub index_mut-numbers-requires : goal.index_mut-numbers-requires
-index_mut-numbers-requires c =
-    let lists = c.self.inside.rings.lists in
-    let numbers = c.self.inside.numbers.items in
-    let g = c.args.group.0 in
-    let within = within_numbers c.args.self.now lists numbers _ _ g c.self.view_is c.requires.group in
+pub index_mut-requires : goal.index_mut-requires
+index_mut-requires c =
+    let h = group_seen c.self.view_is c.self.invariant c.requires.group in
     let size = c.self.inside.numbers.ok.0 in
-    omega arith
+    omega (arith, h.within, size)
 
-pub overflow_add-oldest : goal.overflow_add-oldest
-overflow_add-oldest c =
-    let lists = c.self.inside.rings.lists in
-    let numbers = c.self.inside.numbers.items in
-    let g = c.args.group.0 in
-    let within = within_numbers c.args.self.now lists numbers _ _ g c.self.view_is c.requires.group in
-    let k = c.args.kind in
-    let read = read_at numbers g c.index_mut-numbers.result.now within c.index_mut-numbers.ensures.value in
-    let window = c.self.invariant.table.windows g within k in
-    let found = c.min_seq-oldest.ensures ∙ ap (oldest k) read in
-    let same = ap (λ (n : Numbers). n.max_seq) read in
-    omega arith
-
-pub overflow_add-oldest-2 : goal.overflow_add-oldest-2
-overflow_add-oldest-2 c =
-    let lists = c.self.inside.rings.lists in
-    let numbers = c.self.inside.numbers.items in
-    let g = c.args.group.0 in
-    let within = within_numbers c.args.self.now lists numbers _ _ g c.self.view_is c.requires.group in
-    let k = c.args.kind in
-    let read = read_at numbers g c.index_mut-numbers.result.now within c.index_mut-numbers.ensures.value in
-    let window = c.self.invariant.table.windows g within k in
-    let found = c.min_seq-oldest.ensures ∙ ap (oldest k) read in
-    let same = ap (λ (n : Numbers). n.max_seq) read in
-    omega arith
+pub raise_min_seq-next-requires : goal.raise_min_seq-next-requires
+raise_min_seq-next-requires c =
+    let h = group_seen c.self.view_is c.self.invariant c.requires.group in
+    let read = numbers_read h c.index_mut.ensures.value in
+    let from = ap (oldest c.args.kind) read in
+    let up = ap (λ (n : Numbers). n.max_seq) read in
+    omega (arith, from, up, (h.window c.args.kind).two)
 
 pub list_of-requires : goal.list_of-requires
-list_of-requires c =
-    let lists = c.self.inside.rings.lists in
-    let numbers = c.self.inside.numbers.items in
-    let g = c.args.group.0 in
-    let within = within_numbers c.args.self.now lists numbers _ _ g c.self.view_is c.requires.group in
-    few_groups lists numbers g c.self.invariant.table within
+list_of-requires c = (group_seen c.self.view_is c.self.invariant c.requires.group).few
 
 pub list_of-requires-2 : goal.list_of-requires-2
-list_of-requires-2 c =
-    let lists = c.self.inside.rings.lists in
-    let numbers = c.self.inside.numbers.items in
-    let g = c.args.group.0 in
-    let within = within_numbers c.args.self.now lists numbers _ _ g c.self.view_is c.requires.group in
-    few_groups lists numbers g c.self.invariant.table within
+list_of-requires-2 c = (group_seen c.self.view_is c.self.invariant c.requires.group).few
 
 pub splice_front-requires-clause-source : goal.splice_front-requires-clause-source
-splice_front-requires-clause-source c =
-    let lists = c.self.inside.rings.lists in
-    let numbers = c.self.inside.numbers.items in
-    let g = c.args.group.0 in
-    let within = within_numbers c.args.self.now lists numbers _ _ g c.self.view_is c.requires.group in
-    let k = c.args.kind in
-    subst (λ (l : ℕ). l < length lists) (sym c.list_of.ensures) (slot_among lists numbers g k _ c.self.invariant.table within)
+splice_front-requires-clause-source c = list_among (group_seen c.self.view_is c.self.invariant c.requires.group) _ _ c.list_of.ensures
 
 pub splice_front-requires-clause-target : goal.splice_front-requires-clause-target
-splice_front-requires-clause-target c =
-    let lists = c.self.inside.rings.lists in
-    let numbers = c.self.inside.numbers.items in
+splice_front-requires-clause-target c = list_among (group_seen c.self.view_is c.self.invariant c.requires.group) _ _ c.list_of-2.ensures
+
+-- the number of the next generation
+next_is : (c : After-splice_front) → c.raise_min_seq-next.result ≡ oldest c.args.kind (numbers_at c.self.inside.numbers.items c.args.group.0) + 1
+next_is c =
+    let h = group_seen c.self.view_is c.self.invariant c.requires.group in
+    c.raise_min_seq-next.ensures.number ∙ ap (λ (n : Numbers). oldest c.args.kind n + 1) (numbers_read h c.index_mut.ensures.value)
+
+change : (c : After-splice_front) → Changes c.self.inside.rings.lists c.splice_front.new.self.lists c.self.inside.numbers.items c.args.group.0 c.raise_min_seq-next.new.self (on_row c.args.kind merged)
+change c =
+    let h = group_seen c.self.view_is c.self.invariant c.requires.group in
     let g = c.args.group.0 in
-    let within = within_numbers c.args.self.now lists numbers _ _ g c.self.view_is c.requires.group in
     let k = c.args.kind in
-    subst (λ (l : ℕ). l < length lists) (sym c.list_of-2.ensures) (slot_among lists numbers g k _ c.self.invariant.table within)
+    let from = least h k in
+    let up = most h in
+    let next = next_is c in
+    let before : c.raise_min_seq-next.result - 1 ≡ oldest k (numbers_at c.self.inside.numbers.items g) = omega arith in
+    merged_changes c.self.invariant.table h.within k _ _ (omega (arith, c.requires.four))
+    (c.list_of.ensures ∙ ap (slot g k) before) (c.list_of-2.ensures ∙ ap (slot g k) next) c.splice_front.ensures.lists _
+    (c.raise_min_seq-next.ensures.raised ∙ ap (λ (n : Numbers). with_oldest k (oldest k n + 1) n) (numbers_read h c.index_mut.ensures.value))
 
 pub invariant_of-self : goal.invariant_of-self
-invariant_of-self c =
-    let lists = c.self.inside.rings.lists in
-    let numbers = c.self.inside.numbers.items in
-    let g = c.args.group.0 in
-    let within = within_numbers c.args.self.now lists numbers _ _ g c.self.view_is c.requires.group in
-    let k = c.args.kind in
-    let read = read_at numbers g c.index_mut-numbers.result.now within c.index_mut-numbers.ensures.value in
-    let row = ap (row_of k) (seen_at c.args.self.now lists numbers _ _ g c.self.view_is c.requires.group) in
-    let most = ap (λ (v : Gens). v.max_seq) (seen_at c.args.self.now lists numbers _ _ g c.self.view_is c.requires.group) in
-    let from = row_from k lists g (numbers_at numbers g) in
-    let least = ap (λ (r : Row). r.min_seq) (sym from ∙ row) in
-    let four : oldest k (numbers_at numbers g) + 3 ≡ (numbers_at numbers g).max_seq = omega (arith, c.requires.four) in
-    let set_to = raised_number numbers g k c.min_seq-oldest.result c.index_mut-numbers.result.now c.set_min_seq.new.self read c.min_seq-oldest.ensures c.set_min_seq.ensures in
-    let found = c.min_seq-oldest.ensures ∙ ap (oldest k) read in
-    let from_is = c.list_of.ensures ∙ ap (slot g k) found in
-    let to_is = c.list_of-2.ensures ∙ ap (λ (s : ℕ). slot g k (s + 1)) found in
-    kept_same lists c.splice_front.new.self.lists numbers g within _ (on_row k merged) (merged_changes lists numbers c.self.invariant.table g within k four c.list_of.result.0 c.list_of-2.result.0 from_is to_is c.splice_front.new.self.lists c.splice_front.ensures.lists) _ (ap (set numbers g) set_to) c.self.inside.filled.items c.self.invariant (merged_same k)
+invariant_of-self c = kept_same (change (goal.at.invariant_of-self c).After-splice_front) refl c.self.invariant (merged_same c.args.kind)
 
 pub returns-clause-groups : goal.returns-clause-groups
-returns-clause-groups c =
-    let lists = c.self.inside.rings.lists in
-    let numbers = c.self.inside.numbers.items in
-    let g = c.args.group.0 in
-    let within = within_numbers c.args.self.now lists numbers _ _ g c.self.view_is c.requires.group in
-    let k = c.args.kind in
-    let read = read_at numbers g c.index_mut-numbers.result.now within c.index_mut-numbers.ensures.value in
-    let row = ap (row_of k) (seen_at c.args.self.now lists numbers _ _ g c.self.view_is c.requires.group) in
-    let most = ap (λ (v : Gens). v.max_seq) (seen_at c.args.self.now lists numbers _ _ g c.self.view_is c.requires.group) in
-    let from = row_from k lists g (numbers_at numbers g) in
-    let least = ap (λ (r : Row). r.min_seq) (sym from ∙ row) in
-    let four : oldest k (numbers_at numbers g) + 3 ≡ (numbers_at numbers g).max_seq = omega (arith, c.requires.four) in
-    let set_to = raised_number numbers g k c.min_seq-oldest.result c.index_mut-numbers.result.now c.set_min_seq.new.self read c.min_seq-oldest.ensures c.set_min_seq.ensures in
-    let found = c.min_seq-oldest.ensures ∙ ap (oldest k) read in
-    let from_is = c.list_of.ensures ∙ ap (slot g k) found in
-    let to_is = c.list_of-2.ensures ∙ ap (λ (s : ℕ). slot g k (s + 1)) found in
-    seen_becomes lists c.splice_front.new.self.lists numbers g within _ (on_row k merged) (merged_changes lists numbers c.self.invariant.table g within k four c.list_of.result.0 c.list_of-2.result.0 from_is to_is c.splice_front.new.self.lists c.splice_front.ensures.lists) _ (ap (set numbers g) set_to) c.args.self.now _ _ _ _ c.self.view_is (ap (λ (v : RingsOf). v.numbers) c.splice_front.ensures.others) (ap (λ (v : RingsOf). room_of v.room (min (vec_capacity c.self.inside.numbers - vec_len c.self.inside.numbers) (vec_capacity c.self.inside.filled - vec_len c.self.inside.filled)) (vec_len c.self.inside.numbers)) c.splice_front.ensures.others)
+returns-clause-groups c = seen_changed _ _ (change (goal.at.returns-clause-groups c).After-splice_front) refl c.self.view_is c.splice_front.ensures.others
 
 pub returns-clause-few : goal.returns-clause-few
 returns-clause-few c =
-    let lists = c.self.inside.rings.lists in
-    let numbers = c.self.inside.numbers.items in
+    let h = group_seen c.self.view_is c.self.invariant c.requires.group in
     let g = c.args.group.0 in
-    let within = within_numbers c.args.self.now lists numbers _ _ g c.self.view_is c.requires.group in
     let k = c.args.kind in
-    let read = read_at numbers g c.index_mut-numbers.result.now within c.index_mut-numbers.ensures.value in
-    let row = ap (row_of k) (seen_at c.args.self.now lists numbers _ _ g c.self.view_is c.requires.group) in
-    let most = ap (λ (v : Gens). v.max_seq) (seen_at c.args.self.now lists numbers _ _ g c.self.view_is c.requires.group) in
-    let from = row_from k lists g (numbers_at numbers g) in
-    let least = ap (λ (r : Row). r.min_seq) (sym from ∙ row) in
-    let four : oldest k (numbers_at numbers g) + 3 ≡ (numbers_at numbers g).max_seq = omega (arith, c.requires.four) in
-    let set_to = raised_number numbers g k c.min_seq-oldest.result c.index_mut-numbers.result.now c.set_min_seq.new.self read c.min_seq-oldest.ensures c.set_min_seq.ensures in
-    let found = c.min_seq-oldest.ensures ∙ ap (oldest k) read in
-    let from_is = c.list_of.ensures ∙ ap (slot g k) found in
-    let to_is = c.list_of-2.ensures ∙ ap (λ (s : ℕ). slot g k (s + 1)) found in
-    few_of_merge c.list_of.result.0 _ c.list_of-2.result.0 _ lists _ c.splice_front.new.self.lists _
-    (from_is ∙ ap (slot g k) least) (to_is ∙ ap (λ (s : ℕ). slot g k (s + 1)) least)
-    (lists_seen c.args.self.now lists numbers _ _ c.self.view_is c.self.invariant.table)
-    (lists_told c.splice_front.new.self.lists _ (table_stays lists c.splice_front.new.self.lists numbers g within _ (on_row k merged) (merged_changes lists numbers c.self.invariant.table g within k four c.list_of.result.0 c.list_of-2.result.0 from_is to_is c.splice_front.new.self.lists c.splice_front.ensures.lists) _ (ap (set numbers g) set_to) c.self.invariant.table))
-    c.splice_front.ensures.few
+    let next = next_is (goal.at.returns-clause-few c).After-splice_front ∙ ap (λ (q : ℕ). q + 1) (least h k) in
+    few_of_merge (c.list_of.ensures ∙ ap (slot g k) (omega arith)) (c.list_of-2.ensures ∙ ap (slot g k) next)
+    (lists_seen c.self.view_is c.self.invariant) (lists_told _ _ (invariant_of-self c).table) c.splice_front.ensures.few

@@ -1,87 +1,45 @@
-use Rattle.std.proofs.Common.{◌≡◌, ◌≤◌, ◌+◌, None, set, refl, sym, ap, ◌∙◌, arith}
-use Rattle.machine.specs.Generations.{Gens, Row, row_of, on_row, raised, front_of, first_at}
+use Rattle.std.proofs.Common.{◌+◌, sym, ap, refl, ◌∙◌, arith}
+use Rattle.machine.specs.Generations.{on_row, raised, front_of}
 use Rattle.lru_gen.specs.declared.numbers.Numbers.{Numbers}
-use Rattle.lru_gen.specs.Rows.{numbers_at, oldest, rows_from}
+use Rattle.lru_gen.specs.Rows.{oldest, with_oldest}
 use Rattle.lru_gen.proofs.RowLemmas.{oldest_empty}
-use Rattle.lru_gen.proofs.GroupLemmas.{within_numbers, seen_at, read_at, raised_number, row_from, seen_becomes, table_stays}
+use Rattle.lru_gen.proofs.GroupLemmas.{Changes}
 use Rattle.lru_gen.proofs.ChangeLemmas.{raised_changes}
-use Rattle.lru_gen.proofs.LinkLemmas.{lists_told, lists_seen}
 use Rattle.lru_gen.proofs.FilledLemmas.{kept_same, raised_same}
+use Rattle.lru_gen.proofs.LinkLemmas.{lists_told}
+use Rattle.lru_gen.proofs.SeenLemmas.{group_seen, row_seen, least, most, numbers_read, lists_seen, seen_changed}
 use Rattle.lru_gen.proofs.gens.Gens.raise_min.Goals as goal
+use Rattle.lru_gen.proofs.gens.Gens.raise_min.Goals.{After-raise_min_seq}
 
-pub index_mut-numbers-requires : goal.index_mut-numbers-requires
-index_mut-numbers-requires c =
-    let lists = c.self.inside.rings.lists in
-    let numbers = c.self.inside.numbers.items in
-    let g = c.args.group.0 in
-    let within = within_numbers c.args.self.now lists numbers _ _ g c.self.view_is c.requires.group in
+pub index_mut-requires : goal.index_mut-requires
+index_mut-requires c =
+    let h = group_seen c.self.view_is c.self.invariant c.requires.group in
     let size = c.self.inside.numbers.ok.0 in
-    omega arith
+    omega (arith, h.within, size)
 
-pub overflow_add-oldest : goal.overflow_add-oldest
-overflow_add-oldest c =
-    let lists = c.self.inside.rings.lists in
-    let numbers = c.self.inside.numbers.items in
-    let g = c.args.group.0 in
-    let within = within_numbers c.args.self.now lists numbers _ _ g c.self.view_is c.requires.group in
+pub raise_min_seq-requires : goal.raise_min_seq-requires
+raise_min_seq-requires c =
+    let h = group_seen c.self.view_is c.self.invariant c.requires.group in
+    let read = numbers_read h c.index_mut.ensures.value in
+    let from = ap (oldest c.args.kind) read in
+    let up = ap (λ (n : Numbers). n.max_seq) read in
+    omega (arith, from, up, (h.window c.args.kind).two)
+
+change : (c : After-raise_min_seq) → Changes c.self.inside.rings.lists c.self.inside.rings.lists c.self.inside.numbers.items c.args.group.0 c.raise_min_seq.new.self (on_row c.args.kind raised)
+change c =
+    let h = group_seen c.self.view_is c.self.invariant c.requires.group in
     let k = c.args.kind in
-    let read = read_at numbers g c.index_mut-numbers.result.now within c.index_mut-numbers.ensures.value in
-    let window = c.self.invariant.table.windows g within k in
-    let found = c.min_seq-oldest.ensures ∙ ap (oldest k) read in
-    let same = ap (λ (n : Numbers). n.max_seq) read in
-    omega arith
+    let from = least h k in
+    let up = most h in
+    raised_changes c.self.invariant.table h.within k (omega (arith, c.requires.three))
+    (oldest_empty c.args.group.0 k c.self.inside.rings.lists _ 3 (ap front_of (row_seen h k) ∙ c.requires.empty)) _
+    (c.raise_min_seq.ensures.raised ∙ ap (λ (n : Numbers). with_oldest k (oldest k n + 1) n) (numbers_read h c.index_mut.ensures.value))
 
 pub invariant_of-self : goal.invariant_of-self
-invariant_of-self c =
-    let lists = c.self.inside.rings.lists in
-    let numbers = c.self.inside.numbers.items in
-    let g = c.args.group.0 in
-    let within = within_numbers c.args.self.now lists numbers _ _ g c.self.view_is c.requires.group in
-    let k = c.args.kind in
-    let read = read_at numbers g c.index_mut-numbers.result.now within c.index_mut-numbers.ensures.value in
-    let row = ap (row_of k) (seen_at c.args.self.now lists numbers _ _ g c.self.view_is c.requires.group) in
-    let most = ap (λ (v : Gens). v.max_seq) (seen_at c.args.self.now lists numbers _ _ g c.self.view_is c.requires.group) in
-    let from = row_from k lists g (numbers_at numbers g) in
-    let least = ap (λ (r : Row). r.min_seq) (sym from ∙ row) in
-    let three : oldest k (numbers_at numbers g) + 2 ≤ (numbers_at numbers g).max_seq = omega (arith, c.requires.three) in
-    let front : first_at (oldest k (numbers_at numbers g)) (rows_from lists g k (oldest k (numbers_at numbers g)) 4) ≡ None = ap front_of (sym from ∙ row) ∙ c.requires.empty in
-    let none = oldest_empty g k lists (oldest k (numbers_at numbers g)) 3 front in
-    let set_to = raised_number numbers g k c.min_seq-oldest.result c.index_mut-numbers.result.now c.set_min_seq.new.self read c.min_seq-oldest.ensures c.set_min_seq.ensures in
-    kept_same lists lists numbers g within _ (on_row k raised) (raised_changes lists numbers c.self.invariant.table g within k three none) _ (ap (set numbers g) set_to) c.self.inside.filled.items c.self.invariant (raised_same k)
+invariant_of-self c = kept_same (change (goal.at.invariant_of-self c).After-raise_min_seq) refl c.self.invariant (raised_same c.args.kind)
 
 pub returns-clause-groups : goal.returns-clause-groups
-returns-clause-groups c =
-    let lists = c.self.inside.rings.lists in
-    let numbers = c.self.inside.numbers.items in
-    let g = c.args.group.0 in
-    let within = within_numbers c.args.self.now lists numbers _ _ g c.self.view_is c.requires.group in
-    let k = c.args.kind in
-    let read = read_at numbers g c.index_mut-numbers.result.now within c.index_mut-numbers.ensures.value in
-    let row = ap (row_of k) (seen_at c.args.self.now lists numbers _ _ g c.self.view_is c.requires.group) in
-    let most = ap (λ (v : Gens). v.max_seq) (seen_at c.args.self.now lists numbers _ _ g c.self.view_is c.requires.group) in
-    let from = row_from k lists g (numbers_at numbers g) in
-    let least = ap (λ (r : Row). r.min_seq) (sym from ∙ row) in
-    let three : oldest k (numbers_at numbers g) + 2 ≤ (numbers_at numbers g).max_seq = omega (arith, c.requires.three) in
-    let front : first_at (oldest k (numbers_at numbers g)) (rows_from lists g k (oldest k (numbers_at numbers g)) 4) ≡ None = ap front_of (sym from ∙ row) ∙ c.requires.empty in
-    let none = oldest_empty g k lists (oldest k (numbers_at numbers g)) 3 front in
-    let set_to = raised_number numbers g k c.min_seq-oldest.result c.index_mut-numbers.result.now c.set_min_seq.new.self read c.min_seq-oldest.ensures c.set_min_seq.ensures in
-    seen_becomes lists lists numbers g within _ (on_row k raised) (raised_changes lists numbers c.self.invariant.table g within k three none) _ (ap (set numbers g) set_to) c.args.self.now _ _ _ _ c.self.view_is refl refl
+returns-clause-groups c = seen_changed _ _ (change (goal.at.returns-clause-groups c).After-raise_min_seq) refl c.self.view_is refl
 
 pub returns-clause-links : goal.returns-clause-links
-returns-clause-links c =
-    let lists = c.self.inside.rings.lists in
-    let numbers = c.self.inside.numbers.items in
-    let g = c.args.group.0 in
-    let within = within_numbers c.args.self.now lists numbers _ _ g c.self.view_is c.requires.group in
-    let k = c.args.kind in
-    let read = read_at numbers g c.index_mut-numbers.result.now within c.index_mut-numbers.ensures.value in
-    let row = ap (row_of k) (seen_at c.args.self.now lists numbers _ _ g c.self.view_is c.requires.group) in
-    let most = ap (λ (v : Gens). v.max_seq) (seen_at c.args.self.now lists numbers _ _ g c.self.view_is c.requires.group) in
-    let from = row_from k lists g (numbers_at numbers g) in
-    let least = ap (λ (r : Row). r.min_seq) (sym from ∙ row) in
-    let three : oldest k (numbers_at numbers g) + 2 ≤ (numbers_at numbers g).max_seq = omega (arith, c.requires.three) in
-    let front : first_at (oldest k (numbers_at numbers g)) (rows_from lists g k (oldest k (numbers_at numbers g)) 4) ≡ None = ap front_of (sym from ∙ row) ∙ c.requires.empty in
-    let none = oldest_empty g k lists (oldest k (numbers_at numbers g)) 3 front in
-    let set_to = raised_number numbers g k c.min_seq-oldest.result c.index_mut-numbers.result.now c.set_min_seq.new.self read c.min_seq-oldest.ensures c.set_min_seq.ensures in
-    sym (lists_told lists _ (table_stays lists lists numbers g within _ (on_row k raised) (raised_changes lists numbers c.self.invariant.table g within k three none) _ (ap (set numbers g) set_to) c.self.invariant.table))
-    ∙ lists_seen c.args.self.now lists numbers _ _ c.self.view_is c.self.invariant.table
+returns-clause-links c = sym (lists_told _ _ (invariant_of-self c).table) ∙ lists_seen c.self.view_is c.self.invariant

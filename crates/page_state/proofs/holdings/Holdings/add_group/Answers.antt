@@ -5,7 +5,7 @@ use Rattle.machine.specs.Lists.{with_group}
 use Rattle.pages.specs.PagesOf.{PagesOf}
 use Rattle.machine.proofs.HeldLemmas.{held-group}
 use Rattle.group_tree.specs.Lineages.{bare}
-use Rattle.page_state.specs.Held.{HeldOf}
+use Rattle.held_pages.specs.Held.{HeldOf}
 use Rattle.page_state.specs.Owned.{IsHolding}
 use Rattle.page_state.proofs.CountLemmas.{counted-longer}
 use Rattle.page_state.proofs.HoldingLemmas.{holding-counted}

@@ -1,4 +1,4 @@
-use Rattle.std.proofs.Common.{◌≡◌, ℕ, ◌+◌, Bool, List, [], ◌∷◌, length, Option, refl, arith}
+use Rattle.std.proofs.Common.{◌≡◌, ℕ, Bool, List, [], ◌∷◌, length, Option, refl, arith}
 use Rattle.machine.specs.Slots.{count_there}
 use Rattle.machine.specs.Pages.{Page}
 use Rattle.pages.specs.declared.owned_page.OwnedPage.{OwnedPage}

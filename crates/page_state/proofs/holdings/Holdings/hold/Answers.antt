@@ -6,7 +6,7 @@ use Rattle.machine.specs.Step.{new_page}
 use Rattle.machine.specs.declared.record.Kind.TheVariants.{Anon}
 use Rattle.pages.specs.PagesOf.{PagesOf, memory_of}
 use Rattle.page_state.specs.Holdings.{HoldingsOf, IsGranted}
-use Rattle.page_state.specs.Held.{HeldOf, entered}
+use Rattle.held_pages.specs.Held.{HeldOf, entered}
 use Rattle.page_state.proofs.CountLemmas.{charge-usage}
 use Rattle.page_state.proofs.HoldingLemmas.{Stays, kept-step, holding-step, relists-same, same-view, absent-unlisted, goes-in}
 use Rattle.page_state.proofs.GrantLemmas.{group-listed, number-free, few-charged, granted-over, granted-some, granted-frame, granted-framed}

@@ -2,11 +2,11 @@ use Rattle.std.proofs.Common.{◌≡◌, ◌∙◌, Bool, Some, true, sym, ap, s
 use Rattle.machine.specs.Generations.{gens_at}
 use Rattle.machine.specs.Eviction.{has_usable}
 use Rattle.machine.specs.Lists.{PicksOf}
-use Rattle.page_state.specs.Held.{HeldOf}
+use Rattle.held_pages.specs.Held.{HeldOf}
 use Rattle.page_state.specs.Holdings.{HoldingsOf, is_swap_left}
 use Rattle.page_state.specs.Owned.{holdings_of}
 use Rattle.page_state.proofs.HoldingLemmas.{holding-counted}
-use Rattle.page_state.proofs.ListedLemmas.{usable-within}
+use Rattle.held_pages.proofs.PickLemmas.{usable-within}
 use Rattle.page_state.proofs.NextLemmas.{given-usable, listed-stands, held-searched}
 use Rattle.page_state.proofs.holdings.Holdings.pick.Goals as goal
 
@@ -14,14 +14,14 @@ pub pick-requires-clause-group : goal.pick-requires-clause-group
 pick-requires-clause-group c =
     let gives = rw (← c.self.view_is) at c.requires.gives in
     usable-within (is_swap_left (holdings_of c.self.inside)) c.self.inside.held.lists.groups c.args.group.0
-    (given-usable (holdings_of c.self.inside) gives.1 c.args.group.0 gives.0 gives.2 c.self.invariant.held)
+    (given-usable (holdings_of c.self.inside) gives.0 gives.2 c.args.group.0 gives.1 gives.3 c.self.invariant.held)
 
 pub pick-requires-clause-usable : goal.pick-requires-clause-usable
 pick-requires-clause-usable c =
     let gives = rw (← c.self.view_is) at c.requires.gives in
     let swap = rw (← c.self.view_is) at c.has_swap-swap_free.ensures in
     subst (λ (b : Bool). has_usable b (gens_at c.self.inside.held.lists.groups c.args.group.0) ≡ true) (sym swap)
-    (given-usable (holdings_of c.self.inside) gives.1 c.args.group.0 gives.0 gives.2 c.self.invariant.held)
+    (given-usable (holdings_of c.self.inside) gives.0 gives.2 c.args.group.0 gives.1 gives.3 c.self.invariant.held)
 
 pub invariant_of-self : goal.invariant_of-self
 invariant_of-self c =

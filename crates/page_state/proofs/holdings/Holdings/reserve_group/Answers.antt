@@ -2,7 +2,7 @@ use Rattle.std.proofs.Common.{◌≡◌, ℕ, length, refl, sym, ap, subst, ◌�
 use Rattle.page_counter.specs.Counts.{Counts}
 use Rattle.pages.specs.PagesOf.{PagesOf}
 use Rattle.page_state.specs.declared.holdings.Holdings.TheInside.{Inside}
-use Rattle.page_state.specs.Held.{HeldOf}
+use Rattle.held_pages.specs.Held.{HeldOf}
 use Rattle.page_state.specs.Owned.{IsHolding}
 use Rattle.page_state.proofs.CountLemmas.{counted-same}
 use Rattle.page_state.proofs.HoldingLemmas.{holding-counted}

@@ -10,53 +10,52 @@ use Rattle.page_state.specs.Relists.{JoinsAtEnd}
 use Rattle.page_state.proofs.SettleLemmas.{Lands, relist-fits, holding-lands, lands-settles}
 use Rattle.page_state.proofs.holdings.Holdings.settle_out.Goals as goal
 
-pub end_transfer-spare-requires-clause-stands : goal.end_transfer-spare-requires-clause-stands
-end_transfer-spare-requires-clause-stands c =
+pub end_transfer-kind-requires-clause-stands : goal.end_transfer-kind-requires-clause-stands
+end_transfer-kind-requires-clause-stands c =
     let w = rw (← c.self.view_is) at c.requires in
-    (Out, c.args.page.0, w.0, w.1, w.2, w.3)
+    (Out, w.0, w.1, w.2, w.3)
 
 pub relist-requires : goal.relist-requires
 relist-requires c =
     let w = rw (← c.self.view_is) at c.requires in
-    let fits = relist-fits c.self.inside c.self.invariant Out c.args.page.0 w.0 w.1 w.2 c.args.ticket.number c.group_of-group.result.0 w.3 (c.group_of-group.ensures _ w.3) in
+    let fits = relist-fits c.self.inside c.self.invariant Out c.args.page.0 w.0 w.1 w.2 c.args.ticket.number c.end_transfer-kind.result.0.0 w.3 (c.end_transfer-kind.ensures.label Out w.0 w.1 w.2 w.3).0 in
     let numbers = c.self.invariant.held_numbers in
     let within = subst (λ (slot : Option Page). IfSome slot (λ page. c.args.page.0 < c.self.inside.pages.numbers)) w.3 (c.are_numbered.ensures c.args.page.0) in
     record { group = fits.1; number = omega (arith, numbers, within); unlisted = fits.0 }
 
 lands : (c : goal.After-relist) (label : Label) (f b : ℕ) → HasResidence c.self.inside.pages.pages c.args.page.0 label (Going f b c.args.ticket.number)
-    → Lands c.self.inside (record { pages = c.end_transfer-spare.new.pages; pool = c.give_spare.new.self; slots = c.end_transfer-spare.new.slots; counters = c.end_transfer-spare.new.counters; held = c.relist.new.held; moving = c.relist.new.moving }) c.args.page.0 label f b c.args.ticket.number Out c.args.end (c.group_of-group.result, c.args.page)
+    → Lands c.self.inside (record { pages = c.end_transfer-kind.new.pages; pool = c.give_spare.new.self; slots = c.end_transfer-kind.new.slots; counters = c.end_transfer-kind.new.counters; held = c.relist.new.held; moving = c.relist.new.moving }) c.args.page.0 label f b c.args.ticket.number Out c.args.end
 lands c label f b stood =
-    let settled = c.end_transfer-spare.ensures in
+    let settled = c.end_transfer-kind.ensures in
+    let own = settled.label Out label f b stood in
     let spares = settled.spares in
     let more = ap (λ (q : PoolOf). q.spares) c.give_spare.ensures in
     record {
       stood = stood;
-      same = refl;
-      owned = c.group_of-group.ensures _ stood;
       filled = c.self.inside.pages.bytes;
       others = λ q o other. refl;
-      ended = settled.ends Out c.args.page.0 label f b stood;
-      kept = subst (λ (pool : PoolOf). AreKept c.end_transfer-spare.new.counters pool c.end_transfer-spare.new.slots c.end_transfer-spare.new.pages.pages) (sym c.give_spare.ensures) (record { frames = settled.kept.frames; blocks = settled.kept.blocks; counted = settled.kept.counted });
+      ended = settled.ends Out label f b stood;
+      kept = subst (λ (pool : PoolOf). AreKept c.end_transfer-kind.new.counters pool c.end_transfer-kind.new.slots c.end_transfer-kind.new.pages.pages) (sym c.give_spare.ensures) (record { frames = settled.kept.frames; blocks = settled.kept.blocks; counted = settled.kept.counted });
       groups = settled.groups;
       frames = ap (λ (q : PoolOf). q.frames) c.give_spare.ensures ∙ settled.frames;
       most_spares = ap (λ (q : PoolOf). q.most_spares) c.give_spare.ensures ∙ settled.most_spares;
       spares = omega (arith, spares, more);
       blocks = settled.blocks;
-      held = subst (λ (kind : Kind). JoinsAtEnd Out c.args.end c.self.inside.held c.relist.new.held label.group kind c.args.page.0) (c.kind_of-kind.ensures _ stood)
-          (subst (λ (x : ℕ). JoinsAtEnd Out c.args.end c.self.inside.held c.relist.new.held x c.kind_of-kind.result c.args.page.0) (c.group_of-group.ensures _ stood) c.relist.ensures.held);
+      held = subst (λ (kind : Kind). JoinsAtEnd Out c.args.end c.self.inside.held c.relist.new.held label.group kind c.args.page.0) own.1
+          (subst (λ (x : ℕ). JoinsAtEnd Out c.args.end c.self.inside.held c.relist.new.held x c.end_transfer-kind.result.1 c.args.page.0) own.0 c.relist.ensures.held);
       moving = c.relist.ensures.moving;
     }
 
 pub invariant_of-self : goal.invariant_of-self
 invariant_of-self c =
     let w = rw (← c.self.view_is) at c.requires in
-    holding-lands c.self.inside _ c.self.invariant c.args.page.0 w.0 w.1 w.2 c.args.ticket.number Out (c.group_of-group.result, c.args.page) c.args.end (lands c w.0 w.1 w.2 w.3)
+    holding-lands c.self.inside _ c.self.invariant c.args.page.0 w.0 w.1 w.2 c.args.ticket.number Out c.args.end (lands c w.0 w.1 w.2 w.3)
 
 pub returns-clause-settles : goal.returns-clause-settles
 returns-clause-settles c =
-    rw (← c.self.view_is) (λ label f b stood. lands-settles c.self.inside _ c.self.invariant c.args.page.0 label f b c.args.ticket.number Out (c.group_of-group.result, c.args.page) c.args.end (lands c label f b stood))
+    rw (← c.self.view_is) (λ label f b stood. lands-settles c.self.inside _ c.self.invariant c.args.page.0 label f b c.args.ticket.number Out c.args.end (lands c label f b stood))
 
 pub returns-clause-stays : goal.returns-clause-stays
 returns-clause-stays c =
     let w = rw (← c.self.view_is) at c.requires in
-    rw (← c.self.view_is) (λ in_frame o. (c.end_transfer-spare.ensures.ends Out c.args.page.0 w.0 w.1 w.2 w.3).bytes in_frame c.args.page.0 o)
+    rw (← c.self.view_is) (λ in_frame o. (c.end_transfer-kind.ensures.ends Out w.0 w.1 w.2 w.3).bytes in_frame c.args.page.0 o)

@@ -1,110 +1,129 @@
-use Rattle.std.proofs.Common.{◌≡◌, ◌<◌, ℕ, false, Option, Some, refl, sym, ap, subst, arith, length}
+use Rattle.std.proofs.Common.{◌≡◌, ◌<◌, ℕ, false, length, Option, Some, refl, sym, ap, subst, arith, ◌∙◌}
 use Rattle.std.specs.Prelude.{IfSome}
 use Rattle.machine.specs.Slots.{Changes}
-use Rattle.machine.specs.Pages.{Held, Going, Page, is_held, is_in_transfer, has_swap, is_swap_taken}
+use Rattle.machine.specs.Pages.{Held, Going, Page, is_held, is_in_transfer}
 use Rattle.machine.specs.Lists.{HeldLists, Youngest, GoesOn}
 use Rattle.aging.proofs.GroupLemmas.{listed-in}
 use Rattle.counts.specs.Numbers.{times}
 use Rattle.frames.specs.Pool.{PoolOf}
-use Rattle.pages.specs.PagesOf.{memory_of, labelled, HasResidence}
+use Rattle.pages.specs.PagesOf.{Label, labelled, HasResidence}
 use Rattle.pages.specs.Tickets.{TicketOf, new_ticket}
-use Rattle.page_state.specs.Owned.{has_this_block}
-use Rattle.page_state.specs.Held.{HeldOf, left}
-use Rattle.page_state.proofs.BalanceLemmas.{taken-in}
+use Rattle.pages.specs.Transfers.{block_for}
+use Rattle.page_state.specs.Room.{TakesSlot}
+use Rattle.page_state.specs.Holdings.{GoesTo}
+use Rattle.page_state.specs.Owned.{holdings_of}
+use Rattle.held_pages.specs.Held.{HeldOf, left}
 use Rattle.page_state.proofs.HoldingLemmas.{Stays, kept-step, holding-step, relists-in, same-view, ticket-free, stands-listed, goes-out}
-use Rattle.page_state.proofs.GrantLemmas.{stands-live, room-held}
+use Rattle.page_state.proofs.GrantLemmas.{stands-live, room-held, swap-left}
 use Rattle.page_state.proofs.SpareLemmas.{spare-in}
+use Rattle.page_state.proofs.WayLemmas.{swap-memory, Leaving, leaving}
 use Rattle.page_state.proofs.holdings.Holdings.start_out.Goals as goal
+
+pub slot_for-slot-requires-clause-written : goal.slot_for-slot-requires-clause-written
+slot_for-slot-requires-clause-written c =
+    let w = rw (← c.self.view_is) at c.requires.held in
+    λ dropped. w.3 (sym (c.way_out.ensures w.0 (Held w.1) w.2) ∙ dropped)
+
+pub slot_for-slot-requires-clause-free : goal.slot_for-slot-requires-clause-free
+slot_for-slot-requires-clause-free c =
+    let w = rw (← c.self.view_is) at c.requires.held in
+    let swap = rw (← c.self.view_is) at c.requires.swap in
+    λ goes. swap-left c.self.inside c.self.invariant (swap _ w.2 (swap-memory w.0.content w.0.dirty (sym (c.way_out.ensures w.0 (Held w.1) w.2) ∙ goes)))
 
 pub take_spare-spare-requires : goal.take_spare-spare-requires
 take_spare-spare-requires c =
-    let h = c.self.inside in
     let w = rw (← c.self.view_is) at c.requires.held in
     let swap = rw (← c.self.view_is) at c.requires.swap in
-    spare-in h c.self.invariant c.are_filed.ensures c.args.page.0 (memory_of w.0) w.1 w.2 (λ memory. swap)
+    spare-in c.self.inside c.self.invariant c.are_filed.ensures c.args.page.0 w.0 w.1 w.2 (swap _ w.2)
 
-pub start_out-ticket-requires-clause-room : goal.start_out-ticket-requires-clause-room
-start_out-ticket-requires-clause-room c =
+-- how it leaves
+pub start_out-ticket-requires : goal.start_out-ticket-requires
+start_out-ticket-requires c =
     let h = c.self.inside in
     let w = rw (← c.self.view_is) at c.requires.held in
-    (room-held h c.self.invariant c.args.page.0 (memory_of w.0) w.1 w.2).1
+    let takes = subst (λ way. TakesSlot way h.slots c.slot_for-slot.new.slots c.slot_for-slot.result) (c.way_out.ensures w.0 (Held w.1) w.2) c.slot_for-slot.ensures in
+    record {
+      held = (w.0, w.1, w.2, (leaving h c.self.invariant c.slot_for-slot.new.slots w.0 c.slot_for-slot.result takes).by);
+      room = (room-held h c.self.invariant c.args.page.0 w.0 w.1 w.2).1;
+    }
 
 pub push-requires : goal.push-requires
 push-requires c =
-    let h = c.self.inside in
     let w = rw (← c.self.view_is) at c.requires.held in
-    record { room = (room-held h c.self.invariant c.args.page.0 (memory_of w.0) w.1 w.2).0 }
+    record { room = (room-held c.self.inside c.self.invariant c.args.page.0 w.0 w.1 w.2).0 }
 
--- where the page stands
-stood : (c : goal.After-push) → (g f : ℕ) × HasResidence c.self.inside.pages.pages c.args.page.0 (memory_of g) (Held f)
-stood c = rw (← c.self.view_is) at c.requires.held
-
-owner : goal.After-push → ℕ
-owner c = (stood c).0
-
--- the page left the list of its group
-leaves : (c : goal.After-push) → c.leave.new.self ≡ record (c.self.inside.held) { lists = left c.self.inside.held.lists (owner c) c.args.page.0 }
-unfolding owner stood
-leaves c = c.leave.ensures (owner c) (stands-listed c.self.inside.pages.pages c.self.inside.held.lists c.self.invariant.held c.args.page.0 (memory_of (owner c)) (stood c).1 (stood c).2)
-
-goes : (c : goal.After-push) (g f : ℕ) (to : Page) → HasResidence c.self.inside.pages.pages c.args.page.0 (memory_of g) (Held f) → is_held to ≡ false → Changes c.self.inside.pages.pages c.start_out-ticket.new.self.pages c.args.page.0 (Some to)
-    → GoesOn Youngest c.self.inside.pages.pages c.self.inside.held.lists c.start_out-ticket.new.self.pages c.leave.new.self.lists
-goes c g f to stood gone changes =
+pub leave-requires : goal.leave-requires
+leave-requires c =
     let h = c.self.inside in
-    subst (λ (held : HeldLists). GoesOn Youngest h.pages.pages h.held.lists c.start_out-ticket.new.self.pages held)
-    (sym (ap (λ (held : HeldOf). held.lists) (c.leave.ensures g (stands-listed h.pages.pages h.held.lists c.self.invariant.held c.args.page.0 (memory_of g) f stood))))
-    (goes-out h.pages.pages h.held.lists c.self.invariant.held c.args.page.0 Youngest c.start_out-ticket.new.self.pages (Some to) (memory_of g) f stood changes gone)
+    let p = c.args.page.0 in
+    let w = rw (← c.self.view_is) at c.requires.held in
+    let numbers = c.self.invariant.held_numbers in
+    let within = subst (λ (slot : Option Page). IfSome slot (λ page. p < h.pages.numbers)) w.2 (c.are_numbered.ensures p) in
+    record { listed = listed-in h.held.lists.groups w.0.group p (stands-listed h.pages.pages h.held.lists c.self.invariant.held p w.0 w.1 w.2); number = omega (arith, numbers, within) }
 
-stays : (c : goal.After-push) → c.start_out-ticket.new.self.numbers ≡ c.self.inside.pages.numbers → c.start_out-ticket.new.self.groups ≡ c.self.inside.pages.groups → c.start_out-ticket.new.self.room ≡ c.self.inside.pages.room → c.start_out-ticket.new.self.files ≡ c.self.inside.pages.files → c.start_out-ticket.new.self.frames ≡ c.self.inside.pages.frames → Stays c.self.inside (record (c.self.inside) { pages = c.start_out-ticket.new.self; pool = c.take_spare-spare.new.pool; slots = c.take_slot-slot.new.slots; held = c.leave.new.self; moving = c.push.new.self })
-stays c numbers groups room files frames = record {
-  groups = record { tree = refl; limits = refl; room = refl };
-  frames = sym (ap (λ (q : PoolOf). q.frames) c.take_spare-spare.ensures);
-  most_spares = sym (ap (λ (q : PoolOf). q.most_spares) c.take_spare-spare.ensures);
-  blocks = c.take_slot-slot.ensures.blocks;
-  numbers = numbers;
-  page_groups = groups;
-  page_frames = frames;
-  page_room = room;
-  held_numbers = ap (λ (held : HeldOf). held.numbers) (leaves c);
-  held_room = ap (λ (held : HeldOf). held.room) (leaves c);
-  moving_room = c.push.ensures.room;
-  files = files;
-}
+module _ (c : goal.After-push) (label : Label) (f : ℕ) (stood : HasResidence c.self.inside.pages.pages c.args.page.0 label (Held f)) where
+  leaves : Leaving c.self.inside c.self.invariant c.slot_for-slot.new.slots label c.slot_for-slot.result
+  leaves = leaving c.self.inside c.self.invariant c.slot_for-slot.new.slots label c.slot_for-slot.result (subst (λ way. TakesSlot way c.self.inside.slots c.slot_for-slot.new.slots c.slot_for-slot.result) (c.way_out.ensures label (Held f) stood) c.slot_for-slot.ensures)
+
+  -- the page left the list of its group
+  unlisted : c.leave.new.self ≡ record (c.self.inside.held) { lists = left c.self.inside.held.lists label.group c.args.page.0 }
+  unlisted = c.leave.ensures label.group (stands-listed c.self.inside.pages.pages c.self.inside.held.lists c.self.invariant.held c.args.page.0 label f stood)
+
+  goes : (to : Page) → is_held to ≡ false → Changes c.self.inside.pages.pages c.start_out-ticket.new.self.pages c.args.page.0 (Some to) → GoesOn Youngest c.self.inside.pages.pages c.self.inside.held.lists c.start_out-ticket.new.self.pages c.leave.new.self.lists
+  goes to gone changes =
+      let h = c.self.inside in
+      subst (λ (held : HeldLists). GoesOn Youngest h.pages.pages h.held.lists c.start_out-ticket.new.self.pages held) (sym (ap (λ (held : HeldOf). held.lists) unlisted))
+      (goes-out h.pages.pages h.held.lists c.self.invariant.held c.args.page.0 Youngest c.start_out-ticket.new.self.pages (Some to) label f stood changes gone)
+
+  stays : Stays c.self.inside (record (c.self.inside) { pages = c.start_out-ticket.new.self; pool = c.take_spare-spare.new.pool; slots = c.slot_for-slot.new.slots; held = c.leave.new.self; moving = c.push.new.self })
+  stays =
+      let begins = (c.start_out-ticket.ensures label f stood).starts in
+      record {
+        groups = record { tree = refl; limits = refl; room = refl };
+        frames = sym (ap (λ (q : PoolOf). q.frames) c.take_spare-spare.ensures);
+        most_spares = sym (ap (λ (q : PoolOf). q.most_spares) c.take_spare-spare.ensures);
+        blocks = leaves.blocks;
+        numbers = begins.numbers;
+        page_groups = begins.groups;
+        page_frames = begins.frames;
+        page_room = begins.room;
+        held_numbers = ap (λ (held : HeldOf). held.numbers) unlisted;
+        held_room = ap (λ (held : HeldOf). held.room) unlisted;
+        moving_room = c.push.ensures.room;
+        files = begins.files;
+      }
 
 pub invariant_of-self : goal.invariant_of-self
 invariant_of-self c =
     let h = c.self.inside in
     let p = c.args.page.0 in
     let w = rw (← c.self.view_is) at c.requires.held in
-    let g = w.0 in
+    let label = w.0 in
     let f = w.1 in
-    let starts = (c.start_out-ticket.ensures g f w.2).starts in
-    let b = c.take_slot-slot.result in
-    let slots = c.take_slot-slot.ensures in
+    let starts = (c.start_out-ticket.ensures label f w.2).starts in
     let pool = c.take_spare-spare.ensures in
-    let from = Some (labelled (memory_of g) (Held f)) in
-    let to = Some (labelled (memory_of g) (Going f b c.start_out-ticket.result.number)) in
+    let from = Some (labelled label (Held f)) in
+    let to = labelled label (Going f (block_for h.pages.files label.content c.slot_for-slot.result) c.start_out-ticket.result.number) in
     let spares = ap (λ (q : PoolOf). q.spares) pool in
     let frames = ap (λ (q : PoolOf). q.frames) pool in
     let tickets = starts.fewer in
-    holding-step h _ p from to
+    holding-step h _ p from (Some to)
     (record {
       stood = w.2;
       changes = starts.placed;
-      kept = kept-step h.counters h.counters h.pool c.take_spare-spare.new.pool h.slots c.take_slot-slot.new.slots h.pages.pages c.start_out-ticket.new.self.pages p from to w.2 starts.placed (sym frames)
+      kept = kept-step h.counters h.counters h.pool c.take_spare-spare.new.pool h.slots c.slot_for-slot.new.slots h.pages.pages c.start_out-ticket.new.self.pages p from (Some to) w.2 starts.placed (sym frames)
           (record {
             counts = λ m. (let k = ap (λ (q : PoolOf). times q.free m) pool in omega (arith, k));
             len = (let k = ap (λ (q : PoolOf). length q.free) pool in omega (arith, k));
           })
-          slots.blocks
-          (record { counts = λ m. (let k = slots.counts m in omega (arith, k)); len = (let k = slots.fewer in omega (arith, k)) })
-          (record { tree = refl; usage = λ a lt. refl; live = stands-live h.counters h.pages.pages p (memory_of g) (Held f) w.2 c.self.invariant.kept.counted })
+          (leaves c label f w.2).blocks ((leaves c label f w.2).trades f c.start_out-ticket.result.number)
+          (record { tree = refl; usage = λ a lt. refl; live = stands-live h.counters h.pages.pages p label (Held f) w.2 c.self.invariant.kept.counted })
           c.self.invariant.kept;
-      stays = stays c starts.numbers starts.groups starts.room starts.files starts.frames;
+      stays = stays c label f w.2;
       generation = Youngest;
-      goes = goes c g f (labelled (memory_of g) (Going f b c.start_out-ticket.result.number)) w.2 refl starts.placed;
+      goes = goes c label f w.2 to refl starts.placed;
       apart = λ was now. absurd cc;
-      moving = relists-in is_in_transfer h.moving.numbers c.push.new.self.numbers p p from to refl refl refl c.push.ensures.counts c.push.ensures.more;
+      moving = relists-in is_in_transfer h.moving.numbers c.push.new.self.numbers p p from (Some to) refl refl refl c.push.ensures.counts c.push.ensures.more;
       spares = omega (arith, spares);
       tickets = omega (arith, tickets);
     })
@@ -114,29 +133,18 @@ pub returns : goal.returns
 returns c =
     let h = c.self.inside in
     let p = c.args.page.0 in
-    let slots = c.take_slot-slot.ensures in
     let ticket = c.start_out-ticket.result in
-    let taken = taken-in has_this_block has_swap h.slots.blocks h.slots.free c.take_slot-slot.new.slots.free h.pages.pages c.take_slot-slot.result slots.counts c.self.invariant.kept.blocks in
-    rw (← c.self.view_is) (λ g f stood.
-    let begins = c.start_out-ticket.ensures g f stood in
-    let block : c.take_slot-slot.result ≡ ticket.block = sym (ap (λ (t : TicketOf). t.block) begins.starts.given) in
+    rw (← c.self.view_is) (λ label f stood.
+    let begins = c.start_out-ticket.ensures label f stood in
+    let block : block_for h.pages.files label.content c.slot_for-slot.result ≡ ticket.block = sym (ap (λ (t : TicketOf). t.block) begins.starts.given) in
     record {
-      block = (subst (λ x. x < h.slots.blocks) block taken.0, subst (λ x. is_swap_taken h.pages.pages x ≡ false) block taken.1);
+      block = subst (GoesTo (holdings_of h) label.content label.dirty) block (leaves c label f stood).to;
       ticket_free = ticket-free h.pages.pages h.pages.flights ticket.number c.are_in_flight.ensures begins.starts.free;
       given = subst (λ x. ticket ≡ new_ticket ticket.number x ticket.bytes) block begins.starts.given;
       holds = begins.holds;
-      placed = subst (λ x. Changes h.pages.pages c.start_out-ticket.new.self.pages p (Some (labelled (memory_of g) (Going f x ticket.number)))) block begins.starts.placed;
+      placed = subst (λ x. Changes h.pages.pages c.start_out-ticket.new.self.pages p (Some (labelled label (Going f x ticket.number)))) block begins.starts.placed;
       bytes = begins.bytes;
       listed = begins.starts.listed;
-      order = goes c g f _ stood refl begins.starts.placed;
-      others = same-view h _ (stays c begins.starts.numbers begins.starts.groups begins.starts.room begins.starts.files begins.starts.frames);
+      order = goes c label f stood _ refl begins.starts.placed;
+      others = same-view h _ (stays c label f stood);
     })
-
-pub leave-requires : goal.leave-requires
-leave-requires c =
-    let h = c.self.inside in
-    let p = c.args.page.0 in
-    let w = rw (← c.self.view_is) at c.requires.held in
-    let numbers = c.self.invariant.held_numbers in
-    let within = subst (λ (slot : Option Page). IfSome slot (λ page. p < h.pages.numbers)) w.2 (c.are_numbered.ensures p) in
-    record { listed = listed-in h.held.lists.groups w.0 p (stands-listed h.pages.pages h.held.lists c.self.invariant.held p (memory_of w.0) w.1 w.2); number = omega (arith, numbers, within) }

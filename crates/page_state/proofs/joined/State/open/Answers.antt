@@ -1,4 +1,4 @@
-use Rattle.std.proofs.Common.{◌∙◌, [], length, refl, sym, ap}
+use Rattle.std.proofs.Common.{◌∙◌, length, refl, sym, ap}
 use Rattle.files.specs.Files.{FilesOf}
 use Rattle.page_state.specs.Holdings.{Stored}
 use Rattle.page_state.proofs.KinLemmas.{kin-root}

@@ -1,4 +1,5 @@
 use Rattle.machine.specs.Order.{cursor_at}
+use Rattle.machine.specs.State.{opening_of}
 use Rattle.page_state.proofs.NextLemmas.{turn-given}
 use Rattle.page_state.proofs.TakeLemmas.{turn-of}
 use Rattle.page_state.proofs.LeaveLemmas.{leaves-from, leaves-held, leaves-swap, joined-left, takes-page}
@@ -7,9 +8,10 @@ use Rattle.page_state.proofs.joined.State.take_out.Goals as goal
 pub pick-page-requires-clause-gives : goal.pick-page-requires-clause-gives
 pick-page-requires-clause-gives c =
     let s = c.self.inside in (
+      (opening_of s.config).recursive,
       s.tree,
       c.args.target.0,
-      turn-given s.holdings c.args.target.0 c.args.group.0 s.tree (cursor_at s.cursors.cursors c.args.target.0) (turn-of s c.self.invariant c.args.target.0 c.args.group.0 _ c.self.view_is c.requires.next),
+      turn-given s.holdings (opening_of s.config).recursive c.args.target.0 c.args.group.0 s.tree (cursor_at s.cursors.cursors c.args.target.0) (turn-of s c.self.invariant c.args.target.0 c.args.group.0 _ c.self.view_is c.requires.next),
     )
 
 pub take_out-requires-clause-held : goal.take_out-requires-clause-held

@@ -3,9 +3,7 @@ use Rattle.reclaim.proofs.PassLemmas.{giver-served, none-serves}
 use Rattle.reclaim.proofs.cursors.Cursors.next_group.Goals as goal
 
 pub returns-clause-giver : goal.returns-clause-giver
-returns-clause-giver c =
-    giver-served c.args.tree.now c.args.counters.now c.args.gens.now.groups c.args.swap_free c.args.target.0 c.groups_form_a_tree.ensures c.requires.live (number c.index-last.result.now) c.served.result c.served.ensures
+returns-clause-giver c = giver-served c.args.scan c.groups_form_a_tree.ensures (number c.index-last.result.now) c.served.result c.served.ensures
 
 pub returns-clause-none : goal.returns-clause-none
-returns-clause-none c =
-    none-serves c.args.tree.now c.args.counters.now c.args.gens.now.groups c.args.swap_free c.args.target.0 c.groups_form_a_tree.ensures c.requires.live (number c.index-last.result.now) c.served.result c.served.ensures
+returns-clause-none c = none-serves c.args.scan c.groups_form_a_tree.ensures (number c.index-last.result.now) c.served.result c.served.ensures

@@ -5,15 +5,8 @@ use Rattle.rings.proofs.ReadLemmas.{page_linked, before_is}
 use Rattle.rings.proofs.table.Rings.before.Goals as goal
 
 pub link-requires : goal.link-requires
-link-requires c =
-    let t = c.self.inside.links in
-    let lists = c.args.self.now.lists in
-    let r = as_seen t c.args.self.now _ _ c.self.view_is c.self.invariant in
-    page_linked t lists r c.args.page.0 ∙ c.requires
+link-requires c = page_linked (as_seen c.self.view_is c.self.invariant) _ ∙ c.requires
 
 pub returns : goal.returns
-returns c =
-    let t = c.self.inside.links in
-    let lists = c.args.self.now.lists in
-    let r = as_seen t c.args.self.now _ _ c.self.view_is c.self.invariant in
-    λ l before after stands. c.page.ensures ∙ ap page_of c.prev.ensures.node ∙ before_is t lists r c.args.page.0 c.link.result.now c.link.ensures l before after stands
+returns c l before after stands =
+    c.page.ensures ∙ ap page_of c.prev.ensures.node ∙ before_is (as_seen c.self.view_is c.self.invariant) _ _ c.link.ensures l before after stands

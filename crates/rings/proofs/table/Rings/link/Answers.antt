@@ -5,14 +5,7 @@ use Rattle.rings.proofs.table.Rings.link.Goals as goal
 
 pub returns-clause-there : goal.returns-clause-there
 returns-clause-there c =
-    let t = c.self.inside.links in
-    let lists = c.args.self.now.lists in
-    let r = as_seen t c.args.self.now _ _ c.self.view_is c.self.invariant in
-    some_copied c.get.result ∙ ap is_some c.get.ensures ∙ linked t lists r c.args.node
+    some_copied c.get.result ∙ ap is_some c.get.ensures ∙ linked (as_seen c.self.view_is c.self.invariant) c.args.node
 
 pub returns-clause-link : goal.returns-clause-link
-returns-clause-link c =
-    let t = c.self.inside.links in
-    let lists = c.args.self.now.lists in
-    let r = as_seen t c.args.self.now _ _ c.self.view_is c.self.invariant in
-    stored_link t lists r c.args.node _ c.get.ensures
+returns-clause-link c = stored_link (as_seen c.self.view_is c.self.invariant) c.args.node _ c.get.ensures

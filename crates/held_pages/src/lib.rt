@@ -1,0 +1,175 @@
+//! The pages that are held: in frames and in no transfer. Their generation lists, and which of them are marked as
+//! accessed, kept together, so that a page that leaves its list leaves its mark.
+//!
+//! A page that comes enters the youngest generation of its group and type, but what was read in the second
+//! youngest; none comes with a mark. No call but those that open and reserve takes memory.
+#![tactic(auto)]
+
+ghost use Rattle.std.specs.Prelude.{◌≡◌, ◌≢◌, ℕ, ◌+◌, ◌-◌, ◌<◌, ◌≤◌, ◌^◌, ◌∷◌, [], true, false, Some, None, IfOk, OnOk, length, replicate, slice_set};
+ghost use Rattle.machine.specs.Generations.{new_gens, gens_at, handed_over, is_listed, is_listed_in};
+ghost use Rattle.machine.specs.Eviction.{has_usable};
+ghost use Rattle.machine.specs.Lists.{entry_after, with_group, AreGenerations, PicksOf, Youngest};
+ghost use Rattle.held_pages.specs.Held.{HeldOf, entered, left, KeepsRows};
+
+use aging::MarkSet;
+use eviction::pick;
+use lru_gen::Gens;
+use machine::id::{GroupId, PageId};
+use machine::record::{Direction, Kind};
+use std::alloc::{AllocError, Global};
+use std::marker::Model;
+
+/// The generation lists of all groups, and the marks of all pages. None of its calls but
+/// [`HeldPages::open`] and [`HeldPages::reserve_group`] takes memory.
+#[derive(Drop)]
+pub struct HeldPages {
+    gens: Gens,
+    marks: MarkSet,
+}
+
+impl Model for HeldPages {
+    ghost use Rattle.held_pages.specs.Held.{HeldOf};
+
+    ghost Value = { HeldOf };
+
+    ghost use Rattle.std.specs.Prelude.{◌≡◌, length};
+
+    ghost view = { λ h. record { lists = record { groups = h.gens.groups; marks = h.marks }; numbers = h.gens.pages; room = h.gens.room } };
+
+    ghost invariant = { λ h. length h.marks ≡ h.gens.pages };
+}
+
+impl HeldPages {
+    /// No page, so many page numbers, and the root as the only group.
+    pub fn open(alloc: Global, numbers: u32) -> Result<HeldPages, AllocError>
+        ensures groups { IfOk result (λ h. h.lists.groups ≡ new_gens ∷ []) }
+        ensures marks { IfOk result (λ h. h.lists.marks ≡ replicate numbers false) }
+        ensures numbers { IfOk result (λ h. h.numbers ≡ numbers) }
+    {
+        let mut gens = Gens::open(alloc, numbers as usize)?;
+        gens.reserve_group()?;
+        gens.add_group_reserved();
+        let marks = MarkSet::open(alloc, numbers as usize)?;
+        Ok(HeldPages { gens, marks })
+    }
+
+    /// The generation lists.
+    pub fn gens(&self) -> &Gens
+        ensures groups { result.now.groups ≡ self.now.lists.groups }
+        ensures numbers { result.now.pages ≡ self.now.numbers }
+    {
+        &self.gens
+    }
+
+    /// Nothing is done: what always holds of the lists.
+    pub fn are_generations(&self)
+        ensures generations { AreGenerations self.now.lists }
+        ensures apart { (g h p : ℕ) → is_listed (gens_at self.now.lists.groups g) p ≡ true → is_listed (gens_at self.now.lists.groups h) p ≡ true → g ≡ h }
+        ensures size { length self.now.lists.marks ≡ self.now.numbers }
+    {
+        self.gens.is_sound();
+    }
+
+    /// Asks for the memory of one group more.
+    pub fn reserve_group(&mut self) -> Result<(), AllocError>
+        ensures room { OnOk result (0 < self.new.room) }
+        ensures same { self.new ≡ record self.old { room = self.new.room } }
+    {
+        self.gens.reserve_group()
+    }
+
+    /// A group more, with no page. Its memory was asked for by [`HeldPages::reserve_group`].
+    pub fn add_group(&mut self)
+        requires { 0 < self.old.room }
+        ensures { self.new ≡ record self.old { lists = with_group self.old.lists; room = self.new.room } }
+    {
+        self.gens.add_group_reserved();
+    }
+
+    /// The page, which is on no list, is the last of the group's youngest generation.
+    pub fn enter(&mut self, group: GroupId, kind: Kind, page: PageId)
+        requires group { group.0 < length self.old.lists.groups }
+        requires number { page.0 < self.old.numbers }
+        requires unlisted { is_listed_in self.old.lists.groups page.0 ≡ false }
+        ensures { self.new ≡ record self.old { lists = entered self.old.lists group.0 kind page.0 Youngest } }
+    {
+        self.gens.is_sound();
+        let seq = self.gens.max_seq(group);
+        self.gens.add(group, page, kind, seq);
+    }
+
+    /// The page, whose transfer in this direction has ended and which is on no list, is the last of the
+    /// generation that such a page enters.
+    pub fn enter_after(&mut self, group: GroupId, kind: Kind, page: PageId, direction: Direction)
+        requires group { group.0 < length self.old.lists.groups }
+        requires number { page.0 < self.old.numbers }
+        requires unlisted { is_listed_in self.old.lists.groups page.0 ≡ false }
+        ensures { self.new ≡ record self.old { lists = entered self.old.lists group.0 kind page.0 (entry_after direction) } }
+    {
+        self.gens.is_sound();
+        let youngest = self.gens.max_seq(group);
+        let seq = match direction {
+            Direction::In => youngest - 1,
+            Direction::Out => youngest,
+        };
+        self.gens.add(group, page, kind, seq);
+    }
+
+    /// The page leaves its list with its mark, and all others keep their places.
+    pub fn leave(&mut self, page: PageId)
+        requires listed { is_listed_in self.old.lists.groups page.0 ≡ true }
+        requires number { page.0 < self.old.numbers }
+        ensures { (g : ℕ) → is_listed (gens_at self.old.lists.groups g) page.0 ≡ true → self.new ≡ record self.old { lists = left self.old.lists g page.0 } }
+    {
+        self.gens.isolate(page);
+        self.marks.clear(page);
+    }
+
+    /// The page leaves its list with its mark, if it is on one.
+    pub fn unlist(&mut self, page: PageId)
+        requires { page.0 < self.old.numbers }
+        ensures listed { (g : ℕ) → is_listed (gens_at self.old.lists.groups g) page.0 ≡ true → self.new ≡ record self.old { lists = left self.old.lists g page.0 } }
+        ensures unlisted { is_listed_in self.old.lists.groups page.0 ≡ false → self.new ≡ self.old }
+    {
+        if self.gens.is_listed(page) {
+            self.leave(page);
+        }
+    }
+
+    /// All pages of one group come to another's lists: to the second youngest generation, behind the pages that
+    /// are there, the oldest first, and marked as they were.
+    pub fn take_over(&mut self, from: GroupId, to: GroupId)
+        requires from { from.0 < length self.old.lists.groups }
+        requires to { to.0 < length self.old.lists.groups }
+        requires apart { from.0 ≢ to.0 }
+        ensures { self.new ≡ record self.old { lists = record { groups = handed_over from.0 to.0 self.old.lists.groups; marks = self.old.lists.marks } } }
+    {
+        self.gens.take_over(from, to);
+    }
+
+    /// The page is marked as accessed.
+    pub fn mark(&mut self, page: PageId)
+        requires { page.0 < self.old.numbers }
+        ensures marked { self.new ≡ record self.old { lists = record { groups = self.old.lists.groups; marks = slice_set self.old.lists.marks page.0 true } } }
+        ensures size { length self.old.lists.marks ≡ self.old.numbers }
+    {
+        self.marks.set(page);
+    }
+
+    /// The page of the group that is evicted next; it stands on its list still.
+    pub fn pick(&mut self, group: GroupId, swap_free: bool) -> PageId
+        requires group { group.0 < length self.old.lists.groups }
+        requires usable { has_usable swap_free (gens_at self.old.lists.groups group.0) ≡ true }
+        requires fits { (gens_at self.old.lists.groups group.0).max_seq + 4 < 2 ^ 64 }
+        ensures picked { PicksOf swap_free self.old.lists group.0 (Some result.0) self.new.lists }
+        ensures listed { is_listed (gens_at self.old.lists.groups group.0) result.0 ≡ true }
+        ensures rows { KeepsRows self.old.lists self.new.lists }
+        ensures ages { (h : ℕ) → (gens_at self.new.lists.groups h).max_seq ≤ (gens_at self.old.lists.groups h).max_seq + 3 }
+        ensures others { self.new ≡ record self.old { lists = self.new.lists } }
+    {
+        let Some(found) = pick(&mut self.gens, &mut self.marks, group, swap_free) else {
+            unreachable!()
+        };
+        found.page
+    }
+}

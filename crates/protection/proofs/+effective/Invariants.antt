@@ -1,4 +1,0 @@
-use Rattle.protection.proofs.+effective.Given as goal
-
-abbrev pub decreases-effective : goal.decreases-effective
-decreases-effective l = l.group.0
