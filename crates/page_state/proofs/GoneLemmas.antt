@@ -12,7 +12,7 @@ use Rattle.machine.specs.Refusals.{first_cause, rmdir_refusal}
 use Rattle.machine.specs.State.{State}
 use Rattle.machine.specs.Step.{regrouped}
 use Rattle.machine.specs.Generations.{handed_over}
-use Rattle.machine.specs.Lists.{HeldLists, Order}
+use Rattle.machine.specs.Lists.{Order}
 use Rattle.machine.proofs.Values.{unlike}
 use Rattle.machine.proofs.TreeLemmas.{under_at-None, under_at-step}
 use Rattle.machine.proofs.RemovedLemmas.{without-other}
@@ -25,7 +25,11 @@ use Rattle.group_tree.proofs.RemovedTables.{kin-removed}
 use Rattle.reclaim.specs.Cursors.{CursorsOf}
 use Rattle.memory_events.specs.Tables.{EventTable}
 use Rattle.page_state.specs.declared.joined.State.TheInside.{Inside}
-use Rattle.page_state.specs.Holdings.{HoldingsOf, HandsUp}
+use Rattle.page_state.specs.Owned.{PartsAgree}
+use Rattle.held_pages.specs.Held.{HeldOf}
+use Rattle.page_counter.specs.Counts.{Counts}
+use Rattle.pages.specs.PagesOf.{PagesOf, byte_in}
+use Rattle.machine.specs.declared.record.Limits.{Limits}
 use Rattle.page_state.specs.States.{StateOf}
 use Rattle.page_state.specs.Changes.{RemovesGroup}
 use Rattle.page_state.specs.Joined.{joined_of, IsJoined}
@@ -94,25 +98,30 @@ none_was : (g parent : ℕ) (slot : Option Page) → option_map (regrouped g par
 none_was g parent None e = refl
 none_was g parent (Some page) e = let wrong : Some (regrouped g parent page) ≡ None = e in cc
 
-module _ (s : Inside) (is : IsJoined s) (g parent : ℕ) (may : MayGo (joined_of s).tables g) (h : HoldingsOf) (hands : HandsUp s.holdings h g parent) (cursors : CursorsOf) (served : cursors.cursors ≡ slice_set s.cursors.cursors g None)
-    (events : EventTable) (counted : events.tree ≡ without_group s.events.tree g) (tree : List Node) (fewer : tree ≡ without_group s.tree g) where
-  pub joined-gone : IsJoined (record s { tree = tree; holdings = h; cursors = cursors; events = events })
+module _ (s : Inside) (is : IsJoined s) (g parent : ℕ) (may : MayGo (joined_of s).tables g) (pages : PagesOf) (counters : Counts) (held : HeldOf) (agree : PartsAgree (record (s.parts) { pages = pages; counters = counters; held = held }))
+    (handed : (p : ℕ) → page_at pages.pages p ≡ option_map (regrouped g parent) (page_at s.parts.pages.pages p)) (others : pages ≡ record (s.parts.pages) { pages = pages.pages; bytes = pages.bytes }) (kin : counters.tree ≡ without_group s.parts.counters.tree g)
+    (cursors : CursorsOf) (served : cursors.cursors ≡ slice_set s.cursors.cursors g None) (events : EventTable) (counted : events.tree ≡ without_group s.events.tree g) (tree : List Node) (fewer : tree ≡ without_group s.tree g) where
+  abbrev after : Inside
+  after = record s { tree = tree; parts = record (s.parts) { pages = pages; counters = counters; held = held }; cursors = cursors; events = events }
+
+  pub joined-gone : IsJoined after
   joined-gone =
       record {
         sized = is.sized;
-        frames = ap (λ (x : HoldingsOf). x.frames) hands.others ∙ is.frames;
-        swap = ap (λ (x : HoldingsOf). x.swap) hands.others ∙ is.swap;
-        files = ap (λ (x : HoldingsOf). x.files) hands.others ∙ is.files;
-        numbers = is.numbers ∙ sym (ap (λ (x : HoldingsOf). x.numbers) hands.others);
-        page_numbers = ap (λ (x : HoldingsOf). x.numbers) hands.others ∙ is.page_numbers;
-        held_kin = subst (λ (k : List Node). AreKin k tree) (sym (ap (λ (x : HoldingsOf). x.kin) hands.others)) (subst (AreKin (without_group s.holdings.kin g)) (sym fewer) (kin-removed s.holdings.kin s.tree g is.held_kin));
+        agree = agree;
+        frames = is.frames;
+        swap = is.swap;
+        files = ap (λ (t : PagesOf). t.files.sizes) others ∙ is.files;
+        numbers = is.numbers ∙ sym (ap (λ (t : PagesOf). t.numbers) others);
+        page_numbers = ap (λ (t : PagesOf). t.numbers) others ∙ is.page_numbers;
+        held_kin = subst (λ (k : List Node). AreKin k tree) (sym kin) (subst (AreKin (without_group s.parts.counters.tree g)) (sym fewer) (kin-removed s.parts.counters.tree s.tree g is.held_kin));
         counted_kin = subst (λ (k : List Node). AreKin k tree) (sym counted) (subst (AreKin (without_group s.events.tree g)) (sym fewer) (kin-removed s.events.tree s.tree g is.counted_kin));
-        mapped = mapped-fits h.stored.pages s.spaces.page_tables
+        mapped = mapped-fits pages.pages s.spaces.page_tables
             (λ p.
             record {
-              none = λ gone. is.mapped.there p (none_was g parent (page_at s.holdings.stored.pages p) (sym (hands.pages p) ∙ gone));
-              least = (let least = is.mapped.least p in let same = ap is_settled (hands.pages p) ∙ settled_same g parent (page_at s.holdings.stored.pages p) in omega (arith, least, same));
-              cached = λ e. file_unmapped s.holdings.stored.pages s.spaces.page_tables is.mapped p (sym (ap is_cached (hands.pages p) ∙ cached_same g parent (page_at s.holdings.stored.pages p)) ∙ e);
+              none = λ gone. is.mapped.there p (none_was g parent (page_at s.parts.pages.pages p) (sym (handed p) ∙ gone));
+              least = (let least = is.mapped.least p in let same = ap is_settled (handed p) ∙ settled_same g parent (page_at s.parts.pages.pages p) in omega (arith, least, same));
+              cached = λ e. file_unmapped s.parts.pages.pages s.spaces.page_tables is.mapped p (sym (ap is_cached (handed p) ∙ cached_same g parent (page_at s.parts.pages.pages p)) ∙ e);
             });
         homes = λ t alive. ap (λ (ns : List Node). is_live ns (group_of_task s.spaces.tasks t)) fewer
             ∙ ap (λ (n : Node). n.live) (without-other s.tree g (group_of_task s.spaces.tasks t) (elsewhere s.spaces.tasks g t may.taskless alive)) ∙ is.homes t alive;
@@ -120,18 +129,19 @@ module _ (s : Inside) (is : IsJoined s) (g parent : ℕ) (may : MayGo (joined_of
         populated = is.populated ∙ sym (ap length fewer ∙ length-set s.tree g _);
       }
 
-  pub removes-group : (node_at s.tree g).parent ≡ Some parent → events.counted ≡ s.events.counted → RemovesGroup (joined_of s) (joined_of (record s { tree = tree; holdings = h; cursors = cursors; events = events })) g
-  removes-group below same =
+  pub removes-group : (node_at s.tree g).parent ≡ Some parent → counters.limits ≡ s.parts.counters.limits → ((q o : ℕ) → byte_in pages.bytes q o ≡ byte_in s.parts.pages.bytes q o)
+      → held ≡ record (s.parts.held) { lists = record { groups = handed_over g parent s.parts.held.lists.groups; marks = s.parts.held.lists.marks } } → events.counted ≡ s.events.counted → RemovesGroup (joined_of s) (joined_of after) g
+  removes-group below limits bytes takes same =
       let old : StateOf = joined_of s in
       record {
         parent = parent;
         below = below;
-        pages = hands.pages;
-        tables = ap (λ (t : List Node). record (old.tables) { tree = t; limits = h.limits; pages = h.stored.pages; counted = events.counted }) fewer
-            ∙ ap (λ (x : HoldingsOf). record (old.tables) { tree = without_group s.tree g; limits = x.limits; pages = h.stored.pages; counted = events.counted }) hands.others
-            ∙ ap (λ (cs : List EventCounts). record (old.tables) { tree = without_group s.tree g; limits = s.holdings.limits; pages = h.stored.pages; counted = cs }) same;
-        order = ap (λ (held : HeldLists). let o : Order = record { held = held; cursors = cursors.cursors } in o) hands.held
-            ∙ ap (λ (cs : List (Option ℕ)). let o : Order = record { held = record { groups = handed_over g parent s.holdings.held.groups; marks = s.holdings.held.marks }; cursors = cs } in o) served;
-        bytes = hands.bytes;
-        flights = hands.flights;
+        pages = handed;
+        tables = ap (λ (t : List Node). record (old.tables) { tree = t; limits = counters.limits; pages = pages.pages; counted = events.counted }) fewer
+            ∙ ap (λ (ls : List Limits). record (old.tables) { tree = without_group s.tree g; limits = ls; pages = pages.pages; counted = events.counted }) limits
+            ∙ ap (λ (cs : List EventCounts). record (old.tables) { tree = without_group s.tree g; limits = s.parts.counters.limits; pages = pages.pages; counted = cs }) same;
+        order = ap (λ (x : HeldOf). let o : Order = record { held = x.lists; cursors = cursors.cursors } in o) takes
+            ∙ ap (λ (cs : List (Option ℕ)). let o : Order = record { held = record { groups = handed_over g parent s.parts.held.lists.groups; marks = s.parts.held.lists.marks }; cursors = cs } in o) served;
+        bytes = bytes;
+        flights = ap (λ (t : PagesOf). t.flights) others;
       }

@@ -7,23 +7,22 @@ use Rattle.machine.specs.Pages.{Residence, Held, Pages, has_frame, has_this_fram
 use Rattle.machine.proofs.SlotLemmas.{count_there-some}
 use Rattle.group_tree.specs.Lineages.{IsLineage}
 use Rattle.group_tree.proofs.LineageLemmas.{live-within}
-use Rattle.files.specs.Files.{FilesOf}
 use Rattle.frames.specs.Pool.{PoolOf}
 use Rattle.page_counter.specs.Counts.{Counts, usage_of, over_in}
 use Rattle.pages.specs.PagesOf.{Label, HasResidence, pages_there, AreFiled}
-use Rattle.page_state.specs.declared.holdings.Holdings.TheInside.{Inside}
+use Rattle.page_state.specs.declared.parts.Parts.{Parts}
 use Rattle.page_state.specs.Room.{TakesRoom}
-use Rattle.page_state.specs.Holdings.{over_of, IsGranted}
-use Rattle.page_state.specs.Owned.{holdings_of, IsHolding, IsCounted}
+use Rattle.page_state.specs.Parts.{over_of, IsGranted}
+use Rattle.page_state.specs.Owned.{PartsAgree, IsCounted}
 use Rattle.page_state.proofs.BalanceLemmas.{taken-in}
 use Rattle.page_state.proofs.CountLemmas.{root-small, over-counted}
-use Rattle.page_state.proofs.HoldingLemmas.{there-owned, used-split}
+use Rattle.page_state.proofs.PartsLemmas.{there-owned, used-split}
 
 -- the group of a page is there
 pub stands-live : (c : Counts) (pages : Pages) (p : ℕ) (label : Label) (r : Residence) → HasResidence pages p label r → IsCounted c pages → is_live c.tree label.group ≡ true
 stands-live c pages p label r stood counted = subst (λ slot. IfSome slot (λ page. is_live c.tree page.group ≡ true)) stood (counted.live p)
 
-module _ (h : Inside) (is : IsHolding h) where
+module _ (h : Parts) (is : PartsAgree h) where
   -- where a frame is free, a page more may come to be in transfer
   pub room-free : 0 < length h.pool.free → (length h.moving.numbers < h.moving.room) × (0 < h.pages.tickets)
   room-free some =
@@ -54,10 +53,6 @@ module _ (h : Inside) (is : IsHolding h) where
       let one = count_there-some is_held h.pages.pages p (ap (there_and is_held) stood) in
       (omega arith, omega arith)
 
-  -- the home blocks stand behind the swap blocks
-  pub files-same : h.pages.files ≡ record { first = (holdings_of h).swap; sizes = (holdings_of h).files }
-  files-same = ap (λ (first : ℕ). let files : FilesOf = record { first = first; sizes = h.pages.files.sizes } in files) is.homes
-
   -- where a swap block is left, a slot is free
   pub swap-left : used_swap h.pages.pages < h.slots.blocks → 0 < length h.slots.free
   swap-left left = let all = is.kept.blocks.all in omega (arith, left, all)
@@ -70,17 +65,17 @@ module _ (h : Inside) (is : IsHolding h) where
   pub few-charged : IsLineage h.counters.tree → usage_of h.counters 0 < 18446744073709551615
   few-charged lineage = root-small h.counters h.pages.pages h.pool.frames (length h.pool.free) lineage is.kept.counted is.kept.frames.all is.few
 
-  pub over-granted : (g : ℕ) (o : Option ℕ) → IsLineage h.counters.tree → is_live h.counters.tree g ≡ true → over_in h.counters g ≡ o → over_of (holdings_of h) g ≡ o
+  pub over-granted : (g : ℕ) (o : Option ℕ) → IsLineage h.counters.tree → is_live h.counters.tree g ≡ true → over_in h.counters g ≡ o → over_of h g ≡ o
   over-granted g o lineage live over = over-counted h.counters h.pages.pages g lineage is.kept.counted live ∙ over
 
   pub none-free : length h.pool.free ≡ 0 → used_frames h.pages.pages ≡ h.pool.frames
   none-free none = let all = is.kept.frames.all in omega (arith, all, none)
 
   -- where a charge is granted, no max is in its way and a frame is free
-  pub granted-over : (g : ℕ) → IsLineage h.counters.tree → is_live h.counters.tree g ≡ true → IsGranted (holdings_of h) g → over_in h.counters g ≡ None
+  pub granted-over : (g : ℕ) → IsLineage h.counters.tree → is_live h.counters.tree g ≡ true → IsGranted h g → over_in h.counters g ≡ None
   granted-over g lineage live granted = sym (over-counted h.counters h.pages.pages g lineage is.kept.counted live) ∙ granted.under
 
-  pub granted-some : (g : ℕ) → IsGranted (holdings_of h) g → 0 < length h.pool.free
+  pub granted-some : (g : ℕ) → IsGranted h g → 0 < length h.pool.free
   granted-some g granted = let all = is.kept.frames.all in let free = granted.free in omega (arith, all, free)
 
   module _ (counters' : Counts) (pool' : PoolOf) (g f charge : ℕ) (room : TakesRoom h.counters counters' h.pool pool' g f charge) where

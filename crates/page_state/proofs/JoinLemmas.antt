@@ -4,7 +4,7 @@ use Rattle.std.specs.Prelude.{nat_lt}
 use Rattle.machine.specs.Tree.{Node, is_live, find_group}
 use Rattle.machine.specs.Names.{parent_path}
 use Rattle.machine.specs.Pages.{Pages, used_frames, charged}
-use Rattle.machine.specs.State.{over_in}
+use Rattle.machine.specs.State.{over_in, is_frame_free}
 use Rattle.std.proofs.lemmas.Bool.Decides.{nat_tests}
 use Rattle.std.proofs.lemmas.List.{length-append}
 use Rattle.machine.specs.Tasks.{lives, group_of_task}
@@ -18,46 +18,49 @@ use Rattle.memory_events.specs.Tables.{EventTable}
 use Rattle.reclaim.specs.Cursors.{CursorsOf}
 use Rattle.spaces.specs.Space.{Space}
 use Rattle.page_state.specs.declared.joined.State.TheInside.{Inside}
-use Rattle.page_state.specs.declared.room.NoRoom.{NoRoom}
-use Rattle.page_state.specs.declared.room.NoRoom.TheVariants as lacks
-use Rattle.page_state.specs.Holdings.{HoldingsOf, Stored, with_lists, over_of, IsGranted, Lacks}
-use Rattle.page_state.specs.Changes.{files_of, HasRoom, LacksRoom}
+use Rattle.page_state.specs.declared.parts.Parts.{Parts}
+use Rattle.page_state.specs.Parts.{Stays, over_of, IsGranted}
+use Rattle.page_state.specs.Owned.{PartsAgree}
+use Rattle.page_state.specs.States.{StateOf}
+use Rattle.page_state.specs.Changes.{files_of, HasRoom}
 use Rattle.page_state.specs.Joined.{joined_of, IsJoined}
 use Rattle.page_state.specs.Mapped.{AreMapped}
 use Rattle.page_state.proofs.KinLemmas.{kin-push, live-push, kin-over, over-live}
 
 -- the files are those of the opening
-pub files-opened : (s : Inside) → IsJoined s → record { first = s.holdings.swap; sizes = s.holdings.files } ≡ files_of (joined_of s).tables.opening
+pub files-opened : (s : Inside) → IsJoined s → s.parts.pages.files ≡ files_of (joined_of s).tables.opening
 files-opened s is =
-    ap (λ (n : ℕ). let files : FilesOf = record { first = n; sizes = s.holdings.files } in files) is.swap ∙ ap (λ (sizes : List ℕ). let files : FilesOf = record { first = s.config.swap; sizes = sizes } in files) is.files
+    ap (λ (n : ℕ). let files : FilesOf = record { first = n; sizes = s.parts.pages.files.sizes } in files) (is.agree.homes ∙ is.swap) ∙ ap (λ (sizes : List ℕ). let files : FilesOf = record { first = s.config.swap; sizes = sizes } in files) is.files
 
 -- pages changed, and what shows them with them; the cursors of as many groups, and no group
-pub joined-pages : (s : Inside) → IsJoined s → (h : HoldingsOf) (cursors : CursorsOf) (spaces : Space) → h ≡ with_lists s.holdings h.stored h.held
-    → AreMapped h.stored.pages spaces.page_tables → spaces.numbers ≡ s.spaces.numbers → spaces.groups ≡ s.spaces.groups → ((t : ℕ) → lives spaces.tasks t ≡ true → is_live s.tree (group_of_task spaces.tasks t) ≡ true)
+pub joined-pages : (s : Inside) → IsJoined s → (h : Parts) (cursors : CursorsOf) (spaces : Space) → PartsAgree h → Stays s.parts h
+    → AreMapped h.pages.pages spaces.page_tables → spaces.numbers ≡ s.spaces.numbers → spaces.groups ≡ s.spaces.groups → ((t : ℕ) → lives spaces.tasks t ≡ true → is_live s.tree (group_of_task spaces.tasks t) ≡ true)
     → length cursors.cursors ≡ length s.cursors.cursors
-    → IsJoined (record s { holdings = h; cursors = cursors; spaces = spaces })
-joined-pages s is h cursors spaces same mapped numbers groups homes numbered =
+    → IsJoined (record s { parts = h; cursors = cursors; spaces = spaces })
+joined-pages s is h cursors spaces agree stays mapped numbers groups homes numbered =
     record {
       sized = is.sized;
-      frames = ap (λ (h : HoldingsOf). h.frames) same ∙ is.frames;
-      swap = ap (λ (h : HoldingsOf). h.swap) same ∙ is.swap;
-      files = ap (λ (h : HoldingsOf). h.files) same ∙ is.files;
-      held_kin = subst (λ (k : List Node). AreKin k s.tree) (sym (ap (λ (h : HoldingsOf). h.kin) same)) is.held_kin;
+      agree = agree;
+      frames = stays.frames ∙ is.frames;
+      swap = stays.blocks ∙ is.swap;
+      files = ap (λ (files : FilesOf). files.sizes) stays.files ∙ is.files;
+      held_kin = subst (λ (k : List Node). AreKin k s.tree) (sym stays.groups.tree) is.held_kin;
       counted_kin = is.counted_kin;
       mapped = mapped;
-      numbers = numbers ∙ is.numbers ∙ sym (ap (λ (h : HoldingsOf). h.numbers) same);
+      numbers = numbers ∙ is.numbers ∙ sym stays.numbers;
       homes = homes;
-      page_numbers = ap (λ (h : HoldingsOf). h.numbers) same ∙ is.page_numbers;
+      page_numbers = stays.numbers ∙ is.page_numbers;
       cursors = numbered ∙ is.cursors;
       populated = groups ∙ is.populated;
     }
 
 -- tasks began or ended, and what they map is what was mapped
-pub joined-tasks : (s : Inside) → IsJoined s → (spaces : Space) → AreMapped s.holdings.stored.pages spaces.page_tables → spaces.numbers ≡ s.spaces.numbers → spaces.groups ≡ s.spaces.groups
+pub joined-tasks : (s : Inside) → IsJoined s → (spaces : Space) → AreMapped s.parts.pages.pages spaces.page_tables → spaces.numbers ≡ s.spaces.numbers → spaces.groups ≡ s.spaces.groups
     → ((t : ℕ) → lives spaces.tasks t ≡ true → is_live s.tree (group_of_task spaces.tasks t) ≡ true) → IsJoined (record s { spaces = spaces })
 joined-tasks s is spaces mapped numbers groups homes =
     record {
       sized = is.sized;
+      agree = is.agree;
       frames = is.frames;
       swap = is.swap;
       files = is.files;
@@ -73,21 +76,22 @@ joined-tasks s is spaces mapped numbers groups homes =
 
 -- a group more, below one that is there
 pub joined-group : (s : Inside) → IsJoined s → (path : List ℕ) (parent : ℕ) → find_group s.tree (parent_path path) ≡ Some parent
-    → (tree : List Node) (h : HoldingsOf) (cursors : CursorsOf) (events : EventTable) (room : ℕ) → tree ≡ s.tree ++ new_node s.tree path ∷ []
-    → h.kin ≡ s.holdings.kin ++ bare (Some parent) ∷ [] → events.tree ≡ s.events.tree ++ bare (Some parent) ∷ []
-    → h.stored ≡ s.holdings.stored → h.frames ≡ s.holdings.frames → h.swap ≡ s.holdings.swap → h.numbers ≡ s.holdings.numbers → h.files ≡ s.holdings.files
-    → cursors.cursors ≡ s.cursors.cursors ++ None ∷ [] → IsJoined (record s { tree = tree; holdings = h; cursors = cursors; events = events; spaces = record (s.spaces) { groups = s.spaces.groups + 1; room = room } })
-joined-group s is path parent found tree h cursors events room more kin counted stored frames swap numbers files numbered =
+    → (tree : List Node) (h : Parts) (cursors : CursorsOf) (events : EventTable) (room : ℕ) → tree ≡ s.tree ++ new_node s.tree path ∷ []
+    → PartsAgree h → h.counters.tree ≡ s.parts.counters.tree ++ bare (Some parent) ∷ [] → events.tree ≡ s.events.tree ++ bare (Some parent) ∷ []
+    → h.pages.pages ≡ s.parts.pages.pages → h.pool.frames ≡ s.parts.pool.frames → h.slots.blocks ≡ s.parts.slots.blocks → h.pages.numbers ≡ s.parts.pages.numbers → h.pages.files ≡ s.parts.pages.files
+    → cursors.cursors ≡ s.cursors.cursors ++ None ∷ [] → IsJoined (record s { tree = tree; parts = h; cursors = cursors; events = events; spaces = record (s.spaces) { groups = s.spaces.groups + 1; room = room } })
+joined-group s is path parent found tree h cursors events room more agree kin counted pages frames swap numbers files numbered =
     record {
       sized = is.sized;
+      agree = agree;
       frames = frames ∙ is.frames;
       swap = swap ∙ is.swap;
-      files = files ∙ is.files;
+      files = ap (λ (files : FilesOf). files.sizes) files ∙ is.files;
       numbers = is.numbers ∙ sym numbers;
       page_numbers = numbers ∙ is.page_numbers;
-      held_kin = rw (kin, more) (kin-push s.holdings.kin s.tree parent (new_node s.tree path) is.held_kin found refl);
+      held_kin = rw (kin, more) (kin-push s.parts.counters.tree s.tree parent (new_node s.tree path) is.held_kin found refl);
       counted_kin = rw (counted, more) (kin-push s.events.tree s.tree parent (new_node s.tree path) is.counted_kin found refl);
-      mapped = subst (λ (ps : Pages). AreMapped ps s.spaces.page_tables) (sym (ap (λ (st : Stored). st.pages) stored)) is.mapped;
+      mapped = subst (λ (ps : Pages). AreMapped ps s.spaces.page_tables) (sym pages) is.mapped;
       homes = λ t alive. rw more (live-push s.tree (new_node s.tree path) (group_of_task s.spaces.tasks t) (is.homes t alive));
       cursors = rw more (cursors-push s.tree (new_node s.tree path) s.cursors.cursors cursors.cursors is.cursors numbered);
       populated = rw more (let sized = is.populated in let longer = length-append s.tree (new_node s.tree path ∷ []) in omega (arith, sized, longer));
@@ -109,19 +113,31 @@ free-less : (used frames config : ℕ) → nat_lt used config ≡ true → frame
 free-less used frames config free same = grind (arith, nat_tests, free, same)
 
 module _ (s : Inside) (is : IsJoined s) (g : ℕ) where
-  same_over : over_in (joined_of s).tables g ≡ over_of s.holdings g
-  same_over = sym (kin-over s.holdings.kin s.tree is.held_kin s.holdings.limits s.holdings.stored.pages g)
+  same_over : over_in (joined_of s).tables g ≡ over_of s.parts g
+  same_over = sym (kin-over s.parts.counters.tree s.tree is.held_kin s.parts.counters.limits s.parts.pages.pages g)
 
   -- what is granted in the holdings has room in the tables
-  pub room-granted : IsGranted s.holdings g → HasRoom (joined_of s).tables g
-  room-granted granted = record { under = same_over ∙ granted.under; free = free-true (used_frames s.holdings.stored.pages) s.holdings.frames s.config.frames granted.free is.frames }
+  pub room-granted : IsGranted s.parts g → HasRoom (joined_of s).tables g
+  room-granted granted = record { under = same_over ∙ granted.under; free = free-true (used_frames s.parts.pages.pages) s.parts.pool.frames s.config.frames granted.free is.frames }
 
-  pub granted-room : HasRoom (joined_of s).tables g → IsGranted s.holdings g
-  granted-room room = record { under = sym same_over ∙ room.under; free = free-less (used_frames s.holdings.stored.pages) s.holdings.frames s.config.frames room.free is.frames }
+  pub granted-room : HasRoom (joined_of s).tables g → IsGranted s.parts g
+  granted-room room = record { under = sym same_over ∙ room.under; free = free-less (used_frames s.parts.pages.pages) s.parts.pool.frames s.config.frames room.free is.frames }
 
-  pub room-lacking : IsLineage s.holdings.kin → is_live s.tree g ≡ true → (why : NoRoom) → Lacks s.holdings g why → LacksRoom (joined_of s).tables g why
-  room-lacking lineage live (lacks.Over a) over = (
+  -- no room for it in the lowest group from there up, which is a live one
+  pub room-over : (a : ℕ) → IsLineage s.parts.counters.tree → is_live s.tree g ≡ true → over_of s.parts g ≡ Some a → (over_in (joined_of s).tables g ≡ Some a) × (is_live s.tree a ≡ true)
+  room-over a lineage live over = (
     same_over ∙ over,
-    sym (is.held_kin.living a.0) ∙ over-live s.holdings.kin lineage s.holdings.limits (charged s.holdings.kin s.holdings.stored.pages) a.0 g (is.held_kin.living g ∙ live) over,
+    sym (is.held_kin.living a) ∙ over-live s.parts.counters.tree lineage s.parts.counters.limits (charged s.parts.counters.tree s.parts.pages.pages) a g (is.held_kin.living g ∙ live) over,
   )
-  room-lacking lineage live lacks.NoFrame full = (same_over ∙ full.0, free-false (used_frames s.holdings.stored.pages) s.holdings.frames s.config.frames full.1 is.frames)
+
+  -- or no frame
+  pub room-full : over_of s.parts g ≡ None → used_frames s.parts.pages.pages ≡ s.parts.pool.frames → (over_in (joined_of s).tables g ≡ None) × (is_frame_free (joined_of s).tables ≡ false)
+  room-full over full = (same_over ∙ over, free-false (used_frames s.parts.pages.pages) s.parts.pool.frames s.config.frames full is.frames)
+
+-- what a caller sees of a group is so in the parts
+module _ (s : Inside) (is : IsJoined s) (seen : StateOf) (same : joined_of s ≡ seen) (g : ℕ) where
+  pub seen-live : is_live seen.tables.tree g ≡ true → is_live s.parts.counters.tree g ≡ true
+  seen-live live = is.held_kin.living g ∙ subst (λ (v : StateOf). is_live v.tables.tree g ≡ true) (sym same) live
+
+  pub seen-granted : HasRoom seen.tables g → IsGranted s.parts g
+  seen-granted room = granted-room s is g (subst (λ (v : StateOf). HasRoom v.tables g) (sym same) room)

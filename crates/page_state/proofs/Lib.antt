@@ -2,7 +2,7 @@ pub mod QueueLemmas
 pub mod BalanceLemmas
 pub mod CountLemmas
 pub mod RemovalLemmas
-pub mod HoldingLemmas
+pub mod PartsLemmas
 pub mod GrantLemmas
 pub mod SpareLemmas
 pub mod SettleLemmas
@@ -17,7 +17,6 @@ pub mod JoinLemmas
 pub mod MakeLemmas
 pub mod EndingLemmas
 pub mod UnmapLemmas
-pub mod TakeLemmas
 pub mod WayLemmas
 pub mod FetchLemmas
 pub mod TouchLemmas

@@ -1,6 +1,6 @@
 -- Which pages a reclaim may take, and which group gives the next, by the lists of held pages and by the table of pages.
 use Rattle.std.proofs.Common.{◌≡◌, ◌≢◌, inl, inr, ℕ, suc, ◌<◌, ◌≤◌, ◌==◌, ◌&&◌, ◌||◌, not, Bool, true, false, cond, List, [], ◌∷◌, length, get_or, Option, Some, None, refl, sym, ap, ◌∙◌, arith}
-use Rattle.std.specs.Prelude.{IfSome, IfNone, is_none, find, option_map, nat_lt}
+use Rattle.std.specs.Prelude.{IfSome, IfNone, is_some, find, option_map}
 use Rattle.std.specs.List.{All, list_any}
 use Rattle.std.proofs.lemmas.Bool.{cases_Bool, and_parts, and_from, and_right, or_right}
 use Rattle.std.proofs.lemmas.Bool.Decides.{nat_tests}
@@ -11,36 +11,38 @@ use Rattle.machine.specs.declared.id.GroupId.{GroupId}
 use Rattle.machine.specs.declared.id.PageId.{PageId}
 use Rattle.machine.specs.Amounts.{exceeds}
 use Rattle.machine.specs.Slots.{there_and, any_there}
-use Rattle.machine.specs.Tree.{Node, IsTree, is_live, under}
-use Rattle.machine.specs.Pages.{Held, Page, Pages, page_at, is_anon, is_held, is_held_in, charged, used_swap}
+use Rattle.machine.specs.Tree.{IsTree, is_live, under}
+use Rattle.machine.specs.Pages.{Held, Page, Pages, page_at, is_anon, is_held, is_held_in, charged}
 use Rattle.machine.specs.Protection.{effective, min_of, is_unprotected_in}
-use Rattle.machine.specs.Order.{asking_order, served_by}
+use Rattle.machine.specs.Order.{asking_order, served_by, cursor_at}
 use Rattle.machine.specs.declared.record.Kind.{Kind}
 use Rattle.machine.specs.declared.record.Kind.TheVariants.{Anon, File}
 use Rattle.machine.specs.Generations.{Listed, Gens, row_of, has_page, is_listed, gens_at}
 use Rattle.machine.specs.Aging.{is_marked}
 use Rattle.machine.specs.Eviction.{is_nil, has_usable}
-use Rattle.machine.specs.Lists.{HeldLists, ListsHeld, is_held_of}
+use Rattle.machine.specs.Lists.{HeldLists, ListsHeld, AreGenerations, Order, PicksOf, is_held_of, is_takeable_of, gives, served}
 use Rattle.machine.proofs.SlotLemmas.{any_there-none, count_there-none}
 use Rattle.machine.proofs.TreeLemmas.{eq_cases}
 use Rattle.machine.proofs.HeldChanges.{unheld-unlisted}
 use Rattle.group_tree.specs.Groups.{IsGroupTree}
-use Rattle.group_tree.specs.Kin.{AreKin}
 use Rattle.group_tree.proofs.LineageLemmas.{live-within}
 use Rattle.page_counter.specs.Counts.{usage_of}
 use Rattle.protection.proofs.CallerLemmas.{effective-same}
 use Rattle.pages.specs.PagesOf.{Label, label_of, labelled, HasResidence}
 use Rattle.reclaim.proofs.PassLemmas.{found-passes, asked-order}
-use Rattle.page_state.specs.declared.holdings.Holdings.TheInside.{Inside}
+use Rattle.page_state.specs.declared.joined.State.TheInside.{Inside}
+use Rattle.page_state.specs.Joined.{joined_of, IsJoined}
+use Rattle.machine.specs.State.{State, is_swap_free}
+use Rattle.machine.specs.Reclaim.{is_unprotected, is_takeable, has_takeable}
 use Rattle.counts.specs.Numbers.{times}
 use Rattle.page_state.specs.Queue.{numbers_of}
 use Rattle.held_pages.specs.Held.{KeepsRows}
-use Rattle.page_state.specs.Holdings.{HoldingsOf, is_swap_left, may_take, gives_of}
-use Rattle.page_state.specs.Owned.{holdings_of, AreListed, IsHolding}
+use Rattle.held_pages.proofs.PickLemmas.{picked-usable}
+use Rattle.page_state.specs.Owned.{AreListed}
 use Rattle.page_state.proofs.KinLemmas.{kin-charged}
 use Rattle.counts.proofs.NumberLemmas.{number-at, at-counted}
 use Rattle.pages.proofs.TableLemmas.{any-some}
-use Rattle.page_state.proofs.HoldingLemmas.{any-listed, listed-any, held-stands-in}
+use Rattle.page_state.proofs.PartsLemmas.{any-listed, listed-any, held-stands-in}
 
 -- ---- tests over lists
 
@@ -210,59 +212,62 @@ module _ (pages : Pages) (held : HeldLists) (lists : ListsHeld pages held) where
 same_open : (is_target : Bool) {n m : ℕ} {e k : Amount} → n ≡ m → e ≡ k → (is_target || exceeds n e) ≡ (is_target || exceeds m k)
 same_open is_target p q = cc
 
-module _ (h : Inside) (is : IsHolding h) (tree : List Node) (are : AreKin h.counters.tree tree) where
+module _ (s : Inside) (is : IsJoined s) where
+  abbrev tables : State
+  tables = (joined_of s).tables
+
   -- what is counted is what is charged
-  usages : (a : ℕ) → a < length tree → usage_of h.counters a ≡ charged tree h.pages.pages a
-  usages a lt = let len = are.len in is.kept.counted.counts a (omega (arith, len, lt)) ∙ kin-charged h.counters.tree tree are h.pages.pages a
+  usages : (a : ℕ) → a < length s.tree → usage_of s.parts.counters a ≡ charged s.tree s.parts.pages.pages a
+  usages a lt = let len = is.held_kin.len in is.agree.kept.counted.counts a (omega (arith, len, lt)) ∙ kin-charged s.parts.counters.tree s.tree is.held_kin s.parts.pages.pages a
 
-  live_at : (p : ℕ) → IfSome (page_at h.pages.pages p) (λ page. is_live tree page.group ≡ true)
-  live_at p = by_slot (page_at h.pages.pages p) (is.kept.counted.live p)
+  live_at : (p : ℕ) → IfSome (page_at s.parts.pages.pages p) (λ page. is_live s.tree page.group ≡ true)
+  live_at p = by_slot (page_at s.parts.pages.pages p) (is.agree.kept.counted.live p)
     where
-      by_slot : (slot : Option Page) → IfSome slot (λ page. is_live h.counters.tree page.group ≡ true) → IfSome slot (λ page. is_live tree page.group ≡ true)
+      by_slot : (slot : Option Page) → IfSome slot (λ page. is_live s.parts.counters.tree page.group ≡ true) → IfSome slot (λ page. is_live s.tree page.group ≡ true)
       by_slot None live = tt
-      by_slot (Some page) live = sym (are.living page.group) ∙ live
+      by_slot (Some page) live = sym (is.held_kin.living page.group) ∙ live
 
-  module _ (order : IsTree tree) (recursive : Bool) (target : ℕ) where
-    pub effective-charged : (g : ℕ) → is_live tree g ≡ true → target ≢ g → under tree target g ≡ true
-        → effective recursive tree (min_of h.counters.limits) (usage_of h.counters) target g ≡ effective recursive tree (min_of h.counters.limits) (charged tree h.pages.pages) target g
-    effective-charged g live differs below = effective-same tree order target recursive (min_of h.counters.limits) (usage_of h.counters) (charged tree h.pages.pages) usages g (live-within tree g live) differs below
+  module _ (order : IsTree s.tree) (target : ℕ) where
+    pub effective-charged : (g : ℕ) → is_live s.tree g ≡ true → target ≢ g → under s.tree target g ≡ true
+        → effective tables.opening.recursive s.tree (min_of s.parts.counters.limits) (usage_of s.parts.counters) target g ≡ effective tables.opening.recursive s.tree (min_of s.parts.counters.limits) (charged s.tree s.parts.pages.pages) target g
+    effective-charged g live differs below = effective-same s.tree order target tables.opening.recursive (min_of s.parts.counters.limits) (usage_of s.parts.counters) (charged s.tree s.parts.pages.pages) usages g (live-within s.tree g live) differs below
 
     -- by the counters a reclaim of the target may take from the group
     abbrev unprotected : ℕ → Bool
-    unprotected g = is_unprotected_in recursive tree h.counters.limits (usage_of h.counters) target g
+    unprotected g = is_unprotected_in tables.opening.recursive s.tree s.parts.counters.limits (usage_of s.parts.counters) target g
 
-    open-same : (g : ℕ) → is_live tree g ≡ true → under tree target g ≡ true → is_unprotected_in recursive tree h.counters.limits (charged tree h.pages.pages) target g ≡ unprotected g
+    open-same : (g : ℕ) → is_live s.tree g ≡ true → under s.tree target g ≡ true → is_unprotected tables target g ≡ unprotected g
     open-same g live below =
         elim (eq_cases g target) [
           | inl same ↦
               (let hit : (g == target) ≡ true = grind (arith, nat_tests, same) in
-              ap (λ b. b || exceeds (charged tree h.pages.pages g) (effective recursive tree (min_of h.counters.limits) (charged tree h.pages.pages) target g)) hit
-              ∙ sym (ap (λ b. b || exceeds (usage_of h.counters g) (effective recursive tree (min_of h.counters.limits) (usage_of h.counters) target g)) hit))
-          | inr other ↦ same_open (g == target) (sym (usages g (live-within tree g live))) (sym (effective-charged g live (λ e. other (sym e)) below))
+              ap (λ b. b || exceeds (charged s.tree s.parts.pages.pages g) (effective tables.opening.recursive s.tree (min_of s.parts.counters.limits) (charged s.tree s.parts.pages.pages) target g)) hit
+              ∙ sym (ap (λ b. b || exceeds (usage_of s.parts.counters g) (effective tables.opening.recursive s.tree (min_of s.parts.counters.limits) (usage_of s.parts.counters) target g)) hit))
+          | inr other ↦ same_open (g == target) (sym (usages g (live-within s.tree g live))) (sym (effective-charged g live (λ e. other (sym e)) below))
         ]
 
     -- a swap block is free
     abbrev free : Bool
-    free = nat_lt (used_swap h.pages.pages) h.slots.blocks
+    free = is_swap_free tables
 
     -- by these lists the group gives one
-    abbrev pub listed_by : List Gens → Bool → ℕ → Bool
-    listed_by groups swap_free g = unprotected g && has_usable swap_free (gens_at groups g)
+    abbrev pub listed_by : Bool → List Gens → Bool → ℕ → Bool
+    listed_by recursive groups swap_free g = is_unprotected_in recursive s.tree s.parts.counters.limits (usage_of s.parts.counters) target g && has_usable swap_free (gens_at groups g)
 
-    abbrev pub NoneListedBy : List Gens → Bool → Type 0
-    NoneListedBy groups swap_free = (g : ℕ) → is_live tree g ≡ true → under tree target g ≡ true → listed_by groups swap_free g ≡ false
+    abbrev pub NoneListedBy : Bool → List Gens → Bool → Type 0
+    NoneListedBy recursive groups swap_free = (g : ℕ) → is_live s.tree g ≡ true → under s.tree target g ≡ true → listed_by recursive groups swap_free g ≡ false
 
     abbrev listed : ℕ → Bool
-    listed = listed_by h.held.lists.groups free
+    listed = listed_by tables.opening.recursive s.parts.held.lists.groups free
 
     abbrev NoneListed : Type 0
-    NoneListed = NoneListedBy h.held.lists.groups free
+    NoneListed = NoneListedBy tables.opening.recursive s.parts.held.lists.groups free
 
     -- a group below the target gives one, by the table and by the lists
-    listed-same : (g : ℕ) → is_live tree g ≡ true → under tree target g ≡ true → gives_of (holdings_of h) recursive tree target g ≡ listed g
+    listed-same : (g : ℕ) → is_live s.tree g ≡ true → under s.tree target g ≡ true → gives tables target g ≡ listed g
     listed-same g live below =
-        any_both (is_usable free g) (λ page. (page.group == g) && may_take (holdings_of h) recursive tree target page) (unprotected g) h.pages.pages (λ p. by_slot (page_at h.pages.pages p))
-        ∙ ap (λ b. unprotected g && b) (sym (usable-held h.pages.pages h.held.lists is.held free g))
+        any_both (is_usable free g) (λ page. (page.group == g) && is_takeable tables target page) (unprotected g) s.parts.pages.pages (λ p. by_slot (page_at s.parts.pages.pages p))
+        ∙ ap (λ b. unprotected g && b) (sym (usable-held s.parts.pages.pages s.parts.held.lists is.agree.held free g))
       where
         own_bits : (t u o o' b : Bool) → u ≡ true → o ≡ o' → (((t && u) && o) && b) ≡ (o' && (t && b))
         own_bits true true true true b e same = refl
@@ -273,120 +278,129 @@ module _ (h : Inside) (is : IsHolding h) (tree : List Node) (are : AreKin h.coun
         own_bits t u true false b e same = absurd cc
         own_bits t u false true b e same = absurd cc
 
-        by_test : (page : Page) (e : Bool) → (page.group == g) ≡ e → (e && may_take (holdings_of h) recursive tree target page) ≡ (unprotected g && (is_held page && (e && (not (is_anon page.content) || free))))
+        by_test : (page : Page) (e : Bool) → (page.group == g) ≡ e → (e && is_takeable tables target page) ≡ (unprotected g && (is_held page && (e && (not (is_anon page.content) || free))))
         by_test page true hit =
             let same : page.group ≡ g = grind (arith, nat_tests, hit) in
-            own_bits (is_held page) (under tree target page.group) (is_unprotected_in recursive tree h.counters.limits (charged tree h.pages.pages) target page.group) (unprotected g) (not (is_anon page.content) || free)
-            (ap (under tree target) same ∙ below) (ap (is_unprotected_in recursive tree h.counters.limits (charged tree h.pages.pages) target) same ∙ open-same g live below)
+            own_bits (is_held page) (under s.tree target page.group) (is_unprotected tables target page.group) (unprotected g) (not (is_anon page.content) || free)
+            (ap (under s.tree target) same ∙ below) (ap (is_unprotected tables target) same ∙ open-same g live below)
         by_test page false miss = sym (ap (λ b. unprotected g && b) (and_right (is_held page) false refl) ∙ and_right (unprotected g) false refl)
 
-        by_slot : (slot : Option Page) → there_and (λ page. (page.group == g) && may_take (holdings_of h) recursive tree target page) slot ≡ (unprotected g && there_and (is_usable free g) slot)
+        by_slot : (slot : Option Page) → there_and (λ page. (page.group == g) && is_takeable tables target page) slot ≡ (unprotected g && there_and (is_usable free g) slot)
         by_slot None = sym (and_right (unprotected g) false refl)
         by_slot (Some page) = by_test page (page.group == g) refl
 
-    module _ (groups : IsGroupTree tree) (live : is_live tree target ≡ true) (last : Option ℕ) (group : Option GroupId)
-        (serves : option_map (λ (g : GroupId). g.0) group ≡ served_by tree listed target last) where
+    module _ (groups : IsGroupTree s.tree) (live : is_live s.tree target ≡ true) (last : Option ℕ) (group : Option GroupId)
+        (serves : option_map (λ (g : GroupId). g.0) group ≡ served_by s.tree listed target last) where
       -- the group that the lists tell is the one that the table tells
-      turn_told : option_map (λ (g : GroupId). g.0) group ≡ served_by tree (gives_of (holdings_of h) recursive tree target) target last
+      turn_told : option_map (λ (g : GroupId). g.0) group ≡ served_by s.tree (gives tables target) target last
       turn_told =
           serves
           ∙ sym
-          (find_agree (gives_of (holdings_of h) recursive tree target) listed (asking_order tree target last)
-          (λ k d lt. let here = asked-order tree target last groups live k d lt in listed-same (get_or (asking_order tree target last) k d) here.0 here.1))
+          (find_agree (gives tables target) listed (asking_order s.tree target last)
+          (λ k d lt. let here = asked-order s.tree target last groups live k d lt in listed-same (get_or (asking_order s.tree target last) k d) here.0 here.1))
 
-      turn_of : (g : Option GroupId) → option_map (λ (x : GroupId). x.0) g ≡ served_by tree (gives_of (holdings_of h) recursive tree target) target last → IfSome g (λ x. served_by tree (gives_of (holdings_of h) recursive tree target) target last ≡ Some x.0)
+      turn_of : (g : Option GroupId) → option_map (λ (x : GroupId). x.0) g ≡ served_by s.tree (gives tables target) target last → IfSome g (λ x. served_by s.tree (gives tables target) target last ≡ Some x.0)
       turn_of None told = tt
       turn_of (Some g) told = sym told
 
-      pub turn-is : IfSome group (λ g. served_by tree (gives_of (holdings_of h) recursive tree target) target last ≡ Some g.0)
+      pub turn-is : IfSome group (λ g. served_by s.tree (gives tables target) target last ≡ Some g.0)
       turn-is = turn_of group turn_told
 
-      none_taken : NoneListed → any_there (may_take (holdings_of h) recursive tree target) h.pages.pages ≡ false
-      none_taken none = any_there-none (may_take (holdings_of h) recursive tree target) h.pages.pages (count_there-none (may_take (holdings_of h) recursive tree target) h.pages.pages (λ p. by_slot p (page_at h.pages.pages p) refl (live_at p)))
+      none_taken : NoneListed → any_there (is_takeable tables target) s.parts.pages.pages ≡ false
+      none_taken none = any_there-none (is_takeable tables target) s.parts.pages.pages (count_there-none (is_takeable tables target) s.parts.pages.pages (λ p. by_slot p (page_at s.parts.pages.pages p) refl (live_at p)))
         where
-          fails : (p : ℕ) (page : Page) → page_at h.pages.pages p ≡ Some page → is_live tree page.group ≡ true → may_take (holdings_of h) recursive tree target page ≡ true → may_take (holdings_of h) recursive tree target page ≡ false
+          fails : (p : ℕ) (page : Page) → page_at s.parts.pages.pages p ≡ Some page → is_live s.tree page.group ≡ true → is_takeable tables target page ≡ true → is_takeable tables target page ≡ false
           fails p page there alive passes =
-              let below = (and_parts (is_held page) (under tree target page.group) (and_parts (is_held page && under tree target page.group) _ (and_parts _ _ passes).0).0).1 in
+              let below = (and_parts (is_held page) (under s.tree target page.group) (and_parts (is_held page && under s.tree target page.group) _ (and_parts _ _ passes).0).0).1 in
               let own : (page.group == page.group) ≡ true = grind (arith, nat_tests) in
-              let given = any-some (λ (x : Page). (x.group == page.group) && may_take (holdings_of h) recursive tree target x) h.pages.pages p
-              (ap (there_and (λ (x : Page). (x.group == page.group) && may_take (holdings_of h) recursive tree target x)) there ∙ and_from (page.group == page.group) (may_take (holdings_of h) recursive tree target page) own passes) in
+              let given = any-some (λ (x : Page). (x.group == page.group) && is_takeable tables target x) s.parts.pages.pages p
+              (ap (there_and (λ (x : Page). (x.group == page.group) && is_takeable tables target x)) there ∙ and_from (page.group == page.group) (is_takeable tables target page) own passes) in
               let told = sym (listed-same page.group alive below) ∙ given in
               let wrong : true ≡ false = sym told ∙ none page.group alive below in
               absurd cc
 
-          by_slot : (p : ℕ) (slot : Option Page) → page_at h.pages.pages p ≡ slot → IfSome slot (λ page. is_live tree page.group ≡ true) → there_and (may_take (holdings_of h) recursive tree target) slot ≡ false
+          by_slot : (p : ℕ) (slot : Option Page) → page_at s.parts.pages.pages p ≡ slot → IfSome slot (λ page. is_live s.tree page.group ≡ true) → there_and (is_takeable tables target) slot ≡ false
           by_slot p None there alive = refl
           by_slot p (Some page) there alive =
-              elim (cases_Bool (may_take (holdings_of h) recursive tree target page)) [
+              elim (cases_Bool (is_takeable tables target page)) [
                 | inl passes ↦ fails p page there alive passes
                 | inr not_so ↦ not_so
               ]
 
-      none_of : (g : Option GroupId) → IfSome g (λ x. served_by tree (gives_of (holdings_of h) recursive tree target) target last ≡ Some x.0) → IfNone g NoneListed
-          → is_none g ≡ not (any_there (may_take (holdings_of h) recursive tree target) h.pages.pages)
-      none_of None turn none = sym (ap not (none_taken none))
-      none_of (Some g) turn none =
-          let given = (found-passes (λ (x : ℕ). Unit {0}) (gives_of (holdings_of h) recursive tree target) (asking_order tree target last) g.0 (λ k d lt. tt) turn).1 in
-          sym (ap not (any_more (there_and (λ (page : Page). (page.group == g.0) && may_take (holdings_of h) recursive tree target page)) (there_and (may_take (holdings_of h) recursive tree target)) h.pages.pages passes given))
+      one_of : (g : Option GroupId) → IfSome g (λ x. served_by s.tree (gives tables target) target last ≡ Some x.0) → IfNone g NoneListed → is_some g ≡ has_takeable tables target
+      one_of None turn none = sym (none_taken none)
+      one_of (Some g) turn none =
+          let given = (found-passes (λ (x : ℕ). Unit {0}) (gives tables target) (asking_order s.tree target last) g.0 (λ k d lt. tt) turn).1 in
+          sym (any_more (there_and (is_takeable_of tables target g.0)) (there_and (is_takeable tables target)) s.parts.pages.pages passes given)
         where
-          passes : (slot : Option Page) → there_and (λ (page : Page). (page.group == g.0) && may_take (holdings_of h) recursive tree target page) slot ≡ true → there_and (may_take (holdings_of h) recursive tree target) slot ≡ true
+          passes : (slot : Option Page) → there_and (is_takeable_of tables target g.0) slot ≡ true → there_and (is_takeable tables target) slot ≡ true
           passes None e = e
           passes (Some page) e = (and_parts (page.group == g.0) _ e).1
 
-      -- none has one where no page may be taken
-      pub none-is : IfNone group NoneListed → is_none group ≡ not (any_there (may_take (holdings_of h) recursive tree target) h.pages.pages)
-      none-is none = none_of group turn-is none
+      -- there is one exactly where a page may be taken
+      pub one-is : IfNone group NoneListed → is_some group ≡ has_takeable tables target
+      one-is none = one_of group turn-is none
 
 -- ---- the page that a group gives
 
-module _ (h : HoldingsOf) (recursive : Bool) (target g : ℕ) where
+module _ (t : State) (target g : ℕ) where
   -- what a page that may be taken says of its group
-  record MayGive (tree : List Node) : Type 0 where
-    pub below : under tree target g ≡ true
-    pub opened : is_unprotected_in recursive tree h.limits (charged tree h.stored.pages) target g ≡ true
+  record MayGive : Type 0 where
+    pub below : under t.tree target g ≡ true
+    pub opened : is_unprotected t target g ≡ true
 
-  abbrev gives_page : List Node → Page → Bool
-  gives_page tree page = (page.group == g) && may_take h recursive tree target page
-
-  usable_given : (tree : List Node) → any_there (gives_page tree) h.stored.pages ≡ true → any_there (is_usable (is_swap_left h) g) h.stored.pages ≡ true
-  usable_given tree given = any_more (there_and (gives_page tree)) (there_and (is_usable (is_swap_left h) g)) h.stored.pages by_slot given
+  usable_given : gives t target g ≡ true → any_there (is_usable (is_swap_free t) g) t.pages ≡ true
+  usable_given given = any_more (there_and (is_takeable_of t target g)) (there_and (is_usable (is_swap_free t) g)) t.pages by_slot given
     where
-      by_slot : (slot : Option Page) → there_and (gives_page tree) slot ≡ true → there_and (is_usable (is_swap_left h) g) slot ≡ true
+      by_slot : (slot : Option Page) → there_and (is_takeable_of t target g) slot ≡ true → there_and (is_usable (is_swap_free t) g) slot ≡ true
       by_slot None e = e
       by_slot (Some page) e =
           let both = and_parts (page.group == g) _ e in
-          let swaps = and_parts _ (not (is_anon page.content) || is_swap_left h) both.1 in
-          let opened = and_parts (is_held page && under tree target page.group) _ swaps.0 in
-          and_from (is_held page) ((page.group == g) && (not (is_anon page.content) || is_swap_left h)) (and_parts (is_held page) _ opened.0).0
-          (and_from (page.group == g) (not (is_anon page.content) || is_swap_left h) both.0 swaps.1)
+          let swaps = and_parts _ (not (is_anon page.content) || is_swap_free t) both.1 in
+          let opened = and_parts (is_held page && under t.tree target page.group) _ swaps.0 in
+          and_from (is_held page) ((page.group == g) && (not (is_anon page.content) || is_swap_free t)) (and_parts (is_held page) _ opened.0).0
+          (and_from (page.group == g) (not (is_anon page.content) || is_swap_free t) both.0 swaps.1)
 
-  may_give : (tree : List Node) → any_there (gives_page tree) h.stored.pages ≡ true → MayGive tree
-  may_give tree given = one_passes (λ slot. Unit {0}) (there_and (gives_page tree)) h.stored.pages (λ k d lt. tt) given by_slot
+  may_give : gives t target g ≡ true → MayGive
+  may_give given = one_passes (λ slot. Unit {0}) (there_and (is_takeable_of t target g)) t.pages (λ k d lt. tt) given by_slot
     where
-      by_slot : (slot : Option Page) → Unit {0} → there_and (gives_page tree) slot ≡ true → MayGive tree
+      by_slot : (slot : Option Page) → Unit {0} → there_and (is_takeable_of t target g) slot ≡ true → MayGive
       by_slot None any e = absurd cc
       by_slot (Some page) any e =
           let both = and_parts (page.group == g) _ e in
           let same : page.group ≡ g = grind (arith, nat_tests, both.0) in
-          let swaps = and_parts _ (not (is_anon page.content) || is_swap_left h) both.1 in
-          let opened = and_parts (is_held page && under tree target page.group) _ swaps.0 in
+          let swaps = and_parts _ (not (is_anon page.content) || is_swap_free t) both.1 in
+          let opened = and_parts (is_held page && under t.tree target page.group) _ swaps.0 in
           record {
-            below = ap (under tree target) (sym same) ∙ (and_parts (is_held page) _ opened.0).1;
-            opened = ap (is_unprotected_in recursive tree h.limits (charged tree h.stored.pages) target) (sym same) ∙ opened.1;
+            below = ap (under t.tree target) (sym same) ∙ (and_parts (is_held page) _ opened.0).1;
+            opened = ap (is_unprotected t target) (sym same) ∙ opened.1;
           }
 
-  -- a group whose turn it is has a page to give
-  pub turn-given : (tree : List Node) (last : Option ℕ) → served_by tree (gives_of h recursive tree target) target last ≡ Some g → gives_of h recursive tree target g ≡ true
-  turn-given tree last turn = (found-passes (λ (x : ℕ). Unit {0}) (gives_of h recursive tree target) (asking_order tree target last) g (λ k d lt. tt) turn).1
+  -- a group that is served has a page to give
+  pub served-gives : (order : Order) → served t order target ≡ Some g → gives t target g ≡ true
+  served-gives order serves = (found-passes (λ (x : ℕ). Unit {0}) (gives t target) (asking_order t.tree target (cursor_at order.cursors target)) g (λ k d lt. tt) serves).1
 
-  -- and one on its lists
-  pub given-usable : (tree : List Node) → gives_of h recursive tree target g ≡ true → ListsHeld h.stored.pages h.held → has_usable (is_swap_left h) (gens_at h.held.groups g) ≡ true
-  given-usable tree given lists = usable-held h.stored.pages h.held lists (is_swap_left h) g ∙ usable_given tree given
+  module _ (order : Order) (serves : served t order target ≡ Some g) (lists : ListsHeld t.pages order.held) where
+    -- and one on its lists
+    pub given-usable : has_usable (is_swap_free t) (gens_at order.held.groups g) ≡ true
+    given-usable = usable-held t.pages order.held lists (is_swap_free t) g ∙ usable_given (served-gives order serves)
 
-  -- each of its held pages may be taken, memory where a swap block is free
-  pub given-takes : (tree : List Node) → gives_of h recursive tree target g ≡ true → (label : Label) (f : ℕ) → label.group ≡ g → (not (is_anon label.content) || is_swap_left h) ≡ true → may_take h recursive tree target (labelled label (Held f)) ≡ true
-  given-takes tree given label f own room =
-      let may = may_give tree given in
-      and_from (true && under tree target label.group && is_unprotected_in recursive tree h.limits (charged tree h.stored.pages) target label.group) (not (is_anon label.content) || is_swap_left h)
-      (and_from (under tree target label.group) (is_unprotected_in recursive tree h.limits (charged tree h.stored.pages) target label.group) (ap (under tree target) own ∙ may.below)
-      (ap (is_unprotected_in recursive tree h.limits (charged tree h.stored.pages) target) own ∙ may.opened)) room
+    -- the page that is picked may be taken, memory where a swap block is free
+    pub given-takes : AreGenerations order.held → (p : ℕ) (looked : HeldLists) (label : Label) (f : ℕ) → label.group ≡ g → HasResidence t.pages p label (Held f) → PicksOf (is_swap_free t) order.held g (Some p) looked
+        → is_takeable t target (labelled label (Held f)) ≡ true
+    given-takes sound p looked label f own stands picked =
+        let may = may_give (served-gives order serves) in
+        and_from (true && under t.tree target label.group && is_unprotected t target label.group) (not (is_anon label.content) || is_swap_free t)
+        (and_from (under t.tree target label.group) (is_unprotected t target label.group) (ap (under t.tree target) own ∙ may.below) (ap (is_unprotected t target) own ∙ may.opened))
+        (picked-usable (is_swap_free t) t.pages order.held looked g p lists sound picked (labelled label (Held f)) stands)
+
+-- and for memory a swap block is free
+pub takeable-swap : (t : State) (target : ℕ) (page : Page) → is_takeable t target page ≡ true → is_anon page.content ≡ true → is_swap_free t ≡ true
+takeable-swap t target page e anon = last (is_held page) (under t.tree target page.group) (is_unprotected t target page.group) (is_anon page.content) (is_swap_free t) e anon
+  where
+    last : (a b c m d : Bool) → (a && b && c && (not m || d)) ≡ true → m ≡ true → d ≡ true
+    last true true true true d e anon = e
+    last true true true false d e anon = absurd cc
+    last true true false m d e anon = absurd cc
+    last true false c m d e anon = absurd cc
+    last false b c m d e anon = absurd cc

@@ -20,7 +20,7 @@ use Rattle.page_state.specs.Owned.{as_number, has_this_block, has_slot, is_slot,
 use Rattle.page_state.specs.Room.{LacksFrame}
 use Rattle.page_state.proofs.BalanceLemmas.{Trades}
 use Rattle.page_state.proofs.CountLemmas.{uncharge-usage, page-out}
-use Rattle.page_state.proofs.HoldingLemmas.{kept-step, frame-out, block-out}
+use Rattle.page_state.proofs.PartsLemmas.{kept-step, frame-out, block-out}
 
 -- ---- what memory in transfer has, and a page of a file has not
 

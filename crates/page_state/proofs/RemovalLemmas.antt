@@ -1,11 +1,10 @@
 -- A group goes: its pages become its parent's one by one, and all that is kept by group goes on to agree.
 use Rattle.std.proofs.Common.{◌≡◌, ◌≢◌, ◌⊎◌, inl, inr, ℕ, zero, suc, ◌+◌, ◌<◌, ◌==◌, ◌&&◌, ◌||◌, Bool, true, false, cond, List, [], ◌∷◌, length, length-set, Option, Some, None, eq-eqb, eqb-true, refl, sym, ap, ◌∙◌, subst, arith}
-use Rattle.std.specs.Prelude.{slice_set, slice_index, option_map, min, IfSome, sum}
+use Rattle.std.specs.Prelude.{slice_set, slice_index, option_map, IfSome, sum}
 use Rattle.std.proofs.lemmas.List.{get_or-set_other}
 use Rattle.machine.specs.Slots.{at, Changes, there_and, count_there}
 use Rattle.machine.specs.Tree.{Node, node_at, is_live, is_parent, is_child, has_children, under_at, under, share, IsTree, without_group}
 use Rattle.machine.specs.Pages.{Residence, Page, Pages, page_at, has_frame, has_this_frame, has_swap, is_in_transfer, is_charged, charged}
-use Rattle.machine.specs.declared.record.Limits.{Limits}
 use Rattle.machine.specs.Generations.{with_gens, handed_over}
 use Rattle.machine.specs.Step.{regrouped}
 use Rattle.machine.proofs.Values.{unlike}
@@ -18,10 +17,9 @@ use Rattle.group_tree.specs.Lineages.{IsLineage}
 use Rattle.group_tree.proofs.LineageLemmas.{live-within}
 use Rattle.page_counter.specs.Counts.{Counts, IsOut, SameGroups, MovesUp, usage_of}
 use Rattle.pages.specs.PagesOf.{PagesOf, byte_in, Label, label_of, HasResidence}
-use Rattle.page_state.specs.declared.holdings.Holdings.TheInside.{Inside}
+use Rattle.page_state.specs.declared.parts.Parts.{Parts}
 use Rattle.held_pages.specs.Held.{HeldOf}
-use Rattle.page_state.specs.Holdings.{HoldingsOf, HandsUp}
-use Rattle.page_state.specs.Owned.{holdings_of, has_this_block, is_going, as_number, IsBalanced, IsCounted, IsHolding}
+use Rattle.page_state.specs.Owned.{has_this_block, is_going, as_number, IsBalanced, IsCounted, PartsAgree}
 use Rattle.page_state.proofs.BalanceLemmas.{changed-count}
 use Rattle.page_state.proofs.CountLemmas.{Recharges, counted-step, page-out}
 
@@ -206,7 +204,7 @@ module _ (c d : Counts) (pages : Pages) (g : ℕ) (is : IsLineage c.tree) (child
         live = λ p. live_at (page_at pages p) (counted.live p) (none p);
       })
 
--- ---- the holdings
+-- ---- the parts
 
 -- what does not look at a page's group counts as before
 balanced-regrouped : (this : ℕ → Page → Bool) (has : Page → Bool) (total : ℕ) (free : List ℕ) (pages pages' : Pages) (g parent : ℕ) → ((n : ℕ) (page : Page) → this n (regrouped g parent page) ≡ this n page) → ((page : Page) → has (regrouped g parent page) ≡ has page)
@@ -221,7 +219,7 @@ balanced-regrouped this has total free pages pages' g parent same_this same_has 
     counted_alike : (test : Page → Bool) → ((page : Page) → test (regrouped g parent page) ≡ test page) → count_there test pages' ≡ count_there test pages
     counted_alike test same = count-alike test test pages pages' (λ n. ap (there_and test) (handed n) ∙ regrouped-test test g parent same (page_at pages n))
 
-module _ (h : Inside) (is : IsHolding h) (g parent : ℕ) (d e : Counts) (pages : PagesOf) (held : HeldOf) (handed : (p : ℕ) → page_at pages.pages p ≡ option_map (regrouped g parent) (page_at h.pages.pages p))
+module _ (h : Parts) (is : PartsAgree h) (g parent : ℕ) (d e : Counts) (pages : PagesOf) (held : HeldOf) (handed : (p : ℕ) → page_at pages.pages p ≡ option_map (regrouped g parent) (page_at h.pages.pages p))
     (others : pages ≡ record (h.pages) { pages = pages.pages; bytes = pages.bytes }) (same : SameGroups h.counters d) (counted : IsCounted d pages.pages) (lineage : IsLineage h.counters.tree)
     (below : (node_at h.counters.tree g).parent ≡ Some parent) (live : is_live h.counters.tree g ≡ true) (childless : has_children h.counters.tree g ≡ false)
     (takes : held ≡ record (h.held) { lists = record { groups = handed_over g parent h.held.lists.groups; marks = h.held.lists.marks } }) where
@@ -255,8 +253,8 @@ module _ (h : Inside) (is : IsHolding h) (g parent : ℕ) (d e : Counts) (pages 
   counts_alike : (test : Page → Bool) → ((page : Page) → test (regrouped g parent page) ≡ test page) → count_there test pages.pages ≡ count_there test h.pages.pages
   counts_alike test alike = count-alike test test h.pages.pages pages.pages (λ n. ap (there_and test) (handed n) ∙ regrouped-test test g parent alike (page_at h.pages.pages n))
 
-  pub holding-removed : e.tree ≡ without_group d.tree g → e.usage ≡ d.usage → IsHolding (record h { pages = pages; counters = e; held = held })
-  holding-removed tree usage =
+  pub agree-removed : e.tree ≡ without_group d.tree g → e.usage ≡ d.usage → PartsAgree (record h { pages = pages; counters = e; held = held })
+  agree-removed tree usage =
       let len : length (without_group d.tree g) ≡ length d.tree = length-set d.tree g _ in
       let size : length e.tree ≡ length h.counters.tree = ap length tree ∙ len ∙ ap length same.tree in
       let numbers : pages.numbers ≡ h.pages.numbers = ap (λ (t : PagesOf). t.numbers) others in
@@ -265,7 +263,7 @@ module _ (h : Inside) (is : IsHolding h) (g parent : ℕ) (d e : Counts) (pages 
       let going = counts_alike is_going (λ page. refl) in
       let moving = counts_alike is_in_transfer (λ page. refl) in
       let lists : length (handed_over g parent h.held.lists.groups) ≡ length h.held.lists.groups = length-set (with_gens h.held.lists.groups parent _) g _ ∙ length-set h.held.lists.groups parent _ in
-      subst (λ (x : HeldOf). IsHolding (record h { pages = pages; counters = e; held = x })) (sym takes)
+      subst (λ (x : HeldOf). PartsAgree (record h { pages = pages; counters = e; held = x })) (sym takes)
       (record {
         kept = record {
           frames = balanced-regrouped has_this_frame has_frame h.pool.frames h.pool.free h.pages.pages pages.pages g parent (λ n page. refl) (λ page. refl) handed is.kept.frames;
@@ -289,34 +287,3 @@ module _ (h : Inside) (is : IsHolding h) (g parent : ℕ) (d e : Counts) (pages 
         numbers = (let was = is.numbers in omega (arith, was, numbers));
         tickets = (let was = is.tickets in omega (arith, was, moving, tickets));
       })
-
-  -- and what a contract sees of it
-  abbrev seen : List Node → List Limits → ℕ → ℕ → ℕ → ℕ → List ℕ → HoldingsOf
-  seen tree limits counts numbers lists many sizes =
-      record {
-        kin = tree;
-        limits = limits;
-        stored = record { pages = pages.pages; bytes = pages.bytes; flights = pages.flights };
-        held = held.lists;
-        frames = h.pool.frames;
-        swap = h.slots.blocks;
-        numbers = numbers;
-        room = min counts (min lists many);
-        files = sizes;
-      }
-
-  seen-same : (tree : List Node) (limits : List Limits) (counts numbers lists many : ℕ) (sizes : List ℕ) → tree ≡ without_group h.counters.tree g → limits ≡ h.counters.limits → counts ≡ h.counters.room → numbers ≡ h.pages.numbers → lists ≡ h.held.room
-      → many ≡ h.pages.room → sizes ≡ h.pages.files.sizes → seen tree limits counts numbers lists many sizes ≡ seen (without_group h.counters.tree g) h.counters.limits h.counters.room h.pages.numbers h.held.room h.pages.room h.pages.files.sizes
-  seen-same tree limits counts numbers lists many sizes of_tree of_limits of_counts of_numbers of_lists of_many of_sizes = rw (of_tree, of_limits, of_counts, of_numbers, of_lists, of_many, of_sizes) refl
-
-  pub hands-up : e.tree ≡ without_group d.tree g → e.limits ≡ d.limits → e.room ≡ d.room → ((q o : ℕ) → byte_in pages.bytes q o ≡ byte_in h.pages.bytes q o)
-      → HandsUp (holdings_of h) (holdings_of (record h { pages = pages; counters = e; held = held })) g parent
-  hands-up tree limits room bytes =
-      record {
-        pages = handed;
-        bytes = bytes;
-        flights = ap (λ (t : PagesOf). t.flights) others;
-        held = ap (λ (x : HeldOf). x.lists) takes;
-        others = seen-same e.tree e.limits e.room pages.numbers held.room pages.room pages.files.sizes (tree ∙ ap (λ (t : List Node). without_group t g) same.tree) (limits ∙ same.limits) (room ∙ same.room) (ap (λ (t : PagesOf). t.numbers) others)
-            (ap (λ (x : HeldOf). x.room) takes) (ap (λ (t : PagesOf). t.room) others) (ap (λ (t : PagesOf). t.files.sizes) others);
-      }

@@ -16,17 +16,17 @@ use Rattle.machine.specs.declared.record.Direction.{Direction}
 use Rattle.machine.specs.declared.record.Direction.TheVariants.{In, Out}
 use Rattle.pages.specs.PagesOf.{Label, labelled, HasResidence, byte_in, moving}
 use Rattle.pages.specs.Transfers.{on_block_as, page_after, Ends}
-use Rattle.page_state.specs.declared.holdings.Holdings.TheInside.{Inside}
+use Rattle.page_state.specs.declared.parts.Parts.{Parts}
 use Rattle.held_pages.specs.Held.{HeldOf}
 use Rattle.page_state.specs.Relists.{JoinsAtEnd, LeavesQueue}
 use Rattle.page_state.specs.Room.{LacksFrame}
 use Rattle.machine.specs.Generations.{is_listed_in}
 use Rattle.machine.specs.Lists.{HeldLists, kind_at, entry_after, GoesOn}
-use Rattle.page_state.specs.Holdings.{Settles}
-use Rattle.page_state.specs.Owned.{holdings_of, has_this_block, is_leaving_at, AreKept, IsHolding}
+use Rattle.page_state.specs.Parts.{Stays, Settles}
+use Rattle.page_state.specs.Owned.{has_this_block, is_leaving_at, AreKept, PartsAgree}
 use Rattle.page_state.proofs.BalanceLemmas.{Trades}
 use Rattle.page_state.proofs.CountLemmas.{uncharge-usage, uncharged-at, page-out}
-use Rattle.page_state.proofs.HoldingLemmas.{Stays, kept-step, frame-out, block-out, holding-step, relists-out, not-going, same-view, absent-unlisted, goes-at, goes-in}
+use Rattle.page_state.proofs.PartsLemmas.{kept-step, frame-out, block-out, agree-step, relists-out, not-going, absent-unlisted, goes-at, goes-in}
 use Rattle.page_state.proofs.GrantLemmas.{stands-live, group-listed}
 
 -- a page in transfer has a frame and a block, and is not held
@@ -146,10 +146,10 @@ module _ (c : Counts) (pool : PoolOf) (slots : SlotsOf) (pages : Pages) (d : Dir
       })
       kept
 
--- ---- the holdings
+-- ---- the parts
 
 -- a page is settled, and the lists with it
-pub record Lands (h h' : Inside) (p : ℕ) (label : Label) (f b n : ℕ) (d : Direction) (end : End) : Type 0 where
+pub record Lands (h h' : Parts) (p : ℕ) (label : Label) (f b n : ℕ) (d : Direction) (end : End) : Type 0 where
   pub stood : HasResidence h.pages.pages p label (moving d f b n)
   -- the bytes as the transfer ends
   pub filled : List (Option (List ℕ))
@@ -165,7 +165,7 @@ pub record Lands (h h' : Inside) (p : ℕ) (label : Label) (f b n : ℕ) (d : Di
   pub moving : LeavesQueue h.moving h'.moving p
 
 -- the page that is settled may be held again, in its group
-pub relist-fits : (h : Inside) → IsHolding h → (d : Direction) (p : ℕ) (label : Label) (f b n x : ℕ) → HasResidence h.pages.pages p label (moving d f b n) → x ≡ label.group → (is_listed_in h.held.lists.groups p ≡ false) × (x < length h.held.lists.groups)
+pub relist-fits : (h : Parts) → PartsAgree h → (d : Direction) (p : ℕ) (label : Label) (f b n x : ℕ) → HasResidence h.pages.pages p label (moving d f b n) → x ≡ label.group → (is_listed_in h.held.lists.groups p ≡ false) × (x < length h.held.lists.groups)
 relist-fits h is d p label f b n x stood same = (
   absent-unlisted h.pages.pages h.held.lists is.held p (ap (there_and is_held) stood ∙ (moving-is d f b n).3),
   group-listed h is x (subst (λ y. is_live h.counters.tree y ≡ true) (sym same) (stands-live h.counters h.pages.pages p label (moving d f b n) stood is.kept.counted)),
@@ -176,7 +176,7 @@ settled : (label : Label) (end : End) (f b : ℕ) → there_and is_in_transfer (
 settled label InFrame f b = refl
 settled label OnBlock f b = (off-frame label b label.content).2
 
-module _ (h h' : Inside) (is : IsHolding h) (p : ℕ) (label : Label) (f b n : ℕ) (d : Direction) where
+module _ (h h' : Parts) (is : PartsAgree h) (p : ℕ) (label : Label) (f b n : ℕ) (d : Direction) where
   abbrev from : Option Page
   from = Some (labelled label (moving d f b n))
 
@@ -184,32 +184,30 @@ module _ (h h' : Inside) (is : IsHolding h) (p : ℕ) (label : Label) (f b n : �
   to end = page_after end label f b
 
   -- the lists of those held go on to have them
-  held-lands : (end : End) → Lands h h' p label f b n d end → GoesOn (entry_after d) h.pages.pages h.held.lists h'.pages.pages h'.held.lists × (h'.held.numbers ≡ h.held.numbers) × (h'.held.room ≡ h.held.room)
+  held-lands : (end : End) → Lands h h' p label f b n d end → GoesOn (entry_after d) h.pages.pages h.held.lists h'.pages.pages h'.held.lists × (h'.held.numbers ≡ h.held.numbers)
   held-lands InFrame lands = (
     subst (λ (held : HeldLists). GoesOn (entry_after d) h.pages.pages h.held.lists h'.pages.pages held) (sym (ap (λ (held : HeldOf). held.lists) lands.held))
         (goes-in h.pages.pages h.held.lists is.held p (entry_after d) h'.pages.pages from label f lands.stood (moving-is d f b n).3 lands.ended.placed),
     ap (λ (held : HeldOf). held.numbers) lands.held,
-    ap (λ (held : HeldOf). held.room) lands.held,
   )
   held-lands OnBlock lands = (
     subst (λ (held : HeldLists). GoesOn (entry_after d) h.pages.pages h.held.lists h'.pages.pages held) (sym (ap (λ (held : HeldOf). held.lists) lands.held))
         (goes-at h.pages.pages h.held.lists is.held p (entry_after d) h'.pages.pages from (to OnBlock) lands.stood lands.ended.placed ((off-frame label b label.content).1 ∙ sym (moving-is d f b n).3)),
     ap (λ (held : HeldOf). held.numbers) lands.held,
-    ap (λ (held : HeldOf). held.room) lands.held,
   )
 
   stays-landed : (end : End) → Lands h h' p label f b n d end → Stays h h'
-  stays-landed end lands = record { groups = lands.groups; frames = lands.frames; most_spares = lands.most_spares; blocks = lands.blocks; numbers = lands.ended.numbers; page_groups = lands.ended.groups; page_frames = lands.ended.frames; page_room = lands.ended.room; held_numbers = (held-lands end lands).1; held_room = (held-lands end lands).2; moving_room = lands.moving.room; files = lands.ended.files }
+  stays-landed end lands = record { groups = lands.groups; frames = lands.frames; most_spares = lands.most_spares; blocks = lands.blocks; numbers = lands.ended.numbers; page_groups = lands.ended.groups; page_frames = lands.ended.frames; held_numbers = (held-lands end lands).1; moving_room = lands.moving.room; files = lands.ended.files }
 
-  pub holding-lands : (end : End) → Lands h h' p label f b n d end → IsHolding h'
-  holding-lands end lands =
+  pub agree-lands : (end : End) → Lands h h' p label f b n d end → PartsAgree h'
+  agree-lands end lands =
       let held = held-lands end lands in
       let spares = lands.spares in
       let tickets = lands.ended.more in
       let going = not-going (to end) (settled label end f b) in
       let none = ap one_if (settled label end f b) in
       let moved = ap one_if (moving-is d f b n).2 in
-      holding-step h h' p from (to end)
+      agree-step h h' p from (to end)
       (record {
         stood = lands.stood;
         changes = lands.ended.placed;
@@ -224,12 +222,10 @@ module _ (h h' : Inside) (is : IsHolding h) (p : ℕ) (label : Label) (f b n : �
       })
       is
 
-  pub lands-settles : (end : End) → Lands h h' p label f b n d end → Settles (holdings_of h) (holdings_of h') d p n (page_after end label f b)
+  pub lands-settles : (end : End) → Lands h h' p label f b n d end → Settles h h' d p n (page_after end label f b)
   lands-settles end lands =
       record {
-        placed = lands.ended.placed;
-        unlisted = lands.ended.unlisted;
-        bytes = λ q o other. lands.ended.others q o other ∙ lands.others q o other;
-        order = (held-lands end lands).0;
-        others = same-view h h' (stays-landed end lands);
+        settles = record { placed = lands.ended.placed; unlisted = lands.ended.unlisted; others = λ q o other. lands.ended.others q o other ∙ lands.others q o other };
+        held = (held-lands end lands).0;
+        stays = stays-landed end lands;
       }

@@ -12,9 +12,9 @@ use Rattle.machine.proofs.TestLemmas.{tests-less}
 use Rattle.machine.proofs.FileLemmas.{home_below, homes_differ}
 use Rattle.files.specs.Files.{FilesOf}
 use Rattle.pages.specs.PagesOf.{Label, HasResidence, AreFiled}
-use Rattle.page_state.specs.declared.holdings.Holdings.TheInside.{Inside}
-use Rattle.page_state.specs.Owned.{is_leaving_at, is_going, IsHolding}
-use Rattle.page_state.proofs.HoldingLemmas.{used-split, going-least}
+use Rattle.page_state.specs.declared.parts.Parts.{Parts}
+use Rattle.page_state.specs.Owned.{is_leaving_at, is_going, PartsAgree}
+use Rattle.page_state.proofs.PartsLemmas.{used-split, going-least}
 
 -- ---- pages of files by their places among all pages of all files
 
@@ -164,7 +164,7 @@ going-blocks (slot ∷ pages) =
     omega (arith, going, held, swap, of_file, here, rest)
 
 -- a spare is in for a page in a frame that has a block to go to: memory where a swap block is free, and each page of a file its home
-pub spare-in : (h : Inside) → IsHolding h → AreFiled h.pages.files h.pages.pages → (p : ℕ) (label : Label) (f : ℕ) → HasResidence h.pages.pages p label (Held f) → (is_anon label.content ≡ true → used_swap h.pages.pages < h.slots.blocks) → 0 < h.pool.spares
+pub spare-in : (h : Parts) → PartsAgree h → AreFiled h.pages.files h.pages.pages → (p : ℕ) (label : Label) (f : ℕ) → HasResidence h.pages.pages p label (Held f) → (is_anon label.content ≡ true → used_swap h.pages.pages < h.slots.blocks) → 0 < h.pool.spares
 spare-in h is are p label f stood free =
     let one = count_there-some is_held h.pages.pages p (ap (there_and is_held) stood) in
     let split = used-split h.pages.pages in

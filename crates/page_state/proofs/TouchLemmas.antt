@@ -10,14 +10,14 @@ use Rattle.machine.specs.Step.{touched}
 use Rattle.machine.proofs.RemovedLemmas.{count-alike}
 use Rattle.machine.proofs.TreeLemmas.{eq_cases}
 use Rattle.pages.specs.PagesOf.{PagesOf}
-use Rattle.page_state.specs.declared.holdings.Holdings.TheInside.{Inside}
-use Rattle.page_state.specs.Owned.{has_this_block, is_going, as_number, IsBalanced, IsHolding}
+use Rattle.page_state.specs.declared.parts.Parts.{Parts}
+use Rattle.page_state.specs.Owned.{has_this_block, is_going, as_number, IsBalanced, PartsAgree}
 
 -- a page, whether or not it was written to
 abbrev pub unwritten : Page → Page
 unwritten page = record page { dirty = false }
 
-module _ (h : Inside) (is : IsHolding h) (pages : PagesOf) (same : (q : ℕ) → option_map unwritten (page_at pages.pages q) ≡ option_map unwritten (page_at h.pages.pages q)) where
+module _ (h : Parts) (is : PartsAgree h) (pages : PagesOf) (same : (q : ℕ) → option_map unwritten (page_at pages.pages q) ≡ option_map unwritten (page_at h.pages.pages q)) where
   -- a test that does not look at that tells the same
   alike : (test : Page → Bool) → ((page : Page) → test (unwritten page) ≡ test page) → (q : ℕ) → there_and test (page_at pages.pages q) ≡ there_and test (page_at h.pages.pages q)
   alike test blind q = sym (by_slot (page_at pages.pages q)) ∙ ap (there_and test) (same q) ∙ by_slot (page_at h.pages.pages q)
@@ -49,8 +49,8 @@ module _ (h : Inside) (is : IsHolding h) (pages : PagesOf) (same : (q : ℕ) →
       back None l = tt
       back (Some page) l = l
 
-  pub holding-touched : pages ≡ record (h.pages) { pages = pages.pages; bytes = pages.bytes } → IsHolding (record h { pages = pages })
-  holding-touched others =
+  pub agree-touched : pages ≡ record (h.pages) { pages = pages.pages; bytes = pages.bytes } → PartsAgree (record h { pages = pages })
+  agree-touched others =
       let going = counts is_going (λ page. refl) in
       let moving = counts is_in_transfer (λ page. refl) in
       let tickets = ap (λ (t : PagesOf). t.tickets) others in

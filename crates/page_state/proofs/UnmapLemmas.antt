@@ -1,5 +1,5 @@
 -- A place that comes to show nothing, in all joined parts.
-use Rattle.std.proofs.Common.{◌≡◌, ◌≢◌, inl, inr, ℕ, ◌==◌, ◌&&◌, not, Bool, true, false, cond, Option, Some, None, ne_eqb, refl, sym, ap, ◌∙◌, subst, arith}
+use Rattle.std.proofs.Common.{◌≡◌, ◌≢◌, inl, inr, ℕ, ◌==◌, ◌&&◌, not, Bool, true, false, cond, List, Option, Some, None, ne_eqb, refl, sym, ap, ◌∙◌, subst, arith}
 use Rattle.std.specs.Prelude.{IsSome, is_some}
 use Rattle.machine.specs.Slots.{there_and}
 use Rattle.machine.specs.Tree.{is_live}
@@ -11,18 +11,20 @@ use Rattle.machine.specs.Step.{still}
 use Rattle.machine.proofs.TreeLemmas.{eq_cases}
 use Rattle.machine.proofs.SlotLemmas.{one_if}
 use Rattle.machine.proofs.MappingLemmas.{mappers-alike, mappers-shows, shown_once}
-use Rattle.pages.specs.PagesOf.{byte_in}
 use Rattle.spaces.specs.Space.{Space}
 use Rattle.page_state.specs.declared.joined.State.TheInside.{Inside}
-use Rattle.page_state.specs.Holdings.{HoldingsOf, ListsGoOn, DropsPage}
-use Rattle.page_state.specs.Drops.{DropsUnmapped}
+use Rattle.page_state.specs.declared.parts.Parts.{Parts}
+use Rattle.page_state.specs.Owned.{PartsAgree}
+use Rattle.page_state.specs.Parts.{ListsGoOn, Drops, DropsUnmapped}
+use Rattle.machine.specs.declared.record.Limits.{Limits}
 use Rattle.page_state.specs.States.{StateOf}
 use Rattle.page_state.specs.Changes.{Unmaps, UnmapsAll, EndsTask}
 use Rattle.page_state.specs.Joined.{joined_of, IsJoined}
 use Rattle.page_state.proofs.MappedLemmas.{mapped-dropped}
-use Rattle.machine.specs.Lists.{Youngest, ListsHeld}
+use Rattle.machine.specs.Lists.{Youngest}
 use Rattle.machine.proofs.HeldLemmas.{goes-still}
 use Rattle.page_state.proofs.DropLemmas.{fewer, stays_settled}
+use Rattle.page_state.proofs.PartsLemmas.{stays-same}
 use Rattle.page_state.proofs.JoinLemmas.{joined-pages, joined-tasks}
 
 -- ---- one page
@@ -46,20 +48,17 @@ settled-rests (Some page) e = by_tests (is_anon page.content) (is_in_transfer pa
     by_tests false c e = cc
 
 -- it is memory in no transfer, and nothing maps it
-pub dropped : (old new : HoldingsOf) (tables : PageTables) (p : ℕ) → DropsPage old new p → there_and is_settled_memory (page_at old.stored.pages p) ≡ true → (mappers tables p == 0) ≡ true → DropsUnmapped old new tables p
+pub dropped : (old new : Parts) (tables : PageTables) (p : ℕ) → Drops old new p → there_and is_settled_memory (page_at old.pages.pages p) ≡ true → (mappers tables p == 0) ≡ true → DropsUnmapped old new tables p
 dropped old new tables p drops settles none =
     record {
-      pages = record { changed = drops.gone.changed ∙ sym (goes (page_at old.stored.pages p) settles); others = drops.gone.others };
-      bytes = λ q o there. elim (eq_cases q p) [ inl same ↦ absurd (let wrong : true ≡ false = sym there ∙ ap is_some (ap (page_at new.stored.pages) same ∙ drops.gone.changed) in cc) | inr other ↦ elsewhere q o other ];
-      others = elsewhere;
-      flights = drops.flights;
-      order = drops.order;
-      rest = drops.others;
+      pages = record { changed = drops.drops.gone.changed ∙ sym (goes (page_at old.pages.pages p) settles); others = drops.drops.gone.others };
+      bytes = λ q o there. elim (eq_cases q p) [ inl same ↦ absurd (let wrong : true ≡ false = sym there ∙ ap is_some (ap (page_at new.pages.pages) same ∙ drops.drops.gone.changed) in cc) | inr other ↦ drops.drops.others q o other ];
+      others = drops.drops.others;
+      flights = drops.drops.flights;
+      held = drops.held;
+      stays = drops.stays;
     }
   where
-    elsewhere : (q o : ℕ) → q ≢ p → byte_in new.stored.bytes q o ≡ byte_in old.stored.bytes q o
-    elsewhere q o other = drops.bytes q o ∙ ap (λ b. cond b 0 (byte_in old.stored.bytes q o)) (ne_eqb q p other)
-
     goes : (slot : Option Page) → there_and is_settled_memory slot ≡ true → still tables p slot ≡ None
     goes None settles = refl
     goes (Some page) settles = by_tests (is_anon page.content) (mappers tables p == 0) (not (in_transfer_at page.residence)) settles none
@@ -71,13 +70,12 @@ dropped old new tables p drops settles none =
         by_tests false b c e z = cc
 
 -- something maps it, or it is in transfer
-pub kept : (h : HoldingsOf) (tables : PageTables) (p : ℕ) → ListsGoOn Youngest h h → still tables p (page_at h.stored.pages p) ≡ page_at h.stored.pages p → DropsUnmapped h h tables p
-kept h tables p order stays =
-    record { pages = record { changed = sym stays; others = λ q other. refl }; bytes = λ q o there. refl; others = λ q o other. refl; flights = refl; order = order; rest = refl }
+pub kept : (h : Parts) (tables : PageTables) (p : ℕ) → ListsGoOn Youngest h h → still tables p (page_at h.pages.pages p) ≡ page_at h.pages.pages p → DropsUnmapped h h tables p
+kept h tables p goes stays = record { pages = record { changed = sym stays; others = λ q other. refl }; bytes = λ q o there. refl; others = λ q o other. refl; flights = refl; held = goes; stays = stays-same h }
 
 -- ---- one place
 
-module _ (s : Inside) (is : IsJoined s) (lists : ListsHeld s.holdings.stored.pages s.holdings.held)
+module _ (s : Inside) (is : IsJoined s)
     (spaces : Space) (t v : ℕ) (shown : Shows s.spaces.page_tables spaces.page_tables t v None) (tasks : spaces.tasks ≡ s.spaces.tasks) (numbers : spaces.numbers ≡ s.spaces.numbers) (groups : spaces.groups ≡ s.spaces.groups) where
   homes : (u : ℕ) → lives spaces.tasks u ≡ true → is_live s.tree (group_of_task spaces.tasks u) ≡ true
   homes = subst (λ (ts : Tasks). (u : ℕ) → lives ts u ≡ true → is_live s.tree (group_of_task ts u) ≡ true) (sym tasks) is.homes
@@ -87,13 +85,13 @@ module _ (s : Inside) (is : IsJoined s) (lists : ListsHeld s.holdings.stored.pag
     alike : (p : ℕ) → mappers spaces.page_tables p ≡ mappers s.spaces.page_tables p
     alike p = let both = mappers-shows s.spaces.page_tables spaces.page_tables t v p None shown in let was : shown_once (mapped_at s.spaces.page_tables t v) p ≡ 0 = ap (λ m. shown_once m p) none in omega (arith, both, was)
 
-    stays : (p : ℕ) → page_at s.holdings.stored.pages p ≡ still spaces.page_tables p (page_at s.holdings.stored.pages p)
-    stays p = sym (stays_settled spaces.page_tables p (page_at s.holdings.stored.pages p) (let least = is.mapped.least p in let same = alike p in omega (arith, least, same)))
+    stays : (p : ℕ) → page_at s.parts.pages.pages p ≡ still spaces.page_tables p (page_at s.parts.pages.pages p)
+    stays p = sym (stays_settled spaces.page_tables p (page_at s.parts.pages.pages p) (let least = is.mapped.least p in let same = alike p in omega (arith, least, same)))
 
     pub joined-unshown : IsJoined (record s { spaces = spaces })
     joined-unshown =
         joined-tasks s is spaces
-        (mapped-dropped s.holdings.stored.pages s.spaces.page_tables is.mapped s.holdings.stored.pages spaces.page_tables (fewer s.spaces.page_tables spaces.page_tables t v shown) stays) numbers groups homes
+        (mapped-dropped s.parts.pages.pages s.spaces.page_tables is.mapped s.parts.pages.pages spaces.page_tables (fewer s.spaces.page_tables spaces.page_tables t v shown) stays) numbers groups homes
 
     pub unmaps-unshown : Unmaps (joined_of s) (joined_of (record s { spaces = spaces })) t v
     unmaps-unshown =
@@ -103,40 +101,40 @@ module _ (s : Inside) (is : IsJoined s) (lists : ListsHeld s.holdings.stored.pag
             pages = stays;
             bytes = λ p k there. refl;
             flights = refl;
-            held = goes-still Youngest s.holdings.stored.pages s.holdings.stored.pages s.holdings.held lists refl;
+            held = goes-still Youngest s.parts.pages.pages s.parts.pages.pages s.parts.held.lists is.agree.held refl;
             cursors = refl;
           };
           tables = (let old : StateOf = joined_of s in ap (λ (ts : Tasks). record (old.tables) { tasks = ts; page_tables = spaces.page_tables }) tasks);
         }
 
   -- it showed this page, which goes where nothing else maps it
-  module _ (p : ℕ) (was : mapped_at s.spaces.page_tables t v ≡ Some p) (now : HoldingsOf) (drops : DropsUnmapped s.holdings now spaces.page_tables p) where
+  module _ (p : ℕ) (was : mapped_at s.spaces.page_tables t v ≡ Some p) (now : Parts) (agree : PartsAgree now) (drops : DropsUnmapped s.parts now spaces.page_tables p) where
     others_alike : (q : ℕ) → q ≢ p → mappers spaces.page_tables q ≡ mappers s.spaces.page_tables q
     others_alike q other =
         let both = mappers-shows s.spaces.page_tables spaces.page_tables t v q None shown in
         let miss : shown_once (mapped_at s.spaces.page_tables t v) q ≡ 0 = ap (λ m. shown_once m q) was ∙ ap one_if (ne_eqb p q (λ e. other (sym e))) in
         omega (arith, both, miss)
 
-    all : (q : ℕ) → page_at now.stored.pages q ≡ still spaces.page_tables q (page_at s.holdings.stored.pages q)
+    all : (q : ℕ) → page_at now.pages.pages q ≡ still spaces.page_tables q (page_at s.parts.pages.pages q)
     all q =
         elim (eq_cases q p) [
-          | inl same ↦ ap (page_at now.stored.pages) same ∙ drops.pages.changed ∙ ap (λ (x : ℕ). still spaces.page_tables x (page_at s.holdings.stored.pages x)) (sym same)
-          | inr other ↦ drops.pages.others q other ∙ sym (stays_settled spaces.page_tables q (page_at s.holdings.stored.pages q) (let least = is.mapped.least q in let same = others_alike q other in omega (arith, least, same)))
+          | inl same ↦ ap (page_at now.pages.pages) same ∙ drops.pages.changed ∙ ap (λ (x : ℕ). still spaces.page_tables x (page_at s.parts.pages.pages x)) (sym same)
+          | inr other ↦ drops.pages.others q other ∙ sym (stays_settled spaces.page_tables q (page_at s.parts.pages.pages q) (let least = is.mapped.least q in let same = others_alike q other in omega (arith, least, same)))
         ]
 
-    pub joined-unmapped : IsJoined (record s { holdings = now; spaces = spaces })
+    pub joined-unmapped : IsJoined (record s { parts = now; spaces = spaces })
     joined-unmapped =
-        joined-pages s is now s.cursors spaces drops.rest
-        (mapped-dropped s.holdings.stored.pages s.spaces.page_tables is.mapped now.stored.pages spaces.page_tables (fewer s.spaces.page_tables spaces.page_tables t v shown) all) numbers groups homes refl
+        joined-pages s is now s.cursors spaces agree drops.stays
+        (mapped-dropped s.parts.pages.pages s.spaces.page_tables is.mapped now.pages.pages spaces.page_tables (fewer s.spaces.page_tables spaces.page_tables t v shown) all) numbers groups homes refl
 
-    pub unmaps-unmapped : Unmaps (joined_of s) (joined_of (record s { holdings = now; spaces = spaces })) t v
+    pub unmaps-unmapped : Unmaps (joined_of s) (joined_of (record s { parts = now; spaces = spaces })) t v
     unmaps-unmapped =
         record {
           shown = shown;
-          drops = record { pages = all; bytes = drops.bytes; flights = drops.flights; held = drops.order; cursors = refl };
+          drops = record { pages = all; bytes = drops.bytes; flights = drops.flights; held = drops.held; cursors = refl };
           tables = (let old : StateOf = joined_of s in
-              ap (λ (h : HoldingsOf). record (old.tables) { limits = h.limits; pages = now.stored.pages; tasks = spaces.tasks; page_tables = spaces.page_tables }) drops.rest
-              ∙ ap (λ (ts : Tasks). record (old.tables) { pages = now.stored.pages; tasks = ts; page_tables = spaces.page_tables }) tasks);
+              ap (λ (limits : List Limits). record (old.tables) { limits = limits; pages = now.pages.pages; tasks = spaces.tasks; page_tables = spaces.page_tables }) drops.stays.groups.limits
+              ∙ ap (λ (ts : Tasks). record (old.tables) { pages = now.pages.pages; tasks = ts; page_tables = spaces.page_tables }) tasks);
         }
 
 -- ---- all places of a task

@@ -5,10 +5,10 @@ use Rattle.block_store.specs.Slots.{SlotsOf}
 use Rattle.pages.specs.declared.way.WayOut.TheVariants as way
 use Rattle.pages.specs.PagesOf.{Label, labelled, way_of}
 use Rattle.pages.specs.Transfers.{LeavesBy, block_for}
-use Rattle.page_state.specs.declared.holdings.Holdings.TheInside.{Inside}
+use Rattle.page_state.specs.declared.parts.Parts.{Parts}
 use Rattle.page_state.specs.Room.{TakesSlot}
-use Rattle.page_state.specs.Holdings.{GoesTo}
-use Rattle.page_state.specs.Owned.{holdings_of, has_this_block, IsHolding}
+use Rattle.page_state.specs.Parts.{GoesTo}
+use Rattle.page_state.specs.Owned.{has_this_block, PartsAgree}
 use Rattle.page_state.proofs.BalanceLemmas.{Trades, taken-in}
 
 -- memory goes to swap
@@ -18,10 +18,10 @@ swap-memory (OfFile file q) true goes = absurd cc
 swap-memory (OfFile file q) false goes = absurd cc
 
 -- how a page leaves by what was taken for it
-module _ (h : Inside) (is : IsHolding h) (slots' : SlotsOf) where
+module _ (h : Parts) (is : PartsAgree h) (slots' : SlotsOf) where
   pub record Leaving (label : Label) (slot : Option ℕ) : Type 0 where
     pub by : LeavesBy label.content label.dirty slot
-    pub to : GoesTo (holdings_of h) label.content label.dirty (block_for h.pages.files label.content slot)
+    pub to : GoesTo h label.content label.dirty (block_for h.pages.files label.content slot)
     pub blocks : slots'.blocks ≡ h.slots.blocks
     pub trades : (f n : ℕ) → Trades has_this_block has_swap h.slots.free slots'.free (Some (labelled label (Held f))) (Some (labelled label (Going f (block_for h.pages.files label.content slot) n)))
 

@@ -6,7 +6,7 @@ use Rattle.machine.specs.declared.record.Life.TheVariants.{Live}
 use Rattle.machine.specs.declared.record.Limits.{Limits}
 use Rattle.machine.specs.Slots.{Changes}
 use Rattle.machine.specs.Tree.{is_live, node_at, without_group}
-use Rattle.machine.specs.Pages.{Content, Memory, OfFile, Held, Coming, Going, Page, page_at, home_block, is_held_in, is_ticket_taken}
+use Rattle.machine.specs.Pages.{Content, Memory, OfFile, Held, Page, page_at, home_block, is_held_in}
 use Rattle.machine.specs.declared.event.Op.TheVariants.{Write}
 use Rattle.machine.specs.Counts.{no_limits, no_counts, with_event}
 use Rattle.machine.specs.Tasks.{PageTables, SetsTask, group_of_task, mapped_at, mappers, Shows, Copies, ShowsNothing}
@@ -15,19 +15,20 @@ use Rattle.machine.specs.Access.{page_size}
 use Rattle.machine.specs.Reclaim.{is_takeable}
 use Rattle.machine.specs.Generations.{gens_at}
 use Rattle.machine.specs.Lists.{Generation, Youngest, entry_after, MergesMarks, GoesOn, TakesNext, AddsLists, RemovesLists}
-use Rattle.machine.specs.Step.{IsFreeFrame, IsFreeBlock, touched, still, in_frame, on_block, new_node, new_page, regrouped}
+use Rattle.machine.specs.Step.{IsFreeFrame, IsFreeBlock, touched, still, in_frame, on_block, new_node, regrouped}
 use Rattle.pages.specs.declared.end.End.{End}
 use Rattle.pages.specs.declared.end.End.TheVariants.{InFrame, OnBlock}
-use Rattle.pages.specs.PagesOf.{byte_in, Label, labelled, of_file, flight, HasResidence}
+use Rattle.pages.specs.PagesOf.{byte_in, Label, labelled, of_file, HasResidence}
 use Rattle.machine.specs.declared.record.Direction.{Direction}
 use Rattle.machine.specs.declared.record.Direction.TheVariants.{In, Out}
 use Rattle.files.specs.Files.{FilesOf}
-use Rattle.pages.specs.Tickets.{TicketOf, new_ticket}
+use Rattle.pages.specs.Tickets.{TicketOf}
 use Rattle.pages.specs.declared.source.Source.{Source}
 use Rattle.pages.specs.Transfers.{ReadsFrom}
 use Rattle.page_state.specs.declared.room.NoRoom.{NoRoom}
 use Rattle.page_state.specs.declared.room.NoRoom.TheVariants as lacks
 use Rattle.page_state.specs.States.{StateOf, byte_shown}
+use Rattle.page_state.specs.Stored.{Stored, AddsPage, BeginsTransfer, SettlesPage, DropsPage}
 
 -- ---- room
 
@@ -44,6 +45,10 @@ LacksRoom s g lacks.NoFrame = (over_in s g ≡ None) × (is_frame_free s ≡ fal
 -- the files of the opening, at home behind the swap blocks
 abbrev pub files_of : Opening → FilesOf
 files_of opening = record { first = opening.swap; sizes = opening.files }
+
+-- what is stored of the pages
+abbrev pub stored_of : StateOf → Stored
+stored_of s = record { pages = s.tables.pages; bytes = s.bytes; flights = s.flights }
 
 -- ---- counting
 
@@ -69,12 +74,9 @@ pub record MakesPage (old new : StateOf) (t v g o byte : ℕ) : Type 0 where
   pub frame : ℕ
   pub frame_free : IsFreeFrame old.tables frame
   pub in_range : page < page_numbers old.tables.opening
-  pub number_free : page_at old.tables.pages page ≡ None
-  pub placed : Changes old.tables.pages new.tables.pages page (Some (new_page g frame))
+  pub adds : AddsPage (stored_of old) (stored_of new) page g frame (byte_shown old.bytes (mapped_at old.tables.page_tables t v)) o byte
   pub shown : Shows old.tables.page_tables new.tables.page_tables t v (Some page)
   pub tables : new.tables ≡ record old.tables { pages = new.tables.pages; page_tables = new.tables.page_tables }
-  pub bytes : (q k : ℕ) → byte_in new.bytes q k ≡ (if q == page then (if o == k then byte else byte_shown old.bytes (mapped_at old.tables.page_tables t v) k) else byte_in old.bytes q k)
-  pub flights : new.flights ≡ old.flights
   pub held : KeepsLists Youngest old new
   pub cursors : new.order.cursors ≡ old.order.cursors
 
@@ -95,12 +97,9 @@ pub record WritesByte (old new : StateOf) (p o byte : ℕ) : Type 0 where
 pub record BeginsReadIn (old new : StateOf) (p : ℕ) (label : Label) (block : ℕ) (ticket : TicketOf) : Type 0 where
   pub frame : ℕ
   pub frame_free : IsFreeFrame old.tables frame
-  pub ticket_free : is_ticket_taken old.tables.pages ticket.number ≡ false
-  pub given : ticket ≡ new_ticket ticket.number block ticket.bytes
-  pub placed : Changes old.tables.pages new.tables.pages p (Some (labelled label (Coming frame block ticket.number)))
+  pub begins : BeginsTransfer (stored_of old) (stored_of new) In p label frame block ticket
   pub tables : new.tables ≡ record old.tables { pages = new.tables.pages }
   pub bytes : (q k : ℕ) → q ≢ p → byte_in new.bytes q k ≡ byte_in old.bytes q k
-  pub listed : Changes old.flights new.flights ticket.number (Some (flight p In))
   pub held : KeepsLists Youngest old new
   pub cursors : new.order.cursors ≡ old.order.cursors
 
@@ -125,13 +124,10 @@ pub record BeginsWriteOut (old new : StateOf) (target : ℕ) (ticket : TicketOf)
   pub stood : HasResidence old.tables.pages p label (Held frame)
   pub takeable : is_takeable old.tables target (labelled label (Held frame)) ≡ true
   pub block : IsWrittenTo old.tables label.content label.dirty ticket.block
-  pub ticket_free : is_ticket_taken old.tables.pages ticket.number ≡ false
-  pub given : ticket ≡ new_ticket ticket.number ticket.block ticket.bytes
+  pub begins : BeginsTransfer (stored_of old) (stored_of new) Out p label frame ticket.block ticket
   pub holds : (k : ℕ) → k < page_size → slice_index ticket.bytes k ≡ byte_in new.bytes p k
-  pub placed : Changes old.tables.pages new.tables.pages p (Some (labelled label (Going frame ticket.block ticket.number)))
   pub tables : new.tables ≡ record old.tables { pages = new.tables.pages }
   pub bytes : (q k : ℕ) → byte_in new.bytes q k ≡ byte_in old.bytes q k
-  pub listed : Changes old.flights new.flights ticket.number (Some (flight p Out))
   pub next : TakesNext old.tables old.order target new.tables new.order
   -- three generations more are begun at most
   pub ages : (h : ℕ) → (gens_at new.order.held.groups h).max_seq ≤ (gens_at old.order.held.groups h).max_seq + 3
@@ -145,10 +141,8 @@ pub record DropsClean (old new : StateOf) (target : ℕ) : Type 0 where
   pub frame : ℕ
   pub stood : HasResidence old.tables.pages p (of_file file q g false) (Held frame)
   pub takeable : is_takeable old.tables target (labelled (of_file file q g false) (Held frame)) ≡ true
-  pub gone : Changes old.tables.pages new.tables.pages p None
+  pub drops : DropsPage (stored_of old) (stored_of new) p
   pub tables : new.tables ≡ record old.tables { pages = new.tables.pages }
-  pub others : (r k : ℕ) → r ≢ p → byte_in new.bytes r k ≡ byte_in old.bytes r k
-  pub flights : new.flights ≡ old.flights
   pub next : TakesNext old.tables old.order target new.tables new.order
   -- three generations more are begun at most
   pub ages : (h : ℕ) → (gens_at new.order.held.groups h).max_seq ≤ (gens_at old.order.held.groups h).max_seq + 3
@@ -165,10 +159,8 @@ ended_as OnBlock tables p page frame block = on_block tables p page frame block
 
 -- the transfer in this direction of a page under ticket n ends, and this is what becomes of the page
 pub record EndsTransfer (old new : StateOf) (direction : Direction) (p n : ℕ) (to : Option Page) : Type 0 where
-  pub placed : Changes old.tables.pages new.tables.pages p to
+  pub settles : SettlesPage (stored_of old) (stored_of new) p n to
   pub tables : new.tables ≡ record old.tables { pages = new.tables.pages }
-  pub unlisted : Changes old.flights new.flights n None
-  pub others : (q k : ℕ) → q ≢ p → byte_in new.bytes q k ≡ byte_in old.bytes q k
   pub held : KeepsLists (entry_after direction) old new
   pub cursors : new.order.cursors ≡ old.order.cursors
 

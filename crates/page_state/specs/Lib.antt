@@ -1,4 +1,5 @@
-pub mod Holdings
+pub mod Stored
+pub mod Parts
 pub mod Owned
 pub mod Queue
 pub mod Relists

@@ -1,4 +1,4 @@
--- What the fields of the holdings mean, and how they agree. No public clause cites it.
+-- What pages own, and how the parts agree that keep it. No public clause cites it.
 use Rattle.std.specs.Prelude.{◌≡◌, ℕ, ◌+◌, ◌<◌, ◌≤◌, ◌==◌, ◌&&◌, Bool, true, false, if◌then◌else◌, List, length, map, min, Option, option_map, Some, None, IfSome, sum}
 use Rattle.machine.specs.Slots.{Changes, there_and, count_there}
 use Rattle.machine.specs.Tree.{is_live}
@@ -12,22 +12,7 @@ use Rattle.pages.specs.declared.owned_page.OwnedPage.{OwnedPage}
 use Rattle.pages.specs.declared.owned_page.Backing.{Backing}
 use Rattle.pages.specs.declared.owned_page.Backing.TheVariants as backing
 use Rattle.pages.specs.Records.{page_of}
-use Rattle.page_state.specs.Holdings.{HoldingsOf}
-use Rattle.page_state.specs.declared.holdings.Holdings.TheInside.{Inside}
-
-abbrev pub holdings_of : Inside → HoldingsOf
-holdings_of h =
-    record {
-      kin = h.counters.tree;
-      limits = h.counters.limits;
-      stored = record { pages = h.pages.pages; bytes = h.pages.bytes; flights = h.pages.flights };
-      held = h.held.lists;
-      frames = h.pool.frames;
-      swap = h.slots.blocks;
-      numbers = h.pages.numbers;
-      room = min h.counters.room (min h.held.room h.pages.room);
-      files = h.pages.files.sizes;
-    }
+use Rattle.page_state.specs.declared.parts.Parts.{Parts}
 
 -- a page has this swap block
 abbrev pub has_this_block : ℕ → Page → Bool
@@ -65,7 +50,8 @@ pub record AreListed (test : Page → Bool) (numbers : List ℕ) (pages : Pages)
   pub once : (p : ℕ) → times numbers p ≡ as_number (there_and test (page_at pages p))
   pub len : length numbers ≡ count_there test pages
 
-pub record IsHolding (h : Inside) : Type 0 where
+-- they agree
+pub record PartsAgree (h : Parts) : Type 0 where
   pub kept : AreKept h.counters h.pool h.slots h.pages.pages
   pub few : h.pool.frames < 4294967296
   pub held : ListsHeld h.pages.pages h.held.lists

@@ -9,7 +9,9 @@ ghost use Rattle.pages.specs.Transfers.{IsReadable};
 ghost use Rattle.page_state.specs.Changes.{HasRoom, LacksRoom, SharesPage, MakesPage, WritesByte, MergesFrames, files_of, BeginsRead};
 
 use crate::joined::State;
-use crate::room::NoRoom;
+use crate::merging::merge_marks;
+use crate::room::{NoRoom, take_room};
+use frames::FRAME_BYTES;
 use machine::id::{GroupId, PageId, TaskId};
 use pages::{InTicket, Source};
 use std::alloc::{AllocError, Global};
@@ -22,8 +24,14 @@ impl State {
         ensures room { OnOk result (HasRoom self.now.tables group.0) }
         ensures lacks { IfErr result (λ why. LacksRoom self.now.tables group.0 why) }
     {
-        self.holdings.are_counted();
-        self.holdings.room_for(group)
+        self.parts.counters.are_counted();
+        if let Some(limit) = self.parts.counters.over(group) {
+            return Err(NoRoom::Over(limit));
+        }
+        if self.parts.pool.free() == 0 {
+            return Err(NoRoom::NoFrame);
+        }
+        Ok(())
     }
 
     /// A page of zeros but for one byte, for a virtual page of a task that shows nothing. It is charged to
@@ -37,7 +45,7 @@ impl State {
         requires within { offset < page_size }
         ensures { MakesPage self.old self.new task.0 at group.0 offset byte }
     {
-        let page = self.holdings.hold(None, group, offset as usize, byte);
+        let page = self.parts.hold(None, group, offset as usize, byte);
         self.spaces.map(task, at, page);
     }
 
@@ -61,7 +69,7 @@ impl State {
         ensures { MakesPage self.old self.new task.0 at group.0 offset byte }
     {
         self.spaces.owners();
-        let page = self.holdings.hold(Some(from), group, offset as usize, byte);
+        let page = self.parts.hold(Some(from), group, offset as usize, byte);
         self.spaces.unmap(task, at);
         self.spaces.map(task, at, page);
     }
@@ -72,7 +80,7 @@ impl State {
         requires within { offset < page_size }
         ensures { WritesByte self.old self.new page.0 offset byte }
     {
-        self.holdings.write(page, offset as usize, byte);
+        self.parts.pages.write(page, offset as usize, byte);
     }
 
     /// The pages that are held in the frames of these bits are marked as accessed: bit b is that of frame
@@ -80,7 +88,7 @@ impl State {
     pub fn merge_marks(&mut self, word: u32, bits: u64)
         ensures { MergesFrames self.old self.new word bits }
     {
-        self.holdings.merge_marks(word, bits);
+        merge_marks(&self.parts.pages, &mut self.parts.held, word, bits);
     }
 
     /// Begins to read in what the source names, charged to the group, which has room for it: memory of that group on
@@ -98,7 +106,22 @@ impl State {
         ensures begins { IfOk result (λ ticket. BeginsRead self.old self.new from group.0 ticket) }
         ensures err { OnErr result (self.new ≡ self.old) }
     {
-        let ticket = self.holdings.start_in(alloc, from, group)?;
+        self.parts.counters.are_counted();
+        self.parts.pages.are_in_flight();
+        self.parts.pages.are_filed();
+        let buffer = buffer(alloc)?;
+        let (frame, charge) = take_room(&mut self.parts.counters, &mut self.parts.pool, group);
+        let (page, ticket) = self.parts.pages.start_in(from, frame, charge, buffer);
+        self.parts.moving.push(page);
         Ok(ticket)
     }
 }
+
+/// The memory of a page's bytes that will arrive: zeros until then.
+fn buffer(alloc: Global) -> Result<Box<[u8; FRAME_BYTES]>, AllocError>
+    ensures zeros { IfOk result (λ bytes. (o : ℕ) → slice_index bytes.value o ≡ 0) }
+{
+    let buffer = Box::new(alloc, [0; FRAME_BYTES])?;
+    Ok(buffer)
+}
+

@@ -26,10 +26,10 @@ impl State {
             → is_some (page_at self.new.tables.pages p) ≡ true → (k : ℕ) → byte_in self.new.bytes p k ≡ slice_index ticket.bytes k }
         ensures bytes { result ≡ ticket.bytes }
     {
-        self.holdings.are_counted();
-        let page = page_in_flight(self.holdings.pages(), Direction::In, ticket.number());
-        let bytes = self.holdings.settle_in(page, ticket, end);
-        drop_unmapped(&mut self.holdings, &self.spaces, page);
+        self.parts.held.are_generations();
+        let page = page_in_flight(&self.parts.pages, Direction::In, ticket.number());
+        let bytes = self.parts.settle_in(page, ticket, end);
+        drop_unmapped(&mut self.parts, &self.spaces, page);
         bytes
     }
 
@@ -41,10 +41,10 @@ impl State {
         ensures stays { (p : ℕ) (label : Label) (f b : ℕ) → HasResidence self.old.tables.pages p label (residence.Going f b ticket.number) → end ≡ End.InFrame
             → is_some (page_at self.new.tables.pages p) ≡ true → (k : ℕ) → byte_in self.new.bytes p k ≡ byte_in self.old.bytes p k }
     {
-        self.holdings.are_counted();
-        let page = page_in_flight(self.holdings.pages(), Direction::Out, ticket.number());
-        self.holdings.settle_out(page, ticket, end);
-        drop_unmapped(&mut self.holdings, &self.spaces, page);
+        self.parts.held.are_generations();
+        let page = page_in_flight(&self.parts.pages, Direction::Out, ticket.number());
+        self.parts.settle_out(page, ticket, end);
+        drop_unmapped(&mut self.parts, &self.spaces, page);
     }
 }
 

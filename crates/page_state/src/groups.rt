@@ -1,6 +1,6 @@
 //! Groups: made and set, what they show, and the events that are counted at them.
 
-ghost use Rattle.std.specs.Prelude.{◌≡◌, ◌≢◌, ◌<◌, Some, None, true, false, OnOk, OnErr};
+ghost use Rattle.std.specs.Prelude.{◌≡◌, ◌≢◌, ◌<◌, Some, None, true, false, OnOk, OnErr, slice_set};
 ghost use Rattle.machine.specs.declared.record.Key.{Key as Key_of};
 ghost use Rattle.machine.specs.Names.{parent_path};
 ghost use Rattle.machine.specs.Tree.{is_live, under, find_group};
@@ -12,6 +12,10 @@ ghost use Rattle.machine.specs.Refusals.{mkdir_refusal, rmdir_refusal, bars_chil
 ghost use Rattle.page_state.specs.Changes.{counts_event, AddsGroup, RemovesGroup, sets_limits};
 
 use crate::joined::State;
+use crate::lookup::file_usage;
+use crate::removal::hand_up;
+use page_counter::Counters;
+use protection::Protection;
 use machine::amount::Amount;
 use machine::event::Setting;
 use machine::id::GroupId;
@@ -24,7 +28,10 @@ impl State {
         requires { is_live self.now.tables.tree group.0 ≡ true }
         ensures { result ≡ limits_at self.now.tables.limits group.0 }
     {
-        self.holdings.limits(group)
+        Limits {
+            max: self.parts.counters.max(group),
+            min: self.parts.counters.min(group),
+        }
     }
 
     /// How many pages are charged to the group or below it.
@@ -32,7 +39,7 @@ impl State {
         requires { is_live self.now.tables.tree group.0 ≡ true }
         ensures { result ≡ usage self.now.tables group.0 }
     {
-        self.holdings.usage(group)
+        self.parts.counters.usage(group)
     }
 
     /// Of these, how many are memory of tasks, and how many pages of files. It goes over all page numbers.
@@ -40,8 +47,8 @@ impl State {
         requires { is_live self.now.tables.tree group.0 ≡ true }
         ensures { result ≡ stat_of self.now.tables group.0 }
     {
-        let file = self.holdings.file_usage(&self.tree, group);
-        let anon = self.holdings.usage(group) - file;
+        let file = file_usage(&self.parts.pages, &self.tree, group);
+        let anon = self.usage(group) - file;
         MemoryStat { anon, file }
     }
 
@@ -52,9 +59,15 @@ impl State {
         requires below { target.0 ≢ group.0 }
         ensures { result ≡ effective_min self.now.tables target.0 group.0 }
     {
+        self.tree.groups_form_a_tree();
         let recursive = self.is_recursive();
-        self.holdings
-            .protection(&self.tree, recursive, target, group)
+        let protection = Protection {
+            tree: &self.tree,
+            counters: &self.parts.counters,
+            recursive,
+            target,
+        };
+        protection.effective(group)
     }
 
     /// How often each key was counted at the group or anywhere below it.
@@ -80,7 +93,7 @@ impl State {
         ensures { result ≡ (gens_at self.now.order.held.groups group.0).max_seq }
     {
         self.is_joined();
-        self.holdings.max_seq(group)
+        self.parts.held.gens().max_seq(group)
     }
 
     /// Counts the key once at the group (kernel: `memcg_memory_event`).
@@ -99,7 +112,7 @@ impl State {
         requires { is_live self.old.tables.tree group.0 ≡ true }
         ensures { self.new ≡ sets_limits self.old group.0 (with_setting (limits_at self.old.tables.limits group.0) setting) }
     {
-        self.holdings.set(group, setting);
+        set_in(&mut self.parts.counters, group, setting);
     }
 
     /// A group of this path below its parent, which is there. Memory is asked for before anything changes:
@@ -111,12 +124,12 @@ impl State {
         ensures adds { OnOk result (AddsGroup self.old self.new path.now) }
         ensures err { OnErr result (self.new ≡ self.old) }
     {
-        self.holdings.reserve_group()?;
+        self.parts.reserve_group()?;
         self.events.reserve()?;
         self.cursors.reserve()?;
         self.spaces.reserve_group()?;
         let group = self.tree.mkdir(path)?;
-        self.holdings.add_group(group, parent);
+        self.parts.add_group(group, parent);
         self.events.add_reserved(group, parent);
         self.cursors.add_reserved();
         self.spaces.add_group();
@@ -131,13 +144,34 @@ impl State {
         ensures { RemovesGroup self.old self.new group.0 }
     {
         self.is_joined();
-        self.holdings.are_counted();
+        self.parts.counters.are_counted();
         let Some(parent) = self.tree.parent(group) else {
             unreachable!()
         };
-        self.holdings.remove_group(group, parent);
+        hand_up(
+            &mut self.parts.pages,
+            &mut self.parts.counters,
+            group,
+            parent,
+        );
+        self.parts.held.take_over(group, parent);
+        self.parts.counters.remove(group);
         self.events.remove(group);
         self.cursors.remove(group);
         self.tree.rmdir(group);
+    }
+}
+
+/// Another value for a setting of the group.
+fn set_in(counters: &mut Counters, group: GroupId, setting: Setting)
+    requires { is_live counters.old.tree group.0 ≡ true }
+    ensures limits { counters.new.limits ≡ slice_set counters.old.limits group.0 (with_setting (limits_at counters.old.limits group.0) setting) }
+    ensures tree { counters.new.tree ≡ counters.old.tree }
+    ensures usage { counters.new.usage ≡ counters.old.usage }
+    ensures room { counters.new.room ≡ counters.old.room }
+{
+    match setting {
+        Setting::Max(max) => counters.set_max(group, max),
+        Setting::Min(min) => counters.set_min(group, min),
     }
 }

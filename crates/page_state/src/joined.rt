@@ -11,7 +11,7 @@ ghost use Rattle.pages.specs.PagesOf.{AreInFlight, AreFiled};
 ghost use Rattle.page_state.specs.States.{byte_at};
 ghost use Rattle.page_state.specs.Mapped.{AreMapped};
 
-use crate::holdings::Holdings;
+use crate::parts::Parts;
 use files::Files;
 use group_tree::Tree;
 use machine::config::{Config, Watermarks};
@@ -28,7 +28,7 @@ use std::marker::Model;
 pub struct State {
     pub(crate) config: Config,
     pub(crate) tree: Tree,
-    pub(crate) holdings: Holdings,
+    pub(crate) parts: Parts,
     pub(crate) cursors: Cursors,
     pub(crate) events: Events,
     pub(crate) spaces: Spaces,
@@ -59,15 +59,15 @@ impl State {
         let events = Events::new(alloc)?;
         let cursors = Cursors::new(alloc)?;
         let files = Files::open(alloc, &config.files, config.swap)?;
-        let holdings = Holdings::open(alloc, config.frames, config.swap, files)?;
-        let Ok(spaces) = Spaces::new(alloc, holdings.numbers()) else {
-            holdings.close();
+        let parts = Parts::open(alloc, config.frames, config.swap, files)?;
+        let Ok(spaces) = Spaces::new(alloc, parts.pages.numbers()) else {
+            parts.close();
             return Err(AllocError);
         };
         Ok(State {
             config,
             tree,
-            holdings,
+            parts,
             cursors,
             events,
             spaces,
@@ -79,12 +79,12 @@ impl State {
         let State {
             config: _,
             tree: _,
-            holdings,
+            parts,
             cursors: _,
             events: _,
             spaces: _,
         } = self;
-        holdings.close();
+        parts.close();
     }
 
     /// The groups.
@@ -98,21 +98,21 @@ impl State {
     pub fn free_frames(&self) -> u32
         ensures { result + used_frames self.now.tables.pages ≡ self.now.tables.opening.frames }
     {
-        self.holdings.free()
+        self.parts.pool.free()
     }
 
     /// How many swap blocks are free.
     pub fn free_blocks(&self) -> u32
         ensures { result + used_swap self.now.tables.pages ≡ self.now.tables.opening.swap }
     {
-        self.holdings.free_blocks()
+        self.parts.slots.free()
     }
 
     /// How many pages are in transfer.
     pub fn transfers(&self) -> u32
         ensures { result ≡ in_transfer self.now.tables.pages }
     {
-        self.holdings.transfers()
+        self.parts.moving.len() as u32
     }
 
     /// The daemon's marks.
@@ -144,7 +144,7 @@ impl State {
         ensures flights { result.now.flights ≡ self.now.flights }
         ensures files { result.now.files ≡ record { first = self.now.tables.opening.swap; sizes = self.now.tables.opening.files } }
     {
-        self.holdings.pages()
+        &self.parts.pages
     }
 
     /// Nothing is done: what holds of all joined parts. What the opening fixed is within its limits;
@@ -170,7 +170,10 @@ impl State {
         ensures cursors { length self.now.order.cursors ≡ length self.now.tables.tree }
         ensures framed { (f : ℕ) → is_frame_taken self.now.tables.pages f ≡ true → f < self.now.tables.opening.frames }
     {
-        self.holdings.are_counted();
+        self.parts.counters.are_counted();
+        self.parts.pages.are_in_flight();
+        self.parts.pages.are_filed();
+        self.parts.held.are_generations();
         self.spaces.owners();
     }
 }

@@ -2,12 +2,16 @@
 
 ghost use Rattle.std.specs.Prelude.{◌≡◌, Some, true, false, is_some, IfSome};
 ghost use Rattle.machine.specs.Tree.{is_live};
+ghost use Rattle.machine.specs.State.{is_swap_free};
 ghost use Rattle.machine.specs.Reclaim.{has_takeable, has_transfer};
 ghost use Rattle.machine.specs.Lists.{served};
 ghost use Rattle.page_state.specs.States.{AreYoung};
 ghost use Rattle.page_state.specs.Changes.{TakesPage};
 
 use crate::joined::State;
+use crate::lookup::is_any_under;
+use protection::Protection;
+use reclaim::ScanControl;
 use machine::id::GroupId;
 use pages::OutTicket;
 
@@ -28,16 +32,33 @@ impl State {
         ensures next { IfSome result (λ g. served self.now.tables self.now.order target.0 ≡ Some g.0) }
         ensures takeable { is_some result ≡ has_takeable self.now.tables target.0 }
     {
+        self.is_joined();
+        self.tree.groups_form_a_tree();
         let recursive = self.is_recursive();
-        self.holdings
-            .next_group(&self.tree, recursive, &self.cursors, target)
+        let protection = Protection {
+            tree: &self.tree,
+            counters: &self.parts.counters,
+            recursive,
+            target,
+        };
+        let swap_free = self.has_swap();
+        self.cursors.next_group(ScanControl {
+            protection,
+            gens: self.parts.held.gens(),
+            swap_free,
+        })
     }
 
     /// Whether a page of a group at or under the target is in transfer, and may come free.
     pub fn has_transfer(&self, target: GroupId) -> bool
         ensures { result ≡ has_transfer self.now.tables target.0 }
     {
-        self.holdings.has_transfer(&self.tree, target)
+        is_any_under(
+            self.parts.moving.as_slice(),
+            &self.parts.pages,
+            &self.tree,
+            target,
+        )
     }
 
     /// Of the group that is served the page that is evicted next leaves its frame, and the target's cursor
@@ -50,9 +71,17 @@ impl State {
         requires young { AreYoung self.old.order.held }
         ensures { TakesPage self.old self.new target.0 result }
     {
-        self.holdings.are_counted();
-        let page = self.holdings.pick(group);
+        self.parts.held.are_generations();
+        let swap_free = self.has_swap();
+        let page = self.parts.held.pick(group, swap_free);
         self.cursors.serve(target, group);
-        self.holdings.take_out(page)
+        self.parts.take_out(page)
+    }
+
+    /// Whether a swap block is free.
+    fn has_swap(&self) -> bool
+        ensures { result ≡ is_swap_free self.now.tables }
+    {
+        self.parts.slots.free() > 0
     }
 }

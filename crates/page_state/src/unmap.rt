@@ -5,14 +5,16 @@ ghost use Rattle.std.specs.Prelude.{◌≡◌, ◌&&◌, not};
 ghost use Rattle.machine.specs.Slots.{there_and};
 ghost use Rattle.machine.specs.Pages.{page_at, is_anon, is_in_transfer};
 ghost use Rattle.page_state.specs.Changes.{Unmaps, UnmapsAll};
-ghost use Rattle.page_state.specs.Drops.{DropsUnmapped, is_transfer};
+ghost use Rattle.page_state.specs.Owned.{PartsAgree};
+ghost use Rattle.page_state.specs.Parts.{DropsUnmapped};
+ghost use Rattle.page_state.specs.Drops.{is_transfer};
 
-use crate::holdings::Holdings;
 use crate::joined::State;
+use crate::parts::Parts;
 use machine::id::{PageId, TaskId};
 use machine::limit::TASK_PAGES;
 use machine::record::Kind;
-use pages::Residence;
+use pages::{Pages, Residence};
 use spaces::Spaces;
 
 impl State {
@@ -21,9 +23,8 @@ impl State {
     pub fn unmap(&mut self, task: TaskId, at: u32)
         ensures { Unmaps self.old self.new task.0 at }
     {
-        self.holdings.are_counted();
         if let Some(page) = self.spaces.unmap(task, at) {
-            drop_unmapped(&mut self.holdings, &self.spaces, page);
+            drop_unmapped(&mut self.parts, &self.spaces, page);
         }
     }
 
@@ -39,20 +40,20 @@ impl State {
 }
 
 /// Lets the page go where it is memory that nothing maps, unless it is in transfer or gone. Takes no memory.
-pub fn drop_unmapped(holdings: &mut Holdings, spaces: &Spaces, page: PageId)
-    ensures { DropsUnmapped holdings.old holdings.new spaces.now.page_tables page.0 }
+pub fn drop_unmapped(parts: &mut Parts, spaces: &Spaces, page: PageId)
+    requires { PartsAgree parts.old }
+    ensures agree { PartsAgree parts.new }
+    ensures drops { DropsUnmapped parts.old parts.new spaces.now.page_tables page.0 }
 {
-    holdings.are_counted();
-    if spaces.mappers(page) == 0 && is_settled_memory(holdings, page) {
-        holdings.drop_page(page);
+    if spaces.mappers(page) == 0 && is_settled_memory(&parts.pages, page) {
+        parts.drop_page(page);
     }
 }
 
 /// Whether the page is there, is memory, and is in no transfer.
-fn is_settled_memory(holdings: &Holdings, page: PageId) -> bool
-    ensures { result ≡ there_and (λ page. is_anon page.content && not (is_in_transfer page)) (page_at holdings.now.stored.pages page.0) }
+fn is_settled_memory(pages: &Pages, page: PageId) -> bool
+    ensures { result ≡ there_and (λ page. is_anon page.content && not (is_in_transfer page)) (page_at pages.now.pages page.0) }
 {
-    let pages = holdings.pages();
     match pages.kind(page) {
         Some(Kind::Anon) => match pages.residence(page) {
             Some(residence) => !is_transfer(residence),

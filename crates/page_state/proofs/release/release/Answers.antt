@@ -4,7 +4,7 @@ use Rattle.pages.specs.PagesOf.{labelled, moving}
 use Rattle.pages.specs.declared.owned_page.Place.{Place}
 use Rattle.pages.specs.Backed.{is_backed, is_backing_of}
 use Rattle.pages.specs.Records.{content_of, label_holding, group_at, residence_at, block_of}
-use Rattle.page_state.proofs.HoldingLemmas.{kept-step}
+use Rattle.page_state.proofs.PartsLemmas.{kept-step}
 use Rattle.page_state.proofs.SettleLemmas.{moving-is}
 use Rattle.page_state.proofs.ReleaseLemmas.{slot-is, no-slot, leaves-frame, leaves-block, leaves-charge, released, backed-trades, away-memory, away-trades}
 use Rattle.page_state.proofs.release.release.Goals as goal

@@ -2,7 +2,7 @@ use Rattle.std.proofs.Common.{◌∙◌, ◌++◌, ◌∷◌, [], None, Some, le
 use Rattle.machine.specs.Pages.{Pages}
 use Rattle.pages.specs.Records.{page_of}
 use Rattle.page_state.specs.Owned.{pages_of, AreKept}
-use Rattle.page_state.proofs.HoldingLemmas.{kept-step, pages-pop, last-stood, last-goes}
+use Rattle.page_state.proofs.PartsLemmas.{kept-step, pages-pop, last-stood, last-goes}
 use Rattle.page_state.proofs.release.release_last.Goals as goal
 
 pub release-requires : goal.release-requires

@@ -22,7 +22,7 @@ pub invariant_of-self : goal.invariant_of-self
 invariant_of-self c =
     let s = c.self.inside in
     let shared = shares c in
-    joined-made s c.self.invariant c.args.task.0 c.args.at c.hold-page.result.0 c.args.group.0 c.args.offset c.args.byte (byte_shown s.holdings.stored.bytes (Some c.args.from.0)) c.hold-page.new.self c.hold-page.ensures.adds
+    joined-made s c.self.invariant c.args.task.0 c.args.at c.hold-page.result.0 c.args.group.0 c.args.offset c.args.byte (byte_shown s.parts.pages.bytes (Some c.args.from.0)) c.hold-page.new.self c.hold-page.ensures.agree c.hold-page.ensures.adds
     c.map.new.self (shown c) (c.map.ensures.tasks ∙ c.unmap.ensures.tasks)
     (λ q at. subst (λ (p : ℕ). 1 < mappers s.spaces.page_tables p) (some_inj (sym shared.shown ∙ at)) shared.shared) (c.map.ensures.numbers ∙ c.unmap.ensures.numbers) (c.map.ensures.groups ∙ c.unmap.ensures.groups)
 
@@ -31,6 +31,6 @@ returns c =
     let s = c.self.inside in
     let shared = shares c in
     rw (← c.self.view_is)
-    (makes-page s c.self.invariant c.args.task.0 c.args.at c.hold-page.result.0 c.args.group.0 c.args.offset c.args.byte (byte_shown s.holdings.stored.bytes (Some c.args.from.0)) c.hold-page.new.self c.hold-page.ensures.adds
+    (makes-page s c.self.invariant c.args.task.0 c.args.at c.hold-page.result.0 c.args.group.0 c.args.offset c.args.byte (byte_shown s.parts.pages.bytes (Some c.args.from.0)) c.hold-page.new.self c.hold-page.ensures.agree c.hold-page.ensures.adds
     c.map.new.self (shown c) (c.map.ensures.tasks ∙ c.unmap.ensures.tasks) c.hold-page.ensures.inside
-    (λ k. sym (ap (λ (o : Option ℕ). byte_shown s.holdings.stored.bytes o k) shared.shown)))
+    (λ k. sym (ap (λ (o : Option ℕ). byte_shown s.parts.pages.bytes o k) shared.shown)))

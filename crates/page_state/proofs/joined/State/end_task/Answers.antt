@@ -15,7 +15,7 @@ exit-requires-clause-empty c =
 pub invariant_of-self : goal.invariant_of-self
 invariant_of-self c =
     let s = c.self.inside in
-    joined-tasks s c.self.invariant c.exit.new.self (mapped-alike s.holdings.stored.pages s.spaces.page_tables c.exit.new.self.page_tables c.self.invariant.mapped c.exit.ensures.same) c.exit.ensures.numbers c.exit.ensures.groups
+    joined-tasks s c.self.invariant c.exit.new.self (mapped-alike s.parts.pages.pages s.spaces.page_tables c.exit.new.self.page_tables c.self.invariant.mapped c.exit.ensures.same) c.exit.ensures.numbers c.exit.ensures.groups
     (homes-ended s.tree s.spaces.tasks c.exit.new.self.tasks c.args.task.0 (group_of_task s.spaces.tasks c.args.task.0) c.args.life c.requires.ended c.exit.ensures.ends c.self.invariant.homes)
 
 pub returns : goal.returns

@@ -15,6 +15,6 @@ invariant_of-self-2 c =
     let alive = subst (λ (s : StateOf). lives s.tables.tasks parent ≡ true) (sym c.self.view_is) c.requires.alive in
     let number = subst (λ (s : StateOf). number_refusal s.tables.tasks child ≡ None) (sym c.self.view_is) c.requires.number in
     joined-tasks s c.self.invariant c.fork.new.self
-    (mapped-copied s.holdings.stored.pages s.spaces.page_tables c.self.invariant.mapped s.spaces.tasks c.fork.new.self.page_tables parent child c.owners.ensures.alive (not_used s.spaces.tasks child number) c.in_ok-fork.ensures.shown)
+    (mapped-copied s.parts.pages.pages s.spaces.page_tables c.self.invariant.mapped s.spaces.tasks c.fork.new.self.page_tables parent child c.owners.ensures.alive (not_used s.spaces.tasks child number) c.in_ok-fork.ensures.shown)
     c.in_ok-fork.ensures.numbers c.in_ok-fork.ensures.groups
     (homes-started s.tree s.spaces.tasks c.fork.new.self.tasks child (group_of_task s.spaces.tasks parent) (c.self.invariant.homes parent alive) c.in_ok-fork.ensures.starts c.self.invariant.homes)

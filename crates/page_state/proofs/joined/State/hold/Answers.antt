@@ -15,7 +15,7 @@ pub invariant_of-self : goal.invariant_of-self
 invariant_of-self c =
     let s = c.self.inside in
     let unmapped = subst (λ (s : StateOf). mapped_at s.tables.page_tables c.args.task.0 c.args.at ≡ None) (sym c.self.view_is) c.requires.unmapped in
-    joined-made s c.self.invariant c.args.task.0 c.args.at c.hold-page.result.0 c.args.group.0 c.args.offset c.args.byte (byte_shown s.holdings.stored.bytes None) c.hold-page.new.self c.hold-page.ensures.adds c.map.new.self c.map.ensures.shown c.map.ensures.tasks
+    joined-made s c.self.invariant c.args.task.0 c.args.at c.hold-page.result.0 c.args.group.0 c.args.offset c.args.byte (byte_shown s.parts.pages.bytes None) c.hold-page.new.self c.hold-page.ensures.agree c.hold-page.ensures.adds c.map.new.self c.map.ensures.shown c.map.ensures.tasks
     (λ q shown. never_some (mapped_at s.spaces.page_tables c.args.task.0 c.args.at) unmapped shown) c.map.ensures.numbers c.map.ensures.groups
 
 pub returns : goal.returns
@@ -23,5 +23,5 @@ returns c =
     let s = c.self.inside in
     let unmapped = subst (λ (s : StateOf). mapped_at s.tables.page_tables c.args.task.0 c.args.at ≡ None) (sym c.self.view_is) c.requires.unmapped in
     rw (← c.self.view_is)
-    (makes-page s c.self.invariant c.args.task.0 c.args.at c.hold-page.result.0 c.args.group.0 c.args.offset c.args.byte (byte_shown s.holdings.stored.bytes None) c.hold-page.new.self c.hold-page.ensures.adds c.map.new.self c.map.ensures.shown c.map.ensures.tasks
-    c.hold-page.ensures.inside (λ k. sym (ap (λ shown. byte_shown s.holdings.stored.bytes shown k) unmapped)))
+    (makes-page s c.self.invariant c.args.task.0 c.args.at c.hold-page.result.0 c.args.group.0 c.args.offset c.args.byte (byte_shown s.parts.pages.bytes None) c.hold-page.new.self c.hold-page.ensures.agree c.hold-page.ensures.adds c.map.new.self c.map.ensures.shown c.map.ensures.tasks
+    c.hold-page.ensures.inside (λ k. sym (ap (λ shown. byte_shown s.parts.pages.bytes shown k) unmapped)))

@@ -1,24 +1,41 @@
-use Rattle.std.proofs.Common.{◌≡◌, true, sym, subst}
-use Rattle.std.specs.Prelude.{Result, Ok, Err, OnOk, IfErr}
-use Rattle.page_state.specs.declared.room.NoRoom.{NoRoom}
-use Rattle.page_state.specs.Holdings.{IsGranted, Lacks}
-use Rattle.page_state.specs.Changes.{HasRoom, LacksRoom}
+use Rattle.std.proofs.Common.{◌≡◌, ◌<◌, true, Some, None, sym, ap, ◌∙◌, subst, arith}
+use Rattle.std.specs.Prelude.{option_map}
+use Rattle.machine.specs.declared.id.GroupId.{GroupId}
 use Rattle.machine.specs.Tree.{is_live}
+use Rattle.machine.specs.Pages.{used_frames}
+use Rattle.page_counter.specs.Counts.{over_in}
 use Rattle.page_state.specs.States.{StateOf}
-use Rattle.page_state.specs.Joined.{joined_of}
-use Rattle.page_state.proofs.JoinLemmas.{room-granted, room-lacking}
+use Rattle.page_state.proofs.GrantLemmas.{over-granted, none-free}
+use Rattle.page_state.proofs.JoinLemmas.{room-granted, room-over, room-full}
 use Rattle.page_state.proofs.joined.State.room_for.Goals as goal
 
-pub returns-clause-room : goal.returns-clause-room
-returns-clause-room c = rw (← c.self.view_is) (by_result c.room_for.result c.room_for.ensures.granted)
-  where
-    by_result : (r : Result (Unit {0}) NoRoom) → OnOk r (IsGranted c.self.inside.holdings c.args.group.0) → OnOk r (HasRoom (joined_of c.self.inside).tables c.args.group.0)
-    by_result (Ok x) granted = room-granted c.self.inside c.self.invariant c.args.group.0 granted
-    by_result (Err why) granted = tt
+pub over-requires : goal.over-requires
+over-requires c = record { live = c.self.invariant.held_kin.living c.args.group.0 ∙ subst (λ (s : StateOf). is_live s.tables.tree c.args.group.0 ≡ true) (sym c.self.view_is) c.requires }
 
-pub returns-clause-lacks : goal.returns-clause-lacks
-returns-clause-lacks c = rw (← c.self.view_is) (by_result c.room_for.result c.room_for.ensures.lacks)
-  where
-    by_result : (r : Result (Unit {0}) NoRoom) → IfErr r (λ why. Lacks c.self.inside.holdings c.args.group.0 why) → IfErr r (λ why. LacksRoom (joined_of c.self.inside).tables c.args.group.0 why)
-    by_result (Ok x) lacking = tt
-    by_result (Err why) lacking = room-lacking c.self.inside c.self.invariant c.args.group.0 c.are_counted.ensures.lineage (subst (λ (s : StateOf). is_live s.tables.tree c.args.group.0 ≡ true) (sym c.self.view_is) c.requires) why lacking
+pub returns-in-Some-clause-lacks : goal.returns-in-Some-clause-lacks
+returns-in-Some-clause-lacks c =
+    let s = c.self.inside in
+    let live = subst (λ (s : StateOf). is_live s.tables.tree c.args.group.0 ≡ true) (sym c.self.view_is) c.requires in
+    let kin = c.self.invariant.held_kin.living c.args.group.0 ∙ live in
+    let over : over_in s.parts.counters c.args.group.0 ≡ Some c.in-Some.limit.0 = sym c.over.ensures ∙ ap (option_map (λ (g : GroupId). g.0)) c.in-Some.is in
+    rw (← c.self.view_is)
+    (room-over s c.self.invariant c.args.group.0 c.in-Some.limit.0 c.are_counted.ensures.lineage live (over-granted s.parts c.self.invariant.agree c.args.group.0 (Some c.in-Some.limit.0) c.are_counted.ensures.lineage kin over))
+
+pub returns-then-free-eq0-clause-lacks : goal.returns-then-free-eq0-clause-lacks
+returns-then-free-eq0-clause-lacks c =
+    let s = c.self.inside in
+    let live = subst (λ (s : StateOf). is_live s.tables.tree c.args.group.0 ≡ true) (sym c.self.view_is) c.requires in
+    let kin = c.self.invariant.held_kin.living c.args.group.0 ∙ live in
+    let over : over_in s.parts.counters c.args.group.0 ≡ None = sym c.over.ensures ∙ ap (option_map (λ (g : GroupId). g.0)) c.in_default.is in
+    rw (← c.self.view_is)
+    (room-full s c.self.invariant c.args.group.0 (over-granted s.parts c.self.invariant.agree c.args.group.0 None c.are_counted.ensures.lineage kin over) (none-free s.parts c.self.invariant.agree (sym c.free.ensures ∙ c.if-free-eq0.true)))
+
+pub returns-clause-room : goal.returns-clause-room
+returns-clause-room c =
+    let s = c.self.inside in
+    let live = subst (λ (s : StateOf). is_live s.tables.tree c.args.group.0 ≡ true) (sym c.self.view_is) c.requires in
+    let kin = c.self.invariant.held_kin.living c.args.group.0 ∙ live in
+    let over : over_in s.parts.counters c.args.group.0 ≡ None = sym c.over.ensures ∙ ap (option_map (λ (g : GroupId). g.0)) c.in_default.is in
+    let free : used_frames s.parts.pages.pages < s.parts.pool.frames = (let all = c.self.invariant.agree.kept.frames.all in let some = c.if-free-eq0.false in let is = c.free.ensures in omega (arith, all, some, is)) in
+    rw (← c.self.view_is)
+    (room-granted s c.self.invariant c.args.group.0 (record { under = over-granted s.parts c.self.invariant.agree c.args.group.0 None c.are_counted.ensures.lineage kin over; free = free }))

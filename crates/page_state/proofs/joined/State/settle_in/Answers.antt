@@ -7,18 +7,18 @@ pub invariant_of-self : goal.invariant_of-self
 invariant_of-self c =
     let s = c.self.inside in
     let flight = c.page_in_flight-page in
-    let stood = rw (c.pages.ensures.pages, c.number.ensures) at flight.ensures.stands in
-    let alone = rw (c.pages.ensures.pages, c.number.ensures) at flight.ensures.alone in
-    joined-settled s c.self.invariant c.are_counted.ensures.generations c.settle_in-bytes.new.self c.drop_unmapped.new.holdings flight.result.0 c.args.ticket.number In c.args.end alone c.settle_in-bytes.ensures.settles c.drop_unmapped.ensures stood.0 stood.1 stood.2 stood.3
+    let stood = rw c.number.ensures at flight.ensures.stands in
+    let alone = rw c.number.ensures at flight.ensures.alone in
+    joined-settled s c.self.invariant c.are_generations.ensures.generations c.settle_in-bytes.new.self c.drop_unmapped.new.parts flight.result.0 c.args.ticket.number In c.args.end alone c.settle_in-bytes.ensures.settles c.drop_unmapped.ensures.agree c.drop_unmapped.ensures.drops stood.0 stood.1 stood.2 stood.3
 
 pub returns-clause-ends : goal.returns-clause-ends
 returns-clause-ends c =
-    let alone = rw (c.pages.ensures.pages, c.number.ensures) at c.page_in_flight-page.ensures.alone in
-    rw (← c.self.view_is) (any-ended c.self.inside c.self.invariant c.are_counted.ensures.generations c.settle_in-bytes.new.self c.drop_unmapped.new.holdings c.page_in_flight-page.result.0 c.args.ticket.number In c.args.end alone c.settle_in-bytes.ensures.settles c.drop_unmapped.ensures)
+    let alone = rw c.number.ensures at c.page_in_flight-page.ensures.alone in
+    rw (← c.self.view_is) (any-ended c.self.inside c.self.invariant c.are_generations.ensures.generations c.settle_in-bytes.new.self c.drop_unmapped.new.parts c.page_in_flight-page.result.0 c.args.ticket.number In c.args.end alone c.settle_in-bytes.ensures.settles c.drop_unmapped.ensures.agree c.drop_unmapped.ensures.drops)
 
 pub returns-clause-arrives : goal.returns-clause-arrives
 returns-clause-arrives c =
-    let alone = rw (c.pages.ensures.pages, c.number.ensures) at c.page_in_flight-page.ensures.alone in
+    let alone = rw c.number.ensures at c.page_in_flight-page.ensures.alone in
     rw (← c.self.view_is) (λ p label f b stood in_frame there k.
-    any-bytes c.self.inside c.self.invariant c.are_counted.ensures.generations c.settle_in-bytes.new.self c.drop_unmapped.new.holdings c.page_in_flight-page.result.0 c.args.ticket.number In c.args.end alone c.settle_in-bytes.ensures.settles c.drop_unmapped.ensures p label f b stood there k
+    any-bytes c.self.inside c.self.invariant c.are_generations.ensures.generations c.settle_in-bytes.new.self c.drop_unmapped.new.parts c.page_in_flight-page.result.0 c.args.ticket.number In c.args.end alone c.settle_in-bytes.ensures.settles c.drop_unmapped.ensures.agree c.drop_unmapped.ensures.drops p label f b stood there k
     ∙ c.settle_in-bytes.ensures.arrives in_frame k)
