@@ -96,8 +96,8 @@ gives-in old new p block label ticket begins = (
   p,
   label,
   begins.frame,
-  subst (λ (b : ℕ). HasResidence new.tables.pages p label (Coming begins.frame b ticket.number)) (sym (ap (λ (t : TicketOf). t.block) begins.given)) begins.placed.changed,
-  subst (λ (b : ℕ). ticket ≡ new_ticket ticket.number b ticket.bytes) (sym (ap (λ (t : TicketOf). t.block) begins.given)) begins.given,
+  subst (λ (b : ℕ). HasResidence new.tables.pages p label (Coming begins.frame b ticket.number)) (sym (ap (λ (t : TicketOf). t.block) begins.begins.given)) begins.begins.placed.changed,
+  subst (λ (b : ℕ). ticket ≡ new_ticket ticket.number b ticket.bytes) (sym (ap (λ (t : TicketOf). t.block) begins.begins.given)) begins.begins.given,
 )
 
 -- a page is read in
@@ -117,7 +117,7 @@ carries-fetch old new fault from g ticket is meets has fetch =
         (subst (λ (l : Label). BeginsReadIn old new fetch.page l meets.0 ticket) reads.1 (subst (λ (b : ℕ). BeginsReadIn old new fetch.page fetch.label b ticket) (sym (some_inj block)) fetch.begins)) in
         makes_step-fetch old new fault _ g.0 page.0 meets.0 (memory_of g.0) ticket is has meets.1 refl refl (ap (there_and is_in_transfer) meets.2) refl begins
         (λ room starts. granted_step old.tables _ _ _ _ _ room.under room.free starts)
-        (holders-beside old new begins.tables page.0 (Some (labelled (memory_of g.0) (Coming begins.frame meets.0 ticket.number))) begins.placed (λ f q. sym (ap (holds_page f q) meets.2)))
+        (holders-beside old new begins.tables page.0 (Some (labelled (memory_of g.0) (Coming begins.frame meets.0 ticket.number))) begins.begins.placed (λ f q. sym (ap (holds_page f q) meets.2)))
     by_source (source.File at) meets reads =
         let home = home_block old.tables.opening.swap old.tables.opening.files at.file at.page in
         let label = of_file at.file at.page fault.group.0 false in
@@ -126,7 +126,7 @@ carries-fetch old new fault from g ticket is meets has fetch =
         subst (λ (l : Label). BeginsReadIn old new fetch.page l home ticket) (reads.1 ∙ ap (λ (x : ℕ). of_file at.file at.page x false) own) (subst (λ (b : ℕ). BeginsReadIn old new fetch.page fetch.label b ticket) reads.2 fetch.begins) in
         makes_step-fetch old new fault _ fault.group.0 fetch.page home label ticket is has meets.0 refl refl (ap (there_and is_in_transfer) reads.3) refl begins
         (λ room starts. granted_step old.tables _ _ _ _ _ room.under room.free (record { page = fetch.page; in_range = reads.0; slot_free = reads.3; fetch = starts }))
-        (holders-new old new begins.tables fetch.page at.file at.page (labelled label (Coming begins.frame home ticket.number)) begins.placed reads.3 refl meets.2 refl)
+        (holders-new old new begins.tables fetch.page at.file at.page (labelled label (Coming begins.frame home ticket.number)) begins.begins.placed reads.3 refl meets.2 refl)
 
 -- a charge is refused
 lacked : (old : StateOf) (fault : Fault) (why : NoRoom) (answer : Reply) (new : State) → IsFault old.tables fault → (lacks : LacksRoomFor old.tables fault why) → ((Granted : Type 0) → TriesCharge old.tables lacks.0 Granted answer new)
@@ -160,7 +160,7 @@ pub carries-out : (old new : StateOf) (target g : GroupId) (ticket : TicketOf) �
 carries-out old new target g ticket begins what is =
     record {
       makes_step = makes_step-out old new target.0 ticket begins what is.fits;
-      gives = (begins.p, begins.label, begins.frame, begins.placed.changed, begins.given, begins.holds);
+      gives = (begins.p, begins.label, begins.frame, begins.begins.placed.changed, begins.begins.given, begins.holds);
       replies = replies-asked old.tables what target.0 (given.Out ticket) is.fits tt tt;
     }
 

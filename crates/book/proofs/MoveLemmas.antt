@@ -187,8 +187,8 @@ starts-fetch old new p b label ticket clean begins =
       frame = begins.frame;
       ticket = ticket.number;
       frame_free = begins.frame_free;
-      ticket_free = begins.ticket_free;
-      placed = subst (λ (dirty : Bool). Changes old.tables.pages new.tables.pages p (Some (labelled (record label { dirty = dirty }) (Coming begins.frame b ticket.number)))) clean begins.placed;
+      ticket_free = begins.begins.ticket_free;
+      placed = subst (λ (dirty : Bool). Changes old.tables.pages new.tables.pages p (Some (labelled (record label { dirty = dirty }) (Coming begins.frame b ticket.number)))) clean begins.begins.placed;
       answers = refl;
       state = begins.tables;
     }
@@ -204,7 +204,7 @@ makes_step-fetch old new fault met g p b label ticket is has meeting fetch needs
     makes_step-move old new (event.Access fault.task fault.place fault.op) (reply.Fetch (record { 0 = ticket.number })) p (Some (labelled label (Coming begins.frame b ticket.number)))
     (record {
       tables = begins.tables;
-      placed = begins.placed;
+      placed = begins.begins.placed;
       others = begins.bytes;
       silent = (quiet-access fault.task.0 fault.place fault.op (reply.Fetch (record { 0 = ticket.number })) refl refl).says;
       given = refl;
@@ -213,8 +213,8 @@ makes_step-fetch old new fault met g p b label ticket is has meeting fetch needs
     })
     (met_step old.tables fault met _ _ is meeting (starts (room-for old.tables fault met g has meeting needs) (starts-fetch old new p b label ticket clean begins)))
     (order-on Youngest old old.order.held new refl begins.held begins.cursors) (reads-access old fault.task.0 fault.place fault.op (reply.Fetch (record { 0 = ticket.number })) refl)
-    (flights-begun old new p ticket.number In (reply.Fetch (record { 0 = ticket.number })) refl begins.listed)
-    (let more = in_transfer-changes old.tables.pages new.tables.pages p (Some (labelled label (Coming begins.frame b ticket.number))) begins.placed in
+    (flights-begun old new p ticket.number In (reply.Fetch (record { 0 = ticket.number })) refl begins.begins.listed)
+    (let more = in_transfer-changes old.tables.pages new.tables.pages p (Some (labelled label (Coming begins.frame b ticket.number))) begins.begins.placed in
     let was : one_if (there_and is_in_transfer (page_at old.tables.pages p)) ≡ 0 = ap one_if rested in
     let two = fetch-needs old.tables fault met g is has meeting fetch needs in
     omega (arith, more, was, two))
@@ -258,8 +258,8 @@ module _ (old new : StateOf) (target : ℕ) (ticket : TicketOf) (taken : BeginsW
   starts_leave block same =
       record {
         ticket = ticket.number;
-        ticket_free = taken.ticket_free;
-        placed = subst (λ (b : ℕ). Changes old.tables.pages new.tables.pages taken.p (Some (labelled taken.label (Going taken.frame b ticket.number)))) same taken.placed;
+        ticket_free = taken.begins.ticket_free;
+        placed = subst (λ (b : ℕ). Changes old.tables.pages new.tables.pages taken.p (Some (labelled taken.label (Going taken.frame b ticket.number)))) same taken.begins.placed;
         answers = refl;
         state = taken.tables;
       }
@@ -281,9 +281,9 @@ module _ (old new : StateOf) (target : ℕ) (ticket : TicketOf) (taken : BeginsW
   makes_step-out what asks =
       makes_step-taken old new target (reply.Out (record { 0 = ticket.number })) taken.p (Some (labelled taken.label (Going taken.frame ticket.block ticket.number))) out-some takes_out
       (λ why same. subst (λ (t : ℕ). TakesNext old.tables old.order t new.tables new.order) (sym same) taken.next) (λ h same. subst (λ (t : ℕ). TakesNext old.tables old.order t new.tables new.order) (sym same) taken.next)
-      taken.ages taken.tables taken.placed (λ q k other. taken.bytes q k) refl
-      (flights-begun old new taken.p ticket.number Out (reply.Out (record { 0 = ticket.number })) refl taken.listed)
-      (holders-beside old new taken.tables taken.p (Some (labelled taken.label (Going taken.frame ticket.block ticket.number))) taken.placed (λ f q. sym (ap (holds_page f q) taken.stood)))
+      taken.ages taken.tables taken.begins.placed (λ q k other. taken.bytes q k) refl
+      (flights-begun old new taken.p ticket.number Out (reply.Out (record { 0 = ticket.number })) refl taken.begins.listed)
+      (holders-beside old new taken.tables taken.p (Some (labelled taken.label (Going taken.frame ticket.block ticket.number))) taken.begins.placed (λ f q. sym (ap (holds_page f q) taken.stood)))
       (λ spot is there. (ap (there_and (λ (page : Page). is_in_memory page.residence)) taken.stood, taken.bytes taken.p (offset_of spot)))
       (ap (there_and is_in_transfer) taken.stood)
       what asks
@@ -300,16 +300,16 @@ module _ (old new : StateOf) (target : ℕ) (single : IsSingle old.tables.pages)
         page = labelled (of_file taken.file taken.q taken.g false) (Held taken.frame);
         there = taken.stood;
         takeable = taken.takeable;
-        leaves = record { answers = refl; gone = taken.gone; state = taken.tables };
+        leaves = record { answers = refl; gone = taken.drops.gone; state = taken.tables };
       }
 
   pub makes_step-dropped : (what : Event) → AsksPage old.tables what target → MakesStep old what reply.Dropped new
   makes_step-dropped what asks =
       makes_step-taken old new target reply.Dropped taken.p None dropped-some takes_away
       (λ why same. subst (λ (t : ℕ). TakesNext old.tables old.order t new.tables new.order) (sym same) taken.next) (λ h same. subst (λ (t : ℕ). TakesNext old.tables old.order t new.tables new.order) (sym same) taken.next)
-      taken.ages taken.tables taken.gone taken.others refl
-      (flights-kept old new reply.Dropped taken.flights)
-      (holders-gone old new taken.tables taken.p taken.file taken.q (labelled (of_file taken.file taken.q taken.g false) (Held taken.frame)) single taken.gone taken.stood refl)
+      taken.ages taken.tables taken.drops.gone taken.drops.others refl
+      (flights-kept old new reply.Dropped taken.drops.flights)
+      (holders-gone old new taken.tables taken.p taken.file taken.q (labelled (of_file taken.file taken.q taken.g false) (Held taken.frame)) single taken.drops.gone taken.stood refl)
       (λ spot is there. unlike false there refl)
       (ap (there_and is_in_transfer) taken.stood)
       what asks
@@ -342,10 +342,10 @@ module _ (old new : StateOf) (p n : ℕ) (direction : Direction) (label : Label)
       → MakesStep old what reply.Ok new
   makes_step-end steps orders reads silent holders own =
       makes_step-move old new what reply.Ok p to
-      (record { tables = ends.tables; placed = ends.placed; others = ends.others; silent = silent; given = refl; holders = holders; own = own })
+      (record { tables = ends.tables; placed = ends.settles.placed; others = ends.settles.others; silent = silent; given = refl; holders = holders; own = own })
       steps orders reads
-      (flights-ended old new n reply.Ok ends.unlisted)
-      (let less = in_transfer-changes old.tables.pages new.tables.pages p to ends.placed in
+      (flights-ended old new n reply.Ok ends.settles.unlisted)
+      (let less = in_transfer-changes old.tables.pages new.tables.pages p to ends.settles.placed in
       let was : one_if (there_and is_in_transfer (page_at old.tables.pages p)) ≡ 1 = ap (λ (slot : Option Page). one_if (there_and is_in_transfer slot)) stood ∙ ap one_if moves in
       let now : one_if (there_and is_in_transfer to) ≡ 0 = ap one_if rests in
       omega (arith, less, was, now))
@@ -361,7 +361,7 @@ module _ (old new : StateOf) (p f b n : ℕ) (direction : Direction) (label : La
       by_content (OfFile file q) = refl
 
   block-holders : (spot : Spot) → KnowsSpot new spot → holder new.tables spot ≡ holder old.tables spot
-  block-holders = by_content label.content refl ends.placed
+  block-holders = by_content label.content refl ends.settles.placed
     where
       by_content : (content : Content) → label.content ≡ content → Changes old.tables.pages new.tables.pages p (on_block_of content old.tables.page_tables p (labelled label from) b)
           → (spot : Spot) → KnowsSpot new spot → holder new.tables spot ≡ holder old.tables spot
@@ -375,12 +375,12 @@ module _ (old new : StateOf) (p f b n : ℕ) (direction : Direction) (label : La
     (ends : Settles old new direction p n (in_frame old.tables.page_tables p (labelled label from) f b)) where
   frame-holders : (spot : Spot) → KnowsSpot new spot → holder new.tables spot ≡ holder old.tables spot
   frame-holders =
-      holders-beside old new ends.tables p (in_frame old.tables.page_tables p (labelled label from) f b) ends.placed
+      holders-beside old new ends.tables p (in_frame old.tables.page_tables p (labelled label from) f b) ends.settles.placed
       (λ g q. left-holds old.tables.page_tables p g q (labelled label (Held f)) ∙ sym (ap (holds_page g q) stood))
 
   -- where it is in memory it is there
   frame-there : there_and (λ (page : Page). is_in_memory page.residence) (in_frame old.tables.page_tables p (labelled label from) f b) ≡ true → is_some (page_at new.tables.pages p) ≡ true
-  frame-there there = by_slot (in_frame old.tables.page_tables p (labelled label from) f b) ends.placed.changed there
+  frame-there there = by_slot (in_frame old.tables.page_tables p (labelled label from) f b) ends.settles.placed.changed there
     where
       by_slot : (slot : Option Page) → page_at new.tables.pages p ≡ slot → there_and (λ (page : Page). is_in_memory page.residence) slot ≡ true → is_some (page_at new.tables.pages p) ≡ true
       by_slot None is e = cc
@@ -394,7 +394,7 @@ going-known pages p f b n label stands = ap (there_and (λ (page : Page). is_in_
 ends-as : (old new : StateOf) (p f b n : ℕ) (direction : Direction) (label : Label) (from : ℕ → ℕ → Residence) (end : PageTables → ℕ → Page → ℕ → ℕ → Option Page) → HasResidence old.tables.pages p label (from f b)
     → Settles old new direction p n (end old.tables.page_tables p (labelled label (from f b)) f b) → EndsTransfer old.tables from end reply.Ok new.tables
 ends-as old new p f b n direction label from end stood ends =
-    record { p = p; page = labelled label (from f b); frame = f; block = b; there = stood; moves = refl; placed = ends.placed; answers = refl; state = ends.tables }
+    record { p = p; page = labelled label (from f b); frame = f; block = b; there = stood; moves = refl; placed = ends.settles.placed; answers = refl; state = ends.tables }
 
 -- ---- the ends of transfers, as the parts make them
 

@@ -174,9 +174,9 @@ makes_step-made old new fault met v b mapped is writes meeting knew granted make
     makes_step-alike old new (event.Access fault.task fault.place fault.op) (reply.Done b None)
     (met_step old.tables fault met _ _ is meeting (rw writes.op (granted made))) (order-on Youngest old old.order.held new refl makes.held makes.cursors) (rw writes.op tt)
     (λ spot there known. rw writes.op (rw writes.place (at_spot spot (there-same old.tables new.tables spot (ap (λ (s : State). s.tasks) makes.tables) there) known)))
-    makes.flights
-    (let same = in_transfer-changes old.tables.pages new.tables.pages p (Some (new_page g makes.frame)) makes.placed in
-    let was : one_if (there_and is_in_transfer (page_at old.tables.pages p)) ≡ 0 = ap (λ (slot : Option Page). one_if (there_and is_in_transfer slot)) makes.number_free in
+    makes.adds.flights
+    (let same = in_transfer-changes old.tables.pages new.tables.pages p (Some (new_page g makes.frame)) makes.adds.placed in
+    let was : one_if (there_and is_in_transfer (page_at old.tables.pages p)) ≡ 0 = ap (λ (slot : Option Page). one_if (there_and is_in_transfer slot)) makes.adds.number_free in
     omega (arith, same, was))
     (access-needs old.tables t fault.place fault.op) refl (ap (λ (s : State). s.opening) makes.tables)
   where
@@ -198,9 +198,9 @@ makes_step-made old new fault met v b mapped is writes meeting knew granted make
           page = p;
           frame = makes.frame;
           in_range = makes.in_range;
-          slot_free = makes.number_free;
+          slot_free = makes.adds.number_free;
           frame_free = makes.frame_free;
-          placed = makes.placed;
+          placed = makes.adds.placed;
           shown = makes.shown;
           answers = refl;
           state = makes.tables;
@@ -209,16 +209,16 @@ makes_step-made old new fault met v b mapped is writes meeting knew granted make
     -- another page is what it was
     another : (q k : ℕ) → q ≢ p → is_known new.tables.pages q ≡ true → (is_known old.tables.pages q ≡ true) × (byte_in new.bytes q k ≡ byte_in old.bytes q k)
     another q k other now = (
-      sym (ap (there_and (λ (page : Page). is_in_memory page.residence)) (makes.placed.others q other)) ∙ now,
-      makes.bytes q k ∙ ap (λ x. cond x (if o == k then b else byte_shown old.bytes (mapped_at old.tables.page_tables t v) k) (byte_in old.bytes q k)) (ne_eqb q p other),
+      sym (ap (there_and (λ (page : Page). is_in_memory page.residence)) (makes.adds.placed.others q other)) ∙ now,
+      makes.adds.bytes q k ∙ ap (λ x. cond x (if o == k then b else byte_shown old.bytes (mapped_at old.tables.page_tables t v) k) (byte_in old.bytes q k)) (ne_eqb q p other),
     )
 
     unmade : (q : ℕ) → 1 ≤ mappers old.tables.page_tables q → q ≢ p
     unmade q some same =
-        absurd (let none = mapped.there q (ap (page_at old.tables.pages) same ∙ makes.number_free) in omega (arith, none, some))
+        absurd (let none = mapped.there q (ap (page_at old.tables.pages) same ∙ makes.adds.number_free) in omega (arith, none, some))
 
     uncached : (h n q : ℕ) → file_page old.tables.pages h n ≡ Some q → q ≢ p
-    uncached h n q cached same = let there = file_page-there old.tables.pages h n q cached in absurd (let wrong : Some there.0 ≡ None = sym there.1 ∙ ap (page_at old.tables.pages) same ∙ makes.number_free in cc)
+    uncached h n q cached same = let there = file_page-there old.tables.pages h n q cached in absurd (let wrong : Some there.0 ≡ None = sym there.1 ∙ ap (page_at old.tables.pages) same ∙ makes.adds.number_free in cc)
 
     same_place : (tables : PageTables) (u w : ℕ) → ((t == u) && (v == w)) ≡ true → mapped_at tables u w ≡ mapped_at tables t v
     same_place tables u w hit =
@@ -229,7 +229,7 @@ makes_step-made old new fault met v b mapped is writes meeting knew granted make
     -- of the page that is made one byte is written, and the others are those that the place showed
     own : (u w k : ℕ) → ((t == u) && (v == w)) ≡ true → (z : Bool) → (o == k) ≡ z → byte_at_spot new (InTask u w k) ≡ cond z b (byte_at_spot old (InTask u w k))
     own u w k hit z is =
-        ap (λ m. byte_shown new.bytes m k) (same_place new.tables.page_tables u w hit ∙ makes.shown.changed) ∙ makes.bytes p k
+        ap (λ m. byte_shown new.bytes m k) (same_place new.tables.page_tables u w hit ∙ makes.shown.changed) ∙ makes.adds.bytes p k
         ∙ ap (λ x. cond x (cond (o == k) b (byte_at_spot old (InTask t v k))) (byte_in old.bytes p k)) (eq-eqb p p refl)
         ∙ ap (λ x. cond x b (byte_at_spot old (InTask t v k))) is
         ∙ ap (cond z b) (sym (ap (λ m. byte_shown old.bytes m k) (same_place old.tables.page_tables u w hit)))
@@ -246,7 +246,7 @@ makes_step-made old new fault met v b mapped is writes meeting knew granted make
     at_spot : (spot : Spot) → IsThere old.tables spot → KnowsSpot new spot → IsSaid old (says_if (is_spot (InTask t v o) spot) (Byte b)) spot (byte_at_spot new spot)
     at_spot (InTask u w k) alive known = at_place u w k alive known ((t == u) && (v == w)) refl
     at_spot (InFile h n k) there known =
-        stays-was old new (InFile h n k) tt (file_page-new_memory old.tables.pages new.tables.pages p (new_page g makes.frame) makes.placed makes.number_free refl h n) (λ q at now. another q k (uncached h n q at) now) known
+        stays-was old new (InFile h n k) tt (file_page-new_memory old.tables.pages new.tables.pages p (new_page g makes.frame) makes.adds.placed makes.adds.number_free refl h n) (λ q at now. another q k (uncached h n q at) now) known
 
 -- ---- tasks begin
 

@@ -42,11 +42,12 @@ impl State {
             target,
         };
         let swap_free = self.has_swap();
-        self.cursors.next_group(ScanControl {
+        let scan = ScanControl {
             protection,
             gens: self.parts.held.gens(),
             swap_free,
-        })
+        };
+        self.cursors.next_group(scan)
     }
 
     /// Whether a page of a group at or under the target is in transfer, and may come free.
