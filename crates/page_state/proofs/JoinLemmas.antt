@@ -116,7 +116,7 @@ module _ (s : Inside) (is : IsJoined s) (g : ℕ) where
   same_over : over_in (joined_of s).tables g ≡ over_of s.parts g
   same_over = sym (kin-over s.parts.counters.tree s.tree is.held_kin s.parts.counters.limits s.parts.pages.pages g)
 
-  -- what is granted in the holdings has room in the tables
+  -- what is granted in the parts has room in the tables
   pub room-granted : IsGranted s.parts g → HasRoom (joined_of s).tables g
   room-granted granted = record { under = same_over ∙ granted.under; free = free-true (used_frames s.parts.pages.pages) s.parts.pool.frames s.config.frames granted.free is.frames }
 
