@@ -38,7 +38,7 @@ use Rattle.book.specs.Replies.{IsAccessReply, IsReliefReply, IsReclaimReply}
 use Rattle.book.specs.Effects.{knows}
 use Rattle.book.specs.MakesStep.{MakesStep, GivesTicket, RepliesTo}
 use Rattle.book.proofs.EndLemmas.{counting, makes_step-kill}
-use Rattle.book.specs.declared.decision.Fault.{Fault}
+use Rattle.book.specs.declared.decision.PageFault.{PageFault}
 use Rattle.book.specs.Decisions.{MeetsSource, offset_at, IsFault, met_by, MeetsSo, HasRoomFor, LacksRoomFor, IsIdleFor, IsOfKilled, AsksPage, WantsRoom, HasItsRoom, FindsNothing, AnswersTo, Carries}
 use Rattle.book.proofs.StepLemmas.{InOrder, still-self, still-counts, held-known, over_step, frameless_step, granted_step, makes_step-set, makes_step-killed, makes_step-undone, met_step, tries_charge, makes_step-room, makes_step-wait, makes_step-no_victim, makes_step-nothing}
 use Rattle.book.proofs.MoveLemmas.{filed-single, holders-beside, holders-new, makes_step-fetch, makes_step-out, makes_step-dropped}
@@ -67,12 +67,12 @@ carries-killed s listed what is = record { makes_step = makes_step-killed s what
 
 -- ---- accesses
 
-pub carries-access : (old new : StateOf) (fault : Fault) (met : Meeting) (said : Given) → MakesStep old (event.Access fault.task fault.place fault.op) (reply_of said) new → GivesTicket new said → IsAccessReply said → Carries old (decision.Access fault met) said new
+pub carries-access : (old new : StateOf) (fault : PageFault) (met : Meeting) (said : Given) → MakesStep old (event.Access fault.task fault.place fault.op) (reply_of said) new → GivesTicket new said → IsAccessReply said → Carries old (decision.Access fault met) said new
 carries-access old new fault met said makes_step gives replies what is =
     answers old new what (event.Access fault.task fault.place fault.op) said is.fits makes_step gives replies
 
 -- a page of zeros is made
-pub carries-made : (old new : StateOf) (fault : Fault) (v byte : ℕ) → AreMapped old.tables.pages old.tables.page_tables → IsFault old.tables fault → MeetsSo old.tables fault (meeting.NeedsPage v byte) → HasRoomFor old.tables fault
+pub carries-made : (old new : StateOf) (fault : PageFault) (v byte : ℕ) → AreMapped old.tables.pages old.tables.page_tables → IsFault old.tables fault → MeetsSo old.tables fault (meeting.NeedsPage v byte) → HasRoomFor old.tables fault
     → MakesPage old new fault.task.0 v fault.group.0 (offset_at fault) byte → Carries old (decision.Access fault (meeting.NeedsPage v byte)) (given.Done byte None) new
 carries-made old new fault v byte mapped is meets has makes =
     let room = room-for old.tables fault _ fault.group.0 has meets.0 refl in
@@ -81,7 +81,7 @@ carries-made old new fault v byte mapped is meets has makes =
     tt tt
 
 -- or a copy
-pub carries-copied : (old new : StateOf) (fault : Fault) (v : ℕ) (page : PageId) (byte : ℕ) → AreMapped old.tables.pages old.tables.page_tables → IsFault old.tables fault → MeetsSo old.tables fault (meeting.NeedsCopy v page byte)
+pub carries-copied : (old new : StateOf) (fault : PageFault) (v : ℕ) (page : PageId) (byte : ℕ) → AreMapped old.tables.pages old.tables.page_tables → IsFault old.tables fault → MeetsSo old.tables fault (meeting.NeedsCopy v page byte)
     → HasRoomFor old.tables fault → MakesPage old new fault.task.0 v fault.group.0 (offset_at fault) byte → Carries old (decision.Access fault (meeting.NeedsCopy v page byte)) (given.Done byte None) new
 carries-copied old new fault v page byte mapped is meets has makes =
     let room = room-for old.tables fault _ fault.group.0 has meets.0 refl in
@@ -101,7 +101,7 @@ gives-in old new p block label ticket begins = (
 )
 
 -- a page is read in
-pub carries-fetch : (old new : StateOf) (fault : Fault) (from : Source) (g : GroupId) (ticket : TicketOf) → IsFault old.tables fault → MeetsSource old.tables fault from g → HasRoomFor old.tables fault
+pub carries-fetch : (old new : StateOf) (fault : PageFault) (from : Source) (g : GroupId) (ticket : TicketOf) → IsFault old.tables fault → MeetsSource old.tables fault from g → HasRoomFor old.tables fault
     → BeginsRead old new from g.0 ticket → Carries old (decision.Access fault (meeting.NeedsFetch from g)) (given.Fetch ticket) new
 carries-fetch old new fault from g ticket is meets has fetch =
     carries-access old new fault (meeting.NeedsFetch from g) (given.Fetch ticket) (by_source from meets fetch.reads) (gives-in old new fetch.page fetch.block fetch.label ticket fetch.begins) tt
@@ -129,16 +129,16 @@ carries-fetch old new fault from g ticket is meets has fetch =
         (holders-new old new begins.tables fetch.page at.file at.page (labelled label (Coming begins.frame home ticket.number)) begins.begins.placed reads.3 refl meets.2 refl)
 
 -- a charge is refused
-lacked : (old : StateOf) (fault : Fault) (why : NoRoom) (answer : Reply) (new : State) → IsFault old.tables fault → (lacks : LacksRoomFor old.tables fault why) → ((Granted : Type 0) → TriesCharge old.tables lacks.0 Granted answer new)
+lacked : (old : StateOf) (fault : PageFault) (why : NoRoom) (answer : Reply) (new : State) → IsFault old.tables fault → (lacks : LacksRoomFor old.tables fault why) → ((Granted : Type 0) → TriesCharge old.tables lacks.0 Granted answer new)
     → Step old.tables (event.Access fault.task fault.place fault.op) answer new
 lacked old fault why answer new is lacks tries = met_step old.tables fault _ answer new is refl (tries_charge old.tables fault.task.0 fault.group.0 lacks.0 fault.op (met_by old.tables fault) answer new lacks.1 tries)
 
-pub carries-over : (old new : StateOf) (fault : Fault) (a : GroupId) → InOrder old → IsFault old.tables fault → LacksRoomFor old.tables fault (lacks.Over a) → new ≡ counts_event old a.0 key.Max
+pub carries-over : (old new : StateOf) (fault : PageFault) (a : GroupId) → InOrder old → IsFault old.tables fault → LacksRoomFor old.tables fault (lacks.Over a) → new ≡ counts_event old a.0 key.Max
     → Carries old (decision.Lacks fault (lacks.Over a)) (given.Over a) new
 carries-over old new fault a listed is lack counts what for =
     answers old new what (event.Access fault.task fault.place fault.op) (given.Over a) for.fits (makes_step-undone old new fault.task.0 fault.place fault.op (reply.Over a) refl refl (still-counts old new a.0 key.Max counts) (subst (λ (s : StateOf). Step old.tables (event.Access fault.task fault.place fault.op) (reply.Over a) s.tables) (sym counts) (lacked old fault (lacks.Over a) (reply.Over a) _ is lack (λ Granted. over_step old.tables _ _ Granted a.0 lack.2.0))) listed (ap (λ (s : StateOf). s.order) counts)) tt tt
 
-pub carries-no_frame : (s : StateOf) (fault : Fault) → InOrder s → IsFault s.tables fault → LacksRoomFor s.tables fault lacks.NoFrame → Carries s (decision.Lacks fault lacks.NoFrame) given.NoFrame s
+pub carries-no_frame : (s : StateOf) (fault : PageFault) → InOrder s → IsFault s.tables fault → LacksRoomFor s.tables fault lacks.NoFrame → Carries s (decision.Lacks fault lacks.NoFrame) given.NoFrame s
 carries-no_frame s fault listed is lack what for =
     answers s s what (event.Access fault.task fault.place fault.op) given.NoFrame for.fits (makes_step-undone s s fault.task.0 fault.place fault.op reply.NoFrame refl refl (still-self s) (lacked s fault lacks.NoFrame reply.NoFrame s.tables is lack (λ Granted. frameless_step s.tables _ _ Granted lack.2.0 lack.2.1)) listed refl) tt tt
 

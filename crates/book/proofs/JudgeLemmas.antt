@@ -26,7 +26,7 @@ use Rattle.machine.specs.History.{spot_of}
 use Rattle.book.specs.Spots.{holder}
 use Rattle.page_state.specs.Mapped.{AreMapped}
 use Rattle.page_state.proofs.MappedLemmas.{mapped_there}
-use Rattle.book.specs.declared.decision.Fault.{Fault}
+use Rattle.book.specs.declared.decision.PageFault.{PageFault}
 use Rattle.book.specs.Decisions.{offset_at, IsFault, Finds, HasRoomFor, MeetsSource, met_by}
 use Rattle.pages.specs.declared.source.Source.{Source}
 use Rattle.pages.specs.declared.source.Source.TheVariants as source
@@ -61,7 +61,7 @@ is-away r b said = grind (arith, said)
 -- ---- what an access needs
 
 -- the charge that it needs is granted
-pub room-for : (s : State) (fault : Fault) (met : plain.Meeting) (g : ℕ) → HasRoomFor s fault → met_by s fault ≡ met → charges met fault.group.0 ≡ Some g → HasRoom s g
+pub room-for : (s : State) (fault : PageFault) (met : plain.Meeting) (g : ℕ) → HasRoomFor s fault → met_by s fault ≡ met → charges met fault.group.0 ≡ Some g → HasRoom s g
 room-for s fault met g has meeting needs = has g (ap (λ (m : plain.Meeting). charges m fault.group.0) meeting ∙ needs)
 
 -- ---- what an access meets that finds a page
@@ -111,7 +111,7 @@ found-there s t p (Virtual v o) mapped found = mapped_there s.pages s.page_table
 found-there s t p (File f q o) mapped found = (let there = file_page-there s.pages f q p found in subst (λ (slot : Option Page). IsSome slot) (sym there.1) refl)
 
 -- on its block alone, where it is memory
-pub meets-away : (files : FilesOf) (s : State) (fault : Fault) (p b : ℕ) (g : GroupId) → AreFiled files s.pages → Finds s fault p (Away b) → option_map (λ (page : Page). page.group) (page_at s.pages p) ≡ Some g.0
+pub meets-away : (files : FilesOf) (s : State) (fault : PageFault) (p b : ℕ) (g : GroupId) → AreFiled files s.pages → Finds s fault p (Away b) → option_map (λ (page : Page). page.group) (page_at s.pages p) ≡ Some g.0
     → MeetsSource s fault (source.Swapped (record { 0 = p })) g
 meets-away files s fault p b g filed finds group = by_place fault.place refl
   where
@@ -125,19 +125,19 @@ meets-away files s fault p b g filed finds group = by_place fault.place refl
     by_place (File f q o) is = absurd (cached-never_away files s.pages filed f q p b finds.label (sym (ap (λ (x : Place). holder s (spot_of fault.task.0 x)) is) ∙ finds.found) finds.stands)
 
 -- what is read in can be
-pub source-readable : (s : State) (fault : Fault) (from : Source) (g : GroupId) → IsFault s fault → MeetsSource s fault from g → IsReadable s.pages (files_of s.opening) from g.0
+pub source-readable : (s : State) (fault : PageFault) (from : Source) (g : GroupId) → IsFault s fault → MeetsSource s fault from g → IsReadable s.pages (files_of s.opening) from g.0
 source-readable s fault (source.Swapped p) g is met = (met.0, met.2)
 source-readable s fault (source.File at) g is met =
     let within = (and_parts (nat_lt at.page (slice_index s.opening.files at.file)) (nat_lt (offset_at fault) page_size) (sym (ap (is_place s.opening) met.1) ∙ is.there)).0 in (grind (arith, nat_tests, within), met.2)
 
 -- and the group that is charged for it is there
-pub source-live : (s : State) (fault : Fault) (from : Source) (g : GroupId) → ((t : ℕ) → lives s.tasks t ≡ true → is_live s.tree (group_of_task s.tasks t) ≡ true)
+pub source-live : (s : State) (fault : PageFault) (from : Source) (g : GroupId) → ((t : ℕ) → lives s.tasks t ≡ true → is_live s.tree (group_of_task s.tasks t) ≡ true)
     → ((p : ℕ) → IfSome (page_at s.pages p) (λ page. is_live s.tree page.group ≡ true)) → IsFault s fault → MeetsSource s fault from g → is_live s.tree g.0 ≡ true
 source-live s fault (source.Swapped p) g homes groups is meets = subst (λ (slot : Option Page). IfSome slot (λ page. is_live s.tree page.group ≡ true)) meets.2 (groups p.0)
 source-live s fault (source.File at) g homes groups is meets =
     subst (λ (x : GroupId). is_live s.tree x.0 ≡ true) (sym meets.3) (subst (λ (n : ℕ). is_live s.tree n ≡ true) (known-home s.tasks fault.task.0 _ is.known) (homes fault.task.0 (ap (there_and is_live_task) is.known)))
 
 -- and has room for it
-pub source-room : (s : State) (fault : Fault) (from : Source) (g : GroupId) → HasRoomFor s fault → MeetsSource s fault from g → HasRoom s g.0
+pub source-room : (s : State) (fault : PageFault) (from : Source) (g : GroupId) → HasRoomFor s fault → MeetsSource s fault from g → HasRoom s g.0
 source-room s fault (source.Swapped p) g has meets = room-for s fault _ g.0 has meets.1 refl
 source-room s fault (source.File at) g has meets = subst (λ (x : GroupId). HasRoom s x.0) (sym meets.3) (room-for s fault _ fault.group.0 has meets.0 refl)

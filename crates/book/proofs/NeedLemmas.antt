@@ -13,7 +13,7 @@ use Rattle.book.specs.declared.decision.Meeting.TheVariants as meeting
 use Rattle.book.specs.declared.decision.Decision.{Decision}
 use Rattle.book.specs.declared.decision.Decision.TheVariants as decision
 use Rattle.pages.specs.declared.source.Source.TheVariants as source
-use Rattle.book.specs.declared.decision.Fault.{Fault}
+use Rattle.book.specs.declared.decision.PageFault.{PageFault}
 use Rattle.book.specs.Decisions.{IsFault, met_by, MeetsSo, HasRoomFor, LacksRoomFor, IsDecided, IsOfKilled, AsksPage, WantsRoom, HasItsRoom, FindsNothing, entries_for}
 use Rattle.book.proofs.MoveLemmas.{fetch-needs}
 use Rattle.book.proofs.StepLemmas.{asks-need}
@@ -23,7 +23,7 @@ use Rattle.book.proofs.StepLemmas.{asks-need}
 unfetched : (b : Bool) → ◌≡◌ {A = ℕ} 1 (if b && false then 2 else 1)
 unfetched b = grind arith
 
-module _ (s : State) (fault : Fault) (is : IsFault s fault) where
+module _ (s : State) (fault : PageFault) (is : IsFault s fault) where
   access-entries : (met : Meeting) → MeetsSo s fault met → HasRoomFor s fault → entries_for (decision.Access fault met) ≡ need s (event.Access fault.task fault.place fault.op)
   access-entries meeting.Unmapped meets room = rw is.known (rw meets.0 refl)
   access-entries (meeting.Hits p f) meets room = rw is.known (rw meets.1 refl)

@@ -39,7 +39,7 @@ use Rattle.book.specs.MakesStep.{AgesByThree, MakesStep, is_refused}
 use Rattle.machine.proofs.HeldChanges.{goes-on-same}
 use Rattle.machine.proofs.HeldLemmas.{goes-still, goes-max}
 use Rattle.machine.specs.declared.record.Key.{Key}
-use Rattle.book.specs.declared.decision.Fault.{Fault}
+use Rattle.book.specs.declared.decision.PageFault.{PageFault}
 use Rattle.book.specs.Decisions.{spot_at, offset_at, IsFault, Finds, met_by, HasLife, IsOfKilled, AsksPage, FindsNothing}
 use Rattle.page_state.specs.Changes.{counts_event}
 use Rattle.machine.proofs.Values.{some_inj}
@@ -315,7 +315,7 @@ makes_step-undone old new t place op answer undone given still steps listed orde
     steps (order-still old new listed still.pages order) (reads-access old t place op answer undone) (access-needs old.tables t place op)
 
 -- what a live task meets is answered so
-pub met_step : (old : State) (fault : Fault) (met : Meeting) (answer : Reply) (new : State) → IsFault old fault → met_by old fault ≡ met → MeetStep old fault.task.0 fault.group.0 fault.op met answer new
+pub met_step : (old : State) (fault : PageFault) (met : Meeting) (answer : Reply) (new : State) → IsFault old fault → met_by old fault ≡ met → MeetStep old fault.task.0 fault.group.0 fault.op met answer new
     → Step old (event.Access fault.task fault.place fault.op) answer new
 met_step old fault met answer new is meeting step =
     live_step old _ _ _ _ _ is.known refl (subst (λ (m : Meeting). MeetStep old fault.task.0 fault.group.0 fault.op m answer new) (sym meeting) step)
@@ -324,11 +324,11 @@ place-within : (opening : Opening) (t : ℕ) (place : Place) → is_place openin
 place-within opening t (Virtual v o) there = let within = (and_parts (nat_lt v task_pages) (nat_lt o page_size) there).1 in grind (arith, nat_tests, within)
 place-within opening t (File file q o) there = let within = (and_parts (nat_lt q (slice_index opening.files file)) (nat_lt o page_size) there).1 in grind (arith, nat_tests, within)
 
-pub fault-within : (s : State) (fault : Fault) → IsFault s fault → offset_at fault < page_size
+pub fault-within : (s : State) (fault : PageFault) → IsFault s fault → offset_at fault < page_size
 fault-within s fault is = place-within s.opening fault.task.0 fault.place is.there
 
 -- a page in transfer is waited for
-pub makes_step-busy : (s : StateOf) (fault : Fault) → IsFault s.tables fault → met_by s.tables fault ≡ Transferring → InOrder s → MakesStep s (event.Access fault.task fault.place fault.op) reply.Busy s
+pub makes_step-busy : (s : StateOf) (fault : PageFault) → IsFault s.tables fault → met_by s.tables fault ≡ Transferring → InOrder s → MakesStep s (event.Access fault.task fault.place fault.op) reply.Busy s
 makes_step-busy s fault is meeting listed =
     makes_step-undone s s fault.task.0 fault.place fault.op reply.Busy refl refl (still-self s) (met_step s.tables fault _ _ _ is meeting (refl, refl)) listed refl
 
@@ -338,7 +338,7 @@ unmapped s t (Virtual v o) Read meeting none = (refl, λ c. refl)
 unmapped s t (Virtual v o) (Write b) meeting none = let other = rw none at meeting in cc
 unmapped s t (File f q o) op meeting none = let other = rw none at meeting in cc
 
-pub makes_step-unmapped : (s : StateOf) (fault : Fault) → IsFault s.tables fault → met_by s.tables fault ≡ Unmapped → holder s.tables (spot_at fault) ≡ None → InOrder s
+pub makes_step-unmapped : (s : StateOf) (fault : PageFault) → IsFault s.tables fault → met_by s.tables fault ≡ Unmapped → holder s.tables (spot_at fault) ≡ None → InOrder s
     → MakesStep s (event.Access fault.task fault.place fault.op) (reply.Done 0 None) s
 makes_step-unmapped s fault is meeting none listed =
     let read = unmapped s.tables fault.task.0 fault.place fault.op meeting none in
@@ -346,7 +346,7 @@ makes_step-unmapped s fault is meeting none listed =
     (met_step s.tables fault _ _ _ is meeting (refl, refl)) (order-still s s listed refl refl)
     (rw read.0 (sym (ap (λ m. byte_shown s.bytes m (offset_at fault)) none), (ap (knows s (spot_at fault)) none ∙ read.1 s, fault-within s.tables fault is))) (access-needs s.tables fault.task.0 fault.place fault.op)
 
-pub makes_step-hit_read : (s : StateOf) (fault : Fault) (p f : ℕ) → IsFault s.tables fault → (finds : Finds s.tables fault p (Held f)) → met_by s.tables fault ≡ Hits p (labelled finds.label (Held f)) f → fault.op ≡ Read → InOrder s
+pub makes_step-hit_read : (s : StateOf) (fault : PageFault) (p f : ℕ) → IsFault s.tables fault → (finds : Finds s.tables fault p (Held f)) → met_by s.tables fault ≡ Hits p (labelled finds.label (Held f)) f → fault.op ≡ Read → InOrder s
     → MakesStep s (event.Access fault.task fault.place fault.op) (reply.Done (byte_in s.bytes p (offset_at fault)) (Some (record { 0 = f }))) s
 makes_step-hit_read s fault p f is finds meeting read listed =
     makes_step-still s s (event.Access fault.task fault.place fault.op) (reply.Done (byte_in s.bytes p (offset_at fault)) (Some (record { 0 = f }))) (still-self s) (record { says = λ spot. rw read refl; given = refl })

@@ -33,7 +33,7 @@ use Rattle.book.specs.MakesStep.{MakesStep}
 use Rattle.book.proofs.FlightLemmas.{in_transfer-changes}
 use Rattle.page_state.proofs.DropLemmas.{mapped_stays, moving_alike}
 use Rattle.book.proofs.StepLemmas.{InOrder, order-on, order-still, order-written, there-same, holder-same, spot-was, stays-was, still-was, live_step, access-needs, met_step, makes_step-alike}
-use Rattle.book.specs.declared.decision.Fault.{Fault}
+use Rattle.book.specs.declared.decision.PageFault.{PageFault}
 use Rattle.book.specs.Decisions.{spot_at, offset_at, IsFault, WritesAt, Finds, met_by}
 
 -- ---- a write in place
@@ -87,7 +87,7 @@ own-spot s t p f (File h q o) label b mapped cached page meeting (InFile h' q' k
     let numbers : q ≡ q' = cc in
     ap (λ (b : Bool). b && ((q == q') && (o == k))) (eq-eqb h h' files) ∙ ap (λ (b : Bool). b && (o == k)) (eq-eqb q q' numbers)
 
-pub makes_step-hit_write : (old new : StateOf) (fault : Fault) (p f b : ℕ) → IsFault old.tables fault → (finds : Finds old.tables fault p (Held f)) → met_by old.tables fault ≡ Hits p (labelled finds.label (Held f)) f → fault.op ≡ Write b
+pub makes_step-hit_write : (old new : StateOf) (fault : PageFault) (p f b : ℕ) → IsFault old.tables fault → (finds : Finds old.tables fault p (Held f)) → met_by old.tables fault ≡ Hits p (labelled finds.label (Held f)) f → fault.op ≡ Write b
     → AreMapped old.tables.pages old.tables.page_tables → WritesByte old new p (offset_at fault) b → InOrder old
     → MakesStep old (event.Access fault.task fault.place fault.op) (reply.Done b (Some (record { 0 = f }))) new
 makes_step-hit_write old new fault p f b is finds meeting write mapped written listed =
@@ -166,7 +166,7 @@ said_here old true false z b spot byte hit written kept = cc
 said_here old false y z b spot byte hit written kept = cc
 
 -- a page is made for a place: of zeros where nothing was shown, or a copy of the page in a frame that others show too
-pub makes_step-made : (old new : StateOf) (fault : Fault) (met : Meeting) (v b : ℕ) → AreMapped old.tables.pages old.tables.page_tables → IsFault old.tables fault → WritesAt fault v b → met_by old.tables fault ≡ met
+pub makes_step-made : (old new : StateOf) (fault : PageFault) (met : Meeting) (v b : ℕ) → AreMapped old.tables.pages old.tables.page_tables → IsFault old.tables fault → WritesAt fault v b → met_by old.tables fault ≡ met
     → ((u w k : ℕ) → knows old (InTask u w k) (mapped_at old.tables.page_tables fault.task.0 v) ≡ true)
     → (MakesPage old.tables fault.task.0 v fault.group.0 (Write b) (reply.Done b None) new.tables → MeetStep old.tables fault.task.0 fault.group.0 (Write b) met (reply.Done b None) new.tables)
     → Makes old new fault.task.0 v fault.group.0 (offset_at fault) b → MakesStep old (event.Access fault.task fault.place fault.op) (reply.Done b None) new

@@ -26,7 +26,7 @@ use Rattle.page_state.specs.declared.room.NoRoom.{NoRoom}
 use Rattle.page_state.specs.States.{StateOf}
 use Rattle.page_state.specs.Changes.{HasRoom, LacksRoom, SharesPage}
 use Rattle.book.specs.declared.event.Reply.{Reply as Given}
-use Rattle.book.specs.declared.decision.Fault.{Fault}
+use Rattle.book.specs.declared.decision.PageFault.{PageFault}
 use Rattle.book.specs.declared.decision.Meeting.{Meeting}
 use Rattle.book.specs.declared.decision.Meeting.TheVariants as meeting
 use Rattle.book.specs.declared.decision.Decision.{Decision}
@@ -38,40 +38,40 @@ use Rattle.book.specs.MakesStep.{MakesStep, GivesTicket, RepliesTo}
 -- ---- accesses
 
 -- the byte that it reaches for, and where in its page that is
-abbrev pub spot_at : Fault → Spot
+abbrev pub spot_at : PageFault → Spot
 spot_at fault = spot_of fault.task.0 fault.place
 
-abbrev pub offset_at : Fault → ℕ
+abbrev pub offset_at : PageFault → ℕ
 offset_at fault = offset_of (spot_at fault)
 
 -- a live task of the group reaches for a byte that is there
-pub record IsFault (s : State) (fault : Fault) : Type 0 where
+pub record IsFault (s : State) (fault : PageFault) : Type 0 where
   pub known : task_at s.tasks fault.task.0 ≡ Some (record { group = fault.group; life = Live })
   pub there : is_place s.opening fault.place ≡ true
 
 -- it writes the byte to its virtual page v
-pub record WritesAt (fault : Fault) (v byte : ℕ) : Type 0 where
+pub record WritesAt (fault : PageFault) (v byte : ℕ) : Type 0 where
   pub place : fault.place ≡ Virtual v (offset_at fault)
   pub op : fault.op ≡ Write byte
 
 -- the page that has the byte, and where it is
-pub record Finds (s : State) (fault : Fault) (p : ℕ) (residence : Residence) : Type 0 where
+pub record Finds (s : State) (fault : PageFault) (p : ℕ) (residence : Residence) : Type 0 where
   pub label : Label
   pub found : holder s (spot_at fault) ≡ Some p
   pub stands : HasResidence s.pages p label residence
 
 -- what it meets, as the machine says it
-abbrev pub met_by : State → Fault → Met
+abbrev pub met_by : State → PageFault → Met
 met_by s fault = meets s fault.task.0 fault.place fault.op
 
 -- what it has read in, and the group that is charged for it: memory's own, or the task's
-abbrev pub MeetsSource : State → Fault → Source → GroupId → Type 0
+abbrev pub MeetsSource : State → PageFault → Source → GroupId → Type 0
 MeetsSource s fault (source.Swapped p) g = (b : ℕ) × (met_by s fault ≡ plain.NeedsSwapIn p.0 (labelled (memory_of g.0) (Away b)) b) × HasResidence s.pages p.0 (memory_of g.0) (Away b)
 MeetsSource s fault (source.File at) g =
     (met_by s fault ≡ plain.NeedsRead at.file at.page) × (fault.place ≡ File at.file at.page (offset_at fault)) × (file_page s.pages at.file at.page ≡ None) × (g ≡ fault.group)
 
 -- what it meets, and what is known with it
-abbrev pub MeetsSo : State → Fault → Meeting → Type 0
+abbrev pub MeetsSo : State → PageFault → Meeting → Type 0
 MeetsSo s fault meeting.Unmapped = (met_by s fault ≡ plain.Unmapped) × (holder s (spot_at fault) ≡ None)
 MeetsSo s fault (meeting.Hits p frame) = (finds : Finds s fault p.0 (Held frame.0)) × (met_by s fault ≡ plain.Hits p.0 (labelled finds.label (Held frame.0)) frame.0)
 MeetsSo s fault meeting.Transferring = met_by s fault ≡ plain.Transferring
@@ -80,10 +80,10 @@ MeetsSo s fault (meeting.NeedsCopy v p byte) = (met_by s fault ≡ plain.NeedsCo
 MeetsSo s fault (meeting.NeedsFetch from g) = MeetsSource s fault from g
 
 -- the charge that it needs is granted, if it needs one; or it needs one that is not
-abbrev pub HasRoomFor : State → Fault → Type 0
+abbrev pub HasRoomFor : State → PageFault → Type 0
 HasRoomFor s fault = (g : ℕ) → charges (met_by s fault) fault.group.0 ≡ Some g → HasRoom s g
 
-abbrev pub LacksRoomFor : State → Fault → NoRoom → Type 0
+abbrev pub LacksRoomFor : State → PageFault → NoRoom → Type 0
 LacksRoomFor s fault why = (g : ℕ) × (charges (met_by s fault) fault.group.0 ≡ Some g) × LacksRoom s g why
 
 -- ---- decisions

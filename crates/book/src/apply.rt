@@ -10,7 +10,7 @@ ghost use Rattle.book.specs.Decisions.{IsFault, MeetsSo, HasRoomFor, LacksRoomFo
 ghost use Rattle.book.specs.declared.decision.Decision.TheVariants as decision;
 ghost use Rattle.book.specs.declared.decision.Meeting.TheVariants as meeting;
 
-use crate::decision::{Decision, Fault, Meeting};
+use crate::decision::{Decision, PageFault, Meeting};
 use crate::event::Reply;
 use machine::event::{Op, Query, Setting};
 use machine::id::{FrameId, GroupId, PageId, TaskId};
@@ -83,7 +83,7 @@ pub fn apply(state: &mut State, alloc: Global, decided: Decision<'_>) -> Result<
 fn access(
     state: &mut State,
     alloc: Global,
-    fault: Fault,
+    fault: PageFault,
     meeting: Meeting,
 ) -> Result<Reply, AllocError>
     requires fault { IsFault state.old.tables fault }
@@ -114,7 +114,7 @@ fn access(
 }
 
 /// An access to a page in a frame.
-fn hit(state: &mut State, fault: Fault, page: PageId, frame: FrameId) -> Reply
+fn hit(state: &mut State, fault: PageFault, page: PageId, frame: FrameId) -> Reply
     requires fault { IsFault state.old.tables fault }
     requires meets { MeetsSo state.old.tables fault (meeting.Hits page frame) }
     ensures { Carries state.old (decision.Access fault (meeting.Hits page frame)) result state.new }
@@ -137,7 +137,7 @@ fn hit(state: &mut State, fault: Fault, page: PageId, frame: FrameId) -> Reply
 }
 
 /// A charge is refused. Where a max is in its way, that is counted at the max's group.
-fn refuse(state: &mut State, fault: Fault, why: NoRoom) -> Reply
+fn refuse(state: &mut State, fault: PageFault, why: NoRoom) -> Reply
     requires few { AreFew state.old.tables }
     requires fault { IsFault state.old.tables fault }
     requires lacks { LacksRoomFor state.old.tables fault why }

@@ -14,7 +14,7 @@ ghost use Rattle.book.specs.MakesStep.{IsAsked};
 ghost use Rattle.book.specs.Spots.{holder};
 ghost use Rattle.book.specs.Decisions.{spot_at, IsFault, Finds, met_by, MeetsSo, RunsIn, IsDecided};
 
-use crate::decision::{Decision, Fault, Meeting};
+use crate::decision::{Decision, PageFault, Meeting};
 use machine::bytes::PAGE_BYTES;
 use machine::event::{Cause, Event, Op, Place, Query, Setting};
 use machine::id::{FrameId, GroupId, PageId, TaskId};
@@ -71,7 +71,7 @@ fn decide_access<'e>(
     if !is_place(state, place) {
         return Err(Refusal::BadPlace);
     }
-    let fault = Fault {
+    let fault = PageFault {
         task,
         group,
         place,
@@ -93,7 +93,7 @@ fn is_place(state: &State, place: Place) -> bool
 }
 
 /// An access by a live task: what it meets, and whether the charge that it needs is granted.
-fn decide_fault<'e>(state: &State, fault: Fault) -> Decision<'e>
+fn decide_fault<'e>(state: &State, fault: PageFault) -> Decision<'e>
     requires { IsFault state.now.tables fault }
     ensures { IsDecided state.now (event.Access fault.task fault.place fault.op) result }
 {
@@ -108,7 +108,7 @@ fn decide_fault<'e>(state: &State, fault: Fault) -> Decision<'e>
 }
 
 /// The group that is charged for the page that an access needs, if it needs one. What is made is the task's.
-fn charged(state: &State, fault: Fault, meeting: Meeting) -> Option<GroupId>
+fn charged(state: &State, fault: PageFault, meeting: Meeting) -> Option<GroupId>
     requires fault { IsFault state.now.tables fault }
     requires meets { MeetsSo state.now.tables fault meeting }
     ensures charges { option_map (λ g. g.0) result ≡ charges (met_by state.now.tables fault) fault.group.0 }
@@ -128,7 +128,7 @@ fn charged(state: &State, fault: Fault, meeting: Meeting) -> Option<GroupId>
 }
 
 /// What an access meets. Where no page has its byte, memory is zeros, and a page of a file is on the device.
-fn meet(state: &State, fault: Fault) -> Meeting
+fn meet(state: &State, fault: PageFault) -> Meeting
     requires { IsFault state.now.tables fault }
     ensures { MeetsSo state.now.tables fault result }
 {
@@ -152,7 +152,7 @@ fn meet(state: &State, fault: Fault) -> Meeting
 }
 
 /// The page that has the byte: what the task's page table shows, or what the cache holds of the file.
-fn find(state: &State, fault: Fault) -> Option<PageId>
+fn find(state: &State, fault: PageFault) -> Option<PageId>
     requires { IsFault state.now.tables fault }
     ensures { option_map (λ page. page.0) result ≡ holder state.now.tables (spot_at fault) }
 {
@@ -167,7 +167,7 @@ fn find(state: &State, fault: Fault) -> Option<PageId>
 }
 
 /// An access to a page, wherever it is.
-fn meet_page(state: &State, fault: Fault, page: PageId) -> Meeting
+fn meet_page(state: &State, fault: PageFault, page: PageId) -> Meeting
     requires { holder state.now.tables (spot_at fault) ≡ Some page.0 }
     ensures { MeetsSo state.now.tables fault result }
 {
@@ -183,7 +183,7 @@ fn meet_page(state: &State, fault: Fault, page: PageId) -> Meeting
 }
 
 /// An access to a page on its block, which is memory: it stays its group's, whoever reaches for it.
-fn meet_away(state: &State, fault: Fault, page: PageId) -> Meeting
+fn meet_away(state: &State, fault: PageFault, page: PageId) -> Meeting
     requires { (b : ℕ) × Finds state.now.tables fault page.0 (residence.Away b) }
     ensures { MeetsSo state.now.tables fault result }
 {
@@ -196,7 +196,7 @@ fn meet_away(state: &State, fault: Fault, page: PageId) -> Meeting
 
 /// An access to a page in a frame. A write in place would change memory for others that map it too; a page
 /// of a file is written in place, whoever else reads it.
-fn meet_held(state: &State, fault: Fault, page: PageId, frame: FrameId) -> Meeting
+fn meet_held(state: &State, fault: PageFault, page: PageId, frame: FrameId) -> Meeting
     requires { Finds state.now.tables fault page.0 (residence.Held frame.0) }
     ensures { MeetsSo state.now.tables fault result }
 {

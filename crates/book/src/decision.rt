@@ -10,7 +10,7 @@ use pages::Source;
 
 /// A live task's access to a byte (kernel: `struct vm_fault`).
 #[derive(Clone, Copy)]
-pub struct Fault {
+pub struct PageFault {
     pub task: TaskId,
     /// The task's group.
     pub group: GroupId,
@@ -18,7 +18,7 @@ pub struct Fault {
     pub op: Op,
 }
 
-impl Fault {
+impl PageFault {
     /// Where in its page the byte is.
     pub fn offset(self) -> u32
         ensures { result ≡ offset_at self }
@@ -58,9 +58,9 @@ pub enum Decision<'e> {
     /// The task was killed before, and is told so.
     Killed,
     /// An access by a live task. The charge that it needs is granted.
-    Access(Fault, Meeting),
+    Access(PageFault, Meeting),
     /// An access by a live task, which needs a charge for which there is no room.
-    Lacks(Fault, NoRoom),
+    Lacks(PageFault, NoRoom),
     /// Room is not wanted any more.
     Room,
     /// This group gives the next page to a reclaim of the target.

@@ -86,8 +86,8 @@ impl HeldPages {
         self.gens.add_group_reserved();
     }
 
-    /// The page, which is on no list, is the last of the group's youngest generation.
-    pub fn enter(&mut self, group: GroupId, kind: Kind, page: PageId)
+    /// The page, which is on no list, is the last of the group's youngest generation (kernel: folio_add_lru).
+    pub fn add(&mut self, group: GroupId, kind: Kind, page: PageId)
         requires group { group.0 < length self.old.lists.groups }
         requires number { page.0 < self.old.numbers }
         requires unlisted { is_listed_in self.old.lists.groups page.0 ≡ false }
@@ -99,8 +99,8 @@ impl HeldPages {
     }
 
     /// The page, whose transfer in this direction has ended and which is on no list, is the last of the
-    /// generation that such a page enters.
-    pub fn enter_after(&mut self, group: GroupId, kind: Kind, page: PageId, direction: Direction)
+    /// generation that such a page enters (kernel: folio_putback_lru).
+    pub fn putback(&mut self, group: GroupId, kind: Kind, page: PageId, direction: Direction)
         requires group { group.0 < length self.old.lists.groups }
         requires number { page.0 < self.old.numbers }
         requires unlisted { is_listed_in self.old.lists.groups page.0 ≡ false }
@@ -115,8 +115,8 @@ impl HeldPages {
         self.gens.add(group, page, kind, seq);
     }
 
-    /// The page leaves its list with its mark, and all others keep their places.
-    pub fn leave(&mut self, page: PageId)
+    /// The page leaves its list with its mark, and all others keep their places (kernel: folio_isolate_lru).
+    pub fn isolate(&mut self, page: PageId)
         requires listed { is_listed_in self.old.lists.groups page.0 ≡ true }
         requires number { page.0 < self.old.numbers }
         ensures { (g : ℕ) → is_listed (gens_at self.old.lists.groups g) page.0 ≡ true → self.new ≡ record self.old { lists = left self.old.lists g page.0 } }
@@ -132,7 +132,7 @@ impl HeldPages {
         ensures unlisted { is_listed_in self.old.lists.groups page.0 ≡ false → self.new ≡ self.old }
     {
         if self.gens.is_listed(page) {
-            self.leave(page);
+            self.isolate(page);
         }
     }
 

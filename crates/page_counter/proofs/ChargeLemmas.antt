@@ -43,8 +43,8 @@ AreCounts-uncharge old new g rest is change counted =
           omega (arith, usage, before, more));
     })
 
-pub AreCounts-move_up : (old new : Counts) (g p : ℕ) (rest : List ℕ) → IsLineage old.tree → (node_at old.tree g).parent ≡ Some p → MovesUp old new g → AreCounts old (g ∷ rest) → AreCounts new (p ∷ rest)
-AreCounts-move_up old new g p rest is parent change counted =
+pub AreCounts-reparent : (old new : Counts) (g p : ℕ) (rest : List ℕ) → IsLineage old.tree → (node_at old.tree g).parent ≡ Some p → MovesUp old new g → AreCounts old (g ∷ rest) → AreCounts new (p ∷ rest)
+AreCounts-reparent old new g p rest is parent change counted =
     subst (λ t. AreCounts (record { tree = t; limits = new.limits; usage = new.usage; room = new.room }) (p ∷ rest)) (sym change.groups.tree)
     (record {
       live =

@@ -262,7 +262,7 @@ impl Counters {
 
     /// Gives a charge to what its group hangs below: a page less at the group itself, and the same
     /// above it (kernel: the charges of a removed group go to its parent).
-    pub fn move_up(&mut self, charge: Charge) -> Charge
+    pub fn reparent(&mut self, charge: Charge) -> Charge
         requires out { IsOut self.old charge }
         requires below { IsSome (node_at self.old.tree charge).parent }
         ensures parent { (node_at self.old.tree charge).parent ≡ Some result }

@@ -13,7 +13,7 @@ ghost use Rattle.page_state.specs.Changes.{counts_event, AddsGroup, RemovesGroup
 
 use crate::joined::State;
 use crate::lookup::file_usage;
-use crate::removal::hand_up;
+use crate::removal::reparent;
 use page_counter::Counters;
 use protection::Protection;
 use machine::amount::Amount;
@@ -148,7 +148,7 @@ impl State {
         let Some(parent) = self.tree.parent(group) else {
             unreachable!()
         };
-        hand_up(
+        reparent(
             &mut self.parts.pages,
             &mut self.parts.counters,
             group,

@@ -136,7 +136,7 @@ impl Parts {
         self.held.are_generations();
         let (frame, charge) = take_room(&mut self.counters, &mut self.pool, group);
         let page = make_page(&mut self.pages, frame, charge, from, offset, byte);
-        self.held.enter(group, Kind::Anon, page);
+        self.held.add(group, Kind::Anon, page);
         page
     }
 
@@ -175,7 +175,7 @@ impl Parts {
         let slot = slot_for(self.pages.way_out(page), &mut self.slots);
         let spare = take_spare(&mut self.pool);
         let ticket = self.pages.start_out(page, slot, spare);
-        self.held.leave(page);
+        self.held.isolate(page);
         self.moving.push(page);
         ticket
     }

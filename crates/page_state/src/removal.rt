@@ -14,7 +14,7 @@ use pages::Pages;
 
 /// The pages of the group are those of its parent from now on, and so are their charges (kernel: the charges of
 /// a memory cgroup that goes offline are its parent's). Takes no memory, and as long as the group has pages.
-pub fn hand_up(pages: &mut Pages, counters: &mut Counters, group: GroupId, parent: GroupId)
+pub fn reparent(pages: &mut Pages, counters: &mut Counters, group: GroupId, parent: GroupId)
     requires below { (node_at counters.old.tree group.0).parent ≡ Some parent.0 }
     requires live { is_live counters.old.tree group.0 ≡ true }
     requires counted { IsCounted counters.old pages.old.pages }
@@ -27,6 +27,6 @@ pub fn hand_up(pages: &mut Pages, counters: &mut Counters, group: GroupId, paren
 {
     counters.are_counted();
     while let Some(page) = pages.first_of(group) {
-        pages.move_up(counters, page, parent);
+        pages.reparent(counters, page, parent);
     }
 }

@@ -91,7 +91,7 @@ pub fn relist(
 {
     moving.remove(page);
     match end {
-        End::InFrame => held.enter_after(group, kind, page, direction),
+        End::InFrame => held.putback(group, kind, page, direction),
         End::OnBlock => {}
     }
 }

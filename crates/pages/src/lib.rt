@@ -515,7 +515,7 @@ impl Pages {
 
     /// The page is of the group that its group hangs below, and so is its charge, if it has one (kernel:
     /// the charges of a memory cgroup that goes are its parent's). Takes no memory.
-    pub fn move_up(&mut self, counters: &mut Counters, page: PageId, parent: GroupId)
+    pub fn reparent(&mut self, counters: &mut Counters, page: PageId, parent: GroupId)
         requires there { (x : Page) × (page_at self.old.pages page.0 ≡ Some x) × ((node_at counters.old.tree x.group).parent ≡ Some parent.0) × (has_frame x ≡ true → IsOut counters.old x.group) }
         requires parent { parent.0 < self.old.groups }
         ensures moved { (x : Page) → page_at self.old.pages page.0 ≡ Some x → Changes self.old.pages self.new.pages page.0 (Some (record x { group = parent.0 })) }

@@ -379,7 +379,7 @@ fn moved_up(place: Place, parent: GroupId, counters: &mut Counters) -> Place
     match place {
         Place::Frame { frame, charge } => Place::Frame {
             frame,
-            charge: counters.move_up(charge),
+            charge: counters.reparent(charge),
         },
         Place::Moving {
             frame,
@@ -389,7 +389,7 @@ fn moved_up(place: Place, parent: GroupId, counters: &mut Counters) -> Place
             ticket,
         } => Place::Moving {
             frame,
-            charge: counters.move_up(charge),
+            charge: counters.reparent(charge),
             direction,
             backing,
             ticket,

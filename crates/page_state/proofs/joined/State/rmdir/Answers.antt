@@ -22,7 +22,7 @@ remove-requires-clause-childless c =
     let s = c.self.inside in
     let g = c.args.group.0 in
     let may = may-go (joined_of s).tables g (subst (λ (x : StateOf). rmdir_refusal x.tables g ≡ None) (sym c.self.view_is) c.requires) in
-    ap (λ (t : List Node). has_children t g) c.hand_up.ensures.groups.tree ∙ kin-childless s.parts.counters.tree s.tree g c.self.invariant.held_kin may.childless
+    ap (λ (t : List Node). has_children t g) c.reparent.ensures.groups.tree ∙ kin-childless s.parts.counters.tree s.tree g c.self.invariant.held_kin may.childless
 
 pub remove-requires-clause-uncharged : goal.remove-requires-clause-uncharged
 remove-requires-clause-uncharged c =
@@ -33,8 +33,8 @@ remove-requires-clause-uncharged c =
     let childless = kin-childless s.parts.counters.tree s.tree g c.self.invariant.held_kin may.childless in
     let parent : (node_at s.tree g).parent ≡ Some c.in-Some.parent.0 = sym c.parent.ensures.parent ∙ ap (λ (o : Option GroupId). option_map (λ (x : GroupId). x.0) o) c.in-Some.is in
     let below = c.self.invariant.held_kin.parents g ∙ parent in
-    let up = c.hand_up.ensures in
-    usage-left s.parts c.self.invariant.agree g c.in-Some.parent.0 c.hand_up.new.counters c.hand_up.new.counters c.hand_up.new.pages c.take_over.new.self up.pages up.others up.groups up.counted c.are_counted.ensures.lineage below live childless c.take_over.ensures
+    let up = c.reparent.ensures in
+    usage-left s.parts c.self.invariant.agree g c.in-Some.parent.0 c.reparent.new.counters c.reparent.new.counters c.reparent.new.pages c.take_over.new.self up.pages up.others up.groups up.counted c.are_counted.ensures.lineage below live childless c.take_over.ensures
 
 pub remove-requires-2-clause-childless : goal.remove-requires-2-clause-childless
 remove-requires-2-clause-childless c =
@@ -52,9 +52,9 @@ invariant_of-self c =
     let childless = kin-childless s.parts.counters.tree s.tree g c.self.invariant.held_kin may.childless in
     let parent : (node_at s.tree g).parent ≡ Some c.in-Some.parent.0 = sym c.parent.ensures.parent ∙ ap (λ (o : Option GroupId). option_map (λ (x : GroupId). x.0) o) c.in-Some.is in
     let below = c.self.invariant.held_kin.parents g ∙ parent in
-    let up = c.hand_up.ensures in
-    let agree = agree-removed s.parts c.self.invariant.agree g c.in-Some.parent.0 c.hand_up.new.counters c.remove.new.self c.hand_up.new.pages c.take_over.new.self up.pages up.others up.groups up.counted c.are_counted.ensures.lineage below live childless c.take_over.ensures c.remove.ensures.tree c.remove.ensures.usage in
-    joined-gone s c.self.invariant g c.in-Some.parent.0 may c.hand_up.new.pages c.remove.new.self c.take_over.new.self agree up.pages up.others (c.remove.ensures.tree ∙ ap (λ (t : List Node). without_group t g) up.groups.tree) c.remove-3.new.self c.remove-3.ensures.cursors c.remove-2.new.self c.remove-2.ensures.tree c.rmdir.new.self c.rmdir.ensures
+    let up = c.reparent.ensures in
+    let agree = agree-removed s.parts c.self.invariant.agree g c.in-Some.parent.0 c.reparent.new.counters c.remove.new.self c.reparent.new.pages c.take_over.new.self up.pages up.others up.groups up.counted c.are_counted.ensures.lineage below live childless c.take_over.ensures c.remove.ensures.tree c.remove.ensures.usage in
+    joined-gone s c.self.invariant g c.in-Some.parent.0 may c.reparent.new.pages c.remove.new.self c.take_over.new.self agree up.pages up.others (c.remove.ensures.tree ∙ ap (λ (t : List Node). without_group t g) up.groups.tree) c.remove-3.new.self c.remove-3.ensures.cursors c.remove-2.new.self c.remove-2.ensures.tree c.rmdir.new.self c.rmdir.ensures
 
 pub returns : goal.returns
 returns c =
@@ -65,8 +65,8 @@ returns c =
     let childless = kin-childless s.parts.counters.tree s.tree g c.self.invariant.held_kin may.childless in
     let parent : (node_at s.tree g).parent ≡ Some c.in-Some.parent.0 = sym c.parent.ensures.parent ∙ ap (λ (o : Option GroupId). option_map (λ (x : GroupId). x.0) o) c.in-Some.is in
     let below = c.self.invariant.held_kin.parents g ∙ parent in
-    let up = c.hand_up.ensures in
-    let agree = agree-removed s.parts c.self.invariant.agree g c.in-Some.parent.0 c.hand_up.new.counters c.remove.new.self c.hand_up.new.pages c.take_over.new.self up.pages up.others up.groups up.counted c.are_counted.ensures.lineage below live childless c.take_over.ensures c.remove.ensures.tree c.remove.ensures.usage in
+    let up = c.reparent.ensures in
+    let agree = agree-removed s.parts c.self.invariant.agree g c.in-Some.parent.0 c.reparent.new.counters c.remove.new.self c.reparent.new.pages c.take_over.new.self up.pages up.others up.groups up.counted c.are_counted.ensures.lineage below live childless c.take_over.ensures c.remove.ensures.tree c.remove.ensures.usage in
     rw (← c.self.view_is)
-    (removes-group s c.self.invariant g c.in-Some.parent.0 may c.hand_up.new.pages c.remove.new.self c.take_over.new.self agree up.pages up.others (c.remove.ensures.tree ∙ ap (λ (t : List Node). without_group t g) up.groups.tree) c.remove-3.new.self c.remove-3.ensures.cursors c.remove-2.new.self c.remove-2.ensures.tree c.rmdir.new.self c.rmdir.ensures
+    (removes-group s c.self.invariant g c.in-Some.parent.0 may c.reparent.new.pages c.remove.new.self c.take_over.new.self agree up.pages up.others (c.remove.ensures.tree ∙ ap (λ (t : List Node). without_group t g) up.groups.tree) c.remove-3.new.self c.remove-3.ensures.cursors c.remove-2.new.self c.remove-2.ensures.tree c.rmdir.new.self c.rmdir.ensures
     parent (c.remove.ensures.limits ∙ up.groups.limits) up.bytes c.take_over.ensures c.remove-2.ensures.counted)

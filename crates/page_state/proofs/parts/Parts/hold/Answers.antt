@@ -23,8 +23,8 @@ take_room-frame-requires-clause-under c =
 pub take_room-frame-requires-clause-free : goal.take_room-frame-requires-clause-free
 take_room-frame-requires-clause-free c = granted-some c.args.self.now c.requires.agree c.args.group.0 c.requires.granted
 
-pub enter-requires : goal.enter-requires
-enter-requires c =
+pub add-requires : goal.add-requires
+add-requires c =
     let h = c.args.self.now in
     let live = c.requires.live in
     let numbers = c.requires.agree.held_numbers in
@@ -46,7 +46,7 @@ make_page-page-requires-clause-unused c = (granted-frame c.args.self.now c.requi
 pub make_page-page-requires-clause-framed : goal.make_page-page-requires-clause-framed
 make_page-page-requires-clause-framed c = granted-framed c.args.self.now c.requires.agree c.take_room-frame.new.counters c.take_room-frame.new.pool _ _ _ c.take_room-frame.ensures
 
-stays : (c : goal.After-enter) → Stays c.args.self.now (record (c.args.self.now) { pages = c.make_page-page.new.pages; counters = c.take_room-frame.new.counters; pool = c.take_room-frame.new.pool; held = c.enter.new.self })
+stays : (c : goal.After-add) → Stays c.args.self.now (record (c.args.self.now) { pages = c.make_page-page.new.pages; counters = c.take_room-frame.new.counters; pool = c.take_room-frame.new.pool; held = c.add.new.self })
 stays c = record {
   groups = c.take_room-frame.ensures.charged.groups;
   frames = c.take_room-frame.ensures.frame.frames;
@@ -55,17 +55,17 @@ stays c = record {
   numbers = ap (λ (t : PagesOf). t.numbers) c.make_page-page.ensures.others;
   page_groups = ap (λ (t : PagesOf). t.groups) c.make_page-page.ensures.others;
   page_frames = ap (λ (t : PagesOf). t.frames) c.make_page-page.ensures.others;
-  held_numbers = ap (λ (held : HeldOf). held.numbers) c.enter.ensures;
+  held_numbers = ap (λ (held : HeldOf). held.numbers) c.add.ensures;
   moving_room = refl;
   files = ap (λ (t : PagesOf). t.files) c.make_page-page.ensures.others;
 }
 
-goes : (c : goal.After-enter) (g f : ℕ) → page_at c.args.self.now.pages.pages c.make_page-page.result.0 ≡ None → g ≡ c.args.group.0
-    → Changes c.args.self.now.pages.pages c.make_page-page.new.pages.pages c.make_page-page.result.0 (Some (new_page g f)) → GoesOn Youngest c.args.self.now.pages.pages c.args.self.now.held.lists c.make_page-page.new.pages.pages c.enter.new.self.lists
+goes : (c : goal.After-add) (g f : ℕ) → page_at c.args.self.now.pages.pages c.make_page-page.result.0 ≡ None → g ≡ c.args.group.0
+    → Changes c.args.self.now.pages.pages c.make_page-page.new.pages.pages c.make_page-page.result.0 (Some (new_page g f)) → GoesOn Youngest c.args.self.now.pages.pages c.args.self.now.held.lists c.make_page-page.new.pages.pages c.add.new.self.lists
 goes c g f free own placed =
     let h = c.args.self.now in
     subst (λ (held : HeldLists). GoesOn Youngest h.pages.pages h.held.lists c.make_page-page.new.pages.pages held)
-    (ap (λ (x : ℕ). entered h.held.lists x Anon c.make_page-page.result.0 Youngest) own ∙ sym (ap (λ (held : HeldOf). held.lists) c.enter.ensures))
+    (ap (λ (x : ℕ). entered h.held.lists x Anon c.make_page-page.result.0 Youngest) own ∙ sym (ap (λ (held : HeldOf). held.lists) c.add.ensures))
     (goes-in h.pages.pages h.held.lists c.requires.agree.held c.make_page-page.result.0 Youngest c.make_page-page.new.pages.pages None (memory_of g) f free refl placed)
 
 pub returns-clause-agree : goal.returns-clause-agree

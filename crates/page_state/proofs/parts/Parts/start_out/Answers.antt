@@ -51,8 +51,8 @@ push-requires c =
     let w = c.requires.held in
     record { room = (room-held c.args.self.now c.requires.agree c.args.page.0 w.0 w.1 w.2).0 }
 
-pub leave-requires : goal.leave-requires
-leave-requires c =
+pub isolate-requires : goal.isolate-requires
+isolate-requires c =
     let h = c.args.self.now in
     let p = c.args.page.0 in
     let w = c.requires.held in
@@ -65,16 +65,16 @@ module _ (c : goal.After-push) (label : Label) (f : ℕ) (stood : HasResidence c
   leaves = leaving c.args.self.now c.requires.agree c.slot_for-slot.new.slots label c.slot_for-slot.result (subst (λ way. TakesSlot way c.args.self.now.slots c.slot_for-slot.new.slots c.slot_for-slot.result) (c.way_out.ensures label (Held f) stood) c.slot_for-slot.ensures)
 
   -- the page left the list of its group
-  unlisted : c.leave.new.self ≡ record (c.args.self.now.held) { lists = left c.args.self.now.held.lists label.group c.args.page.0 }
-  unlisted = c.leave.ensures label.group (stands-listed c.args.self.now.pages.pages c.args.self.now.held.lists c.requires.agree.held c.args.page.0 label f stood)
+  unlisted : c.isolate.new.self ≡ record (c.args.self.now.held) { lists = left c.args.self.now.held.lists label.group c.args.page.0 }
+  unlisted = c.isolate.ensures label.group (stands-listed c.args.self.now.pages.pages c.args.self.now.held.lists c.requires.agree.held c.args.page.0 label f stood)
 
-  goes : (to : Page) → is_held to ≡ false → Changes c.args.self.now.pages.pages c.start_out-ticket.new.self.pages c.args.page.0 (Some to) → GoesOn Youngest c.args.self.now.pages.pages c.args.self.now.held.lists c.start_out-ticket.new.self.pages c.leave.new.self.lists
+  goes : (to : Page) → is_held to ≡ false → Changes c.args.self.now.pages.pages c.start_out-ticket.new.self.pages c.args.page.0 (Some to) → GoesOn Youngest c.args.self.now.pages.pages c.args.self.now.held.lists c.start_out-ticket.new.self.pages c.isolate.new.self.lists
   goes to gone changes =
       let h = c.args.self.now in
       subst (λ (held : HeldLists). GoesOn Youngest h.pages.pages h.held.lists c.start_out-ticket.new.self.pages held) (sym (ap (λ (held : HeldOf). held.lists) unlisted))
       (goes-out h.pages.pages h.held.lists c.requires.agree.held c.args.page.0 Youngest c.start_out-ticket.new.self.pages (Some to) label f stood changes gone)
 
-  stays : Stays c.args.self.now (record (c.args.self.now) { pages = c.start_out-ticket.new.self; pool = c.take_spare-spare.new.pool; slots = c.slot_for-slot.new.slots; held = c.leave.new.self; moving = c.push.new.self })
+  stays : Stays c.args.self.now (record (c.args.self.now) { pages = c.start_out-ticket.new.self; pool = c.take_spare-spare.new.pool; slots = c.slot_for-slot.new.slots; held = c.isolate.new.self; moving = c.push.new.self })
   stays =
       let begins = (c.start_out-ticket.ensures label f stood).starts in
       record {

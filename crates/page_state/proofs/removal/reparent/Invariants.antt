@@ -1,7 +1,7 @@
 use Rattle.machine.specs.Slots.{count_there}
 use Rattle.std.specs.Prelude.{◌==◌}
 use Rattle.page_state.proofs.RemovalLemmas.{HandsSome}
-use Rattle.page_state.proofs.removal.hand_up.Given as goal
+use Rattle.page_state.proofs.removal.reparent.Given as goal
 
 abbrev pub invariant-loop-page : goal.invariant-loop-page
 invariant-loop-page l = HandsSome l.group.0 l.parent.0 l.fn.counters l.counters l.fn.pages l.pages

@@ -1,7 +1,7 @@
 use Rattle.std.proofs.Common.{◌∙◌, false, length, sym, ap, length-set}
 use Rattle.lru_gen.specs.Gens.{GensOf}
 use Rattle.held_pages.proofs.PickLemmas.{listed-where}
-use Rattle.held_pages.proofs.HeldPages.leave.Goals as goal
+use Rattle.held_pages.proofs.HeldPages.isolate.Goals as goal
 
 pub invariant_of-self : goal.invariant_of-self
 invariant_of-self c =

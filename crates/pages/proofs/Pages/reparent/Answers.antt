@@ -12,7 +12,7 @@ use Rattle.pages.proofs.FlightLemmas.{AreInFlight-same}
 use Rattle.pages.proofs.MemberLemmas.{AreMembers-gone, AreMembers-added, listed, unlisted}
 use Rattle.pages.proofs.CacheLemmas.{AreHome-changes, regrouped-filed}
 use Rattle.pages.proofs.TransferLemmas.{pages_of, page-stands, owned-stands, own-filed, changed-byte-kept, framed-same, Fits, Fits-stays-beside, Fits-are}
-use Rattle.pages.proofs.Pages.move_up.Goals as goal
+use Rattle.pages.proofs.Pages.reparent.Goals as goal
 
 pub regrouped-moved-requires-clause-below : goal.regrouped-moved-requires-clause-below
 regrouped-moved-requires-clause-below c =
