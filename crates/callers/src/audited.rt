@@ -1,7 +1,7 @@
 //! An audit of what a book did over a device that does not keep its promise.
 
 ghost use Rattle.std.specs.Prelude.{◌≡◌, ◌<◌};
-ghost use Rattle.driver.specs.Tickets.{IsSpendableReply};
+ghost use Rattle.turns.specs.Tickets.{IsSpendableReply};
 
 use book::{Book, Event, InTicket, OutTicket, Pass, Reply};
 use machine::bytes::PAGE_BYTES;

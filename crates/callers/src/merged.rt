@@ -3,7 +3,7 @@
 ghost use Rattle.std.specs.Prelude.{◌≡◌, ◌<◌};
 
 use book::{Book, Event, Pass, Reply};
-use driver::automaton::spend;
+use turns::automaton::spend;
 use machine::config::{Config, FileList, Watermarks};
 use machine::event::{Op, Place};
 use machine::id::{GroupId, TaskId};

@@ -29,17 +29,17 @@ use Rattle.pages.specs.Tickets.{TicketOf}
 use Rattle.book.specs.declared.event.Reply.{Reply as Book_reply}
 use Rattle.book.specs.declared.event.Reply.TheVariants as said
 use Rattle.book.specs.Events.{reply_of}
-use Rattle.driver.specs.declared.turn.Access.{Access}
-use Rattle.driver.specs.declared.turn.Resume.{Resume}
-use Rattle.driver.specs.declared.turn.Resume.TheVariants as resume
-use Rattle.driver.specs.declared.turn.Stage.TheVariants as stage
-use Rattle.driver.specs.declared.turn.Pending.{Pending}
-use Rattle.driver.specs.declared.turn.Pending.TheVariants as pending
-use Rattle.driver.specs.declared.turn.Transition.{Transition}
-use Rattle.driver.specs.declared.turn.Transition.TheVariants.{Goes}
-use Rattle.driver.specs.Turns.{Tried, MadeRoom, MaxSet, Lowered, Reclaimed, Balanced, Made, TaskDid, WasShown, Closed, Told, ends_with, ends_refused, byte_answer, resumes_at}
+use Rattle.turns.specs.declared.turn.Access.{Access}
+use Rattle.turns.specs.declared.turn.Resume.{Resume}
+use Rattle.turns.specs.declared.turn.Resume.TheVariants as resume
+use Rattle.turns.specs.declared.turn.Stage.TheVariants as stage
+use Rattle.turns.specs.declared.turn.Pending.{Pending}
+use Rattle.turns.specs.declared.turn.Pending.TheVariants as pending
+use Rattle.turns.specs.declared.turn.Transition.{Transition}
+use Rattle.turns.specs.declared.turn.Transition.TheVariants.{Goes}
+use Rattle.turns.specs.Turns.{Tried, MadeRoom, MaxSet, Lowered, Reclaimed, Balanced, Made, TaskDid, WasShown, Closed, Told, ends_with, ends_refused, byte_answer, resumes_at}
 use Rattle.driver.specs.Schedule.{outcome_of, left_of}
-use Rattle.driver.specs.Tickets.{gives_ticket}
+use Rattle.turns.specs.Tickets.{gives_ticket}
 use Rattle.machine.proofs.EntryLemmas.{entries-one}
 use Rattle.driver.proofs.Keeps.{number_at, pages_none, Fine, FineOutcome}
 

@@ -33,20 +33,20 @@ use Rattle.book.specs.declared.event.Event.TheVariants as event
 use Rattle.book.specs.declared.event.Reply.{Reply}
 use Rattle.book.specs.Events.{event_of, reply_of}
 use Rattle.book.specs.Replies.{HandsOut, GivesOut}
-use Rattle.driver.specs.declared.turn.Access.{Access}
-use Rattle.driver.specs.declared.turn.Resume.{Resume}
-use Rattle.driver.specs.declared.turn.Pending.{Pending}
-use Rattle.driver.specs.declared.turn.Stage.{Stage}
-use Rattle.driver.specs.declared.turn.Want.{Want}
-use Rattle.driver.specs.declared.turn.Want.TheVariants as want
-use Rattle.driver.specs.declared.turn.Transition.{Transition}
-use Rattle.driver.specs.declared.turn.Transition.TheVariants.{Ends}
-use Rattle.driver.specs.declared.turn.Outcome.{Outcome}
-use Rattle.driver.specs.declared.turn.Seat.{Seat}
-use Rattle.driver.specs.declared.turn.Activity.{Activity}
-use Rattle.driver.specs.declared.turn.Activity.TheVariants.{Rests, Begun, Does}
-use Rattle.driver.specs.Turns.{ReadsIn, WritesOut, after_read, after_write, Told}
-use Rattle.driver.specs.Tickets.{blocks_in}
+use Rattle.turns.specs.declared.turn.Access.{Access}
+use Rattle.turns.specs.declared.turn.Resume.{Resume}
+use Rattle.turns.specs.declared.turn.Pending.{Pending}
+use Rattle.turns.specs.declared.turn.Stage.{Stage}
+use Rattle.turns.specs.declared.turn.Want.{Want}
+use Rattle.turns.specs.declared.turn.Want.TheVariants as want
+use Rattle.turns.specs.declared.turn.Transition.{Transition}
+use Rattle.turns.specs.declared.turn.Transition.TheVariants.{Ends}
+use Rattle.driver.specs.declared.seat.Outcome.{Outcome}
+use Rattle.driver.specs.declared.seat.Seat.{Seat}
+use Rattle.driver.specs.declared.seat.Activity.{Activity}
+use Rattle.driver.specs.declared.seat.Activity.TheVariants.{Rests, Begun, Does}
+use Rattle.turns.specs.Turns.{ReadsIn, WritesOut, after_read, after_write, Told}
+use Rattle.turns.specs.Tickets.{blocks_in}
 use Rattle.driver.specs.Schedule.{World, first_world, activity_of, with_activity, left_of, WantTurn, wants_at, StageTurn, Runs, files_on, fits}
 use Rattle.machine.proofs.FileLemmas.{file_page-is, home_above, homes_differ}
 use Rattle.legal.proofs.FileSteps.{slot_in, slot_of, slot_of-is, is_home_at, is_home, is_written, LeftHome, home-unwritten, transfer-unwritten}

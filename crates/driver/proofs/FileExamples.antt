@@ -34,16 +34,16 @@ use Rattle.block_store.specs.Device.{Disk}
 use Rattle.pages.specs.Tickets.{TicketOf}
 use Rattle.book.specs.declared.event.Event.TheVariants as asks
 use Rattle.book.specs.declared.event.Reply.TheVariants as says
-use Rattle.driver.specs.declared.turn.Access.{Access}
-use Rattle.driver.specs.declared.turn.Activity.{Activity}
-use Rattle.driver.specs.declared.turn.Activity.TheVariants.{Rests, Begun, Does}
-use Rattle.driver.specs.declared.turn.Outcome.TheVariants.{Goes, Ends}
-use Rattle.driver.specs.declared.turn.Pending.TheVariants as pending
-use Rattle.driver.specs.declared.turn.Resume.TheVariants as resume
-use Rattle.driver.specs.declared.turn.Stage.TheVariants as stage
-use Rattle.driver.specs.declared.turn.Transition.TheVariants as transition
-use Rattle.driver.specs.declared.turn.Want.TheVariants as want
-use Rattle.driver.specs.Turns.{wants, Told, resumes_at, judged}
+use Rattle.turns.specs.declared.turn.Access.{Access}
+use Rattle.driver.specs.declared.seat.Activity.{Activity}
+use Rattle.driver.specs.declared.seat.Activity.TheVariants.{Rests, Begun, Does}
+use Rattle.driver.specs.declared.seat.Outcome.TheVariants.{Goes, Ends}
+use Rattle.turns.specs.declared.turn.Pending.TheVariants as pending
+use Rattle.turns.specs.declared.turn.Resume.TheVariants as resume
+use Rattle.turns.specs.declared.turn.Stage.TheVariants as stage
+use Rattle.turns.specs.declared.turn.Transition.TheVariants as transition
+use Rattle.turns.specs.declared.turn.Want.TheVariants as want
+use Rattle.turns.specs.Turns.{wants, Told, resumes_at, judged}
 use Rattle.driver.specs.Schedule.{World, Turn, outcome_of, left_of}
 use Rattle.driver.proofs.TurnExamples.{lists, order, caller, disk as no_disk, after}
 use Rattle.driver.proofs.TaskExamples.{r, tree}

@@ -23,21 +23,21 @@ use Rattle.book.specs.declared.event.Event.TheVariants as event
 use Rattle.book.specs.declared.event.Reply.{Reply}
 use Rattle.book.specs.declared.event.Reply.TheVariants as said
 use Rattle.book.specs.Events.{event_of, reply_of}
-use Rattle.driver.specs.declared.turn.Access.{Access}
-use Rattle.driver.specs.declared.turn.Resume.{Resume}
-use Rattle.driver.specs.declared.turn.Stage.{Stage}
-use Rattle.driver.specs.declared.turn.Stage.TheVariants as stage
-use Rattle.driver.specs.declared.turn.Pending.{Pending}
-use Rattle.driver.specs.declared.turn.Pending.TheVariants as pending
-use Rattle.driver.specs.declared.turn.Want.{Want}
-use Rattle.driver.specs.declared.turn.Want.TheVariants as want
-use Rattle.driver.specs.declared.turn.Transition.{Transition}
-use Rattle.driver.specs.declared.turn.Outcome.{Outcome}
-use Rattle.driver.specs.declared.turn.Activity.{Activity}
-use Rattle.driver.specs.declared.turn.Activity.TheVariants.{Rests, Begun, Does}
-use Rattle.driver.specs.Turns.{wants_pages, Closed, Told, ReadsIn, WritesOut, after_read, after_write}
+use Rattle.turns.specs.declared.turn.Access.{Access}
+use Rattle.turns.specs.declared.turn.Resume.{Resume}
+use Rattle.turns.specs.declared.turn.Stage.{Stage}
+use Rattle.turns.specs.declared.turn.Stage.TheVariants as stage
+use Rattle.turns.specs.declared.turn.Pending.{Pending}
+use Rattle.turns.specs.declared.turn.Pending.TheVariants as pending
+use Rattle.turns.specs.declared.turn.Want.{Want}
+use Rattle.turns.specs.declared.turn.Want.TheVariants as want
+use Rattle.turns.specs.declared.turn.Transition.{Transition}
+use Rattle.driver.specs.declared.seat.Outcome.{Outcome}
+use Rattle.driver.specs.declared.seat.Activity.{Activity}
+use Rattle.driver.specs.declared.seat.Activity.TheVariants.{Rests, Begun, Does}
+use Rattle.turns.specs.Turns.{wants_pages, Closed, Told, ReadsIn, WritesOut, after_read, after_write}
 use Rattle.driver.specs.Schedule.{activity_of, with_activity, World, first_world, WantTurn, wants_at, StageTurn, left_of, Runs}
-use Rattle.driver.specs.Tickets.{holds, is_ending, holds_want, gives_ticket}
+use Rattle.turns.specs.Tickets.{holds, is_ending, holds_want, gives_ticket}
 use Rattle.driver.specs.Hands.{carries, tickets_in_hand}
 use Rattle.legal.proofs.TransferLemmas.{legal-transfers}
 use Rattle.driver.proofs.SeatCounts.{count-with_activity}

@@ -17,7 +17,7 @@ use Rattle.book.specs.Events.{event_of, reply_of}
 use Rattle.book.specs.Replies.{Replies}
 use Rattle.legal.proofs.StepLemmas.{access-hits}
 use Rattle.driver.specs.Hits.{HitsWithin}
-use Rattle.driver.specs.Tickets.{OwnEvent}
+use Rattle.turns.specs.Tickets.{OwnEvent}
 use Rattle.driver.proofs.CallCases.{Comes, ByRefusal, ByEntry, called_comes}
 use Rattle.driver.proofs.Tickets.{any_there-at}
 

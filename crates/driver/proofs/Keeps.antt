@@ -25,19 +25,19 @@ use Rattle.machine.specs.Control.{file_named, has_file, amount_of}
 use Rattle.book.specs.declared.event.Event.{Event}
 use Rattle.book.specs.declared.event.Event.TheVariants as event
 use Rattle.book.specs.Events.{event_of}
-use Rattle.driver.specs.declared.turn.Stage.{Stage}
-use Rattle.driver.specs.declared.turn.Stage.TheVariants as stage
-use Rattle.driver.specs.declared.turn.Pending.{Pending}
-use Rattle.driver.specs.declared.turn.Pending.TheVariants as pending
-use Rattle.driver.specs.declared.turn.Want.{Want}
-use Rattle.driver.specs.declared.turn.Want.TheVariants as want
-use Rattle.driver.specs.declared.turn.Outcome.{Outcome}
-use Rattle.driver.specs.declared.turn.Outcome.TheVariants.{Goes, Kills, Ends}
-use Rattle.driver.specs.declared.turn.Activity.{Activity}
-use Rattle.driver.specs.declared.turn.Activity.TheVariants.{Rests, Begun, Does}
-use Rattle.driver.specs.declared.turn.Seat.{Seat}
-use Rattle.driver.specs.Turns.{access_event, wants, wants_pages, wants_balance, wants_watch, done, Judged, paths_of, judged, task_judged, shell_judged, daemon_judged, with_group, with_file, with_amount, reads_file, writes_file, reclaims}
-use Rattle.driver.specs.Schedule.{number_of, is_of, activity_of, with_activity, World, wants_at, StageTurn, JudgedTurn, ActivityTurn, said_at, all_said, answer_by, Goings, EndsIn, RunsOut, Begins, Stepped, Runs}
+use Rattle.turns.specs.declared.turn.Stage.{Stage}
+use Rattle.turns.specs.declared.turn.Stage.TheVariants as stage
+use Rattle.turns.specs.declared.turn.Pending.{Pending}
+use Rattle.turns.specs.declared.turn.Pending.TheVariants as pending
+use Rattle.turns.specs.declared.turn.Want.{Want}
+use Rattle.turns.specs.declared.turn.Want.TheVariants as want
+use Rattle.driver.specs.declared.seat.Outcome.{Outcome}
+use Rattle.driver.specs.declared.seat.Outcome.TheVariants.{Goes, Kills, Ends}
+use Rattle.driver.specs.declared.seat.Activity.{Activity}
+use Rattle.driver.specs.declared.seat.Activity.TheVariants.{Rests, Begun, Does}
+use Rattle.driver.specs.declared.seat.Seat.{Seat}
+use Rattle.turns.specs.Turns.{access_event, wants, wants_pages, wants_balance, wants_watch, done, Judged, paths_of, judged, task_judged, shell_judged, daemon_judged, with_group, with_file, with_amount, reads_file, writes_file, reclaims, answer_by}
+use Rattle.driver.specs.Schedule.{number_of, is_of, activity_of, with_activity, World, wants_at, StageTurn, JudgedTurn, ActivityTurn, said_at, all_said, Goings, EndsIn, RunsOut, Begins, Stepped, Runs}
 use Rattle.legal.proofs.Effects.{ends}
 
 -- ---- seats

@@ -7,7 +7,6 @@ pub mod Tickets
 pub mod HandLemmas
 pub mod Faithful
 pub mod HitLemmas
-pub mod TicketLemmas
 pub mod SeatLists
 pub mod FindLemmas
 pub mod TracedLemmas

@@ -21,12 +21,12 @@ use Rattle.machine.specs.Generations.{Gens, new_gens}
 use Rattle.machine.specs.Call.{Past, entries_of}
 use Rattle.book.specs.declared.event.Event.TheVariants as asks
 use Rattle.book.specs.declared.event.Reply.TheVariants as says
-use Rattle.driver.specs.declared.turn.Pending.TheVariants as pending
-use Rattle.driver.specs.declared.turn.Stage.TheVariants as stage
-use Rattle.driver.specs.declared.turn.Outcome.TheVariants.{Ends}
-use Rattle.driver.specs.declared.turn.Transition.TheVariants as transition
-use Rattle.driver.specs.declared.turn.Activity.TheVariants.{Rests, Begun}
-use Rattle.driver.specs.Turns.{judged}
+use Rattle.turns.specs.declared.turn.Pending.TheVariants as pending
+use Rattle.turns.specs.declared.turn.Stage.TheVariants as stage
+use Rattle.driver.specs.declared.seat.Outcome.TheVariants.{Ends}
+use Rattle.turns.specs.declared.turn.Transition.TheVariants as transition
+use Rattle.driver.specs.declared.seat.Activity.TheVariants.{Rests, Begun}
+use Rattle.turns.specs.Turns.{judged}
 use Rattle.driver.specs.Schedule.{Asks, Turn}
 use Rattle.driver.proofs.TurnExamples.{caller}
 use Rattle.driver.proofs.TaskExamples.{r, tree, world}

@@ -2,18 +2,18 @@
 use Rattle.std.proofs.Common.{◌≡◌, ℕ, ◌≤◌, Bool, true, length, arith, rules, false, Some, None, List, [], ◌∷◌, ◌++◌, refl, sym, ap, ◌∙◌, append_assoc, append-nil, subst}
 use Rattle.machine.specs.declared.command.Actor.{Actor}
 use Rattle.machine.specs.declared.command.Reply.{Reply}
-use Rattle.driver.specs.declared.turn.Outcome.{Outcome}
-use Rattle.driver.specs.declared.turn.Outcome.TheVariants.{Ends}
+use Rattle.driver.specs.declared.seat.Outcome.{Outcome}
+use Rattle.driver.specs.declared.seat.Outcome.TheVariants.{Ends}
 use denote.Ref.{Bor}
 use Rattle.std.specs.Prelude.{if◌then◌else◌, ◌<◌, Ok, Err, Option, IfSome}
 use Rattle.machine.specs.declared.command.Answer.TheVariants.{Word}
 use Rattle.machine.specs.declared.command.Word.TheVariants.{Idle}
 use Rattle.machine.specs.declared.refusal.Refusal.{Refusal}
 use Rattle.machine.specs.declared.command.Command.{Command}
-use Rattle.driver.specs.declared.turn.Stage.{Stage}
-use Rattle.driver.specs.declared.turn.Seat.{Seat}
-use Rattle.driver.specs.declared.turn.Activity.{Activity}
-use Rattle.driver.specs.declared.turn.Activity.TheVariants.{Rests, Begun, Does}
+use Rattle.turns.specs.declared.turn.Stage.{Stage}
+use Rattle.driver.specs.declared.seat.Seat.{Seat}
+use Rattle.driver.specs.declared.seat.Activity.{Activity}
+use Rattle.driver.specs.declared.seat.Activity.TheVariants.{Rests, Begun, Does}
 use Rattle.block_store.specs.Device.{Disk}
 use Rattle.machine.specs.declared.config.Config.{Config}
 use Rattle.machine.specs.State.{blocks_of, is_config}
@@ -21,11 +21,12 @@ use Rattle.machine.specs.Call.{Caller}
 use Rattle.machine.proofs.Values.{some_inj}
 use Rattle.book.specs.Passes.{PassOf, is_current}
 use Rattle.driver.specs.declared.desk.Desk.{Desk}
-use Rattle.driver.specs.Tickets.{blocks_in, OwnSeats}
+use Rattle.turns.specs.Tickets.{blocks_in}
 use Rattle.driver.specs.Desks.{world, with_seat, lent_to, blocks_of_desk, worker_of_desk, IsOn, IsSame}
-use Rattle.driver.specs.Turns.{Judged, judged, ends_refused}
+use Rattle.turns.specs.Turns.{Judged, judged, ends_refused}
 use Rattle.driver.specs.Schedule.{World, first_world, fits, activity_of, with_activity, outcome_of, left_of, WantTurn, wants_at, StageTurn, JudgedTurn, Turn, begun, Goings, is_end, said_at, all_said}
 use Rattle.driver.proofs.SeatLists.{activity_of-with_activity, with_activity-twice}
+use Rattle.driver.specs.Hands.{OwnSeats}
 
 pub Goings-more : (old : World) (actor : Actor) (earlier : List Outcome) (mid new : World) (outcome : Outcome)
     → Goings old actor earlier mid → Turn mid actor outcome new → is_end outcome ≡ false → Goings old actor (earlier ++ outcome ∷ []) new

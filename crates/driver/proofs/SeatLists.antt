@@ -5,11 +5,11 @@ use Rattle.std.specs.List.{list_any, position_or_len}
 use Rattle.std.proofs.lemmas.Bool.Decides.{nat_tests}
 use Rattle.std.proofs.lemmas.List.Recursion.{is_position_or_len}
 use Rattle.machine.specs.declared.command.Actor.{Actor}
-use Rattle.driver.specs.declared.turn.Activity.{Activity}
-use Rattle.driver.specs.declared.turn.Activity.TheVariants.{Rests}
-use Rattle.driver.specs.declared.turn.Seat.{Seat}
+use Rattle.driver.specs.declared.seat.Activity.{Activity}
+use Rattle.driver.specs.declared.seat.Activity.TheVariants.{Rests}
+use Rattle.driver.specs.declared.seat.Seat.{Seat}
 use Rattle.driver.specs.Schedule.{number_of, is_of, activity_of, with_activity}
-use Rattle.driver.specs.Tickets.{OwnActivity, OwnSeats}
+use Rattle.driver.specs.Hands.{OwnActivity, OwnSeats}
 use Rattle.driver.specs.Seats.{numbers_of, place_of, SitsAt, IsFound}
 
 -- who sits where, by numbers

@@ -10,8 +10,8 @@ use Rattle.machine.specs.declared.command.Answer.TheVariants.{Word}
 use Rattle.machine.specs.declared.command.Word.TheVariants.{TurnLimit, Underway, Idle}
 use Rattle.machine.specs.declared.command.Word.{Word as Word_of}
 use Rattle.machine.specs.declared.command.Command.{Command}
-use Rattle.driver.specs.declared.turn.Activity.{Activity}
-use Rattle.driver.specs.declared.turn.Activity.TheVariants.{Rests, Begun, Does}
+use Rattle.driver.specs.declared.seat.Activity.{Activity}
+use Rattle.driver.specs.declared.seat.Activity.TheVariants.{Rests, Begun, Does}
 use Rattle.driver.specs.Seats.{place_of, is_under_way}
 use Rattle.driver.specs.Desks.{whole_steps}
 use Rattle.driver.proofs.SeatLists.{activity_of-none}
@@ -19,10 +19,10 @@ use Rattle.machine.specs.declared.command.Reply.{Reply}
 use Rattle.machine.specs.Call.{Past}
 use Rattle.machine.specs.History.{at_first, Honest}
 use Rattle.block_store.specs.Device.{Disk}
-use Rattle.driver.specs.declared.turn.Outcome.{Outcome}
-use Rattle.driver.specs.declared.turn.Outcome.TheVariants.{Goes, Kills, Ends}
-use Rattle.driver.specs.Schedule.{World, first_world, activity_of, with_activity, JudgedTurn, ActivityTurn, EndsIn, RunsOut, Turn, Begins, begun, Goings, Finishes, answer_by, said_at, all_said, Stepped, Runs, RunsThrough, files_on, fits}
-use Rattle.driver.specs.Turns.{Judged, judged}
+use Rattle.driver.specs.declared.seat.Outcome.{Outcome}
+use Rattle.driver.specs.declared.seat.Outcome.TheVariants.{Goes, Kills, Ends}
+use Rattle.driver.specs.Schedule.{World, first_world, activity_of, with_activity, JudgedTurn, ActivityTurn, EndsIn, RunsOut, Turn, Begins, begun, Goings, Finishes, said_at, all_said, Stepped, Runs, RunsThrough, files_on, fits}
+use Rattle.turns.specs.Turns.{Judged, judged, answer_by}
 use Rattle.driver.specs.Sinks.{Heard, BeginsWith, Starts, IsRightOnce, StartsStep, StartsRun, CutsStep, CutsRun}
 use Rattle.driver.proofs.Faithful.{runs_are_honest}
 

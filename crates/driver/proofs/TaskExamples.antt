@@ -23,12 +23,12 @@ use Rattle.machine.specs.Aging.{is_marked}
 use Rattle.machine.specs.Lists.{Youngest, GoesOn, is_fresh}
 use Rattle.machine.specs.Call.{Past}
 use Rattle.book.specs.declared.event.Reply.TheVariants as says
-use Rattle.driver.specs.declared.turn.Stage.TheVariants as stage
-use Rattle.driver.specs.declared.turn.Outcome.TheVariants.{Ends}
-use Rattle.driver.specs.declared.turn.Transition.TheVariants as transition
-use Rattle.driver.specs.declared.turn.Activity.{Activity}
-use Rattle.driver.specs.declared.turn.Activity.TheVariants.{Rests, Begun}
-use Rattle.driver.specs.Turns.{judged}
+use Rattle.turns.specs.declared.turn.Stage.TheVariants as stage
+use Rattle.driver.specs.declared.seat.Outcome.TheVariants.{Ends}
+use Rattle.turns.specs.declared.turn.Transition.TheVariants as transition
+use Rattle.driver.specs.declared.seat.Activity.{Activity}
+use Rattle.driver.specs.declared.seat.Activity.TheVariants.{Rests, Begun}
+use Rattle.turns.specs.Turns.{judged}
 use Rattle.driver.specs.Schedule.{World, Turn}
 use Rattle.driver.proofs.TurnExamples.{lists, order, caller, disk, after}
 

@@ -28,19 +28,19 @@ use Rattle.book.specs.declared.event.Reply.{Reply}
 use Rattle.book.specs.declared.event.Reply.TheVariants as said
 use Rattle.book.specs.Events.{event_of, reply_of}
 use Rattle.book.specs.Replies.{HandsOut, GivesIn, GivesOut}
-use Rattle.driver.specs.declared.turn.Access.{Access}
-use Rattle.driver.specs.declared.turn.Resume.{Resume}
-use Rattle.driver.specs.declared.turn.Pending.{Pending}
-use Rattle.driver.specs.declared.turn.Stage.{Stage}
-use Rattle.driver.specs.declared.turn.Want.{Want}
-use Rattle.driver.specs.declared.turn.Want.TheVariants as want
-use Rattle.driver.specs.declared.turn.Transition.{Transition}
-use Rattle.driver.specs.declared.turn.Transition.TheVariants.{Ends}
-use Rattle.driver.specs.declared.turn.Outcome.{Outcome}
-use Rattle.driver.specs.declared.turn.Activity.{Activity}
-use Rattle.driver.specs.declared.turn.Activity.TheVariants.{Rests, Begun, Does}
-use Rattle.driver.specs.declared.turn.Seat.{Seat}
-use Rattle.driver.specs.Turns.{ReadsIn, WritesOut, after_read, after_write, Told}
+use Rattle.turns.specs.declared.turn.Access.{Access}
+use Rattle.turns.specs.declared.turn.Resume.{Resume}
+use Rattle.turns.specs.declared.turn.Pending.{Pending}
+use Rattle.turns.specs.declared.turn.Stage.{Stage}
+use Rattle.turns.specs.declared.turn.Want.{Want}
+use Rattle.turns.specs.declared.turn.Want.TheVariants as want
+use Rattle.turns.specs.declared.turn.Transition.{Transition}
+use Rattle.turns.specs.declared.turn.Transition.TheVariants.{Ends}
+use Rattle.driver.specs.declared.seat.Outcome.{Outcome}
+use Rattle.driver.specs.declared.seat.Activity.{Activity}
+use Rattle.driver.specs.declared.seat.Activity.TheVariants.{Rests, Begun, Does}
+use Rattle.driver.specs.declared.seat.Seat.{Seat}
+use Rattle.turns.specs.Turns.{ReadsIn, WritesOut, after_read, after_write, Told}
 use Rattle.driver.specs.Schedule.{number_of, activity_of, with_activity, World, first_world, WantTurn, wants_at, StageTurn, outcome_of, left_of}
 use Rattle.legal.proofs.Effects.{ends, Effect, step_effect}
 use Rattle.legal.proofs.SoundLemmas.{legal-files}

@@ -22,12 +22,13 @@ use Rattle.machine.specs.Lists.{HeldLists, Order, Youngest, GoesOn}
 use Rattle.machine.specs.Call.{Past, Caller, entries_of}
 use Rattle.block_store.specs.Device.{Disk}
 use Rattle.book.specs.declared.event.Reply.TheVariants as says
-use Rattle.driver.specs.declared.turn.Stage.TheVariants as stage
-use Rattle.driver.specs.declared.turn.Outcome.TheVariants.{Goes, Ends}
-use Rattle.driver.specs.declared.turn.Transition.TheVariants as transition
-use Rattle.driver.specs.declared.turn.Activity.{Activity}
-use Rattle.driver.specs.declared.turn.Activity.TheVariants.{Rests, Begun, Does}
-use Rattle.driver.specs.Schedule.{World, Turn, Finishes, answer_by}
+use Rattle.turns.specs.declared.turn.Stage.TheVariants as stage
+use Rattle.driver.specs.declared.seat.Outcome.TheVariants.{Goes, Ends}
+use Rattle.turns.specs.declared.turn.Transition.TheVariants as transition
+use Rattle.driver.specs.declared.seat.Activity.{Activity}
+use Rattle.driver.specs.declared.seat.Activity.TheVariants.{Rests, Begun, Does}
+use Rattle.driver.specs.Schedule.{World, Turn, Finishes}
+use Rattle.turns.specs.Turns.{answer_by}
 
 abbrev r : GroupId
 r = record { 0 = 1 }

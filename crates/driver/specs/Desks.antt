@@ -7,13 +7,14 @@ use Rattle.machine.specs.declared.command.Step.{Step}
 use Rattle.machine.specs.declared.command.Step.TheVariants.{Begin, Finish}
 use Rattle.block_store.specs.Device.{Disk}
 use Rattle.book.specs.Passes.{is_current}
-use Rattle.driver.specs.declared.turn.Activity.TheVariants.{Begun}
-use Rattle.driver.specs.declared.turn.Seat.{Seat}
+use Rattle.driver.specs.declared.seat.Activity.TheVariants.{Begun}
+use Rattle.driver.specs.declared.seat.Seat.{Seat}
 use Rattle.machine.specs.declared.command.Reply.{Reply as Told_by}
 use Rattle.machine.specs.Call.{Past}
 use Rattle.driver.specs.Schedule.{World, activity_of, with_activity, RunsThrough}
-use Rattle.driver.specs.Tickets.{blocks_in, OwnSeats}
+use Rattle.turns.specs.Tickets.{blocks_in}
 use Rattle.driver.specs.declared.desk.Desk.{Desk}
+use Rattle.driver.specs.Hands.{OwnSeats}
 
 abbrev pub world : Desk → Disk → World
 world desk disk = record { past = desk.book; caller = desk.pass.caller; disk = disk; seats = desk.seats; turns = desk.turns }

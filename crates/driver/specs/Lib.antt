@@ -1,7 +1,4 @@
-pub mod Turns
-pub mod Finds
 pub mod Schedule
-pub mod Tickets
 pub mod Hands
 pub mod Seats
 pub mod Desks

@@ -19,22 +19,22 @@ use Rattle.book.specs.declared.event.Event.{Event}
 use Rattle.book.specs.declared.event.Reply.{Reply}
 use Rattle.book.specs.Events.{event_of, reply_of}
 use Rattle.book.specs.Replies.{KeepsTicket, HandsOut}
-use Rattle.driver.specs.declared.turn.Pending.{Pending}
-use Rattle.driver.specs.declared.turn.Stage.{Stage}
-use Rattle.driver.specs.declared.turn.Want.{Want}
-use Rattle.driver.specs.declared.turn.Want.TheVariants as want
-use Rattle.driver.specs.declared.turn.Transition.{Transition}
-use Rattle.driver.specs.declared.turn.Transition.TheVariants as transition
-use Rattle.driver.specs.declared.turn.Outcome.{Outcome}
-use Rattle.driver.specs.declared.turn.Outcome.TheVariants.{Goes, Kills, Ends}
-use Rattle.driver.specs.declared.turn.Activity.{Activity}
-use Rattle.driver.specs.declared.turn.Activity.TheVariants.{Rests, Begun, Does}
-use Rattle.driver.specs.declared.turn.Seat.{Seat}
+use Rattle.turns.specs.declared.turn.Pending.{Pending}
+use Rattle.turns.specs.declared.turn.Stage.{Stage}
+use Rattle.turns.specs.declared.turn.Want.{Want}
+use Rattle.turns.specs.declared.turn.Want.TheVariants as want
+use Rattle.turns.specs.declared.turn.Transition.{Transition}
+use Rattle.turns.specs.declared.turn.Transition.TheVariants as transition
+use Rattle.driver.specs.declared.seat.Outcome.{Outcome}
+use Rattle.driver.specs.declared.seat.Outcome.TheVariants.{Goes, Kills, Ends}
+use Rattle.driver.specs.declared.seat.Activity.{Activity}
+use Rattle.driver.specs.declared.seat.Activity.TheVariants.{Rests, Begun, Does}
+use Rattle.driver.specs.declared.seat.Seat.{Seat}
 use Rattle.machine.specs.Pages.{home_block}
 use Rattle.machine.specs.State.{sizes_of, opening_of, blocks_of, is_config, free_frames}
 use Rattle.machine.specs.History.{at_first, Honest, Right}
 use Rattle.machine.specs.Call.{Past, first_past, Caller, Called}
-use Rattle.driver.specs.Turns.{wants, Told, resumes_at, ReadsIn, WritesOut, Judged, judged, ends_refused}
+use Rattle.turns.specs.Turns.{wants, Told, resumes_at, ReadsIn, WritesOut, Judged, judged, ends_refused, answer_by}
 
 -- ---- what the actors are at
 
@@ -152,9 +152,6 @@ abbrev pub Turn : World → Actor → Outcome → World → Type 0
 Turn old who outcome new = ActivityTurn old who (activity_of who old.seats) outcome new
 
 -- ---- steps
-
-abbrev pub answer_by : Actor → Answer → List Told_by
-answer_by who said = record { actor = who; answer = said } ∷ []
 
 -- what a turn prints; a kill is printed at the moment it is made. (Excludes kills that are printed late or left out.)
 abbrev pub said_at : Actor → Outcome → List Told_by

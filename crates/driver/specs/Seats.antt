@@ -1,9 +1,9 @@
 -- Places of seats.
 use Rattle.std.specs.Prelude.{◌≡◌, ℕ, Bool, true, false, suc, ◌<◌, List, [], ◌∷◌, length, map, Option, None, Some, if◌then◌else◌}
 use Rattle.machine.specs.declared.command.Actor.{Actor}
-use Rattle.driver.specs.declared.turn.Activity.{Activity}
-use Rattle.driver.specs.declared.turn.Activity.TheVariants.{Rests, Begun, Does}
-use Rattle.driver.specs.declared.turn.Seat.{Seat}
+use Rattle.driver.specs.declared.seat.Activity.{Activity}
+use Rattle.driver.specs.declared.seat.Activity.TheVariants.{Rests, Begun, Does}
+use Rattle.driver.specs.declared.seat.Seat.{Seat}
 use Rattle.driver.specs.Schedule.{number_of, is_of}
 
 -- the numbers of those who sit there, one after another

@@ -7,16 +7,18 @@ ghost use Rattle.machine.specs.Call.{Called};
 ghost use Rattle.book.specs.Passes.{is_current};
 ghost use Rattle.book.specs.Events.{event_of, reply_of};
 ghost use Rattle.book.specs.Replies.{Replies, KeepsTicket, HandsOut};
-ghost use Rattle.driver.specs.Turns.{ReadsIn, WritesOut};
-ghost use Rattle.driver.specs.Tickets.{blocks_in, IsOwn, OwnEvent, OwnReply, OwnTransition, OwnActivity, IsHanded};
+ghost use Rattle.turns.specs.Turns.{ReadsIn, WritesOut};
+ghost use Rattle.turns.specs.Tickets.{blocks_in, IsOwn, OwnEvent, OwnReply, OwnTransition, IsHanded};
 ghost use Rattle.driver.specs.Desks.{IsSame};
 ghost use Rattle.driver.specs.Hits.{HitsWithin};
 ghost use Rattle.driver.specs.Traced.{GivesUp};
+ghost use Rattle.driver.specs.Hands.{OwnActivity};
 
-use crate::automaton::spend;
-use crate::turn::{Access, Activity, Resume, Stage, Transition};
+use crate::seat::Activity;
 use block_store::BlockDevice;
 use book::{Book, Event, InTicket, OutTicket, Pass, Reply};
+use turns::automaton::spend;
+use turns::turn::{Access, Resume, Stage, Transition};
 
 /// One event of the book, by a pass that is current. A ticket that is given out names a block of swap or of a
 /// file, and one that comes back was handed back.

@@ -9,20 +9,19 @@ ghost use Rattle.machine.specs.History.{at_first, Honest};
 ghost use Rattle.machine.specs.Call.{Past};
 ghost use Rattle.block_store.specs.Device.{Disk};
 ghost use Rattle.book.specs.Passes.{is_current};
-ghost use Rattle.driver.specs.Turns.{AwaitsAll, judged};
+ghost use Rattle.turns.specs.Turns.{AwaitsAll, judged};
 ghost use Rattle.driver.specs.Schedule.{Asks, WantTurn, StageTurn, JudgedTurn, wants_at, Turn, Advances, Finishes, Begins, Stepped, activity_of, with_activity, first_world};
-ghost use Rattle.driver.specs.Tickets.{OwnEvent, OwnStage, OwnWant, OwnTransition, OwnSeats};
+ghost use Rattle.turns.specs.Tickets.{OwnEvent, OwnStage, OwnWant, OwnTransition};
 ghost use Rattle.driver.specs.Seats.{SitsAt, IsFound, is_under_way};
 ghost use Rattle.driver.specs.Desks.{world, with_seat, lent_to, whole_steps, RunsTo, blocks_of_desk, worker_of_desk, IsOn, IsSame};
 ghost use Rattle.driver.specs.Traced.{GivesUp};
 ghost use Rattle.driver.specs.Sinks.{CutsStep, CutsRun};
+ghost use Rattle.driver.specs.Hands.{OwnSeats};
 
-use crate::automaton::{ask, told};
-use crate::judge::judge;
 use crate::marked::MarkedBook;
+use crate::seat::{Activity, Outcome, Seat};
 use crate::seats::Seats;
 use crate::sink::{Closed, Cut, Sink};
-use crate::turn::{Activity, Outcome, Pending, Seat, Stage, Transition, Want};
 use crate::{calls, seats};
 use block_store::BlockDevice;
 use book::{Event, Pass};
@@ -31,6 +30,9 @@ use machine::config::Config;
 use machine::refusal::Refusal;
 use std::alloc::{AllocError, Global};
 use trace::Trace;
+use turns::automaton::{ask, told};
+use turns::judge::judge;
+use turns::turn::{Pending, Stage, Transition, Want};
 
 /// It must be closed.
 #[must_use]

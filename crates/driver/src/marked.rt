@@ -11,7 +11,7 @@ ghost use Rattle.book.specs.Events.{event_of, reply_of};
 ghost use Rattle.book.specs.Replies.{Replies, KeepsTicket, HandsOut};
 ghost use Rattle.driver.specs.Hits.{HitsWithin};
 ghost use Rattle.driver.specs.Schedule.{MarksAfter};
-ghost use Rattle.driver.specs.Tickets.{blocks_in, OwnEvent, OwnReply, IsHanded};
+ghost use Rattle.turns.specs.Tickets.{blocks_in, OwnEvent, OwnReply, IsHanded};
 
 use crate::calls;
 use crate::hits::HitMarks;

@@ -1,19 +1,22 @@
 //! The seats: what each actor is at, by first appearance.
 
 ghost use Rattle.std.specs.Prelude.{◌≡◌, ℕ, ◌+◌, ◌<◌, ◌≤◌, ◌++◌, ◌∷◌, [], length, None, IfOk, OnOk, OnErr, true, false};
-ghost use Rattle.driver.specs.Schedule.{number_of, with_activity, activity_of, said_at, answer_by, outcome_of, left_of, is_end};
-ghost use Rattle.driver.specs.Tickets.{OwnTransition, OwnActivity, OwnSeats};
+ghost use Rattle.driver.specs.Schedule.{number_of, with_activity, activity_of, said_at, outcome_of, left_of, is_end};
+ghost use Rattle.turns.specs.Tickets.{OwnTransition};
 ghost use Rattle.driver.specs.Seats.{SitsAt, IsFound, is_under_way};
+ghost use Rattle.turns.specs.Turns.{answer_by};
+ghost use Rattle.driver.specs.Hands.{OwnActivity, OwnSeats};
 
-use crate::automaton;
+use crate::seat::{Activity, Outcome, Seat};
 use crate::sink::{Closed, Sink};
-use crate::turn::{Activity, Outcome, Seat, Stage, Transition};
 use indexmap::IndexSet;
 use machine::command::{Actor, Answer, Command, Reply, Word};
 use machine::event::Cause;
 use std::alloc::{AllocError, Global};
 use std::marker::Model;
 use std::mem;
+use turns::automaton;
+use turns::turn::{Stage, Transition};
 
 /// The seats in order of first appearance, and the numbers of those who sit there, so that an actor's
 /// place is looked up and not looked for.
@@ -28,7 +31,7 @@ pub struct Seats {
 
 impl Model for Seats {
     ghost use Rattle.std.specs.Prelude.{◌≡◌, List};
-    ghost use Rattle.driver.specs.declared.turn.Seat.{Seat};
+    ghost use Rattle.driver.specs.declared.seat.Seat.{Seat};
     ghost use Rattle.driver.specs.Seats.{numbers_of};
 
     ghost Value = { List Seat };

@@ -8,8 +8,8 @@ use Rattle.machine.proofs.SlotLemmas.{one_if, slot-le-sum_by}
 use Rattle.machine.proofs.RemovedLemmas.{count-alike}
 use Rattle.legal.proofs.FileSteps.{AreFiled}
 use Rattle.legal.proofs.SoundLemmas.{legal-files}
-use Rattle.driver.specs.declared.turn.Activity.{Activity}
-use Rattle.driver.specs.declared.turn.Seat.{Seat}
+use Rattle.driver.specs.declared.seat.Activity.{Activity}
+use Rattle.driver.specs.declared.seat.Seat.{Seat}
 use Rattle.driver.specs.Hands.{carries, tickets_in_hand}
 use Rattle.driver.proofs.HandLemmas.{transfers_are_in_hand}
 use Rattle.laws.specs.Laws.{AllRest, is_away, NothingIsLeft}

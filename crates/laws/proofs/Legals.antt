@@ -12,20 +12,20 @@ use Rattle.machine.specs.declared.command.Command.{Command}
 use Rattle.machine.specs.declared.command.Step.{Step as Line}
 use Rattle.machine.specs.declared.command.Step.TheVariants.{Begin, Advance, Finish}
 use Rattle.machine.specs.declared.command.Reply.{Reply as Told_by}
-use Rattle.driver.specs.declared.turn.Stage.{Stage}
-use Rattle.driver.specs.declared.turn.Outcome.{Outcome}
-use Rattle.driver.specs.declared.turn.Want.{Want}
-use Rattle.driver.specs.declared.turn.Want.TheVariants as want
-use Rattle.driver.specs.declared.turn.Transition.{Transition}
+use Rattle.turns.specs.declared.turn.Stage.{Stage}
+use Rattle.driver.specs.declared.seat.Outcome.{Outcome}
+use Rattle.turns.specs.declared.turn.Want.{Want}
+use Rattle.turns.specs.declared.turn.Want.TheVariants as want
+use Rattle.turns.specs.declared.turn.Transition.{Transition}
 use Rattle.block_store.specs.Device.{Disk}
 use Rattle.book.specs.Events.{event_of, reply_of}
-use Rattle.driver.specs.declared.turn.Activity.{Activity}
-use Rattle.driver.specs.declared.turn.Activity.TheVariants.{Rests, Begun, Does}
+use Rattle.driver.specs.declared.seat.Activity.{Activity}
+use Rattle.driver.specs.declared.seat.Activity.TheVariants.{Rests, Begun, Does}
 use Rattle.machine.specs.State.{Opening, opening_of}
 use Rattle.machine.specs.Refusals.{refusal}
 use Rattle.machine.specs.Call.{Past, Caller, knows_pass, Refuses, Answered, JudgedBy, Called, is_trace_full}
 use Rattle.machine.specs.Legal.{Legal}
-use Rattle.driver.specs.Turns.{Judged, judged}
+use Rattle.turns.specs.Turns.{Judged, judged}
 use Rattle.driver.specs.Schedule.{World, WantTurn, wants_at, first_world, activity_of, StageTurn, JudgedTurn, ActivityTurn, Goings, EndsIn, RunsOut, Begins, Stepped, Runs}
 use Rattle.driver.proofs.MarkLemmas.{marks-stay}
 use Rattle.laws.specs.Laws.{RunsAreLegal}

@@ -11,12 +11,12 @@ use Rattle.machine.specs.State.{Opening, opening_of}
 use Rattle.machine.specs.Call.{Past, Caller}
 use Rattle.block_store.specs.Device.{Disk}
 use Rattle.book.specs.Events.{event_of, reply_of}
-use Rattle.driver.specs.declared.turn.Activity.{Activity}
-use Rattle.driver.specs.declared.turn.Stage.{Stage}
-use Rattle.driver.specs.declared.turn.Outcome.{Outcome}
-use Rattle.driver.specs.declared.turn.Transition.{Transition}
-use Rattle.driver.specs.declared.turn.Want.{Want}
-use Rattle.driver.specs.declared.turn.Want.TheVariants as want
+use Rattle.driver.specs.declared.seat.Activity.{Activity}
+use Rattle.turns.specs.declared.turn.Stage.{Stage}
+use Rattle.driver.specs.declared.seat.Outcome.{Outcome}
+use Rattle.turns.specs.declared.turn.Transition.{Transition}
+use Rattle.turns.specs.declared.turn.Want.{Want}
+use Rattle.turns.specs.declared.turn.Want.TheVariants as want
 use Rattle.driver.specs.Schedule.{World, first_world, activity_of, with_activity, MarksAfter, WantTurn, wants_at, StageTurn, Runs}
 use Rattle.driver.proofs.Keeps.{is_idle, FineOutcome, IsAt, runs_keep}
 use Rattle.driver.proofs.Tickets.{Tickets, tickets_rest, tickets_turn, tickets_first}

@@ -32,17 +32,17 @@ use Rattle.book.specs.declared.event.Reply.TheVariants as said
 use Rattle.book.specs.Events.{event_of, reply_of}
 use Rattle.legal.proofs.StepLemmas.{IsHit, access-hits}
 use Rattle.legal.proofs.SoundLemmas.{pages_share_no_frame}
-use Rattle.driver.specs.declared.turn.Access.{Access}
-use Rattle.driver.specs.declared.turn.Pending.{Pending}
-use Rattle.driver.specs.declared.turn.Pending.TheVariants as pending
-use Rattle.driver.specs.declared.turn.Stage.{Stage}
-use Rattle.driver.specs.declared.turn.Want.{Want}
-use Rattle.driver.specs.declared.turn.Want.TheVariants as want
-use Rattle.driver.specs.declared.turn.Transition.{Transition}
-use Rattle.driver.specs.declared.turn.Outcome.{Outcome}
-use Rattle.driver.specs.declared.turn.Activity.{Activity}
-use Rattle.driver.specs.declared.turn.Activity.TheVariants.{Rests, Begun, Does}
-use Rattle.driver.specs.Turns.{Judged, judged, Told, access_event}
+use Rattle.turns.specs.declared.turn.Access.{Access}
+use Rattle.turns.specs.declared.turn.Pending.{Pending}
+use Rattle.turns.specs.declared.turn.Pending.TheVariants as pending
+use Rattle.turns.specs.declared.turn.Stage.{Stage}
+use Rattle.turns.specs.declared.turn.Want.{Want}
+use Rattle.turns.specs.declared.turn.Want.TheVariants as want
+use Rattle.turns.specs.declared.turn.Transition.{Transition}
+use Rattle.driver.specs.declared.seat.Outcome.{Outcome}
+use Rattle.driver.specs.declared.seat.Activity.{Activity}
+use Rattle.driver.specs.declared.seat.Activity.TheVariants.{Rests, Begun, Does}
+use Rattle.turns.specs.Turns.{Judged, judged, Told, access_event}
 use Rattle.driver.specs.Schedule.{World, first_world, activity_of, Asks, MarksAfter, WantTurn, wants_at, StageTurn, JudgedTurn, ActivityTurn, Turn, Runs}
 use Rattle.driver.proofs.Keeps.{OfCommand, of_command-leaves, Tries, FineWant, wants_fine}
 use Rattle.driver.proofs.MarkLemmas.{marks-stay}

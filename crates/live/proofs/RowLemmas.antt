@@ -8,12 +8,11 @@ use Rattle.machine.specs.declared.command.Reply.{Reply as Told_by}
 use Rattle.machine.specs.Tree.{Node, find_group}
 use Rattle.book.specs.declared.kept.Kept.{Kept}
 use Rattle.book.specs.Passes.{PassOf, find_of, keeping}
-use Rattle.driver.specs.declared.turn.Stage.{Stage}
-use Rattle.driver.specs.declared.turn.Transition.{Transition}
-use Rattle.driver.specs.Turns.{Judged, paths_of, judged_with, judged}
-use Rattle.driver.specs.Finds.{looking}
-use Rattle.driver.specs.Schedule.{answer_by}
-use Rattle.driver.specs.Tickets.{holds}
+use Rattle.turns.specs.declared.turn.Stage.{Stage}
+use Rattle.turns.specs.declared.turn.Transition.{Transition}
+use Rattle.turns.specs.Turns.{Judged, paths_of, judged_with, judged, answer_by}
+use Rattle.turns.specs.Finds.{looking}
+use Rattle.turns.specs.Tickets.{holds}
 use Rattle.live.specs.Works.{GoesOn, Link, Leads, Closes, Answered, JudgedRuns, Begins, Does, Works, Worked, Repeats, Repeated, no_memory, finds_of}
 use Rattle.live.specs.Runs.{Made, Linked, Closed, Under, Ran, Looked, Judging, Did, Done}
 

@@ -25,8 +25,8 @@ use Rattle.book.specs.declared.kept.Kept.TheVariants.{Call, Find}
 use Rattle.book.specs.Events.{event_of, reply_of}
 use Rattle.book.specs.Passes.{PassOf, asked_of, call_of, find_of, is_entry, count_of, may_ask, keeping, CalledWith}
 use Rattle.book.specs.Replies.{Replies, IsInReply, IsOutReply}
-use Rattle.driver.specs.Tickets.{is_ending, gives_ticket}
-use Rattle.driver.specs.Turns.{Judged, paths_of}
+use Rattle.turns.specs.Tickets.{is_ending, gives_ticket}
+use Rattle.turns.specs.Turns.{Judged, paths_of}
 use Rattle.machine.specs.declared.command.Actor.{Actor}
 use Rattle.machine.specs.declared.command.Command.{Command}
 use Rattle.live.specs.Works.{finds_of}

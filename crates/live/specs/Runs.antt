@@ -8,12 +8,11 @@ use Rattle.machine.specs.declared.command.Answer.TheVariants as answer
 use Rattle.machine.specs.declared.command.Reply.{Reply as Told_by}
 use Rattle.book.specs.declared.kept.Kept.{Kept}
 use Rattle.book.specs.declared.event.Event.{Event}
-use Rattle.driver.specs.declared.turn.Pending.{Pending}
-use Rattle.driver.specs.declared.turn.Stage.{Stage}
-use Rattle.driver.specs.declared.turn.Transition.{Transition}
-use Rattle.driver.specs.declared.turn.Transition.TheVariants.{Ends}
-use Rattle.driver.specs.Turns.{Judged, paths_of, judged_with}
-use Rattle.driver.specs.Schedule.{answer_by}
+use Rattle.turns.specs.declared.turn.Pending.{Pending}
+use Rattle.turns.specs.declared.turn.Stage.{Stage}
+use Rattle.turns.specs.declared.turn.Transition.{Transition}
+use Rattle.turns.specs.declared.turn.Transition.TheVariants.{Ends}
+use Rattle.turns.specs.Turns.{Judged, paths_of, judged_with, answer_by}
 use Rattle.live.specs.Works.{Calls, TurnMade, Link, Leads, Closes, Answered, JudgedRuns, Does, finds_of}
 
 pub record CallMade (remembers : Pending) (what : Event) (old new : List Kept) (transition : Transition) : Type 0 where

@@ -16,17 +16,16 @@ use Rattle.book.specs.declared.event.Event.{Event}
 use Rattle.book.specs.declared.event.Reply.{Reply}
 use Rattle.book.specs.Events.{event_of, reply_of}
 use Rattle.book.specs.Passes.{call_of, find_of}
-use Rattle.driver.specs.declared.turn.Access.{Access}
-use Rattle.driver.specs.declared.turn.Resume.{Resume}
-use Rattle.driver.specs.declared.turn.Pending.{Pending}
-use Rattle.driver.specs.declared.turn.Stage.{Stage}
-use Rattle.driver.specs.declared.turn.Want.{Want}
-use Rattle.driver.specs.declared.turn.Want.TheVariants as want
-use Rattle.driver.specs.declared.turn.Transition.{Transition}
-use Rattle.driver.specs.declared.turn.Transition.TheVariants.{Goes, Kills, Waits, Ends}
-use Rattle.driver.specs.Turns.{wants, Told, resumes_at, after_read, after_write, Judged, paths_of, judged_with}
-use Rattle.driver.specs.Schedule.{answer_by}
-use Rattle.driver.specs.Tickets.{holds}
+use Rattle.turns.specs.declared.turn.Access.{Access}
+use Rattle.turns.specs.declared.turn.Resume.{Resume}
+use Rattle.turns.specs.declared.turn.Pending.{Pending}
+use Rattle.turns.specs.declared.turn.Stage.{Stage}
+use Rattle.turns.specs.declared.turn.Want.{Want}
+use Rattle.turns.specs.declared.turn.Want.TheVariants as want
+use Rattle.turns.specs.declared.turn.Transition.{Transition}
+use Rattle.turns.specs.declared.turn.Transition.TheVariants.{Goes, Kills, Waits, Ends}
+use Rattle.turns.specs.Turns.{wants, Told, resumes_at, after_read, after_write, Judged, paths_of, judged_with, answer_by}
+use Rattle.turns.specs.Tickets.{holds}
 
 -- ---- one turn
 

@@ -8,7 +8,7 @@ ghost use Rattle.machine.specs.FirstBytes.{first_of};
 ghost use Rattle.machine.specs.Audit.{Passes, IsFirstWrong};
 ghost use Rattle.machine.specs.Transfers.{transfers_begun, transfers_ended};
 ghost use Rattle.book.specs.Passes.{count_of};
-ghost use Rattle.driver.specs.Tickets.{blocks_in};
+ghost use Rattle.turns.specs.Tickets.{blocks_in};
 ghost use Rattle.live.specs.Matching.{Matches, has_share};
 ghost use Rattle.live.specs.Reports.{IsLegal, HasOut, IsMissing};
 

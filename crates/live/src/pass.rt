@@ -5,14 +5,14 @@ ghost use Rattle.machine.specs.Call.{leaves_entry};
 ghost use Rattle.book.specs.Events.{event_of, reply_of};
 ghost use Rattle.book.specs.Passes.{count_of, call_of, keeping};
 ghost use Rattle.book.specs.Replies.{Replies, KeepsTicket, HandsOut};
-ghost use Rattle.driver.specs.Tickets.{holds};
+ghost use Rattle.turns.specs.Tickets.{holds};
 ghost use Rattle.live.specs.Runs.{Looked};
 
 use crate::hand::Hand;
 use book::{Book, Event, Kept, Reply};
-use driver::automaton::spend;
-use driver::judge::judge;
-use driver::turn::Stage;
+use turns::automaton::spend;
+use turns::judge::judge;
+use turns::turn::Stage;
 use machine::command::{Actor, Command};
 use machine::refusal::Refusal;
 use std::alloc::{AllocError, Global};

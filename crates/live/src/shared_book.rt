@@ -8,14 +8,14 @@ ghost use Rattle.machine.specs.Transfers.{transfers_begun, transfers_ended};
 ghost use Rattle.book.specs.Events.{event_of, reply_of};
 ghost use Rattle.book.specs.Passes.{count_of, call_of, keeping};
 ghost use Rattle.book.specs.Replies.{Replies};
-ghost use Rattle.driver.specs.Tickets.{blocks_in, is_ending, OwnEvent, OwnReply, IsHanded, holds};
+ghost use Rattle.turns.specs.Tickets.{blocks_in, is_ending, OwnEvent, OwnReply, IsHanded, holds};
 ghost use Rattle.live.specs.Runs.{Looked};
 ghost use Rattle.live.specs.Reports.{IsLegal};
 
 use crate::opened::Opened;
 use crate::pass::Pass;
 use book::{Book, Event, Reply};
-use driver::turn::Stage;
+use turns::turn::Stage;
 use machine::command::{Actor, Command};
 use machine::refusal::Refusal;
 use std::alloc::{AllocError, Global};

@@ -7,7 +7,7 @@ use crate::step::{Ask, End, GroupChange, Step, TaskChange};
 use crate::walk::{Machine, text};
 use block_store::{BlockDevice, MemDevice};
 use book::{Book, Event, InTicket, Kept, OutTicket, Pass, Reply};
-use driver::automaton::spend;
+use turns::automaton::spend;
 use machine::event::{Cause, Op, Place};
 use machine::id::{GroupId, TaskId};
 use machine::refusal::Refusal;

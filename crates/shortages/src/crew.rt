@@ -2,7 +2,7 @@
 
 ghost use Rattle.std.specs.Prelude.{◌≡◌, ◌≤◌};
 ghost use Rattle.machine.specs.State.{opening_of};
-ghost use Rattle.driver.specs.Tickets.{blocks_in};
+ghost use Rattle.turns.specs.Tickets.{blocks_in};
 
 use crate::hunt::Hunt;
 use block_store::{Locked, MemDevice, SharedDevice};

@@ -1,7 +1,7 @@
 //! All that a book shows.
 
 use book::{Book, Event, Pass, Reply};
-use driver::automaton::spend;
+use turns::automaton::spend;
 use machine::event::Query;
 use machine::id::GroupId;
 use machine::reply::Shown;

@@ -5,7 +5,7 @@ ghost use Rattle.std.specs.Io.KnownBytes.{Appends, Keeps};
 ghost use Rattle.std.specs.List.Sorted.{IsStrictlyIncreasing};
 ghost use Rattle.std.specs.Str.Lines.{lines};
 ghost use Rattle.machine.specs.State.{opening_of, is_config, blocks_of};
-ghost use Rattle.driver.specs.Tickets.{blocks_in};
+ghost use Rattle.turns.specs.Tickets.{blocks_in};
 ghost use Rattle.scripts.specs.declared.fault.Cause.{Cause};
 ghost use Rattle.scripts.specs.declared.mode.Mode.TheVariants.{Run};
 ghost use Rattle.scripts.specs.Script.{IsFirstFault, NamesFirstFault};

@@ -1,14 +1,14 @@
 use Rattle.std.proofs.Common.{◌≡◌, ap, ◌∙◌, subst, arith}
 use Rattle.machine.specs.State.{Opening}
 use Rattle.book.specs.Events.{event_of, reply_of}
-use Rattle.driver.specs.Tickets.{blocks_in, OwnReply}
+use Rattle.turns.specs.Tickets.{blocks_in, OwnReply}
 use Rattle.legal.proofs.OpeningLemmas.{called_opening}
 use Rattle.book.specs.Passes.{PassOf, call_of, keeping}
 use Rattle.book.proofs.PassLemmas.{keeping_call-kept}
 use Rattle.driver.specs.Hits.{HitsWithin}
 use Rattle.driver.proofs.HitLemmas.{own-leaves, hits_within}
 use Rattle.driver.proofs.FindLemmas.{called-by}
-use Rattle.driver.proofs.TicketLemmas.{gives_own}
+use Rattle.turns.proofs.TicketLemmas.{gives_own}
 use Rattle.driver.proofs.calls.call.Goals as goal
 
 pub returns-clause-own : goal.returns-clause-own

@@ -1,8 +1,8 @@
 use Rattle.std.proofs.Common.{refl, arith}
 use Rattle.machine.specs.declared.command.Answer.TheVariants.{Word}
 use Rattle.machine.specs.declared.command.Word.TheVariants.{Idle}
-use Rattle.driver.specs.declared.turn.Outcome.TheVariants.{Ends}
-use Rattle.driver.specs.Schedule.{answer_by}
+use Rattle.driver.specs.declared.seat.Outcome.TheVariants.{Ends}
+use Rattle.turns.specs.Turns.{answer_by}
 use Rattle.driver.specs.Desks.{world}
 use Rattle.driver.proofs.SinkLemmas.{on_err, cut_behind, idle_turn}
 use Rattle.driver.proofs.desk.Desk.advance_nothing.Goals as goal

@@ -1,9 +1,9 @@
 use Rattle.std.proofs.Common.{◌∙◌, [], List, ap, refl, sym, arith}
 use Rattle.driver.specs.Desks.{world, blocks_of_desk, worker_of_desk}
 use Rattle.machine.specs.declared.command.Command.{Command}
-use Rattle.driver.specs.declared.turn.Activity.{Activity}
-use Rattle.driver.specs.declared.turn.Activity.TheVariants.{Begun}
-use Rattle.driver.specs.declared.turn.Seat.{Seat}
+use Rattle.driver.specs.declared.seat.Activity.{Activity}
+use Rattle.driver.specs.declared.seat.Activity.TheVariants.{Begun}
+use Rattle.driver.specs.declared.seat.Seat.{Seat}
 use Rattle.driver.specs.Schedule.{World, activity_of, with_activity}
 use Rattle.driver.specs.Seats.{is_under_way}
 use Rattle.driver.proofs.SeatLists.{activity_of-with_activity, with_activity-twice}

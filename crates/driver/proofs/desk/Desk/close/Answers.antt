@@ -1,10 +1,11 @@
 use Rattle.std.proofs.Common.{List, [], ◌∷◌, ◌∙◌, length, length-append, ap, subst, sym, arith}
 use Rattle.machine.specs.Call.{Caller}
 use Rattle.machine.specs.State.{Opening}
-use Rattle.driver.specs.declared.turn.Seat.{Seat}
-use Rattle.driver.specs.Tickets.{blocks_in, OwnSeats}
+use Rattle.driver.specs.declared.seat.Seat.{Seat}
+use Rattle.turns.specs.Tickets.{blocks_in}
 use Rattle.driver.proofs.TracedLemmas.{gives_up-none, gives_up-more}
 use Rattle.driver.proofs.SeatLists.{own-popped}
+use Rattle.driver.specs.Hands.{OwnSeats}
 use Rattle.driver.proofs.desk.Desk.close.Goals as goal
 
 pub give_up-requires-clause-own : goal.give_up-requires-clause-own

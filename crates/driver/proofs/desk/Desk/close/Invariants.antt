@@ -1,7 +1,8 @@
 use Rattle.std.proofs.Common.{◌≡◌, ◌≤◌, true, length, vec_len}
 use Rattle.book.specs.Passes.{is_current}
 use Rattle.driver.specs.Traced.{GivesUp}
-use Rattle.driver.specs.Tickets.{blocks_in, OwnSeats}
+use Rattle.turns.specs.Tickets.{blocks_in}
+use Rattle.driver.specs.Hands.{OwnSeats}
 use Rattle.driver.proofs.desk.Desk.close.Given as goal
 
 abbrev pub invariant-loop-seat : goal.invariant-loop-seat

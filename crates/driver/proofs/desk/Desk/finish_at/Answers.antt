@@ -1,10 +1,11 @@
 use Rattle.std.proofs.Common.{◌∙◌, ◌+◌, ◌++◌, [], ◌∷◌, ap, sym, refl, arith, inl, inr, length-append, subst}
 use Rattle.machine.specs.declared.command.Answer.TheVariants.{Word}
 use Rattle.machine.specs.declared.command.Word.TheVariants.{TurnLimit}
-use Rattle.driver.specs.Schedule.{said_at, all_said, answer_by}
+use Rattle.driver.specs.Schedule.{said_at, all_said}
 use Rattle.driver.specs.Desks.{world, lent_to}
 use Rattle.driver.proofs.Runs.{lent_no_more, if_some, Goings-more, all_said-more, same-refl, same-more}
 use Rattle.driver.proofs.SinkLemmas.{on_err, took_none, turns_start, turn_starts, limit_starts, said-few}
+use Rattle.turns.specs.Turns.{answer_by}
 use Rattle.driver.proofs.desk.Desk.finish_at.Goals as goal
 
 pub loop-turn-init : goal.loop-turn-init

@@ -1,7 +1,7 @@
 use Rattle.std.proofs.Common.{◌≡◌, List, [], length}
 use Rattle.std.specs.Prelude.{◌<◌, IfSome}
-use Rattle.driver.specs.declared.turn.Activity.TheVariants.{Rests}
-use Rattle.driver.specs.declared.turn.Outcome.{Outcome}
+use Rattle.driver.specs.declared.seat.Activity.TheVariants.{Rests}
+use Rattle.driver.specs.declared.seat.Outcome.{Outcome}
 use Rattle.driver.specs.Schedule.{Goings, all_said, activity_of}
 use Rattle.driver.specs.Seats.{SitsAt}
 use Rattle.driver.specs.Desks.{world, lent_to, IsOn, IsSame}

@@ -1,6 +1,6 @@
 use Rattle.std.proofs.Common.{◌≡◌, ◌∙◌, [], ◌∷◌, List, Some, ap, refl, arith}
 use Rattle.machine.specs.declared.command.Step.TheVariants.{Begin, Finish}
-use Rattle.driver.specs.declared.turn.Seat.{Seat}
+use Rattle.driver.specs.declared.seat.Seat.{Seat}
 use Rattle.driver.specs.Schedule.{World, activity_of, Stepped}
 use Rattle.driver.specs.Desks.{world, lent_to}
 use Rattle.driver.proofs.SeatLists.{activity_of-with_activity}

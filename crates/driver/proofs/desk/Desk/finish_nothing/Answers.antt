@@ -1,6 +1,6 @@
 use Rattle.std.proofs.Common.{arith}
 use Rattle.machine.specs.declared.command.Answer.TheVariants.{Word}
-use Rattle.driver.specs.Schedule.{answer_by}
+use Rattle.turns.specs.Turns.{answer_by}
 use Rattle.driver.specs.Desks.{world}
 use Rattle.driver.proofs.SinkLemmas.{on_err, cut_behind, idle_finish}
 use Rattle.driver.proofs.desk.Desk.finish_nothing.Goals as goal

@@ -1,8 +1,8 @@
 use Rattle.std.proofs.Common.{◌≡◌, ◌∙◌, List, Ok, Err, refl, ap, sym, arith}
 use Rattle.machine.specs.Call.{Caller}
-use Rattle.driver.specs.declared.turn.Seat.{Seat}
+use Rattle.driver.specs.declared.seat.Seat.{Seat}
 use Rattle.driver.specs.Schedule.{World}
-use Rattle.driver.specs.Turns.{judged}
+use Rattle.turns.specs.Turns.{judged}
 use Rattle.driver.specs.Desks.{world}
 use Rattle.driver.proofs.SeatLists.{still_rests}
 use Rattle.driver.proofs.FindLemmas.{looked-up}

@@ -1,8 +1,8 @@
 use Rattle.std.proofs.Common.{◌∙◌, List, refl, ap, sym, arith}
-use Rattle.driver.specs.declared.turn.Activity.TheVariants.{Rests}
-use Rattle.driver.specs.declared.turn.Seat.{Seat}
+use Rattle.driver.specs.declared.seat.Activity.TheVariants.{Rests}
+use Rattle.driver.specs.declared.seat.Seat.{Seat}
 use Rattle.driver.specs.Schedule.{World, activity_of, with_activity}
-use Rattle.driver.specs.Turns.{judged}
+use Rattle.turns.specs.Turns.{judged}
 use Rattle.driver.specs.Desks.{world, blocks_of_desk, worker_of_desk}
 use Rattle.driver.proofs.SeatLists.{activity_of-with_activity, with_activity-twice, still_rests}
 use Rattle.driver.proofs.Runs.{on_with, turn_taken, turn_does, turn_begun, turn_rests, judged_taken}

@@ -1,5 +1,5 @@
 use Rattle.std.proofs.Common.{◌∙◌, List, ap, sym, arith}
-use Rattle.driver.specs.declared.turn.Seat.{Seat}
+use Rattle.driver.specs.declared.seat.Seat.{Seat}
 use Rattle.driver.specs.Schedule.{World, activity_of, with_activity}
 use Rattle.driver.specs.Seats.{SitsAt}
 use Rattle.driver.specs.Desks.{world, blocks_of_desk, worker_of_desk}

@@ -1,8 +1,9 @@
 use Rattle.std.proofs.Common.{◌≡◌, ℕ, List, length, ap, arith}
 use Rattle.machine.specs.State.{Opening}
-use Rattle.driver.specs.declared.turn.Seat.{Seat}
-use Rattle.driver.specs.Tickets.{blocks_in, OwnSeats}
+use Rattle.driver.specs.declared.seat.Seat.{Seat}
+use Rattle.turns.specs.Tickets.{blocks_in}
 use Rattle.driver.specs.Desks.{blocks_of_desk, worker_of_desk}
+use Rattle.driver.specs.Hands.{OwnSeats}
 use Rattle.driver.proofs.desk.Desk.turn_stage.Goals as goal
 
 pub returns-clause-on : goal.returns-clause-on

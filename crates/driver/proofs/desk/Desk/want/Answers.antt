@@ -1,7 +1,7 @@
 use Rattle.std.proofs.Common.{◌≡◌, ◌∙◌, ℕ, ap, arith}
 use Rattle.machine.specs.declared.config.Watermarks.{Watermarks}
 use Rattle.machine.specs.State.{State, free_frames}
-use Rattle.driver.specs.Turns.{wants}
+use Rattle.turns.specs.Turns.{wants}
 use Rattle.driver.proofs.desk.Desk.want.Goals as goal
 
 pub returns-clause-wants : goal.returns-clause-wants

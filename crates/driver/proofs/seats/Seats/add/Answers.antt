@@ -1,9 +1,9 @@
 use Rattle.std.proofs.Common.{◌≡◌, ◌∙◌, ◌++◌, ◌∷◌, [], List, ap, false, length, rules, sym}
 use Rattle.std.specs.Prelude.{nat_eq}
 use Rattle.std.specs.List.{list_any}
-use Rattle.driver.specs.declared.turn.Activity.{Activity}
-use Rattle.driver.specs.declared.turn.Activity.TheVariants.{Rests}
-use Rattle.driver.specs.declared.turn.Seat.{Seat}
+use Rattle.driver.specs.declared.seat.Activity.{Activity}
+use Rattle.driver.specs.declared.seat.Activity.TheVariants.{Rests}
+use Rattle.driver.specs.declared.seat.Seat.{Seat}
 use Rattle.driver.specs.Schedule.{number_of, with_activity}
 use Rattle.driver.specs.Seats.{numbers_of}
 use Rattle.driver.proofs.SeatLists.{activity_of-none, with_activity-none, number_missing, numbers-push, own-changed, added_last}

@@ -1,6 +1,6 @@
 use Rattle.std.proofs.Common.{◌≡◌, ◌∙◌, ◌<◌, List, length, ap, sym}
 use Rattle.std.specs.Prelude.{slice_set}
-use Rattle.driver.specs.declared.turn.Seat.{Seat}
+use Rattle.driver.specs.declared.seat.Seat.{Seat}
 use Rattle.driver.specs.Schedule.{with_activity}
 use Rattle.driver.specs.Seats.{place_of}
 use Rattle.driver.proofs.SeatLists.{exchanged-was, exchanged-now, numbers-with_activity}

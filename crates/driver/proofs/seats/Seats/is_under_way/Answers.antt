@@ -1,5 +1,5 @@
 use Rattle.std.proofs.Common.{◌≡◌, ◌∙◌, ap, sym}
-use Rattle.driver.specs.declared.turn.Activity.{Activity}
+use Rattle.driver.specs.declared.seat.Activity.{Activity}
 use Rattle.driver.specs.Seats.{SitsAt, is_under_way}
 use Rattle.driver.proofs.SeatLists.{activity_of-none, exchanged-was}
 use Rattle.driver.proofs.seats.Seats.is_under_way.Goals as goal

@@ -1,7 +1,7 @@
 use Rattle.std.proofs.Common.{sym, subst}
-use Rattle.driver.specs.declared.turn.Activity.{Activity}
-use Rattle.driver.specs.declared.turn.Activity.TheVariants.{Rests}
-use Rattle.driver.specs.Tickets.{OwnActivity}
+use Rattle.driver.specs.declared.seat.Activity.{Activity}
+use Rattle.driver.specs.declared.seat.Activity.TheVariants.{Rests}
+use Rattle.driver.specs.Hands.{OwnActivity}
 use Rattle.driver.proofs.SeatLists.{still_sits, own-activity_of, own-changed}
 use Rattle.driver.proofs.seats.Seats.take.Goals as goal
 

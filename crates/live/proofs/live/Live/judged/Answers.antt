@@ -1,7 +1,7 @@
 use Rattle.std.proofs.Common.{rules, ◌≡◌, [], ◌∷◌, refl, sym, append-nil}
 use Rattle.machine.specs.declared.command.Answer.TheVariants as answer
 use Rattle.machine.specs.declared.command.Word.TheVariants as word
-use Rattle.driver.specs.Schedule.{answer_by}
+use Rattle.turns.specs.Turns.{answer_by}
 use Rattle.live.proofs.live.Live.judged.Goals as goal
 
 pub returns-in-Err-clause-runs : goal.returns-in-Err-clause-runs

@@ -1,6 +1,6 @@
 use Rattle.std.proofs.Common.{◌≡◌, refl, ap, Ok, Err}
-use Rattle.driver.specs.declared.turn.Stage.TheVariants as stage
-use Rattle.driver.specs.declared.turn.Transition.TheVariants as transition
+use Rattle.turns.specs.declared.turn.Stage.TheVariants as stage
+use Rattle.turns.specs.declared.turn.Transition.TheVariants as transition
 use Rattle.pages.specs.Tickets.{TicketOf}
 use Rattle.live.proofs.live.Live.read_in.Goals as goal
 

@@ -1,5 +1,5 @@
 use Rattle.std.proofs.Common.{◌≡◌, ◌+◌, ◌<◌, true, vec_len, vec_capacity}
-use Rattle.driver.specs.Tickets.{blocks_in, holds, OwnStage}
+use Rattle.turns.specs.Tickets.{blocks_in, holds, OwnStage}
 use Rattle.live.specs.Shares.{one_if, Carries}
 use Rattle.live.specs.Runs.{Under}
 use Rattle.live.proofs.live.Live.run.Given as goal

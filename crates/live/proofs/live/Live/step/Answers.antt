@@ -1,6 +1,6 @@
 use Rattle.std.proofs.Common.{rules, ◌≡◌, ◌∷◌, ◌++◌, [], List, refl, sym, ap, ◌∙◌, append-nil, false}
 use Rattle.machine.specs.declared.command.Reply.{Reply as Told_by}
-use Rattle.driver.specs.Tickets.{holds}
+use Rattle.turns.specs.Tickets.{holds}
 use Rattle.live.proofs.RowLemmas.{linked, closed_none}
 use Rattle.live.proofs.live.Live.step.Goals as goal
 

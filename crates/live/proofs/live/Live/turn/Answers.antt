@@ -1,5 +1,5 @@
 use Rattle.std.proofs.Common.{subst}
-use Rattle.driver.specs.Tickets.{blocks_in, OwnWant}
+use Rattle.turns.specs.Tickets.{blocks_in, OwnWant}
 use Rattle.live.proofs.live.Live.turn.Goals as goal
 
 pub ask_book-requires-clause-own : goal.ask_book-requires-clause-own

@@ -1,8 +1,8 @@
 use Rattle.std.proofs.Common.{rules, List, ◌≡◌, ◌∙◌, sym, ap}
 use Rattle.book.specs.declared.kept.Kept.{Kept}
 use Rattle.book.specs.Passes.{PassOf, count_of}
-use Rattle.driver.specs.Turns.{paths_of}
-use Rattle.driver.specs.Finds.{looking}
+use Rattle.turns.specs.Turns.{paths_of}
+use Rattle.turns.specs.Finds.{looking}
 use Rattle.live.specs.Runs.{Looked}
 use Rattle.live.proofs.RowLemmas.{looked, looking-caller}
 use Rattle.live.proofs.ShareLemmas.{looked-count}

@@ -1,7 +1,7 @@
 use Rattle.std.proofs.Common.{◌≡◌, ◌∙◌, subst}
 use Rattle.machine.specs.State.{Opening}
-use Rattle.driver.specs.Tickets.{blocks_in, OwnReply}
-use Rattle.driver.proofs.TicketLemmas.{gives_own}
+use Rattle.turns.specs.Tickets.{blocks_in, OwnReply}
+use Rattle.turns.proofs.TicketLemmas.{gives_own}
 use Rattle.live.proofs.shared_book.SharedBook.ask.Goals as goal
 
 pub returns-clause-own : goal.returns-clause-own

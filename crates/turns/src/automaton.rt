@@ -4,8 +4,8 @@
 
 ghost use Rattle.std.specs.Prelude.{◌≡◌, ℕ, true, false, IfOk, OnErr};
 ghost use Rattle.book.specs.Replies.{IsAccessReply, IsReliefReply, IsReclaimReply, IsOkReply, IsTaskReply, IsShownReply, IsInReply, IsOutReply};
-ghost use Rattle.driver.specs.Turns.{access_event, wants_pages, wants_balance, wants_watch, wants, ends_with, ends_refused, byte_answer, resumes_at, Tried, MadeRoom, MaxSet, Lowered, Reclaimed, Balanced, Made, TaskDid, WasShown, Closed, Told, WantsText, Awaits, AwaitsAll};
-ghost use Rattle.driver.specs.Tickets.{holds, holds_want, holds_after, gives_ticket, OwnReply, OwnStage, OwnWant, OwnTransition, IsHanded, IsSpendableReply};
+ghost use Rattle.turns.specs.Turns.{access_event, wants_pages, wants_balance, wants_watch, wants, ends_with, ends_refused, byte_answer, resumes_at, Tried, MadeRoom, MaxSet, Lowered, Reclaimed, Balanced, Made, TaskDid, WasShown, Closed, Told, WantsText, Awaits, AwaitsAll};
+ghost use Rattle.turns.specs.Tickets.{holds, holds_want, holds_after, gives_ticket, OwnReply, OwnStage, OwnWant, OwnTransition, IsHanded, IsSpendableReply};
 
 use crate::turn::{Access, Pending, Resume, Stage, Transition, Want};
 use book::{Event, InTicket, OutTicket, Reply};

@@ -2,7 +2,7 @@
 
 use book::{Event, InTicket, OutTicket};
 use machine::amount::Amount;
-use machine::command::{Actor, Answer, Command};
+use machine::command::Answer;
 use machine::event::{Cause, Op, Place, Query};
 use machine::id::{GroupId, TaskId};
 use machine::text::Text;
@@ -119,28 +119,4 @@ pub enum Transition {
     /// ended, and goes on here.
     Waits(Resume),
     Ends(Answer),
-}
-
-/// What a turn shows.
-#[derive(Debug, Drop)]
-pub enum Outcome {
-    Goes,
-    Kills(TaskId),
-    Ends(Answer),
-}
-
-/// What an actor is at.
-#[must_use]
-pub enum Activity {
-    Rests,
-    /// A command that has had no turn yet.
-    Begun(Command),
-    Does(Stage),
-}
-
-/// An actor, and what it is at.
-#[must_use]
-pub struct Seat {
-    pub actor: Actor,
-    pub activity: Activity,
 }

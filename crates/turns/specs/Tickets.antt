@@ -1,20 +1,17 @@
 -- Tickets in hand, and tickets that were handed back.
-use Rattle.std.specs.Prelude.{◌≡◌, ℕ, ◌+◌, ◌<◌, Bool, true, false, List, [], ◌∷◌, sum}
+use Rattle.std.specs.Prelude.{◌≡◌, ℕ, ◌+◌, ◌<◌, Bool, true, false, sum}
 use Rattle.machine.specs.State.{Opening}
 use Rattle.pages.specs.Tickets.{TicketOf}
 use Rattle.book.specs.declared.event.Event.{Event}
 use Rattle.book.specs.declared.event.Event.TheVariants as event
 use Rattle.book.specs.declared.event.Reply.{Reply}
 use Rattle.book.specs.declared.event.Reply.TheVariants as reply
-use Rattle.driver.specs.declared.turn.Stage.{Stage}
-use Rattle.driver.specs.declared.turn.Stage.TheVariants as stage
-use Rattle.driver.specs.declared.turn.Want.{Want}
-use Rattle.driver.specs.declared.turn.Want.TheVariants as want
-use Rattle.driver.specs.declared.turn.Transition.{Transition}
-use Rattle.driver.specs.declared.turn.Transition.TheVariants.{Goes, Kills, Waits, Ends}
-use Rattle.driver.specs.declared.turn.Activity.{Activity}
-use Rattle.driver.specs.declared.turn.Activity.TheVariants.{Rests, Begun, Does}
-use Rattle.driver.specs.declared.turn.Seat.{Seat}
+use Rattle.turns.specs.declared.turn.Stage.{Stage}
+use Rattle.turns.specs.declared.turn.Stage.TheVariants as stage
+use Rattle.turns.specs.declared.turn.Want.{Want}
+use Rattle.turns.specs.declared.turn.Want.TheVariants as want
+use Rattle.turns.specs.declared.turn.Transition.{Transition}
+use Rattle.turns.specs.declared.turn.Transition.TheVariants.{Goes, Kills, Waits, Ends}
 
 -- ---- whether a ticket is in hand
 
@@ -100,15 +97,6 @@ OwnTransition worker blocks (Goes next) = OwnStage worker blocks next
 OwnTransition worker blocks (Kills t on) = Unit {0}
 OwnTransition worker blocks (Waits on) = Unit {0}
 OwnTransition worker blocks (Ends said) = Unit {0}
-
-abbrev pub OwnActivity : ℕ → ℕ → Activity → Type 0
-OwnActivity worker blocks Rests = Unit {0}
-OwnActivity worker blocks (Begun command) = Unit {0}
-OwnActivity worker blocks (Does next) = OwnStage worker blocks next
-
-abbrev pub OwnSeats : ℕ → ℕ → List Seat → Type 0
-OwnSeats worker blocks [] = Unit {0}
-OwnSeats worker blocks (seat ∷ seats) = OwnActivity worker blocks seat.activity × OwnSeats worker blocks seats
 
 -- ---- tickets that were handed back
 

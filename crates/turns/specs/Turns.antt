@@ -19,6 +19,7 @@ use Rattle.machine.specs.declared.command.Word.{Word}
 use Rattle.machine.specs.declared.command.Word.TheVariants as word
 use Rattle.machine.specs.declared.command.Answer.{Answer}
 use Rattle.machine.specs.declared.command.Answer.TheVariants as answer
+use Rattle.machine.specs.declared.command.Reply.{Reply as Told_by}
 use Rattle.machine.specs.declared.control.ControlFile.{ControlFile}
 use Rattle.machine.specs.declared.control.ControlFile.TheVariants as file
 use Rattle.machine.specs.Slots.{at}
@@ -32,17 +33,17 @@ use Rattle.book.specs.declared.event.Event.TheVariants as event
 use Rattle.book.specs.declared.event.Reply.{Reply}
 use Rattle.book.specs.declared.event.Reply.TheVariants as reply
 use Rattle.book.specs.Replies.{Replies, IsAccessReply, IsReliefReply, IsReclaimReply, IsOkReply, IsTaskReply, IsShownReply, IsInReply, IsOutReply}
-use Rattle.driver.specs.declared.turn.Access.{Access}
-use Rattle.driver.specs.declared.turn.Resume.{Resume}
-use Rattle.driver.specs.declared.turn.Resume.TheVariants as resume
-use Rattle.driver.specs.declared.turn.Stage.{Stage}
-use Rattle.driver.specs.declared.turn.Stage.TheVariants as stage
-use Rattle.driver.specs.declared.turn.Pending.{Pending}
-use Rattle.driver.specs.declared.turn.Pending.TheVariants as pending
-use Rattle.driver.specs.declared.turn.Want.{Want}
-use Rattle.driver.specs.declared.turn.Want.TheVariants as want
-use Rattle.driver.specs.declared.turn.Transition.{Transition}
-use Rattle.driver.specs.declared.turn.Transition.TheVariants.{Goes, Kills, Waits, Ends}
+use Rattle.turns.specs.declared.turn.Access.{Access}
+use Rattle.turns.specs.declared.turn.Resume.{Resume}
+use Rattle.turns.specs.declared.turn.Resume.TheVariants as resume
+use Rattle.turns.specs.declared.turn.Stage.{Stage}
+use Rattle.turns.specs.declared.turn.Stage.TheVariants as stage
+use Rattle.turns.specs.declared.turn.Pending.{Pending}
+use Rattle.turns.specs.declared.turn.Pending.TheVariants as pending
+use Rattle.turns.specs.declared.turn.Want.{Want}
+use Rattle.turns.specs.declared.turn.Want.TheVariants as want
+use Rattle.turns.specs.declared.turn.Transition.{Transition}
+use Rattle.turns.specs.declared.turn.Transition.TheVariants.{Goes, Kills, Waits, Ends}
 
 -- ---- what a turn asks
 
@@ -367,3 +368,9 @@ judged_with actor.Daemon what found = daemon_judged what
 -- what becomes of a command in its first turn: all its paths are looked up, and then it is judged
 abbrev pub judged : List Node → Actor → Command → Judged
 judged tree who what = judged_with who what (map (find_group tree) (paths_of who what))
+
+-- ---- what is told
+
+-- one answer, as its actor's
+abbrev pub answer_by : Actor → Answer → List Told_by
+answer_by who said = record { actor = who; answer = said } ∷ []

@@ -7,7 +7,7 @@ use Rattle.book.specs.declared.event.Reply.{Reply}
 use Rattle.book.specs.declared.event.Reply.TheVariants as reply
 use Rattle.book.specs.Replies.{HandsOut}
 use Rattle.legal.proofs.SoundLemmas.{block_below}
-use Rattle.driver.specs.Tickets.{blocks_in, OwnReply}
+use Rattle.turns.specs.Tickets.{blocks_in, OwnReply}
 
 pub gives_own : (past : Past) (worker : ℕ) → Legal past.state.opening past.history past.state
     → (said : Reply) → HandsOut past worker said → OwnReply worker (blocks_in past.state.opening) said
