@@ -184,11 +184,12 @@ impl<'o, 'e, 's, 'l, 't, 'b, 'g, 'p, 'f, O: Write, E: Write> Printer<
             self.begun.pass_by(step);
         }
         let source = self.source;
+        let texts = self.texts;
         let number = source.line_of(step);
-        let words = Words(self.texts.of(number));
+        let words = Words(texts.of(number));
         self.text.clear();
         write!(self.text, "{}:{number}: {words}: {word}", source.name)?;
-        let told = told_of(source, self.texts, self.begun.of(actor), actor, number);
+        let told = told_of(source, texts, self.begun.of(actor), actor, number);
         if let Some(reason) = reason_for(actor, told, word) {
             write!(self.text, ", {reason}")?;
         }
@@ -302,8 +303,9 @@ impl<'o, 'e, 's, 'l, 't, 'b, 'g, 'p, 'f, O: Write, E: Write> Printer<
             return Ok(false);
         };
         let source = self.source;
+        let texts = self.texts;
         let number = source.line_of(step);
-        let words = Words(self.texts.of(number));
+        let words = Words(texts.of(number));
         self.text.clear();
         let name = source.name;
         write!(self.text, "{name}:{number}: {words}: {killing}")?;
