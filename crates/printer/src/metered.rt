@@ -21,28 +21,14 @@ pub struct Calls {
 /// A device, with how many blocks were written. No entry of a trace says to which block a page went.
 #[derive(Drop)]
 pub struct Metered<'d, D> {
-    device: &'d mut D,
+    pub device: &'d mut D,
     /// How many blocks are for swap, the first ones.
-    swap: u32,
-    calls: Calls,
+    pub swap: u32,
+    /// What went well so far.
+    pub calls: Calls,
 }
 
 impl<'d, D> Metered<'d, D> {
-    pub fn new(device: &'d mut D, swap: u32) -> Metered<'d, D>
-        ensures { result.device ≡ device }
-    {
-        Metered {
-            device,
-            swap,
-            calls: Calls::default(),
-        }
-    }
-
-    /// What went well so far.
-    pub fn calls(&self) -> Calls {
-        self.calls
-    }
-
     fn count_write(&mut self, block: u32)
         ensures { self.new.device ≡ self.old.device }
     {

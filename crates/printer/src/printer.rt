@@ -1,6 +1,6 @@
 //! Prints the answers of a run as they come.
 
-ghost use Rattle.std.specs.Prelude.{◌≡◌, ◌⊎◌, ◌∷◌, [], IsErr, IfOk, IfErr, OnOk, OnErr, true, false, None, Ok, Err, reverse};
+ghost use Rattle.std.specs.Prelude.{◌≡◌, ◌⊎◌, ◌∷◌, [], IsErr, IfOk, IfErr, OnOk, OnErr, true, false, None, reverse};
 ghost use Rattle.std.specs.Io.KnownBytes.{Appends, Keeps};
 ghost use Rattle.machine.specs.FirstBytes.{first_of};
 ghost use Rattle.machine.specs.Audit.{Passes};
@@ -15,7 +15,7 @@ use crate::metered::{Calls, Metered, Moved};
 use crate::observed::Observed;
 use crate::options::Options;
 use crate::output::{write_bytes, write_line};
-use crate::source::{Source, Texts, lines_for};
+use crate::source::{Line, Source, Texts, lines_for};
 use crate::stopped::Stopped;
 use crate::tally::{Summary, Tally};
 use block_store::BlockDevice;
@@ -25,7 +25,7 @@ use explain::{Reason, Told, Words, reason_of};
 use machine::event::Cause;
 use machine::id::TaskId;
 use machine::refusal::Refusal;
-use std::alloc::Global;
+use std::alloc::{AllocError, Global};
 use std::io;
 use std::io::Write;
 use trace::{Trace, audit};
@@ -485,17 +485,15 @@ pub struct Ended {
     pub written: Result<(), Stopped>,
 }
 
-impl Ended {
-    /// There was no memory to begin.
-    fn without_memory() -> Ended
-        ensures ran { result.ran ≡ Err (Stop.Refused Refusal.NoMemory) }
-        ensures written { result.written ≡ Ok tt }
-    {
-        Ended {
-            ran: Err(Stop::Refused(Refusal::NoMemory)),
-            written: Ok(()),
-        }
-    }
+/// What is kept of the script beside its steps, where the options ask for it.
+fn kept_of<'s>(
+    alloc: Global,
+    options: Options,
+    source: Source<'s>,
+) -> Result<(Vec<Line<'s>>, Observed<'s>), AllocError> {
+    let lines = lines_for(alloc, options, source.script)?;
+    let observed = Observed::asked(alloc, options, source.steps)?;
+    Ok((lines, observed))
 }
 
 /// Runs steps over a device. Each answer is written to `out` as it comes; what the options ask for goes to
@@ -516,13 +514,20 @@ pub fn print_run<D: BlockDevice, O: Write, E: Write>(
     ensures ends { IfErr result.written (λ why. is_end why ≡ true → IsErr result.ran × (options.strict ≡ true) × (marks_lines options ≡ false → EndsRun config (D.disk device.old) source.entry.steps.now options (O.contents out.old) (O.contents out.new))) }
     ensures quiet { speaks options ≡ false → E.contents err.new ≡ E.contents err.old }
 {
-    let Ok(lines) = lines_for(alloc, options, source.script) else {
-        return Ended::without_memory();
+    let (lines, mut observed) = match kept_of(alloc, options, source) {
+        Ok(kept) => kept,
+        Err(_) => {
+            return Ended {
+                ran: Err(Stop::Refused(Refusal::NoMemory)),
+                written: Ok(()),
+            };
+        }
     };
-    let Ok(mut observed) = Observed::asked(alloc, options, source.steps) else {
-        return Ended::without_memory();
+    let mut device = Metered {
+        device,
+        swap: config.swap,
+        calls: Calls::default(),
     };
-    let mut device = Metered::new(device, config.swap);
     let mut text = String::new(alloc);
     let mut begun = Begun::new(alloc);
     let mut stopped = None;
@@ -541,7 +546,7 @@ pub fn print_run<D: BlockDevice, O: Write, E: Write>(
         stopped: &mut stopped,
     };
     let ran = run_into(alloc, config, &mut device, source.steps, &mut printer);
-    let moved = moved_by(&ran, device.calls());
+    let moved = moved_by(&ran, device.calls);
     let written = printer.conclude(&ran, moved);
     Ended { ran, written }
 }

@@ -6,8 +6,13 @@ use Rattle.printer.specs.Prints.{texts, shown_by, behind_answers, AppendsStart, 
 use Rattle.printer.specs.Sinks.{EndsAt}
 use Rattle.printer.specs.SinkLaws.{starts-kept, starts-behind, out_begins-behind}
 use Rattle.printer.proofs.ResultLemmas.{on_ok, ok_both, err_both, err_more, err_only}
+use Rattle.printer.proofs.StartLemmas.{nothing_prints}
 use Rattle.printer.proofs.StrictLemmas.{on-not_ended, ends_run}
 use Rattle.printer.proofs.printer.print_run.Goals as goal
+
+-- it was not begun
+pub returns-in-Err-clause-start : goal.returns-in-Err-clause-start
+returns-in-Err-clause-start g c = λ plain. nothing_prints _ _ _ _ _ c.requires plain
 
 pub returns-clause-whole : goal.returns-clause-whole
 returns-clause-whole g c =
