@@ -7,8 +7,9 @@ ghost use Rattle.block_store.specs.Device.{Disk};
 ghost use Rattle.driver.specs.Schedule.{Schedules};
 ghost use Rattle.scripts.specs.declared.mode.Mode.TheVariants.{Schedule};
 ghost use Rattle.scripts.specs.Script.{items_of, steps_of, IsFaultless};
-ghost use Rattle.subcommands.specs.Prints.{configured, disk_of, texts};
-ghost use Rattle.subcommands.specs.Told.{plain};
+ghost use Rattle.printer.specs.Prints.{texts};
+ghost use Rattle.subcommands.specs.Scripts.{configured, disk_of};
+ghost use Rattle.printer.specs.Asked.{plain};
 
 use std::alloc::Global;
 use std::str;

@@ -19,7 +19,7 @@ use Rattle.live.specs.Matching.{Matches}
 use Rattle.live.specs.Reports.{IsLegal}
 use Rattle.subcommands.specs.declared.fault.Fault.{Fault}
 use Rattle.subcommands.specs.declared.threads.Verdict.{Verdict}
-use Rattle.subcommands.specs.Prints.{texts}
+use Rattle.printer.specs.Prints.{texts}
 use Rattle.subcommands.specs.Threads.{verdict_line, Concludes, PrintsThreads}
 use Rattle.subcommands.specs.Rounds.{verdict_by, Concluded, RanAll}
 

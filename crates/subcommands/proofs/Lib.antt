@@ -1,8 +1,7 @@
-pub mod ByteLemmas
+pub mod ReadLemmas
 pub mod ToldLemmas
 pub mod ResultLemmas
 pub mod StartLemmas
-pub mod StrictLemmas
 pub mod Boards
 pub mod CrewLemmas
 pub mod RoundLemmas

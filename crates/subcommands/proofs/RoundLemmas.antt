@@ -16,8 +16,8 @@ use Rattle.book.specs.Passes.{PassOf}
 use Rattle.live.specs.Crews.{WorkerOf, HaveWorked}
 use Rattle.live.specs.Works.{Repeated}
 use Rattle.scripts.specs.Work.{number_of, numbers_of}
-use Rattle.subcommands.specs.Prints.{texts}
-use Rattle.subcommands.specs.SinkLaws.{texts-append}
+use Rattle.printer.specs.Prints.{texts}
+use Rattle.printer.specs.SinkLaws.{texts-append}
 use Rattle.subcommands.specs.Threads.{Board, no_pass, pieces_of, Pieces}
 use Rattle.subcommands.specs.Crews.{is_at, board_of, jobs_of, Hires, Asked}
 use Rattle.subcommands.specs.Rounds.{NotAmong, IsApart, HiredAll, SetsUp, AnswersAre, SaysRows, passes_in, Ran}

@@ -10,8 +10,8 @@ use Rattle.scripts.specs.Script.{items_of, steps_of, lines_in, IsFaultless}
 use Rattle.charts.specs.declared.watching.Row.{Row}
 use Rattle.charts.specs.Watched.{expanded, IsWatched}
 use Rattle.charts.specs.Listed.{table_text}
-use Rattle.subcommands.specs.declared.options.Options.{Options}
-use Rattle.subcommands.specs.Prints.{configured, disk_of}
+use Rattle.printer.specs.declared.options.Options.{Options}
+use Rattle.subcommands.specs.Scripts.{configured, disk_of}
 
 -- the text is the table of some paths, by the lines of the steps: what was watched of their groups in a run that is the plain machine's
 pub record ListsRun (config : Config) (before : Disk) (steps : List Step) (numbers text : List ℕ) : Type 0 where

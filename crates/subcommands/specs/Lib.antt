@@ -1,9 +1,6 @@
-pub mod Asked
-pub mod Prints
+pub mod Scripts
 pub mod Charted
 pub mod Told
-pub mod SinkLaws
-pub mod Sinks
 pub mod Threads
 pub mod Crews
 pub mod Rounds

@@ -18,7 +18,7 @@ use Rattle.live.specs.Reports.{IsLegal}
 use Rattle.trace.specs.declared.auditing.First.{First}
 use Rattle.subcommands.specs.declared.threads.Verdict.{Verdict}
 use Rattle.subcommands.specs.declared.threads.Verdict.TheVariants.{Fine, Wrong, Differ}
-use Rattle.subcommands.specs.Prints.{texts}
+use Rattle.printer.specs.Prints.{texts}
 use Rattle.subcommands.specs.Threads.{Board, no_pass, pieces_of, Pieces, Concludes, verdict_line}
 use Rattle.scripts.specs.Work.{numbers_of}
 use Rattle.subcommands.specs.Crews.{jobs_of, board_of}

@@ -28,7 +28,7 @@ use Rattle.scripts.specs.Script.{items_of, IsFaultless}
 use Rattle.scripts.specs.Work.{setup_of, worked, work_of}
 use Rattle.subcommands.specs.declared.threads.Verdict.{Verdict}
 use Rattle.subcommands.specs.declared.threads.Verdict.TheVariants.{Fine, Wrong, Differ}
-use Rattle.subcommands.specs.Prints.{texts}
+use Rattle.printer.specs.Prints.{texts}
 
 -- by actor, what its pass keeps
 abbrev pub Board : Type 0

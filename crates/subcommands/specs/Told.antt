@@ -14,9 +14,9 @@ use Rattle.scripts.specs.Script.{IsFaultless, NamesFirstFault}
 use Rattle.machine.specs.declared.limit.TheConstants.{SCRIPT_BYTES}
 use Rattle.subcommands.specs.declared.fault.Fault.{Fault}
 use Rattle.subcommands.specs.declared.fault.Fault.TheVariants as fault
-use Rattle.subcommands.specs.declared.options.Options.{Options}
-use Rattle.subcommands.specs.Asked.{places_faults}
-use Rattle.subcommands.specs.Prints.{AppendsStart}
+use Rattle.printer.specs.declared.options.Options.{Options}
+use Rattle.printer.specs.Asked.{places_faults, plain}
+use Rattle.printer.specs.Prints.{AppendsStart}
 
 -- ---- which fault it is
 
@@ -133,10 +133,6 @@ abbrev pub StartsReport : Fault → Option (List ℕ) → Option (List ℕ) → 
 StartsReport why old new = AllTold (AppendsStart old new) why
 
 -- ---- where no more is known than a status
-
--- nothing is asked for beside the answers
-abbrev pub plain : Options
-plain = record { audit = false; explain = false; labels = false; lines = false; progress = false; quiet = false; strict = false; summary = false; turns = 1000 }
 
 -- a writer got the beginning of what is told of a fault that is why the script was not run to its end
 pub record TellsWhy (script : List ℕ) (old new : Option (List ℕ)) : Type 0 where

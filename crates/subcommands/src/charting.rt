@@ -13,13 +13,11 @@ ghost use Rattle.subcommands.specs.Told.{Explains, IsOfScript, IsRunFault};
 
 use crate::device::new_device;
 use crate::fault::{Fault, Wanted};
-use crate::options::Options;
-use crate::output::write_bytes;
-use crate::source::paths_of;
 use crate::{faulty, unwritten};
 use block_store::{BlockDevice, MemDevice};
 use charts::{picture, table, watch};
 use driver::{Config, Step};
+use printer::{Options, paths_of, write_bytes};
 use scripts::{Mode, Script, one_answer};
 use std::alloc::{AllocError, Global};
 use std::io;

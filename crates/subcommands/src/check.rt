@@ -2,15 +2,14 @@
 
 ghost use Rattle.std.specs.Prelude.{◌≡◌, ◌≤◌, [], false, IfSome, IfOk, IfErr};
 ghost use Rattle.expectations.specs.Expected.{expected_of};
-ghost use Rattle.subcommands.specs.Asked.{marks_lines};
-ghost use Rattle.subcommands.specs.Prints.{PrintsScript};
-ghost use Rattle.subcommands.specs.Told.{Explains, plain};
+ghost use Rattle.printer.specs.Asked.{marks_lines, plain};
+ghost use Rattle.subcommands.specs.Scripts.{PrintsScript};
+ghost use Rattle.subcommands.specs.Told.{Explains};
 
 use crate::fault::Fault;
-use crate::options::Options;
-use crate::output::write_bytes;
 use crate::{FAILED, read_script, run_script, status_of};
 use expectations::{Difference, compare};
+use printer::{Options, write_bytes};
 use scripts::ScriptFault;
 use std::alloc::{AllocError, Global};
 use std::io::{ErrorKind, Read, Write};

@@ -3,13 +3,13 @@
 ghost use Rattle.std.specs.Prelude.{◌≡◌, ◌↔◌, IsTrue, OnOk};
 ghost use Rattle.std.specs.Io.KnownBytes.{Appends};
 ghost use Rattle.machine.specs.Control.{line};
-ghost use Rattle.subcommands.specs.Prints.{AppendsStart};
+ghost use Rattle.printer.specs.Prints.{AppendsStart};
 ghost use Rattle.subcommands.specs.Told.{front_of, rest_of, IsSilent, Reports, StartsReport, Behind};
 
-use crate::output::{write_bytes, write_line};
 use arrayvec::ArrayVec;
 use machine::bytes::PAGE_BYTES;
 use machine::config::Config;
+use printer::{write_bytes, write_line};
 use scripts::ScriptFault;
 use std::io::{ErrorKind, Write};
 use std::{fmt, io};

@@ -1,22 +1,11 @@
 //! The program as a library, over any reader and any two writers.
 #![tactic(auto)]
 
-mod begun;
 mod charting;
 mod check;
 mod crew;
 mod device;
 mod fault;
-mod judged;
-mod killing;
-mod metered;
-mod observed;
-mod options;
-mod output;
-mod printer;
-mod source;
-mod stopped;
-mod tally;
 mod threads;
 
 ghost use Rattle.std.specs.Prelude.{◌≡◌, ◌⊎◌, ℕ, ◌≤◌, [], true, false, string_bytes, IsErr, IfSome, IfOk, IfErr, OnOk, OnErr};
@@ -28,28 +17,24 @@ ghost use Rattle.driver.specs.Schedule.{fits};
 ghost use Rattle.scripts.specs.declared.fault.Cause.{Cause};
 ghost use Rattle.scripts.specs.declared.mode.Mode.TheVariants.{Schedule};
 ghost use Rattle.scripts.specs.Script.{IsFirstFault, NamesFirstFault};
-ghost use Rattle.subcommands.specs.Asked.{marks_lines, speaks};
-ghost use Rattle.subcommands.specs.Prints.{PrintsRun, PrintsStart, EndsRun, PrintsScript, PrintsPart, EndsScript};
-ghost use Rattle.subcommands.specs.Sinks.{is_end};
-ghost use Rattle.subcommands.specs.declared.options.Options.{Options as Asked_by};
-ghost use Rattle.subcommands.specs.Told.{plain, placed_text, BeginsSo, Places, IsUnread, Explains, ExplainsIn, IsOfScript, IsRefused, StartsReport, TellsWhy, IsRunFault, IsScheduleFault};
+ghost use Rattle.printer.specs.declared.options.Options.{Options as Asked_by};
+ghost use Rattle.printer.specs.Asked.{marks_lines, plain, speaks};
+ghost use Rattle.printer.specs.Prints.{PrintsRun, PrintsStart, EndsRun, is_end};
+ghost use Rattle.subcommands.specs.Scripts.{PrintsScript, PrintsPart, EndsScript};
+ghost use Rattle.subcommands.specs.Told.{placed_text, BeginsSo, Places, IsUnread, Explains, ExplainsIn, IsOfScript, IsRefused, StartsReport, TellsWhy, IsRunFault, IsScheduleFault};
 
 use block_store::{BlockDevice, MemDevice};
 pub use charting::{Drawing, chart};
 pub use check::{Checked, check_script, read_and_check};
 use device::new_device;
-use driver::{Config, Step, Stop};
+use driver::{Config, Stop};
 pub use fault::{Fault, Wanted};
-use metered::Metered;
-use observed::Observed;
-pub use options::Options;
-use printer::{ERASE, Ended, print_run};
+pub use printer::Options;
+use printer::{ERASE, Ended, Source, Stopped, print_run};
 use scripts::{Mode, Script, ScriptFault, one_answer};
-use source::{Line, Source, lines_of};
 use std::alloc::{AllocError, Global};
 use std::io;
 use std::io::{ErrorKind, Read, Write};
-use stopped::Stopped;
 pub use threads::{Verdict, run, run_over, run_script_on_threads, status_of_run};
 
 /// The most bytes that a script may have. A reader that never ends is refused by it, and takes no
@@ -105,23 +90,20 @@ fn run_on<O: Write, E: Write>(
     alloc: Global,
     options: Options,
     config: Config,
-    device: &mut Metered<MemDevice>,
+    device: &mut MemDevice,
     source: Source<'_>,
-    observed: &mut Observed<'_>,
     out: &mut O,
     err: &mut E,
 ) -> Result<(), Fault>
-    requires { fits config device.old.device ≡ true }
-    ensures whole { OnOk result (marks_lines options ≡ false → PrintsRun config device.old.device source.entry.steps.now options (O.contents out.old) (O.contents out.new)) }
-    ensures start { OnErr result (marks_lines options ≡ false → PrintsStart config device.old.device source.entry.steps.now options (O.contents out.old) (O.contents out.new)) }
+    requires { fits config device.old ≡ true }
+    ensures whole { OnOk result (marks_lines options ≡ false → PrintsRun config device.old source.entry.steps.now options (O.contents out.old) (O.contents out.new)) }
+    ensures start { OnErr result (marks_lines options ≡ false → PrintsStart config device.old source.entry.steps.now options (O.contents out.old) (O.contents out.new)) }
     ensures why { IfErr result (IsScheduleFault options) }
-    ensures refused { IfErr result (λ why. IsRefused why → marks_lines options ≡ false → EndsRun config device.old.device source.entry.steps.now options (O.contents out.old) (O.contents out.new)) }
+    ensures refused { IfErr result (λ why. IsRefused why → marks_lines options ≡ false → EndsRun config device.old source.entry.steps.now options (O.contents out.old) (O.contents out.new)) }
     ensures quiet { speaks options ≡ false → E.contents err.new ≡ E.contents err.old }
 {
     let wanted = Wanted::of(&config, device.blocks());
-    let Ended { ran, written } = print_run(
-        alloc, options, config, device, source, observed, out, err,
-    );
+    let Ended { ran, written } = print_run(alloc, options, config, device, source, out, err);
     match ran {
         Ok(_) => match written {
             Ok(()) => Ok(()),
@@ -162,57 +144,18 @@ fn run_steps<O: Write, E: Write>(
         lines,
         ..
     } = script;
-    let device = match new_device(alloc, &config, &read_faults, &write_faults) {
+    let mut device = match new_device(alloc, &config, &read_faults, &write_faults) {
         Ok(device) => device,
         Err(wanted) => return Err(Fault::Memory(wanted)),
     };
-    let wanted = Wanted::of(&config, device.blocks());
-    let texts = match texts_for(alloc, options, bytes) {
-        Ok(texts) => texts,
-        Err(_) => return Err(Fault::Memory(wanted)),
-    };
-    let mut observed = match observed_of(alloc, options, &steps) {
-        Ok(observed) => observed,
-        Err(_) => return Err(Fault::Memory(wanted)),
-    };
-    let mut device = Metered::new(device, config.swap);
     let source = Source {
         name: file,
+        script: bytes,
         steps: &steps,
         lines: &lines,
-        texts: &texts,
         turns: config.turns,
     };
-    run_on(
-        alloc,
-        options,
-        config,
-        &mut device,
-        source,
-        &mut observed,
-        out,
-        err,
-    )
-}
-
-/// The lines of a script, where the options ask for them.
-fn texts_for(alloc: Global, options: Options, script: &[u8]) -> Result<Vec<Line<'_>>, AllocError> {
-    if !options.shows_lines() {
-        return Ok(Vec::new(alloc));
-    }
-    lines_of(alloc, script)
-}
-
-/// What is to be seen of the groups that the steps make, where the options ask for it.
-fn observed_of(
-    alloc: Global,
-    options: Options,
-    steps: &[Step],
-) -> Result<Observed<'_>, AllocError> {
-    if options.summary || options.explain {
-        return Observed::of(alloc, steps);
-    }
-    Ok(Observed::nothing(alloc))
+    run_on(alloc, options, config, &mut device, source, out, err)
 }
 
 /// The line of a fault with the name of the script's file, without its end.

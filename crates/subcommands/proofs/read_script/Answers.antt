@@ -1,5 +1,5 @@
 use Rattle.std.proofs.Common.{arith}
-use Rattle.subcommands.proofs.ByteLemmas.{read-all}
+use Rattle.subcommands.proofs.ReadLemmas.{read-all}
 use Rattle.subcommands.proofs.read_script.Goals as goal
 
 pub returns-else-read-gt-SCRIPT_BYTES-clause-bytes : goal.returns-else-read-gt-SCRIPT_BYTES-clause-bytes

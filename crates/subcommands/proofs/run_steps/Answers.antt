@@ -2,38 +2,34 @@ use Rattle.std.proofs.Common.{◌≡◌, ℕ, List, ap, subst, ◌∙◌}
 use Rattle.machine.specs.State.{blocks_of}
 use Rattle.machine.specs.declared.command.Step.{Step}
 use Rattle.block_store.specs.Device.{Disk, new_disk}
-use Rattle.subcommands.specs.Prints.{PrintsStart, EndsRun}
-use Rattle.subcommands.proofs.ResultLemmas.{on_err, err_more}
-use Rattle.subcommands.proofs.StartLemmas.{new_fits, nothing_prints}
+use Rattle.printer.specs.Prints.{PrintsStart, EndsRun}
+use Rattle.printer.proofs.ResultLemmas.{err_more}
+use Rattle.printer.proofs.StartLemmas.{nothing_prints}
+use Rattle.subcommands.proofs.ResultLemmas.{on_err}
+use Rattle.subcommands.proofs.StartLemmas.{new_fits}
 use Rattle.subcommands.proofs.run_steps.Goals as goal
 
 pub returns-in-Err-clause-start : goal.returns-in-Err-clause-start
 returns-in-Err-clause-start g c = λ plain. nothing_prints _ _ _ _ _ (new_fits c.args.script.config c.args.script.read_faults.items c.args.script.write_faults.items c.requires.limits) plain
 
-pub returns-in-Err-texts_for-clause-start : goal.returns-in-Err-texts_for-clause-start
-returns-in-Err-texts_for-clause-start g c = λ plain. nothing_prints _ _ _ _ _ (new_fits c.args.script.config c.args.script.read_faults.items c.args.script.write_faults.items c.requires.limits) plain
-
-pub returns-in-Err-observed_of-clause-start : goal.returns-in-Err-observed_of-clause-start
-returns-in-Err-observed_of-clause-start g c = λ plain. nothing_prints _ _ _ _ _ (new_fits c.args.script.config c.args.script.read_faults.items c.args.script.write_faults.items c.requires.limits) plain
-
 pub returns-clause-start : goal.returns-clause-start
 returns-clause-start g c =
     let script = c.args.script in
-    let device : c.new-device.result.device ≡ new_disk (blocks_of script.config) script.read_faults.items script.write_faults.items =
-    c.new-device.ensures ∙ c.in-Ok.ensures
+    let device : c.in-Ok.device ≡ new_disk (blocks_of script.config) script.read_faults.items script.write_faults.items =
+    c.in-Ok.ensures
     ∙ ap (λ (faults : List ℕ). new_disk (blocks_of script.config) faults c.deref-2.result.now) c.deref.ensures.value ∙ ap (λ (faults : List ℕ). new_disk (blocks_of script.config) script.read_faults.items faults) c.deref-2.ensures.value in
     on_err c.run_on.result c.run_on.ensures.start
     (λ start plain.
     subst (λ (disk : Disk). PrintsStart script.config disk script.steps.items c.args.options (g.O.Write.contents c.args.out.now) (g.O.Write.contents c.run_on.new.out)) device
-    (subst (λ (steps : List Step). PrintsStart script.config c.new-device.result.device steps c.args.options (g.O.Write.contents c.args.out.now) (g.O.Write.contents c.run_on.new.out)) c.deref-4.ensures.value (start plain)))
+    (subst (λ (steps : List Step). PrintsStart script.config c.in-Ok.device steps c.args.options (g.O.Write.contents c.args.out.now) (g.O.Write.contents c.run_on.new.out)) c.deref-3.ensures.value (start plain)))
 
 pub returns-clause-refused : goal.returns-clause-refused
 returns-clause-refused g c =
     let script = c.args.script in
-    let device : c.new-device.result.device ≡ new_disk (blocks_of script.config) script.read_faults.items script.write_faults.items =
-    c.new-device.ensures ∙ c.in-Ok.ensures
+    let device : c.in-Ok.device ≡ new_disk (blocks_of script.config) script.read_faults.items script.write_faults.items =
+    c.in-Ok.ensures
     ∙ ap (λ (faults : List ℕ). new_disk (blocks_of script.config) faults c.deref-2.result.now) c.deref.ensures.value ∙ ap (λ (faults : List ℕ). new_disk (blocks_of script.config) script.read_faults.items faults) c.deref-2.ensures.value in
     err_more c.run_on.result c.run_on.ensures.refused
     (λ why ended refused plain.
     subst (λ (disk : Disk). EndsRun script.config disk script.steps.items c.args.options (g.O.Write.contents c.args.out.now) (g.O.Write.contents c.run_on.new.out)) device
-    (subst (λ (steps : List Step). EndsRun script.config c.new-device.result.device steps c.args.options (g.O.Write.contents c.args.out.now) (g.O.Write.contents c.run_on.new.out)) c.deref-4.ensures.value (ended refused plain)))
+    (subst (λ (steps : List Step). EndsRun script.config c.in-Ok.device steps c.args.options (g.O.Write.contents c.args.out.now) (g.O.Write.contents c.run_on.new.out)) c.deref-3.ensures.value (ended refused plain)))

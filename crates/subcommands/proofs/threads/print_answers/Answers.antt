@@ -3,8 +3,8 @@ use Rattle.std.proofs.lemmas.List.{take_more}
 use Rattle.std.specs.Io.KnownBytes.{Appends}
 use Rattle.std.proofs.KnownBytes.{Appends-trans}
 use Rattle.machine.specs.declared.command.Reply.{Reply}
-use Rattle.subcommands.specs.Prints.{texts}
-use Rattle.subcommands.specs.SinkLaws.{texts-append}
+use Rattle.printer.specs.Prints.{texts}
+use Rattle.printer.specs.SinkLaws.{texts-append}
 use Rattle.subcommands.proofs.threads.print_answers.Goals as goal
 
 pub loop-reply-preserved : goal.loop-reply-preserved

@@ -1,6 +1,6 @@
 use Rattle.std.proofs.Common.{take}
 use Rattle.std.specs.Io.KnownBytes.{Appends}
-use Rattle.subcommands.specs.Prints.{texts}
+use Rattle.printer.specs.Prints.{texts}
 use Rattle.subcommands.proofs.threads.print_answers.Given as goal
 
 abbrev pub invariant-loop-reply : goal.invariant-loop-reply

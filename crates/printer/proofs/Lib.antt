@@ -1,0 +1,4 @@
+pub mod ByteLemmas
+pub mod ResultLemmas
+pub mod StartLemmas
+pub mod StrictLemmas

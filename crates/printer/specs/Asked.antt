@@ -1,0 +1,23 @@
+-- What options ask for.
+use Rattle.std.specs.Prelude.{◌||◌, Bool, false}
+use Rattle.printer.specs.declared.options.Options.{Options}
+
+-- something stands before the lines of answers: the number of a line of the script, or that and its words
+abbrev pub marks_lines : Options → Bool
+marks_lines options = options.lines || options.labels
+
+-- something is written to `err` while a script is read and run, or behind its answers
+abbrev pub speaks : Options → Bool
+speaks options = options.explain || (options.progress || options.summary)
+
+-- while it is run
+abbrev pub speaks_on : Options → Bool
+speaks_on options = options.explain || options.progress
+
+-- the lines of faults begin with the name of the script's file
+abbrev pub places_faults : Options → Bool
+places_faults options = options.explain || options.strict
+
+-- nothing is asked for beside the answers
+abbrev pub plain : Options
+plain = record { audit = false; explain = false; labels = false; lines = false; progress = false; quiet = false; strict = false; summary = false; turns = 1000 }

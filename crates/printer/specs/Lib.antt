@@ -1,0 +1,4 @@
+pub mod Asked
+pub mod Prints
+pub mod SinkLaws
+pub mod Sinks

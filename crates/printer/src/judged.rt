@@ -1,0 +1,37 @@
+//! Which answers are bytes, and which refuse something.
+
+ghost use Rattle.std.specs.Prelude.{◌≡◌, is_some};
+ghost use Rattle.printer.specs.Prints.{is_byte, refuses, is_refusing};
+
+use driver::{Answer, Word};
+
+/// Whether a task read a byte.
+pub fn is_byte(answer: &Answer) -> bool
+    ensures { result ≡ is_byte answer.now }
+{
+    match answer {
+        Answer::Byte(_) => true,
+        Answer::Text(_) | Answer::Done | Answer::Kill(_) | Answer::Word(_) => false,
+    }
+}
+
+/// Whether the word says that a line did not do what it asks for. That a task was killed is an event of the machine.
+fn is_refusing(word: Word) -> bool
+    ensures { result ≡ is_refusing word }
+{
+    match word {
+        Word::Killed => false,
+        Word::Idle | Word::Busy | Word::Io | Word::OutOfMemory | Word::Again => true,
+        Word::TurnLimit | Word::Underway | Word::Refused(_) => true,
+    }
+}
+
+/// The word of an answer that refuses something.
+pub fn refusal_of(answer: &Answer) -> Option<Word>
+    ensures { is_some result ≡ refuses answer.now }
+{
+    match answer {
+        Answer::Word(word) if is_refusing(*word) => Some(*word),
+        _ => None,
+    }
+}

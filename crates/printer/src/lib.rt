@@ -1,0 +1,22 @@
+//! The sink of a run that prints its answers as they come, and says beside them what its options ask for.
+//!
+//! [`print_run`] runs a schedule into it. [`write_bytes`] and [`write_line`] hand bytes to a writer.
+#![tactic(auto)]
+
+mod begun;
+mod judged;
+mod killing;
+mod metered;
+mod observed;
+mod options;
+mod output;
+mod printer;
+mod source;
+mod stopped;
+mod tally;
+
+pub use options::Options;
+pub use output::{write_bytes, write_line};
+pub use printer::{ERASE, Ended, print_run};
+pub use source::{Source, paths_of};
+pub use stopped::Stopped;

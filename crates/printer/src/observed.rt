@@ -1,0 +1,154 @@
+//! What is seen of groups while a script is run: how much they were charged with, and why a task was killed.
+
+use crate::killing::Killing;
+use crate::options::Options;
+use crate::source::paths_of;
+use book::Book;
+use driver::Step;
+use machine::bytes::PAGE_BYTES;
+use machine::event::Cause;
+use machine::id::TaskId;
+use std::alloc::{AllocError, Global};
+use std::io;
+use std::io::Write;
+
+/// A path of the script, and what was seen of the groups that had it.
+#[derive(Clone, Copy, Debug)]
+struct Seen<'s> {
+    path: &'s str,
+    /// The most pages that were charged to one of them and below it behind a step.
+    peak: u64,
+    /// The number of the group that had the path behind the last step.
+    number: Option<u32>,
+    /// The number of its youngest generation there. No group is aged in the step that makes it, nor the root in the first.
+    max_seq: u64,
+    /// Whether its peak is told.
+    is_told: bool,
+}
+
+/// What is seen of the groups of a script.
+#[derive(Drop)]
+pub struct Observed<'s> {
+    groups: Vec<Seen<'s>>,
+    /// How often a group made a younger generation.
+    agings: u64,
+    /// Whom the relief that was asked for last kills, if it kills anybody.
+    doomed: Option<Killing<'s>>,
+}
+
+impl<'s> Seen<'s> {
+    fn new(path: &'s str, is_told: bool) -> Seen<'s> {
+        Seen {
+            path,
+            peak: 0,
+            number: None,
+            max_seq: 0,
+            is_told,
+        }
+    }
+
+    /// Looks at the group that has the path, and says how often it was aged since the last look.
+    fn look(&mut self, book: &Book) -> u64 {
+        let (Some(look), Some(max_seq)) = (book.look(self.path), book.max_seq(self.path)) else {
+            self.number = None;
+            return 0;
+        };
+        self.peak = self.peak.max(look.usage);
+        if self.number != Some(look.number) {
+            self.number = Some(look.number);
+            self.max_seq = max_seq;
+        }
+        let agings = max_seq.saturating_sub(self.max_seq);
+        self.max_seq = max_seq;
+        agings
+    }
+}
+
+impl<'s> Observed<'s> {
+    /// What is to be looked at of the groups that the steps make, where the options ask for it.
+    pub fn asked(
+        alloc: Global,
+        options: Options,
+        steps: &'s [Step],
+    ) -> Result<Observed<'s>, AllocError> {
+        if options.summary || options.explain {
+            return Observed::of(alloc, steps);
+        }
+        Ok(Observed::nothing(alloc))
+    }
+
+    /// Nothing is looked at.
+    fn nothing(alloc: Global) -> Observed<'s> {
+        Observed {
+            groups: Vec::new(alloc),
+            agings: 0,
+            doomed: None,
+        }
+    }
+
+    /// Of the groups that the steps make, and of the root, nothing was seen yet.
+    fn of(alloc: Global, steps: &'s [Step]) -> Result<Observed<'s>, AllocError> {
+        let paths = paths_of(alloc, steps)?;
+        let mut groups = Vec::new(alloc);
+        if !paths.iter().any(|path| *path == "/") {
+            groups.push(Seen::new("/", paths.is_empty()))?;
+        }
+        for path in paths.iter() {
+            groups.push(Seen::new(*path, true))?;
+        }
+        Ok(Observed {
+            groups,
+            agings: 0,
+            doomed: None,
+        })
+    }
+
+    /// Looks at all groups.
+    pub fn look(&mut self, book: &Book) {
+        for seen in self.groups.iter_mut() {
+            self.agings = self.agings.saturating_add(seen.look(book));
+        }
+    }
+
+    /// A relief is asked for, for this cause.
+    pub fn see_relief(&mut self, book: &Book, cause: Cause) {
+        self.doomed = None;
+        let Some(victim) = book.victim(cause) else {
+            return;
+        };
+        for seen in self.groups.iter() {
+            if let Some(look) = book.look(seen.path) {
+                if look.number == victim.limit.0 {
+                    self.doomed = Some(Killing {
+                        victim,
+                        cause,
+                        path: seen.path,
+                        max: look.max,
+                        usage: look.usage,
+                    });
+                    return;
+                }
+            }
+        }
+    }
+
+    /// How the task came to be killed, where the relief that was asked for last killed it.
+    pub fn killing_of(&self, task: TaskId) -> Option<Killing<'s>> {
+        match self.doomed {
+            Some(killing) if killing.victim.task == task => Some(killing),
+            _ => None,
+        }
+    }
+
+    /// A line a number: how often groups were aged, and the greatest `memory.current` of each in bytes.
+    pub fn write<W: Write>(&self, to: &mut W) -> io::Result<()> {
+        writeln!(to, "agings: {}", self.agings)?;
+        for seen in self.groups.iter() {
+            if seen.is_told {
+                let bytes = seen.peak.saturating_mul(PAGE_BYTES as u64);
+                writeln!(to, "greatest memory.current of {}: {bytes}", seen.path)?;
+            }
+        }
+        Ok(())
+    }
+}

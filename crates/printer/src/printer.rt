@@ -1,0 +1,622 @@
+//! Prints the answers of a run as they come.
+
+ghost use Rattle.std.specs.Prelude.{◌≡◌, ◌⊎◌, ◌∷◌, [], IsErr, IfOk, IfErr, OnOk, OnErr, true, false, None, reverse};
+ghost use Rattle.std.specs.Io.KnownBytes.{Appends, Keeps};
+ghost use Rattle.machine.specs.FirstBytes.{first_of};
+ghost use Rattle.machine.specs.Audit.{Passes};
+ghost use Rattle.driver.specs.Schedule.{fits};
+ghost use Rattle.printer.specs.Asked.{marks_lines, speaks};
+ghost use Rattle.printer.specs.Prints.{behind_answers, is_end, refuses, AppendsStart, PrintsRun, PrintsStart, EndsRun};
+ghost use Rattle.printer.specs.Sinks.{OutTakes, OutBegins, IsQuiet, GoesOn, is_ended, EndsAt};
+
+use crate::begun::Begun;
+use crate::judged::{is_byte, refusal_of};
+use crate::metered::{Calls, Metered, Moved};
+use crate::observed::Observed;
+use crate::options::Options;
+use crate::output::{write_bytes, write_line};
+use crate::source::{Line, Source, Texts, lines_for};
+use crate::stopped::Stopped;
+use crate::tally::{Summary, Tally};
+use block_store::BlockDevice;
+use book::Book;
+use driver::{Actor, Answer, Closed, Config, Reply, Sink, Step, Stop, Word, run_into};
+use explain::{Reason, Told, Words, reason_of};
+use machine::event::Cause;
+use machine::id::TaskId;
+use machine::refusal::Refusal;
+use std::alloc::{AllocError, Global};
+use std::io;
+use std::io::Write;
+use trace::{Trace, audit};
+
+/// How a terminal takes back what stands in its line.
+pub const ERASE: &[u8] = b"\r\x1b[K";
+
+/// Where the answers of a run go. Each is written as it comes, in one piece.
+///
+/// It owns no memory: the proof of [`print_run`] knows what the writers behind it hold only where none stands
+/// beside them.
+#[derive(Drop)]
+struct Printer<'o, 'e, 's, 'l, 't, 'b, 'g, 'p, 'f, O: Write, E: Write> {
+    out: &'o mut O,
+    err: &'e mut E,
+    options: Options,
+    source: Source<'s>,
+    texts: Texts<'l, 's>,
+    /// What is written next.
+    text: &'t mut String,
+    /// Which command each actor is at, where something asks for it.
+    begun: &'b mut Begun,
+    /// What was seen of groups, where something asks for it.
+    observed: &'g mut Observed<'p>,
+    /// What a terminal shows of how many lines are done, in hundredths, if it shows any.
+    shown: Option<usize>,
+    /// How many of the steps are done, as far as is known.
+    done: usize,
+    tally: Tally,
+    /// Why no more answers are taken.
+    stopped: &'f mut Option<Stopped>,
+}
+
+impl<'o, 'e, 's, 'l, 't, 'b, 'g, 'p, 'f, O: Write, E: Write> Printer<
+    'o,
+    'e,
+    's,
+    'l,
+    't,
+    'b,
+    'g,
+    'p,
+    'f,
+    O,
+    E,
+> {
+    /// The number of the line that was done last.
+    fn line_done(&self) -> usize {
+        self.source.line_of(self.done.saturating_sub(1))
+    }
+
+    /// Writes the answer, if it prints anything.
+    fn write(&mut self, step: usize, reply: &Reply) -> io::Result<()>
+        ensures out { self.new.out.ghost_name ≡ self.old.out.ghost_name }
+        ensures err { self.new.err.ghost_name ≡ self.old.err.ghost_name }
+        ensures options { self.new.options ≡ self.old.options }
+        ensures stopped { self.new.stopped.now ≡ self.old.stopped.now }
+        ensures whole { OnOk result (OutTakes self.old.options (O.contents self.old.out.now) (O.contents self.new.out.now) (reply.now ∷ [])) }
+        ensures start { OnErr result (OutBegins self.old.options (O.contents self.old.out.now) (O.contents self.new.out.now) (reply.now ∷ [])) }
+        ensures quiet { IsQuiet self.old.options self.old.shown self.new.shown (E.contents self.old.err.now) (E.contents self.new.err.now) }
+    {
+        if self.options.quiet && is_byte(&reply.answer) {
+            return Ok(());
+        }
+        self.text.clear();
+        reply.print(self.text)?;
+        if self.text.is_empty() {
+            return Ok(());
+        }
+        self.hide();
+        if !self.options.marks_lines() {
+            return write_bytes(self.out, self.text.as_bytes());
+        }
+        self.write_marked(step)
+    }
+
+    /// Writes the lines that are to be written next, each behind the number of their line of the script, and behind its words
+    /// where these are asked for.
+    fn write_marked(&mut self, step: usize) -> io::Result<()>
+        requires { marks_lines self.old.options ≡ true }
+        ensures out { self.new.out.ghost_name ≡ self.old.out.ghost_name }
+        ensures err { self.new.err ≡ self.old.err }
+        ensures options { self.new.options ≡ self.old.options }
+        ensures stopped { self.new.stopped.now ≡ self.old.stopped.now }
+        ensures shown { self.new.shown ≡ self.old.shown }
+    {
+        let number = self.source.line_of(step);
+        let words = Words(self.texts.of(number));
+        let alloc = *self.text.allocator();
+        let mut marked = String::new(alloc);
+        for line in self.text.lines() {
+            if self.options.labels {
+                writeln!(marked, "{number} {words}: {line}")?;
+            } else {
+                writeln!(marked, "{number}: {line}")?;
+            }
+        }
+        write_bytes(self.out, marked.as_bytes())
+    }
+
+    /// Takes back what a terminal shows.
+    fn hide(&mut self)
+        ensures out { self.new.out ≡ self.old.out }
+        ensures err { self.new.err.ghost_name ≡ self.old.err.ghost_name }
+        ensures options { self.new.options ≡ self.old.options }
+        ensures text { self.new.text.now ≡ self.old.text.now }
+        ensures stopped { self.new.stopped.now ≡ self.old.stopped.now }
+        ensures quiet { IsQuiet self.old.options self.old.shown self.new.shown (E.contents self.old.err.now) (E.contents self.new.err.now) }
+    {
+        if self.shown.take().is_some() {
+            // Nothing hangs on it: the run goes on where it can't be written.
+            let _ = self.err.write_all(ERASE);
+        }
+    }
+
+    /// Shows on a terminal how many lines are done, where that is a hundredth more than it shows.
+    fn show(&mut self, step: usize)
+        ensures out { self.new.out ≡ self.old.out }
+        ensures err { self.new.err.ghost_name ≡ self.old.err.ghost_name }
+        ensures options { self.new.options ≡ self.old.options }
+        ensures stopped { self.new.stopped.now ≡ self.old.stopped.now }
+    {
+        let source = self.source;
+        let done = source.line_of(step);
+        let last = source.last_line();
+        let hundredth = done.saturating_mul(100).checked_div(last).unwrap_or(100);
+        if self.shown != Some(hundredth) {
+            let _ = write!(self.err, "\r{done} of {last} lines");
+            self.shown = Some(hundredth);
+        }
+    }
+
+    /// Leaves on a terminal how many lines were done when the run was cut short.
+    fn leave_shown(&mut self)
+        ensures out { self.new.out ≡ self.old.out }
+        ensures err { self.new.err.ghost_name ≡ self.old.err.ghost_name }
+        ensures options { self.new.options ≡ self.old.options }
+        ensures stopped { self.new.stopped.now ≡ self.old.stopped.now }
+    {
+        let source = self.source;
+        let done = source.line_of(self.done.saturating_sub(1));
+        let last = source.last_line();
+        let _ = writeln!(self.err, "{done} of {last} lines");
+    }
+
+    /// Makes the text say which line was refused, and why.
+    fn say_why(&mut self, step: usize, actor: Actor, word: Word) -> io::Result<()>
+        ensures out { self.new.out ≡ self.old.out }
+        ensures err { self.new.err ≡ self.old.err }
+        ensures options { self.new.options ≡ self.old.options }
+        ensures stopped { self.new.stopped.now ≡ self.old.stopped.now }
+        ensures shown { self.new.shown ≡ self.old.shown }
+    {
+        self.begun.look(self.source, step)?;
+        if word == Word::Underway {
+            self.begun.pass_by(step);
+        }
+        let source = self.source;
+        let texts = self.texts;
+        let number = source.line_of(step);
+        let words = Words(texts.of(number));
+        self.text.clear();
+        write!(self.text, "{}:{number}: {words}: {word}", source.name)?;
+        let told = told_of(source, texts, self.begun.of(actor), actor, number);
+        if let Some(reason) = reason_for(actor, told, word) {
+            write!(self.text, ", {reason}")?;
+        }
+        Ok(())
+    }
+
+    /// What comes of an answer that refuses something: the end of a strict run, or a line that says why.
+    fn heed(&mut self, step: usize, actor: Actor, word: Word) -> Result<(), Stopped>
+        ensures out { self.new.out.ghost_name ≡ self.old.out.ghost_name }
+        ensures err { self.new.err.ghost_name ≡ self.old.err.ghost_name }
+        ensures options { self.new.options ≡ self.old.options }
+        ensures stopped { self.new.stopped.now ≡ self.old.stopped.now }
+        ensures kept { Keeps (O.contents self.old.out.now) (O.contents self.new.out.now) }
+        ensures goes_on { OnOk result (self.old.options.strict ≡ false) }
+        ensures ends { IfErr result (λ why. is_end why ≡ true → self.old.options.strict ≡ true) }
+        ensures quiet { IsQuiet self.old.options self.old.shown self.new.shown (E.contents self.old.err.now) (E.contents self.new.err.now) }
+    {
+        if self.options.strict {
+            return Err(self.end_at(step, actor, word));
+        }
+        if self.options.explain {
+            self.tell_why(step, actor, word)?;
+        }
+        Ok(())
+    }
+
+    /// A strict run ends there.
+    fn end_at(&mut self, step: usize, actor: Actor, word: Word) -> Stopped
+        ensures out { self.new.out ≡ self.old.out }
+        ensures err { self.new.err ≡ self.old.err }
+        ensures options { self.new.options ≡ self.old.options }
+        ensures stopped { self.new.stopped.now ≡ self.old.stopped.now }
+        ensures shown { self.new.shown ≡ self.old.shown }
+    {
+        if let Err(error) = self.say_why(step, actor, word) {
+            return Stopped::Unwritten(error);
+        }
+        let alloc = *self.text.allocator();
+        match String::from_str(alloc, self.text.as_str()) {
+            Ok(told) => Stopped::Refused(told),
+            Err(error) => Stopped::Unwritten(error.into()),
+        }
+    }
+
+    /// Says which line was refused, and why, once all answers are out.
+    fn tell_why(&mut self, step: usize, actor: Actor, word: Word) -> Result<(), Stopped>
+        requires { self.old.options.explain ≡ true }
+        ensures out { self.new.out.ghost_name ≡ self.old.out.ghost_name }
+        ensures err { self.new.err.ghost_name ≡ self.old.err.ghost_name }
+        ensures options { self.new.options ≡ self.old.options }
+        ensures stopped { self.new.stopped.now ≡ self.old.stopped.now }
+        ensures kept { Keeps (O.contents self.old.out.now) (O.contents self.new.out.now) }
+        ensures ends { IfErr result (λ why. is_end why ≡ false) }
+    {
+        if let Err(error) = self.say_why(step, actor, word) {
+            return Err(Stopped::Unwritten(error));
+        }
+        self.say()
+    }
+
+    /// Writes the text as a line beside the answers, once all of these are out.
+    fn say(&mut self) -> Result<(), Stopped>
+        requires { self.old.options.explain ≡ true }
+        ensures out { self.new.out.ghost_name ≡ self.old.out.ghost_name }
+        ensures err { self.new.err.ghost_name ≡ self.old.err.ghost_name }
+        ensures options { self.new.options ≡ self.old.options }
+        ensures stopped { self.new.stopped.now ≡ self.old.stopped.now }
+        ensures kept { Keeps (O.contents self.old.out.now) (O.contents self.new.out.now) }
+        ensures ends { IfErr result (λ why. is_end why ≡ false) }
+    {
+        if let Err(error) = self.out.flush() {
+            return Err(Stopped::Unwritten(error));
+        }
+        // Nothing hangs on it: the run goes on where it can't be written.
+        let _ = write_line(self.err, self.text.as_bytes());
+        Ok(())
+    }
+
+    /// Says why a task was killed, where that was the answer and it is asked for.
+    fn tell_kill(&mut self, step: usize, answer: &Answer) -> Result<(), Stopped>
+        ensures out { self.new.out.ghost_name ≡ self.old.out.ghost_name }
+        ensures err { self.new.err.ghost_name ≡ self.old.err.ghost_name }
+        ensures options { self.new.options ≡ self.old.options }
+        ensures stopped { self.new.stopped.now ≡ self.old.stopped.now }
+        ensures kept { Keeps (O.contents self.old.out.now) (O.contents self.new.out.now) }
+        ensures ends { IfErr result (λ why. is_end why ≡ false) }
+        ensures quiet { IsQuiet self.old.options self.old.shown self.new.shown (E.contents self.old.err.now) (E.contents self.new.err.now) }
+    {
+        let Answer::Kill(task) = answer else {
+            return Ok(());
+        };
+        if !self.options.explain {
+            return Ok(());
+        }
+        match self.say_kill(step, *task) {
+            Ok(false) => Ok(()),
+            Ok(true) => self.say(),
+            Err(error) => Err(Stopped::Unwritten(error)),
+        }
+    }
+
+    /// Makes the text say why the task was killed, and says whether anything is known of it.
+    fn say_kill(&mut self, step: usize, task: TaskId) -> io::Result<bool>
+        ensures out { self.new.out ≡ self.old.out }
+        ensures err { self.new.err ≡ self.old.err }
+        ensures options { self.new.options ≡ self.old.options }
+        ensures stopped { self.new.stopped.now ≡ self.old.stopped.now }
+        ensures shown { self.new.shown ≡ self.old.shown }
+    {
+        let Some(killing) = self.observed.killing_of(task) else {
+            return Ok(false);
+        };
+        let source = self.source;
+        let texts = self.texts;
+        let number = source.line_of(step);
+        let words = Words(texts.of(number));
+        self.text.clear();
+        let name = source.name;
+        write!(self.text, "{name}:{number}: {words}: {killing}")?;
+        Ok(true)
+    }
+
+    /// Writes an answer, and what is to be said of it. The error is why no more are taken.
+    fn serve(&mut self, step: usize, reply: &Reply) -> Result<(), Stopped>
+        ensures out { self.new.out.ghost_name ≡ self.old.out.ghost_name }
+        ensures err { self.new.err.ghost_name ≡ self.old.err.ghost_name }
+        ensures options { self.new.options ≡ self.old.options }
+        ensures stopped { self.new.stopped.now ≡ self.old.stopped.now }
+        ensures whole { OnOk result (OutTakes self.old.options (O.contents self.old.out.now) (O.contents self.new.out.now) (reply.now ∷ [])) }
+        ensures start { OnErr result (OutBegins self.old.options (O.contents self.old.out.now) (O.contents self.new.out.now) (reply.now ∷ [])) }
+        ensures goes_on { OnOk result (GoesOn self.old.options (reply.now ∷ [])) }
+        ensures ends { IfErr result (λ why. is_end why ≡ true → EndsAt self.old.options (O.contents self.old.out.now) (O.contents self.new.out.now) (reply.now ∷ [])) }
+        ensures quiet { IsQuiet self.old.options self.old.shown self.new.shown (E.contents self.old.err.now) (E.contents self.new.err.now) }
+    {
+        match self.write(step, reply) {
+            Ok(()) => {}
+            Err(error) => return Err(Stopped::Unwritten(error)),
+        }
+        match refusal_of(&reply.answer) {
+            Some(word) => self.heed(step, reply.actor, word)?,
+            None => self.tell_kill(step, &reply.answer)?,
+        }
+        if self.options.progress {
+            self.show(step);
+        }
+        Ok(())
+    }
+
+    /// How many commands were begun, those that were begun over another among them.
+    fn count_begun(&self) -> u64 {
+        self.source
+            .steps
+            .iter()
+            .take(self.done)
+            .filter(|step| matches!(step, Step::Begin(_, _)))
+            .count() as u64
+    }
+
+    /// The run has come to its end, or was cut short: what is left to say is said. The error is why not all answers were taken.
+    fn end(&mut self, moved: Option<Moved>) -> Result<(), Stopped>
+        ensures out { self.new.out.ghost_name ≡ self.old.out.ghost_name }
+        ensures err { self.new.err.ghost_name ≡ self.old.err.ghost_name }
+        ensures kept { Keeps (O.contents self.old.out.now) (O.contents self.new.out.now) }
+        ensures ends { IfErr result (λ why. is_end why ≡ true → is_ended self.old.stopped.now ≡ true) }
+        ensures quiet { speaks self.old.options ≡ false → self.old.shown ≡ None → E.contents self.new.err.now ≡ E.contents self.old.err.now }
+    {
+        self.hide();
+        // What the writer still has comes before anything that is said beside it, also where it took no more.
+        let flushed = self.out.flush();
+        let stopped = self.stopped.take();
+        if moved.is_none() && self.options.progress {
+            self.leave_shown();
+        }
+        if self.options.summary {
+            self.sum_up(moved);
+        }
+        stopped_by(stopped, flushed)
+    }
+
+    /// Writes what an audit of the run says, where it is asked for.
+    fn tell_audit(&mut self, trace: &Trace) -> io::Result<()>
+        requires { Passes (first_of (reverse trace.now.entries)) (reverse trace.now.entries) }
+        ensures out { self.new.out.ghost_name ≡ self.old.out.ghost_name }
+        ensures err { self.new.err.ghost_name ≡ self.old.err.ghost_name }
+        ensures options { self.new.options ≡ self.old.options }
+        ensures stopped { self.new.stopped.now ≡ self.old.stopped.now }
+        ensures whole { OnOk result (Appends (O.contents self.old.out.now) (O.contents self.new.out.now) (behind_answers self.old.options)) }
+        ensures start { AppendsStart (O.contents self.old.out.now) (O.contents self.new.out.now) (behind_answers self.old.options) }
+        ensures quiet { IsQuiet self.old.options self.old.shown self.new.shown (E.contents self.old.err.now) (E.contents self.new.err.now) }
+    {
+        if !self.options.audit {
+            return Ok(());
+        }
+        self.hide();
+        match audit(trace) {
+            Ok(()) => write_bytes(self.out, b"audit ok\n"),
+            // It finds nothing wrong where the device keeps its promise.
+            Err(_) => unreachable!(),
+        }
+    }
+
+    /// The run has come to its end, or was cut short: what an audit of it says, and what is left to say. The error
+    /// is why an answer, or that, could not be written, or that a strict run ended.
+    fn conclude(&mut self, ran: &Result<Trace, Stop>, moved: Option<Moved>) -> Result<(), Stopped>
+        requires { IfOk ran.now (λ trace. Passes (first_of (reverse trace.entries)) (reverse trace.entries)) }
+        ensures out { self.new.out.ghost_name ≡ self.old.out.ghost_name }
+        ensures err { self.new.err.ghost_name ≡ self.old.err.ghost_name }
+        ensures whole { OnOk ran.now (OnOk result (Appends (O.contents self.old.out.now) (O.contents self.new.out.now) (behind_answers self.old.options))) }
+        ensures short { OnOk ran.now (AppendsStart (O.contents self.old.out.now) (O.contents self.new.out.now) (behind_answers self.old.options)) }
+        ensures kept { OnErr ran.now (Keeps (O.contents self.old.out.now) (O.contents self.new.out.now)) }
+        ensures ends { IfErr result (λ why. is_end why ≡ true → is_ended self.old.stopped.now ≡ true) }
+        ensures quiet { speaks self.old.options ≡ false → self.old.shown ≡ None → E.contents self.new.err.now ≡ E.contents self.old.err.now }
+    {
+        let told = match ran {
+            Ok(trace) => self.tell_audit(trace),
+            Err(_) => return self.end(None),
+        };
+        let ended = self.end(moved);
+        match told {
+            Ok(()) => ended,
+            Err(error) => Err(Stopped::Unwritten(error)),
+        }
+    }
+
+    /// Says how much was done. Of pages nothing is known where the run was cut short.
+    fn sum_up(&mut self, moved: Option<Moved>)
+        ensures out { self.new.out ≡ self.old.out }
+        ensures err { self.new.err.ghost_name ≡ self.old.err.ghost_name }
+    {
+        if moved.is_some() {
+            self.done = self.source.steps.len();
+        }
+        let summary = Summary {
+            tally: self.tally,
+            line: self.line_done(),
+            begun: self.count_begun(),
+            moved,
+        };
+        // Nothing hangs on it.
+        let _ = summary.write(self.err, self.observed);
+    }
+}
+
+/// The command that this step began, if one did, as it stands when a line of this number is answered.
+fn told_of<'s>(
+    source: Source<'s>,
+    texts: Texts<'_, 's>,
+    step: Option<usize>,
+    actor: Actor,
+    line: usize,
+) -> Option<Told<'s>> {
+    let command = source.command_at(step?)?;
+    let number = source.line_of(step?);
+    Some(Told {
+        actor,
+        command,
+        line: texts.of(number),
+        number,
+        in_turns: number != line,
+        turns: source.turns,
+    })
+}
+
+/// Why the actor's line was refused.
+fn reason_for<'s>(actor: Actor, told: Option<Told<'s>>, word: Word) -> Option<Reason<'s>> {
+    match word {
+        Word::Idle => Some(Reason::Idle(actor)),
+        _ => reason_of(told?, word),
+    }
+}
+
+/// Why not all answers were taken, if they were not. That one could not be written counts first.
+fn stopped_by(stopped: Option<Stopped>, flushed: io::Result<()>) -> Result<(), Stopped>
+    ensures { IfErr result (λ why. is_end why ≡ true → is_ended stopped ≡ true) }
+{
+    match stopped {
+        None => match flushed {
+            Ok(()) => Ok(()),
+            Err(error) => Err(Stopped::Unwritten(error)),
+        },
+        Some(Stopped::Unwritten(error)) => Err(Stopped::Unwritten(error)),
+        Some(Stopped::Refused(told)) => match flushed {
+            Ok(()) => Err(Stopped::Refused(told)),
+            Err(error) => Err(Stopped::Unwritten(error)),
+        },
+    }
+}
+
+/// How a run went, with its trace where it went through, and whether all that it answered was taken.
+#[derive(Drop)]
+pub struct Ended {
+    pub ran: Result<Trace, Stop>,
+    pub written: Result<(), Stopped>,
+}
+
+/// What is kept of the script beside its steps, where the options ask for it.
+fn kept_of<'s>(
+    alloc: Global,
+    options: Options,
+    source: Source<'s>,
+) -> Result<(Vec<Line<'s>>, Observed<'s>), AllocError> {
+    let lines = lines_for(alloc, options, source.script)?;
+    let observed = Observed::asked(alloc, options, source.steps)?;
+    Ok((lines, observed))
+}
+
+/// Runs steps over a device. Each answer is written to `out` as it comes; what the options ask for goes to
+/// `err`, and nothing else.
+pub fn print_run<D: BlockDevice, O: Write, E: Write>(
+    alloc: Global,
+    options: Options,
+    config: Config,
+    device: &mut D,
+    source: Source<'_>,
+    out: &mut O,
+    err: &mut E,
+) -> Ended
+    requires { fits config (D.disk device.old) ≡ true }
+    ensures whole { OnOk result.ran (OnOk result.written (marks_lines options ≡ false → PrintsRun config (D.disk device.old) source.entry.steps.now options (O.contents out.old) (O.contents out.new))) }
+    ensures short { OnOk result.ran (marks_lines options ≡ false → PrintsStart config (D.disk device.old) source.entry.steps.now options (O.contents out.old) (O.contents out.new)) }
+    ensures start { OnErr result.ran (marks_lines options ≡ false → PrintsStart config (D.disk device.old) source.entry.steps.now options (O.contents out.old) (O.contents out.new)) }
+    ensures ends { IfErr result.written (λ why. is_end why ≡ true → IsErr result.ran × (options.strict ≡ true) × (marks_lines options ≡ false → EndsRun config (D.disk device.old) source.entry.steps.now options (O.contents out.old) (O.contents out.new))) }
+    ensures quiet { speaks options ≡ false → E.contents err.new ≡ E.contents err.old }
+{
+    let (lines, mut observed) = match kept_of(alloc, options, source) {
+        Ok(kept) => kept,
+        Err(_) => {
+            return Ended {
+                ran: Err(Stop::Refused(Refusal::NoMemory)),
+                written: Ok(()),
+            };
+        }
+    };
+    let mut device = Metered {
+        device,
+        swap: config.swap,
+        calls: Calls::default(),
+    };
+    let mut text = String::new(alloc);
+    let mut begun = Begun::new(alloc);
+    let mut stopped = None;
+    let mut printer = Printer {
+        out,
+        err,
+        options,
+        source,
+        texts: Texts { lines: &lines },
+        text: &mut text,
+        begun: &mut begun,
+        observed: &mut observed,
+        shown: None,
+        done: 0,
+        tally: Tally::new(),
+        stopped: &mut stopped,
+    };
+    let ran = run_into(alloc, config, &mut device, source.steps, &mut printer);
+    let moved = moved_by(&ran, device.calls);
+    let written = printer.conclude(&ran, moved);
+    Ended { ran, written }
+}
+
+/// How many pages a run moved that went through.
+fn moved_by(ran: &Result<Trace, Stop>, written: Calls) -> Option<Moved> {
+    match ran {
+        Ok(trace) => Some(Moved::of(trace.entries(), written)),
+        Err(_) => None,
+    }
+}
+
+impl<'o, 'e, 's, 'l, 't, 'b, 'g, 'p, 'f, O: Write, E: Write> Sink
+    for Printer<'o, 'e, 's, 'l, 't, 'b, 'g, 'p, 'f, O, E> {
+    // What is said of the one and of the other writer, and when a strict run goes on. Both stay the writers that they are.
+    ghost took = { λ a b xs. (b.out.ghost_name ≡ a.out.ghost_name) × (b.err.ghost_name ≡ a.err.ghost_name) × (b.options ≡ a.options)
+        × OutTakes a.options (O.contents a.out.now) (O.contents b.out.now) xs
+        × IsQuiet a.options a.shown b.shown (E.contents a.err.now) (E.contents b.err.now)
+        × (b.stopped.now ≡ a.stopped.now)
+        × GoesOn a.options xs };
+
+    ghost failed = { λ a b begun. (b.out.ghost_name ≡ a.out.ghost_name) × (b.err.ghost_name ≡ a.err.ghost_name) × (b.options ≡ a.options)
+        × OutBegins a.options (O.contents a.out.now) (O.contents b.out.now) begun
+        × IsQuiet a.options a.shown b.shown (E.contents a.err.now) (E.contents b.err.now)
+        × (is_ended b.stopped.now ≡ true → (is_ended a.stopped.now ≡ true) ⊎ EndsAt a.options (O.contents a.out.now) (O.contents b.out.now) begun) };
+
+    ghost saw = { λ a b pasts. Unit {0} };
+
+    fn take(&mut self, step: usize, reply: Reply) -> Result<(), Closed> {
+        self.tally.count(&reply.answer);
+        self.done = step.saturating_add(1);
+        match self.serve(step, &reply) {
+            Ok(()) => Ok(()),
+            Err(stopped) => {
+                *self.stopped = Some(stopped);
+                Err(Closed)
+            }
+        }
+    }
+
+    fn look(&mut self, _step: usize, book: &Book) {
+        if self.options.summary {
+            self.observed.look(book);
+        }
+    }
+
+    fn see_relief(&mut self, _step: usize, book: &Book, cause: Cause) {
+        if self.options.explain {
+            self.observed.see_relief(book, cause);
+        }
+    }
+
+    ghost use Rattle.std.proofs.Common.{refl, ◌∙◌, inl};
+    ghost use Rattle.printer.specs.SinkLaws.{out_takes-nil, out_takes-more, out_begins-nil, quiet-refl, quiet-more, goes_on-nil, goes_on-more};
+
+    ghost nothing = { λ s. (refl, refl, refl, out_takes-nil s.options (O.contents s.out.now), quiet-refl s.options s.shown (E.contents s.err.now), refl, goes_on-nil s.options) };
+
+    ghost more = { λ a b c xs ys first second. (
+      second.0 ∙ first.0,
+      second.1 ∙ first.1,
+      second.2 ∙ first.2,
+      out_takes-more a.options b.options first.2 (O.contents a.out.now) (O.contents b.out.now) (O.contents c.out.now) xs ys first.3 second.3,
+      quiet-more a.options b.options first.2 a.shown b.shown c.shown (E.contents a.err.now) (E.contents b.err.now) (E.contents c.err.now) first.4 second.4,
+      second.5 ∙ first.5,
+      goes_on-more a.options b.options first.2 xs ys first.6 second.6,
+    ) };
+
+    ghost stays = { λ s. (refl, refl, refl, out_begins-nil s.options (O.contents s.out.now), quiet-refl s.options s.shown (E.contents s.err.now), λ ended. inl ended) };
+
+    ghost unseen = { λ s. tt };
+
+    ghost further = { λ a b c ps qs first second. tt };
+}

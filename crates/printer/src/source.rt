@@ -1,0 +1,102 @@
+//! Where the steps of a run come from.
+
+use crate::options::Options;
+use driver::{Command, Step};
+use indexmap::IndexSet;
+use std::alloc::{AllocError, Global};
+use std::str;
+
+/// The steps of a run, and the script that they come of.
+#[derive(Clone, Copy)]
+pub struct Source<'s> {
+    /// How the script's file is called.
+    pub name: &'s str,
+    /// All bytes of the script.
+    pub script: &'s [u8],
+    pub steps: &'s [Step],
+    /// For each of the steps the number of its line.
+    pub lines: &'s [usize],
+    /// The most turns of a line.
+    pub turns: u32,
+}
+
+impl<'s> Source<'s> {
+    /// The number of the line of the step that stands there; 0 where there is none.
+    pub fn line_of(&self, step: usize) -> usize {
+        self.lines.get(step).copied().unwrap_or(0)
+    }
+
+    /// The number of the last line.
+    pub fn last_line(&self) -> usize {
+        self.lines.last().copied().unwrap_or(0)
+    }
+
+    /// The command that begins with the step that stands there.
+    pub fn command_at(&self, step: usize) -> Option<&'s Command> {
+        match self.steps.get(step) {
+            Some(Step::Begin(_, command)) => Some(command),
+            _ => None,
+        }
+    }
+}
+
+/// A line of a script, without its end.
+#[derive(Clone, Copy, Debug)]
+pub struct Line<'s> {
+    text: &'s str,
+}
+
+/// The lines of a script, where something asks for them.
+#[derive(Clone, Copy)]
+pub struct Texts<'t, 's> {
+    pub lines: &'t [Line<'s>],
+}
+
+impl<'t, 's> Texts<'t, 's> {
+    /// The text of the line of this number, from 1 on.
+    pub fn of(&self, number: usize) -> &'s str {
+        match self.lines.get(number.saturating_sub(1)) {
+            Some(line) => line.text,
+            None => "",
+        }
+    }
+}
+
+/// The lines of a script, where the options ask for them.
+pub fn lines_for(
+    alloc: Global,
+    options: Options,
+    script: &[u8],
+) -> Result<Vec<Line<'_>>, AllocError> {
+    if !options.shows_lines() {
+        return Ok(Vec::new(alloc));
+    }
+    lines_of(alloc, script)
+}
+
+/// The lines of a script, in their order. One that is no text is none of a script that can be run, and is empty here.
+fn lines_of(alloc: Global, script: &[u8]) -> Result<Vec<Line<'_>>, AllocError> {
+    let mut lines = Vec::new(alloc);
+    let mut rest = script;
+    while !rest.is_empty() {
+        let (line, after) = scripts::lines::first_line(rest);
+        let text = str::from_utf8(line).unwrap_or("");
+        lines.push(Line { text })?;
+        rest = after;
+    }
+    Ok(lines)
+}
+
+/// The paths of all groups that the steps make, each once, in order of their lines.
+pub fn paths_of(alloc: Global, steps: &[Step]) -> Result<Vec<&str>, AllocError> {
+    let mut known = IndexSet::new(alloc);
+    let mut paths = Vec::new(alloc);
+    for step in steps {
+        if let Step::Begin(_, Command::Group(path)) = step {
+            if known.insert(path.as_str())? {
+                paths.push(path.as_str())?;
+            }
+        }
+    }
+    Ok(paths)
+}
