@@ -104,7 +104,7 @@ module _ (before after : State) (a : ℕ) where
       omega (arith, one, less)
   did_less what answer other falls groups (Cached t f q p frame ticket access out alive unread within free unused fresh filed placed e) = unlike (is_access what) access other
   did_less what answer other falls groups (Dropped p page counted out there may_go went gone e) = let one = one_changes p (Some page) None (ap (λ (s : State). s.tree) e) there gone in omega (arith, one)
-  did_less what answer other falls groups (Ended t ending counted out dead ends) = stilled_less (ap (λ (s : State). s.tree) ends.state) ends.pages
+  did_less what answer other falls groups (Ended is_gone ending counted out dead ends) = stilled_less (ap (λ (s : State). s.tree) ends.state) ends.pages
   did_less what answer other falls groups (Spawned t g is sets shown e) = let same : usage after a ≡ usage before a = ap (λ (s : State). usage s a) e in omega (arith, same)
   did_less what answer other falls groups (Forked t child is out alive sets copies e) = let same : usage after a ≡ usage before a = ap (λ (s : State). usage s a) e in omega (arith, same)
   did_less what answer other falls groups (Freed t v is out alive frees) = stilled_less (ap (λ (s : State). s.tree) frees.state) frees.pages
@@ -131,7 +131,7 @@ module _ (before after : State) (a : ℕ) where
       omega (arith, one, same)
   did_keep what answer out (Cached t f q p frame ticket access other alive unread within free unused fresh filed placed e) = unlike (is_out answer) out other
   did_keep what answer out (Dropped p page counted other there may_go went gone e) = unlike (is_out answer) out other
-  did_keep what answer out (Ended t ending counted other dead ends) = unlike (is_out answer) out other
+  did_keep what answer out (Ended is_gone ending counted other dead ends) = unlike (is_out answer) out other
   did_keep what answer out (Spawned t g is sets shown e) = ap (λ (s : State). usage s a) e
   did_keep what answer out (Forked t child is other alive sets copies e) = unlike (is_out answer) out other
   did_keep what answer out (Freed t v is other alive frees) = unlike (is_out answer) out other

@@ -1,7 +1,7 @@
 -- What a step did to the state, as one of few cases. Whoever asks what steps leave as it was goes by these.
-use Rattle.std.proofs.Common.{arith, ◌≡◌, inl, inr, ℕ, ◌<◌, Bool, true, false, List, [], ◌∷◌, ◌++◌, Option, Some, None, refl, sym, ap, ◌∙◌, subst}
+use Rattle.std.proofs.Common.{arith, ◌≡◌, ◌≢◌, inl, inr, ℕ, ◌<◌, ◌==◌, Bool, true, false, List, [], ◌∷◌, ◌++◌, Option, Some, None, eqb-true, eq-eqb, refl, sym, ap, ◌∙◌, subst}
 use Rattle.std.specs.Prelude.{MatchBool, nat_lt, ◌||◌, not, slice_index}
-use Rattle.std.proofs.lemmas.Bool.{and_parts}
+use Rattle.std.proofs.lemmas.Bool.{cases_Bool, and_parts}
 use Rattle.std.proofs.lemmas.Bool.Decides.{nat_tests}
 use Rattle.machine.specs.declared.id.TaskId.{TaskId}
 use Rattle.machine.specs.declared.id.GroupId.{GroupId}
@@ -22,15 +22,48 @@ use Rattle.machine.specs.Slots.{Changes, there_and}
 use Rattle.machine.specs.Pages.{in_transfer_at, Content, Memory, OfFile, Residence, Held, Coming, Going, Away, Page, page_at, file_page, home_block, is_anon, frame_at, block_at, ticket_at, is_frame_taken, is_ticket_taken}
 use Rattle.machine.specs.declared.record.EventCounts.{EventCounts}
 use Rattle.machine.specs.Counts.{no_limits, no_counts}
-use Rattle.machine.specs.Tasks.{PageTables, mapped_at, mappers, Shows, Copies, ShowsNothing, SetsTask, task_at, is_live_life, is_live_task, lives, group_of, group_of_task}
+use Rattle.machine.specs.Tasks.{PageTables, mapped_at, mappers, Shows, Copies, ShowsNothing, SetsTask, task_at, is_live_life, is_live_task, lives, task_of, group_of, group_of_task}
 use Rattle.machine.specs.State.{State, page_numbers, over_in, is_frame_free}
 use Rattle.machine.specs.Access.{Meeting, Unmapped, Hits, Transferring, NeedsPage, NeedsCopy, NeedsSwapIn, NeedsRead, Dangling, page_size, is_place, meets}
 use Rattle.machine.specs.Refusals.{first_cause, life_refusal, task_refusal, refusal}
 use Rattle.machine.specs.declared.refusal.Refusal.TheVariants.{BadPlace}
 use Rattle.machine.specs.Reclaim.{has_takeable, has_transfer, stands, target_of}
-use Rattle.machine.specs.Step.{ChargeStep, IsFreeBlock, MakesPage, StartsFetch, ReadsFile, HitStep, UnmappedStep, MeetStep, LifeStep, TaskStep, Takes, StartsLeave, LeavesBy, LeavesFrom, ReclaimStep, KillStep, RelieveStep, Frees, Removes, EndsTask, EndsTransfer, in_frame, on_block, new_node, new_page, Step}
+use Rattle.machine.specs.Step.{ChargeStep, IsFreeBlock, MakesPage, StartsFetch, ReadsFile, HitStep, UnmappedStep, MeetStep, LifeStep, TaskStep, Takes, StartsLeave, LeavesBy, LeavesFrom, ReclaimStep, KillStep, RelieveStep, still, Frees, Removes, EndsTask, EndsTransfer, in_frame, on_block, new_node, new_page, Step}
 use Rattle.machine.proofs.Values.{some_inj, never_some, unlike}
 use Rattle.legal.proofs.MoveLemmas.{MayGo, MayStay, Met, met, MetFile, met_file, Settled, hits_held, swaps_away, in_frame-cases, on_block-cases, in_frame-memory, on_block-memory}
+
+-- ---- ends of tasks
+
+-- the tasks of which the test holds end with this life, each in its group: they show nothing any more, and the pages that nothing maps go. Every other task stays as it was, and shows
+-- what it did. `counted` is what stands counted then
+pub record EndsTasks (old : State) (is_gone : ℕ → Bool) (life : Life) (counted : List EventCounts) (new : State) : Type 0 where
+  pub none : (u v : ℕ) → is_gone u ≡ true → mapped_at new.page_tables u v ≡ None
+  pub others : (u v : ℕ) → is_gone u ≡ false → mapped_at new.page_tables u v ≡ mapped_at old.page_tables u v
+  pub pages : (p : ℕ) → page_at new.pages p ≡ still new.page_tables p (page_at old.pages p)
+  pub ends : (u : ℕ) → is_gone u ≡ true → task_at new.tasks u ≡ Some (task_of (group_of_task old.tasks u) life)
+  pub stays : (u : ℕ) → is_gone u ≡ false → task_at new.tasks u ≡ task_at old.tasks u
+  pub state : new ≡ record old { pages = new.pages; tasks = new.tasks; page_tables = new.page_tables; counted = counted }
+
+module _ {old new : State} {life : Life} {counted : List EventCounts} where
+  -- one task ends: the test holds of its number
+  pub ends-one : (t : ℕ) → EndsTask old t life counted new → EndsTasks old (λ u. u == t) life counted new
+  ends-one t h =
+      record {
+        none = λ u v is. ap (λ (x : ℕ). mapped_at new.page_tables x v) (eqb-true u t is) ∙ h.shown.none v;
+        others = λ u v not. h.shown.others u v (differs u not);
+        pages = h.pages;
+        ends = λ u is. let same = eqb-true u t is in ap (task_at new.tasks) same ∙ h.ends.changed ∙ ap (λ (x : ℕ). Some (task_of (group_of_task old.tasks x) life)) (sym same);
+        stays = λ u not. h.ends.others u (differs u not);
+        state = h.state;
+      }
+    where
+      differs : (u : ℕ) → (u == t) ≡ false → u ≢ t
+      differs u not same = unlike (u == t) (eq-eqb u t same) not
+
+  -- whoever shows a page has not ended, and showed it before
+  pub ends-was : {is_gone : ℕ → Bool} → EndsTasks old is_gone life counted new → (u v p : ℕ) → mapped_at new.page_tables u v ≡ Some p → (is_gone u ≡ false) × (mapped_at old.page_tables u v ≡ Some p)
+  ends-was {is_gone} h u v p at =
+      elim (cases_Bool (is_gone u)) [ inl gone ↦ never_some (mapped_at new.page_tables u v) (h.none u v gone) at | inr stays ↦ (stays, sym (h.others u v stays) ∙ at) ]
 
 -- ---- the cases
 
@@ -115,8 +148,8 @@ pub data Did (old : State) (what : Event) (answer : Reply) (new : State) : Type 
   -- one page is gone: it was of a file, or nothing mapped it
   Dropped : (p : ℕ) (page : Page) (counted : List EventCounts) → is_out answer ≡ false → page_at old.pages p ≡ Some page → MayGo old.page_tables p page → Went what page → Changes old.pages new.pages p None
       → new ≡ record old { pages = new.pages; counted = counted } → Did old what answer new
-  -- a task is dead, and shows nothing
-  Ended : (t : ℕ) (life : Life) (counted : List EventCounts) → is_out answer ≡ false → is_live_life life ≡ false → EndsTask old t life counted new → Did old what answer new
+  -- the tasks of which a test holds are dead, and show nothing
+  Ended : (is_gone : ℕ → Bool) (life : Life) (counted : List EventCounts) → is_out answer ≡ false → is_live_life life ≡ false → EndsTasks old is_gone life counted new → Did old what answer new
   -- a task more
   Spawned : (t : TaskId) (g : GroupId) → what ≡ event.Spawn t g → SetsTask old.tasks t.0 g.0 Live new.tasks → ShowsNothing old.page_tables new.page_tables t.0
       → new ≡ record old { tasks = new.tasks; page_tables = new.page_tables } → Did old what answer new
@@ -263,7 +296,7 @@ module _ (old new : State) (what : Event) where
   reclaims target Idle answer idle step = by_test (has_takeable old target) (takes target answer) (λ k. by_test (has_transfer old target) (λ w. same answer w.1) idle k) step
 
   kills : (limit : ℕ) (answer : Reply) → KillStep old limit answer new → Did old what answer new
-  kills limit (reply.KilledTask t) h = Ended t.0 Killed _ refl refl h.1
+  kills limit (reply.KilledTask t) h = Ended _ Killed _ refl refl (ends-one t.0 h.1)
   kills limit reply.NoVictim h = Kept old.limits _ h.1
   kills limit answer h = absurd h
 
@@ -346,7 +379,7 @@ step_did old new (event.Fork t child) answer h =
     (λ task known alive k. Forked t child refl (ap is_out k.0) alive (subst (λ (g : ℕ). SetsTask old.tasks child.0 g Live new.tasks) (sym (ap group_of known)) k.1) k.2 k.3) h
 step_did old new (event.Free t v) answer h = of_task old new (event.Free t v) t.0 _ answer (λ task known alive k. Freed t v refl (ap is_out k.answers) alive k) h
 step_did old new (event.Attach t g) reply.Ok h = Attached t g refl refl h.0 h.1
-step_did old new (event.Exit t) answer h = of_task old new (event.Exit t) t.0 _ answer (λ task known alive k. Ended t.0 Exited old.counted (ap is_out k.0) refl k.1) h
+step_did old new (event.Exit t) answer h = of_task old new (event.Exit t) t.0 _ answer (λ task known alive k. Ended _ Exited old.counted (ap is_out k.0) refl (ends-one t.0 k.1)) h
 step_did old new (event.Mkdir path) reply.Ok h = Grown path refl refl h
 step_did old new (event.Rmdir g) reply.Ok h = Removed g refl refl h
 step_did old new (event.Set g what) reply.Ok h = Kept _ old.counted h

@@ -29,7 +29,7 @@ use Rattle.machine.specs.State.{State, over_in, is_frame_free}
 use Rattle.machine.specs.Access.{Meeting, Unmapped, Hits, Transferring, NeedsPage, NeedsCopy, NeedsSwapIn, NeedsRead, Dangling, meets, is_shared_write}
 use Rattle.machine.specs.Reclaim.{has_takeable, has_transfer, stands, target_of}
 use Rattle.machine.specs.Refusals.{refusal}
-use Rattle.machine.specs.Step.{ChargeStep, TriesCharge, MakesPage, StartsFetch, ReadsFile, HitStep, UnmappedStep, MeetStep, LifeStep, TaskStep, Takes, StartsLeave, Drops, LeavesBy, LeavesFrom, ReclaimStep, ReclaimOneStep, KillStep, RelieveStep, still, EndsTask, Exits, Forks, Frees, Attaches, Removes, regrouped, EndsTransfer, in_frame, on_block, Step}
+use Rattle.machine.specs.Step.{ChargeStep, TriesCharge, MakesPage, StartsFetch, ReadsFile, HitStep, UnmappedStep, MeetStep, LifeStep, TaskStep, Takes, StartsLeave, Drops, LeavesBy, LeavesFrom, ReclaimStep, ReclaimOneStep, KillStep, RelieveStep, still, Exits, Forks, Frees, Attaches, Removes, regrouped, EndsTransfer, in_frame, on_block, Step}
 use Rattle.machine.specs.History.{Spot, InTask, is_spot, Byte, As, Nothing, says_if, says, follow, ticket_given}
 use Rattle.machine.proofs.Values.{some_inj, never_some, unlike}
 use Rattle.machine.proofs.TreeLemmas.{eq_cases}
@@ -38,6 +38,7 @@ use Rattle.machine.proofs.RemovedLemmas.{regrouped-was}
 use Rattle.legal.proofs.FileSteps.{AreFiled, FilesGo, files_go}
 use Rattle.legal.proofs.ShownLemmas.{ShowsPages}
 use Rattle.legal.proofs.MoveLemmas.{Met, met, MetFile, met_file, Settled, in_frame-cases, on_block-cases}
+use Rattle.legal.proofs.Did.{EndsTasks, ends-one, ends-was}
 
 -- ---- words
 
@@ -345,16 +346,6 @@ module _ (old new : State) (alive : AllLive old.page_tables old.tasks) (shows : 
       one_place : (t1 v1 t2 v2 : ℕ) → t1 ≡ t2 → v1 ≡ v2 → ((t1 == t2) && (v1 == v2)) ≡ true
       one_place t1 v1 t2 v2 same_t same_v = ap (λ (b : Bool). b && (v1 == v2)) (eq-eqb t1 t2 same_t) ∙ eq-eqb v1 v2 same_v
 
-  -- a task shows nothing now, and every other what it did
-  places_none : (what : Event) (answer : Reply) (t : ℕ) (task : Option Task) → ShowsNothing old.page_tables new.page_tables t → Changes old.tasks new.tasks t task
-      → ((t' v o : ℕ) → t' ≢ t → says what answer (InTask t' v o) ≡ Nothing) → PlacesGo old what answer new
-  places_none what answer t task shown sets silent =
-      places_come what answer
-      (λ t' v p at. let before = was t' v p at in (was_so what answer t' v p before.1 (λ o. silent t' v o before.0), ap (there_and is_live_task) (sets.others t' before.0) ∙ alive t' v p before.1))
-    where
-      was : (t' v p : ℕ) → mapped_at new.page_tables t' v ≡ Some p → (t' ≢ t) × (mapped_at old.page_tables t' v ≡ Some p)
-      was t' v p at = shows_nothing-was old.page_tables new.page_tables t shown t' v p at
-
   -- ---- little changes
 
   -- no page, no place and no task changes, and nothing is said
@@ -557,12 +548,13 @@ module _ (old new : State) (alive : AllLive old.page_tables old.tasks) (shows : 
 
   -- ---- ends of tasks
 
-  -- a task is dead, and shows nothing
-  task_ends : (what : Event) (answer : Reply) (t : ℕ) (ended : Life) (counted : List EventCounts) → Silent what answer → ticket_given answer ≡ None → EndsTask old t ended counted new → OnTasks old what answer new
-  task_ends what answer t ended counted silent none h =
+  -- the tasks of which a test holds are dead, and show nothing
+  tasks_end : (what : Event) (answer : Reply) (is_gone : ℕ → Bool) (ended : Life) (counted : List EventCounts) → Silent what answer → ticket_given answer ≡ None → EndsTasks old is_gone ended counted new → OnTasks old what answer new
+  tasks_end what answer is_gone ended counted silent none h =
       record {
         pages = pages_still what answer h.pages;
-        places = places_none what answer t _ h.shown h.ends (λ t' v o other. silent t' v o);
+        places = places_come what answer
+            (λ t v p at. let was = ends-was h t v p at in (was_so what answer t v p was.1 (silent t v), ap (there_and is_live_task) (h.stays t was.0) ∙ alive t v p was.1));
         fresh = gives_none answer none;
       }
 
@@ -581,7 +573,7 @@ module _ (old new : State) (alive : AllLive old.page_tables old.tasks) (shows : 
   exits : (t : TaskId) (answer : Reply) → TaskStep old (task_at old.tasks t.0) (λ task. Exits old t.0 answer new) answer new → OnTasks old (event.Exit t) answer new
   exits t answer step =
       of_task (event.Exit t) answer (task_at old.tasks t.0) _ (λ t v o. refl)
-      (λ task there lives_on h. task_ends (event.Exit t) answer t.0 Exited old.counted (λ t' v o. refl) (ap ticket_given h.0) h.1) step
+      (λ task there lives_on h. tasks_end (event.Exit t) answer _ Exited old.counted (λ t' v o. refl) (ap ticket_given h.0) (ends-one t.0 h.1)) step
 
   -- ---- sharing and moving
 
@@ -704,7 +696,7 @@ module _ (old new : State) (alive : AllLive old.page_tables old.tasks) (shows : 
 
   -- a task is killed, or there is none
   kills : (why : Cause) (limit : ℕ) (answer : Reply) → KillStep old limit answer new → OnTasks old (event.Relieve why) answer new
-  kills why limit (reply.KilledTask t) h = task_ends (event.Relieve why) (reply.KilledTask t) t.0 Killed _ (λ t' v o. refl) refl h.1
+  kills why limit (reply.KilledTask t) h = tasks_end (event.Relieve why) (reply.KilledTask t) _ Killed _ (λ t' v o. refl) refl (ends-one t.0 h.1)
   kills why limit reply.NoVictim h = quiet (event.Relieve why) reply.NoVictim h.1 (λ t v o. refl) refl
   kills why limit answer h = absurd h
 
@@ -772,9 +764,14 @@ module _ (old new : State) (alive : AllLive old.page_tables old.tasks) (shows : 
   spawns t g sets shown state =
       record {
         pages = pages_same (event.Spawn t g) reply.Ok (ap (λ (s : State). s.pages) state);
-        places = places_none (event.Spawn t g) reply.Ok t.0 _ shown sets (λ t' v o other. ap (λ b. says_if b (Byte 0)) (ne_eqb t.0 t' (λ e. other (sym e))));
+        places = places_come (event.Spawn t g) reply.Ok come;
         fresh = gives_none reply.Ok refl;
       }
+    where
+      come : (u v p : ℕ) → mapped_at new.page_tables u v ≡ Some p → ComesFrom old (event.Spawn t g) reply.Ok u v p × (lives new.tasks u ≡ true)
+      come u v p at =
+          let was = shows_nothing-was old.page_tables new.page_tables t.0 shown u v p at in
+          (was_so (event.Spawn t g) reply.Ok u v p was.1 (λ o. ap (λ b. says_if b (Byte 0)) (ne_eqb t.0 u (λ e. was.0 (sym e)))), ap (there_and is_live_task) (sets.others u was.0) ∙ alive u v p was.1)
 
   -- what each step does
   step_on_tasks : (what : Event) (answer : Reply) → refusal old what ≡ None → Step old what answer new → OnTasks old what answer new

@@ -268,7 +268,7 @@ module _ (old new : State) (files : AreFiled old) where
             going = going;
             home = (subst (IsAtHome _ page.dirty) going (subst (IsFiledAs old.opening.swap old.opening.files page) of_file (files.filed p page there)).1).0;
           })
-  did_home what answer (Ended t ending counted out dead ends) f q =
+  did_home what answer (Ended is_gone ending counted out dead ends) f q =
       home_same what f q
       (slots_alike f q (λ n. ap (holds_page f q) (ends.pages n) ∙ still_holds new.page_tables n f q (page_at old.pages n))
       (λ n holds. ends.pages n ∙ still_same_file new.page_tables n f q (page_at old.pages n) holds))
@@ -331,7 +331,7 @@ module _ (old new : State) where
       contents_one p _ placed (λ before after was is. ap (λ (x : Page). x.content) (sym (some_inj is)) ∙ ap (λ (x : Page). x.content) (some_inj (sym there ∙ was)))
   did_contents what answer (Cached t f q p frame ticket access out alive unread within free unused fresh filed placed e) = contents_one p _ placed (λ before page was is. never_some (page_at old.pages p) free was)
   did_contents what answer (Dropped p page counted out there may_go went gone e) = contents_one p None gone (λ before after was is. cc)
-  did_contents what answer (Ended t ending counted out dead ends) = contents_still new.page_tables ends.pages
+  did_contents what answer (Ended is_gone ending counted out dead ends) = contents_still new.page_tables ends.pages
   did_contents what answer (Spawned t g is sets shown e) = contents_same (ap (λ (s : State). s.pages) e)
   did_contents what answer (Forked t child is out alive sets copies e) = contents_same (ap (λ (s : State). s.pages) e)
   did_contents what answer (Freed t v is out alive frees) = contents_still new.page_tables frees.pages
@@ -387,7 +387,7 @@ module _ (old new : State) (what : Event) where
       moves_filled answer page dirty now moves f b n (ap (λ (x : Page). x.residence) (some_inj (sym there ∙ was)) ∙ coming) (ap (λ (x : Page). is_filled_at x.residence) (some_inj is) ∙ filled))
   did_filled answer (Cached t f q p frame ticket access out alive unread within free unused fresh filed placed e) = filled_one p _ placed (λ f' b n before page was is coming filled. never_some (page_at old.pages p) free was)
   did_filled answer (Dropped p page counted out there may_go went gone e) = filled_one p None gone (λ f b n before after was is coming filled. cc)
-  did_filled answer (Ended t ending counted out dead ends) = filled_still new.page_tables ends.pages
+  did_filled answer (Ended is_gone ending counted out dead ends) = filled_still new.page_tables ends.pages
   did_filled answer (Spawned t g is sets shown e) = filled_same (ap (λ (s : State). s.pages) e)
   did_filled answer (Forked t child is out alive sets copies e) = filled_same (ap (λ (s : State). s.pages) e)
   did_filled answer (Freed t v is out alive frees) = filled_still new.page_tables frees.pages

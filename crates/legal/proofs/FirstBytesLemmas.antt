@@ -165,7 +165,7 @@ module _ (old new : State) where
   did_empty what answer (Cached t f q p frame ticket access out alive unread within free unused fresh filed placed e) =
       empty_one p _ placed (λ page none is of_file. ap (λ (x : Page). is_filled_at x.residence) (sym (some_inj is)))
   did_empty what answer (Dropped p page counted out there may_go went gone e) = empty_one p None gone (λ after none is of_file. cc)
-  did_empty what answer (Ended t ending counted out dead ends) = empty_still new.page_tables ends.pages
+  did_empty what answer (Ended is_gone ending counted out dead ends) = empty_still new.page_tables ends.pages
   did_empty what answer (Spawned t g is sets shown e) = empty_same (ap (λ (s : State). s.pages) e)
   did_empty what answer (Forked t child is out alive sets copies e) = empty_same (ap (λ (s : State). s.pages) e)
   did_empty what answer (Freed t v is out alive frees) = empty_still new.page_tables frees.pages

@@ -103,7 +103,7 @@ module _ (old new : State) (alive : AllLive old.page_tables old.tasks) (mapped :
   did_mapped what answer none (Cached t f q p frame ticket access out lives_t unread within free unused fresh filed placed e) =
       one_mapped p _ placed (ap (λ (s : State). s.page_tables) e) (λ after is memory settled. absurd (let file : true ≡ false = ap (λ (x : Page). in_transfer_at x.residence) (some_inj is) ∙ settled in cc))
   did_mapped what answer none (Dropped p page counted out there may_go went gone e) = one_mapped p None gone (ap (λ (s : State). s.page_tables) e) (λ after is memory settled. cc)
-  did_mapped what answer none (Ended t ending counted out dead ends) = stilled ends.pages
+  did_mapped what answer none (Ended is_gone ending counted out dead ends) = stilled ends.pages
   did_mapped what answer none (Spawned t g is sets shown e) =
       tables_grow t.0 (spawn_unused old t.0 g.0 (sym (ap (refusal old) is) ∙ none)) shown.others (ap (λ (s : State). s.pages) e)
   did_mapped what answer none (Forked t child is out lives_t sets copies e) =

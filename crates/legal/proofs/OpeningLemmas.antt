@@ -31,7 +31,7 @@ step_opening old what answer new step = by_case (step_did old new what answer st
     by_case (Moved p page dirty now counted there placed moves mapped e) = ap (λ (s : State). s.opening) e
     by_case (Cached t f q p frame ticket access out alive unread within free unused fresh filed placed e) = ap (λ (s : State). s.opening) e
     by_case (Dropped p page counted out there may_go went gone e) = ap (λ (s : State). s.opening) e
-    by_case (Ended t ending counted out dead ends) = ap (λ (s : State). s.opening) ends.state
+    by_case (Ended is_gone ending counted out dead ends) = ap (λ (s : State). s.opening) ends.state
     by_case (Spawned t g is sets shown e) = ap (λ (s : State). s.opening) e
     by_case (Forked t child is out alive sets copies e) = ap (λ (s : State). s.opening) e
     by_case (Freed t v is out alive frees) = ap (λ (s : State). s.opening) frees.state
@@ -45,7 +45,7 @@ same_tree old new what answer other (Made t v p frame access out alive shared wi
 same_tree old new what answer other (Moved p page dirty now counted there placed moves mapped e) = ap (λ (s : State). s.tree) e
 same_tree old new what answer other (Cached t f q p frame ticket access out alive unread within free unused fresh filed placed e) = ap (λ (s : State). s.tree) e
 same_tree old new what answer other (Dropped p page counted out there may_go went gone e) = ap (λ (s : State). s.tree) e
-same_tree old new what answer other (Ended t ending counted out dead ends) = ap (λ (s : State). s.tree) ends.state
+same_tree old new what answer other (Ended is_gone ending counted out dead ends) = ap (λ (s : State). s.tree) ends.state
 same_tree old new what answer other (Spawned t g is sets shown e) = ap (λ (s : State). s.tree) e
 same_tree old new what answer other (Forked t child is out alive sets copies e) = ap (λ (s : State). s.tree) e
 same_tree old new what answer other (Freed t v is out alive frees) = ap (λ (s : State). s.tree) frees.state

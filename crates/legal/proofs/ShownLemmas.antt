@@ -14,7 +14,7 @@ use Rattle.machine.proofs.Values.{some_inj, never_some, unlike}
 use Rattle.machine.proofs.TreeLemmas.{eq_cases}
 use Rattle.machine.proofs.MappingLemmas.{mapped_at-mappers, shows-cases, copies-cases, shows_nothing-was}
 use Rattle.machine.proofs.RemovedLemmas.{regrouped-test}
-use Rattle.legal.proofs.Did.{Did, Kept, Made, Moved, Cached, Dropped, Ended, Spawned, Forked, Freed, Attached, Removed, Grown, step_did}
+use Rattle.legal.proofs.Did.{ends-was, Did, Kept, Made, Moved, Cached, Dropped, Ended, Spawned, Forked, Freed, Attached, Removed, Grown, step_did}
 
 -- a page that a place shows is there, and is memory
 pub record ShowsPages (s : State) : Type 0 where
@@ -81,9 +81,9 @@ module _ (old new : State) (shows : ShowsMemory old) where
     where
       unmapped : (t v : ℕ) → mapped_at old.page_tables t v ≡ Some p → false ≡ true
       unmapped t v at' = absurd (let none = may_go (sym (ap is_memory there) ∙ shows t v p at') in let one = mapped_at-mappers old.page_tables t v p at' in omega (arith, none, one))
-  did_shows what answer (Ended t ending counted out dead ends) u w q at =
+  did_shows what answer (Ended is_gone ending counted out dead ends) u w q at =
       ap is_memory (ends.pages q)
-      ∙ still_memory new.page_tables q (page_at old.pages q) (mapped_at-mappers new.page_tables u w q at) (shows u w q (shows_nothing-was old.page_tables new.page_tables t ends.shown u w q at).1)
+      ∙ still_memory new.page_tables q (page_at old.pages q) (mapped_at-mappers new.page_tables u w q at) (shows u w q (ends-was ends u w q at).1)
   did_shows what answer (Spawned t g is sets shown e) u w q at =
       ap (λ (s : State). is_memory (page_at s.pages q)) e ∙ shows u w q (shows_nothing-was old.page_tables new.page_tables t.0 shown u w q at).1
   did_shows what answer (Forked t child is out alive sets copies e) u w q at =

@@ -2,7 +2,7 @@
 -- of live tasks are there.
 use Rattle.std.proofs.Common.{◌+◌, ◌<◌, ◌≡◌, ◌≢◌, inl, inr, ℕ, zero, suc, ◌≤◌, ◌==◌, ◌&&◌, not, Bool, true, false, cond, List, [], ◌∷◌, ◌++◌, length, Option, Some, None, eqb-true, eq-eqb, refl, sym, ap, ◌∙◌, subst, arith, length-append}
 use Rattle.std.specs.Prelude.{◌⊎◌, ◌||◌, IfSome, slice_index, sum}
-use Rattle.std.proofs.lemmas.Bool.{cases_lt, and_parts}
+use Rattle.std.proofs.lemmas.Bool.{cases_Bool, cases_lt, and_parts}
 use Rattle.std.proofs.lemmas.Bool.Decides.{nat_tests}
 use Rattle.std.proofs.lemmas.List.{get_or_append_left}
 use Rattle.std.proofs.Math.Seq.{get_or-append_seam}
@@ -25,7 +25,7 @@ use Rattle.machine.specs.Tasks.{is_live_in, has_tasks, Tasks, task_at, is_live_l
 use Rattle.machine.specs.State.{Opening, State, first_state}
 use Rattle.machine.specs.declared.refusal.Refusal.{Refusal}
 use Rattle.machine.specs.Refusals.{group_refusal, rmdir_refusal, refusal, first_cause}
-use Rattle.machine.specs.Step.{IsFreeBlock, still, EndsTask, new_page, regrouped, Removes}
+use Rattle.machine.specs.Step.{IsFreeBlock, still, new_page, regrouped, Removes}
 use Rattle.machine.specs.Legal.{Legal}
 use Rattle.machine.proofs.Values.{some_inj, never_some, unlike}
 use Rattle.machine.proofs.TreeLemmas.{eq_cases, lt_cases, IsTree-push}
@@ -34,7 +34,7 @@ use Rattle.machine.proofs.TestLemmas.{count-less, count-two, none_has}
 use Rattle.machine.proofs.SlotLemmas.{one_if, count_there-none, count_there-changes}
 use Rattle.machine.proofs.FileLemmas.{holds_page, is_page_of-true, IsSingle, single_fewer, single_changes, home_above, home_below, homes_differ}
 use Rattle.legal.proofs.FileSteps.{AreFiled}
-use Rattle.legal.proofs.Did.{GoesTo, read_page, Moves, Rests, Comes, Goes, Lands, Lies, Did, Kept, Made, Moved, Cached, Dropped, Ended, Spawned, Forked, Freed, Attached, Removed, Grown, step_did}
+use Rattle.legal.proofs.Did.{EndsTasks, GoesTo, read_page, Moves, Rests, Comes, Goes, Lands, Lies, Did, Kept, Made, Moved, Cached, Dropped, Ended, Spawned, Forked, Freed, Attached, Removed, Grown, step_did}
 
 -- ---- what is sound
 
@@ -239,10 +239,11 @@ sound-stilled swap files tables before after tasks tree pages sound =
     passed : (test : Page → Bool) (n : ℕ) → there_and test (at after n) ≡ true → there_and test (at before n) ≡ true
     passed test n e = still_passes tables n test (page_at before n) (sym (ap (there_and test) (pages n)) ∙ e)
 
--- one task changes, and if it lives its group is there
-sound-task : (swap : ℕ) (files : List ℕ) (pages : Pages) (tasks tasks' : Tasks) (tree : List Node) (t : ℕ) (task : Task) → Changes tasks tasks' t (Some task) → (is_live_task task ≡ true → is_live tree task.group.0 ≡ true)
-    → IsSound swap files pages tasks tree → IsSound swap files pages tasks' tree
-sound-task swap files pages tasks tasks' tree t task sets home sound =
+-- each task is as it was, or is there, and if it lives its group is
+sound-tasks : (swap : ℕ) (files : List ℕ) (pages : Pages) (tasks tasks' : Tasks) (tree : List Node)
+    → ((u : ℕ) → (task_at tasks' u ≡ task_at tasks u) ⊎ ((task : Task) × (task_at tasks' u ≡ Some task) × (is_live_task task ≡ true → is_live tree task.group.0 ≡ true))) → IsSound swap files pages tasks tree
+    → IsSound swap files pages tasks' tree
+sound-tasks swap files pages tasks tasks' tree each sound =
     record {
       frames = sound.frames;
       blocks = sound.blocks;
@@ -250,26 +251,27 @@ sound-task swap files pages tasks tasks' tree t task sets home sound =
       single = sound.single;
       fits = sound.fits;
       homes = λ u alive.
-          elim (eq_cases u t) [
-            | inl same ↦
-                let here : task_at tasks' u ≡ Some task = ap (task_at tasks') same ∙ sets.changed in
-                ap (λ (slot : Option Task). is_live tree (group_of slot)) here ∙ home (sym (ap (there_and is_live_task) here) ∙ alive)
-            | inr other ↦ ap (λ (slot : Option Task). is_live tree (group_of slot)) (sets.others u other) ∙ sound.homes u (sym (ap (there_and is_live_task) (sets.others u other)) ∙ alive)
+          elim (each u) [
+            | inl same ↦ ap (λ (slot : Option Task). is_live tree (group_of slot)) same ∙ sound.homes u (sym (ap (there_and is_live_task) same) ∙ alive)
+            | inr here ↦ ap (λ (slot : Option Task). is_live tree (group_of slot)) here.1 ∙ here.2 (sym (ap (there_and is_live_task) here.1) ∙ alive)
           ];
       above = sound.above;
       falls = sound.falls;
     }
 
--- a task ends, and the pages that nothing maps any more go
-sound-ended : (swap : ℕ) (files : List ℕ) (old new : State) (t : ℕ) (ended : Life) (counted : List EventCounts) → is_live_life ended ≡ false → EndsTask old t ended counted new
+-- the tasks of which a test holds end, and the pages that nothing maps any more go
+sound-ended : (swap : ℕ) (files : List ℕ) (old new : State) (is_gone : ℕ → Bool) (ended : Life) (counted : List EventCounts) → is_live_life ended ≡ false → EndsTasks old is_gone ended counted new
     → IsSound swap files old.pages old.tasks old.tree → IsSound swap files new.pages new.tasks old.tree
-sound-ended swap files old new t ended counted dead ends sound =
-    sound-task swap files new.pages old.tasks new.tasks old.tree t _ ends.ends (λ lives_on. unlike (is_live_life ended) lives_on dead)
+sound-ended swap files old new is_gone ended counted dead ends sound =
+    sound-tasks swap files new.pages old.tasks new.tasks old.tree
+    (λ u.
+    elim (cases_Bool (is_gone u)) [ inl gone ↦ inr (_, ends.ends u gone, λ lives_on. unlike (is_live_life ended) lives_on dead) | inr stays ↦ inl (ends.stays u stays) ])
     (sound-stilled swap files new.page_tables old.pages new.pages old.tasks old.tree ends.pages sound)
 
 -- a task begins in a group that is there, or goes to it
 sound-spawned : (swap : ℕ) (files : List ℕ) (pages : Pages) (tasks tasks' : Tasks) (tree : List Node) (t g : ℕ) → is_live tree g ≡ true → SetsTask tasks t g Live tasks' → IsSound swap files pages tasks tree → IsSound swap files pages tasks' tree
-sound-spawned swap files pages tasks tasks' tree t g live sets sound = sound-task swap files pages tasks tasks' tree t _ sets (λ alive. live) sound
+sound-spawned swap files pages tasks tasks' tree t g live sets sound =
+    sound-tasks swap files pages tasks tasks' tree (λ u. elim (eq_cases u t) [ inl same ↦ inr (_, ap (task_at tasks') same ∙ sets.changed, λ alive. live) | inr other ↦ inl (sets.others u other) ]) sound
 
 -- what a path finds is there
 found_below : (tree : List Node) (path : List ℕ) → IsBelow (find_group tree path) (length tree)
@@ -497,7 +499,7 @@ module _ (opening : Opening) (old new : State) (sound : sound_in opening old) wh
       (subst (λ (o : Opening). q < slice_index o.files f) sound.0 (filed none)) unread unused fresh
       (subst (λ (home : ℕ). Changes old.pages new.pages p (Some (read_page (group_of_task old.tasks t) f q (Coming frame home ticket)))) (homes_are f q) placed))
   did_sound what answer none (Dropped p page counted out there may_go went gone e) = pages_sound e (sound-gone opening.swap opening.files old.pages new.pages old.tasks old.tree p sound.1 gone)
-  did_sound what answer none (Ended t ending counted out dead ends) = subst (sound_in opening) (sym ends.state) (sound.0, sound-ended opening.swap opening.files old new t ending counted dead ends sound.1)
+  did_sound what answer none (Ended is_gone ending counted out dead ends) = subst (sound_in opening) (sym ends.state) (sound.0, sound-ended opening.swap opening.files old new is_gone ending counted dead ends sound.1)
   did_sound what answer none (Spawned t g is sets shown e) =
       subst (sound_in opening) (sym e) (sound.0, sound-spawned opening.swap opening.files old.pages old.tasks new.tasks old.tree t.0 g.0 (live_group g.0 _ (sym (ap (refusal old) is) ∙ none)) sets sound.1)
   did_sound what answer none (Forked t child is out alive sets copies e) =

@@ -90,7 +90,7 @@ module _ (old new : State) where
   did-places what answer stays (Moved p page dirty now counted there placed moves mapped e) = let moved : Option Page = Some (record { content = page.content; group = page.group; dirty = dirty; residence = now }) in places-one p (Some page) moved there placed (alike-moved page dirty now)
   did-places what answer stays (Cached t f q p frame ticket access out alive unread within free unused fresh filed placed e) = let read : Option Page = Some (read_page (group_of_task old.tasks t) f q (Coming frame (home_block old.opening.swap old.opening.files f q) ticket)) in places-one p None read free placed (alike-new read)
   did-places what answer stays (Dropped p page counted out there may_go went gone e) = places-one p (Some page) None there gone (alike-gone (Some page))
-  did-places what answer stays (Ended t ending counted out dead ends) =
+  did-places what answer stays (Ended is_gone ending counted out dead ends) =
       places (λ p. subst (λ (o : Option Page). AreAlike (page_at old.pages p) o) (sym (ends.pages p)) (alike-still new.page_tables p (page_at old.pages p)))
   did-places what answer stays (Spawned t g is sets shown e) = places-same (ap (λ (s : State). s.pages) e)
   did-places what answer stays (Forked t child is out alive sets copies e) = places-same (ap (λ (s : State). s.pages) e)
@@ -159,7 +159,7 @@ module _ (old new : State) (many : ℕ) (numbers : page_numbers old.opening ≡ 
   did-numbered what answer (Moved p page dirty now counted there placed moves mapped e) = numbered-one p _ placed (subst (λ (o : Option Page). IfSome o (λ x. p < many)) there (was.below p))
   did-numbered what answer (Cached t f q p frame ticket access out alive unread within free unused fresh filed placed e) = numbered-one p _ placed (subst (λ (n : ℕ). p < n) numbers within)
   did-numbered what answer (Dropped p page counted out there may_go went gone e) = numbered-one p None gone tt
-  did-numbered what answer (Ended t ending counted out dead ends) =
+  did-numbered what answer (Ended is_gone ending counted out dead ends) =
       record { below = λ p. subst (λ (o : Option Page). IfSome o (λ page. p < many)) (sym (ends.pages p)) (numbered-still many new.page_tables p (page_at old.pages p) (was.below p)) }
   did-numbered what answer (Spawned t g is sets shown e) = numbered-same (ap (λ (s : State). s.pages) e)
   did-numbered what answer (Forked t child is out alive sets copies e) = numbered-same (ap (λ (s : State). s.pages) e)
