@@ -10,7 +10,7 @@ ghost use Rattle.book.specs.Decisions.{IsFault, MeetsSo, HasRoomFor, LacksRoomFo
 ghost use Rattle.book.specs.declared.decision.Decision.TheVariants as decision;
 ghost use Rattle.book.specs.declared.decision.Meeting.TheVariants as meeting;
 
-use crate::decision::{Decision, PageFault, Meeting};
+use crate::decision::{Decision, Meeting, PageFault};
 use crate::event::Reply;
 use machine::event::{Op, Query, Setting};
 use machine::id::{FrameId, GroupId, PageId, TaskId};

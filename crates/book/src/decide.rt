@@ -14,7 +14,7 @@ ghost use Rattle.book.specs.MakesStep.{IsAsked};
 ghost use Rattle.book.specs.Spots.{holder};
 ghost use Rattle.book.specs.Decisions.{spot_at, IsFault, Finds, met_by, MeetsSo, RunsIn, IsDecided};
 
-use crate::decision::{Decision, PageFault, Meeting};
+use crate::decision::{Decision, Meeting, PageFault};
 use machine::bytes::PAGE_BYTES;
 use machine::event::{Cause, Event, Op, Place, Query, Setting};
 use machine::id::{FrameId, GroupId, PageId, TaskId};

@@ -3,13 +3,13 @@
 ghost use Rattle.std.specs.Prelude.{◌≡◌, ◌<◌};
 
 use book::{Book, Event, Pass, Reply};
-use turns::automaton::spend;
 use machine::config::{Config, FileList, Watermarks};
 use machine::event::{Op, Place};
 use machine::id::{GroupId, TaskId};
 use machine::refusal::Refusal;
 use std::alloc::Global;
 use std::test::Fail;
+use turns::automaton::spend;
 
 /// Three frames, four swap blocks, and room for so many entries; task 1 is in the root.
 fn open(alloc: Global, trace: u32) -> Result<Book, Refusal> {

@@ -10,15 +10,15 @@ ghost use Rattle.live.specs.Runs.{Looked};
 
 use crate::hand::Hand;
 use book::{Book, Event, Kept, Reply};
-use turns::automaton::spend;
-use turns::judge::judge;
-use turns::turn::Stage;
 use machine::command::{Actor, Command};
 use machine::refusal::Refusal;
 use std::alloc::{AllocError, Global};
 use std::marker::Model;
 use std::sync::ledger;
 use std::sync::ledger::{Ledger, Share};
+use turns::automaton::spend;
+use turns::judge::judge;
+use turns::turn::Stage;
 
 /// A worker's leave to ask the book that workers share, with what it asked and what came back.
 ///

@@ -15,7 +15,6 @@ ghost use Rattle.live.specs.Reports.{IsLegal};
 use crate::opened::Opened;
 use crate::pass::Pass;
 use book::{Book, Event, Reply};
-use turns::turn::Stage;
 use machine::command::{Actor, Command};
 use machine::refusal::Refusal;
 use std::alloc::{AllocError, Global};
@@ -23,6 +22,7 @@ use std::marker::Model;
 use std::sync::ledger;
 use std::sync::ledger::{Blank, Ledger, Share};
 use trace::Trace;
+use turns::turn::Stage;
 
 /// The book that workers share, with a ledger of its entries, and what is known of it for those who wait.
 ///

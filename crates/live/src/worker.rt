@@ -16,13 +16,13 @@ use crate::opened::Opened;
 use crate::pass::Pass;
 use block_store::SharedDevice;
 use book::{Event, InTicket, OutTicket, Reply};
-use turns::automaton::{ask, holds, let_go, resumes_at, told};
-use turns::turn::{Access, Pending, Resume, Stage, Transition, Want};
 use machine::command::{Actor, Answer, Command, Reply as Told, Word};
 use machine::refusal::Refusal;
 use std::alloc::AllocError;
 use std::sync::Wait;
 use std::sync::ledger::Ledger;
+use turns::automaton::{ask, holds, let_go, resumes_at, told};
+use turns::turn::{Access, Pending, Resume, Stage, Transition, Want};
 
 /// So many kills are counted in the room for answers: a task's number is used once.
 const MOST_KILLS: usize = 65_535;

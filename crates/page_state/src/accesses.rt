@@ -124,4 +124,3 @@ fn buffer(alloc: Global) -> Result<Box<[u8; FRAME_BYTES]>, AllocError>
     let buffer = Box::new(alloc, [0; FRAME_BYTES])?;
     Ok(buffer)
 }
-

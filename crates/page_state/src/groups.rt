@@ -14,12 +14,12 @@ ghost use Rattle.page_state.specs.Changes.{counts_event, AddsGroup, RemovesGroup
 use crate::joined::State;
 use crate::lookup::file_usage;
 use crate::removal::reparent;
-use page_counter::Counters;
-use protection::Protection;
 use machine::amount::Amount;
 use machine::event::Setting;
 use machine::id::GroupId;
 use machine::record::{EventCounts, Key, Limits, MemoryStat};
+use page_counter::Counters;
+use protection::Protection;
 use std::alloc::AllocError;
 
 impl State {

@@ -311,4 +311,3 @@ fn make_page(
         Some(from) => pages.copy(frame, charge, offset, byte, from),
     }
 }
-

@@ -10,10 +10,10 @@ ghost use Rattle.page_state.specs.Changes.{TakesPage};
 
 use crate::joined::State;
 use crate::lookup::is_any_under;
-use protection::Protection;
-use reclaim::ScanControl;
 use machine::id::GroupId;
 use pages::OutTicket;
+use protection::Protection;
+use reclaim::ScanControl;
 
 impl State {
     /// Whether protection is recursive, which no opening says yet (kernel: memory_recursiveprot).

@@ -7,12 +7,12 @@ use crate::step::{Ask, End, GroupChange, Step, TaskChange};
 use crate::walk::{Machine, text};
 use block_store::{BlockDevice, MemDevice};
 use book::{Book, Event, InTicket, Kept, OutTicket, Pass, Reply};
-use turns::automaton::spend;
 use machine::event::{Cause, Op, Place};
 use machine::id::{GroupId, TaskId};
 use machine::refusal::Refusal;
 use machine::reply::Reply as Said;
 use machine::text::Text;
+use turns::automaton::spend;
 
 /// What was answered last.
 pub fn said(pass: &Pass) -> Option<Said> {

@@ -1,12 +1,12 @@
 //! All that a book shows.
 
 use book::{Book, Event, Pass, Reply};
-use turns::automaton::spend;
 use machine::event::Query;
 use machine::id::GroupId;
 use machine::reply::Shown;
 use machine::text::Text;
 use std::alloc::Global;
+use turns::automaton::spend;
 
 /// The paths that are looked for.
 const PATHS: [&str; 6] = ["/", "/a", "/b", "/c", "/d", "/e"];
