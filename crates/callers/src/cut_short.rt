@@ -5,7 +5,7 @@ ghost use Rattle.std.specs.Prelude.{◌≡◌, []};
 use crate::cached::{begin, machine, reach};
 use block_store::{BlockDevice, MemDevice};
 use book::Book;
-use driver::{Closed, Reply, Sink, Stop, run_into};
+use driver::{Closed, Reply, Sink, Steps, Stop, run_into};
 use machine::bytes::PAGE_BYTES;
 use machine::event::{Cause, Op};
 use std::test::Fail;
@@ -51,7 +51,13 @@ fn nothing_is_done_for_an_answer_that_nobody_takes(rt: HostRuntime) -> Result<()
     begin(&rt, &mut steps)?;
     reach(&mut steps, Op::Read)?;
     let config = machine(&rt)?;
-    let ran = run_into(rt.alloc(), config, &mut device, &steps, &mut Deaf);
+    let ran = run_into(
+        rt.alloc(),
+        config,
+        &mut device,
+        Steps::List(&steps),
+        &mut Deaf,
+    );
     assert!(rt; matches!(ran, Err(Stop::Closed)));
     // No call failed, and the next read is the first.
     assert_eq!(rt; device.failures(), 0);

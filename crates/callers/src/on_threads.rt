@@ -15,7 +15,7 @@ use std::test::Fail;
 fn for_threads(alloc: Global, script: &[u8]) -> Option<Script>
     ensures setup { IfSome result (λ s. s.setup.items ≡ setup_of (items_of (lines script.now))) }
     ensures work { IfSome result (λ s. shown_rows s.work.items ≡ work_of (worked (items_of (lines script.now)))) }
-    ensures no_steps { IfSome result (λ s. s.steps.items ≡ []) }
+    ensures no_steps { IfSome result (λ s. s.schedule.steps ≡ []) }
 {
     match read(alloc, script, Mode::Run) {
         Ok(script) => Some(script),
@@ -65,7 +65,7 @@ fn each_actor_has_a_row_of_what_stands_behind_go(rt: HostRuntime) -> Result<(), 
     assert_eq!(rt; script.config.swap, 4);
     assert!(rt; has_group_and_task(&script.setup));
     assert!(rt; has_rows_by_number(&script.work));
-    assert!(rt; script.steps.is_empty() && script.lines.is_empty());
+    assert!(rt; script.schedule.lines().is_empty());
     Ok(())
 }
 
@@ -76,7 +76,7 @@ fn without_go_all_is_setup(rt: HostRuntime) -> Result<(), Fail> {
     assert!(rt; script.work.is_empty());
     let all = read(rt.alloc(), b"group /a\ngo\ntask 2 /a\n", Mode::Schedule)?;
     assert!(rt; all.setup.is_empty() && all.work.is_empty());
-    assert_eq!(rt; all.steps.len(), 4);
+    assert_eq!(rt; all.schedule.len(), 4);
     Ok(())
 }
 

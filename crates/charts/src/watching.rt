@@ -4,12 +4,13 @@ ghost use Rattle.std.specs.Prelude.{◌≡◌, ◌⊎◌, ◌++◌, ◌∷◌, [
 ghost use Rattle.machine.specs.Call.{Past};
 ghost use Rattle.driver.specs.Schedule.{fits};
 ghost use Rattle.driver.specs.Sinks.{IsCut};
+ghost use Rattle.schedules.specs.Steps.{all_steps};
 ghost use Rattle.charts.specs.Watched.{shown_at, row_at, expanded, IsWatched};
 ghost use Rattle.charts.specs.WatchLaws.{IsShown};
 
 use block_store::BlockDevice;
 use book::{Book, GroupLook};
-use driver::{Answer, Closed, Config, Reply, Sink, Step, Stop, run_into};
+use driver::{Answer, Closed, Config, Reply, Sink, Steps, Stop, run_into};
 use machine::event::Cause;
 use machine::id::TaskId;
 use machine::record::MemoryStat;
@@ -198,11 +199,11 @@ pub fn watch<D: BlockDevice>(
     alloc: Global,
     config: Config,
     device: &mut D,
-    steps: &[Step],
+    steps: Steps<'_>,
     paths: &[&str],
     is_detailed: bool,
 ) -> Result<Watched, Refusal>
-    ensures watched { IfOk result (λ w. IsWatched config (D.disk device.old) steps.now (map (λ p. p.now) paths.now) is_detailed w.rows.items) }
+    ensures watched { IfOk result (λ w. IsWatched config (D.disk device.old) (all_steps steps.entry) (map (λ p. p.now) paths.now) is_detailed w.rows.items) }
     ensures err { IfErr result (λ cause. (cause ≡ Refusal.Invalid) × (fits config (D.disk device.old) ≡ false) ⊎ (cause ≡ Refusal.NoMemory) × (fits config (D.disk device.old) ≡ true)) }
 {
     let mut watcher = Watcher {

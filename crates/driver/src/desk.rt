@@ -1,6 +1,6 @@
 //! A book, and the seats of those who work on it.
 
-ghost use Rattle.std.specs.Prelude.{reverse, ◌≡◌, ◌⊎◌, ℕ, ◌+◌, ◌<◌, ◌≤◌, [], true, false, List, length, take, None, OnOk, OnErr, IfOk, IfErr, IfSome};
+ghost use Rattle.std.specs.Prelude.{reverse, ◌≡◌, ◌⊎◌, ℕ, ◌+◌, ◌<◌, ◌≤◌, ◌∷◌, [], true, false, List, length, take, None, OnOk, OnErr, IfOk, IfErr, IfSome};
 ghost use Rattle.machine.specs.declared.command.Reply.{Reply as Told_by};
 ghost use Rattle.machine.specs.State.{is_config};
 ghost use Rattle.machine.specs.FirstBytes.{first_of};
@@ -15,6 +15,8 @@ ghost use Rattle.turns.specs.Tickets.{OwnEvent, OwnStage, OwnWant, OwnTransition
 ghost use Rattle.driver.specs.Seats.{SitsAt, IsFound, is_under_way};
 ghost use Rattle.driver.specs.Desks.{world, with_seat, lent_to, whole_steps, RunsTo, blocks_of_desk, worker_of_desk, IsOn, IsSame};
 ghost use Rattle.driver.specs.Traced.{GivesUp};
+ghost use Rattle.schedules.specs.Schedule.{steps_of_line, steps_of};
+ghost use Rattle.schedules.specs.Steps.{all_steps};
 ghost use Rattle.driver.specs.Sinks.{CutsStep, CutsRun};
 ghost use Rattle.driver.specs.Hands.{OwnSeats};
 
@@ -28,6 +30,7 @@ use book::{Event, Pass};
 use machine::command::{Actor, Answer, Command, Reply, Step, Word};
 use machine::config::Config;
 use machine::refusal::Refusal;
+use schedules::{Entry, Line, Steps};
 use std::alloc::{AllocError, Global};
 use trace::Trace;
 use turns::automaton::{ask, told};
@@ -551,35 +554,46 @@ impl Desk {
         Ok(())
     }
 
-    /// The first of these steps, which stands there in the schedule, or the first two, where they are a command from its
-    /// beginning to its end; and how many these were. Behind each the sink may look at the book.
-    fn run_some<D: BlockDevice, S: Sink>(
+    /// One step, which stands there in the schedule. Behind it the sink may look at the book.
+    fn run_one<D: BlockDevice, S: Sink>(
         &mut self,
         device: &mut D,
         at: usize,
-        steps: &[Step],
+        step: &Step,
         sink: &mut S,
-    ) -> Result<usize, Cut>
-        requires on { IsOn self.old (D.disk device.old) }
-        requires some { 0 < length steps.now }
-        ensures few { IfOk result (λ done. (0 < done) × (done ≤ length steps.now)) }
-        ensures runs { IfOk result (λ done. RunsTo S.took S.saw sink.old sink.new (world self.old (D.disk device.old)) (take done steps.now) (world self.new (D.disk device.new))) }
-        ensures cut { OnErr result (CutsRun S.took S.failed sink.old sink.new (world self.old (D.disk device.old)) steps.now (D.disk device.new)) }
+    ) -> Result<(), Cut>
+        requires { IsOn self.old (D.disk device.old) }
+        ensures runs { OnOk result (RunsTo S.took S.saw sink.old sink.new (world self.old (D.disk device.old)) (step.now ∷ []) (world self.new (D.disk device.new))) }
+        ensures cut { OnErr result (CutsRun S.took S.failed sink.old sink.new (world self.old (D.disk device.old)) (step.now ∷ []) (D.disk device.new)) }
         ensures on { IsOn self.new (D.disk device.new) }
         ensures same { IsSame (D.disk device.old) (D.disk device.new) }
     {
-        if let Some((actor, command)) = whole_of(steps) {
-            self.whole(device, at, actor, command, sink)?;
-            return Ok(2);
-        }
-        self.step(device, at, &steps[0], sink)?;
+        self.step(device, at, step, sink)?;
         sink.look(at, self.book.book());
-        Ok(1)
+        Ok(())
     }
 
-    /// All steps of a schedule, in order. Each answer goes to the sink as it comes, and behind each step it may look at
-    /// the book.
-    pub fn run_all<D: BlockDevice, S: Sink>(
+    /// All that a line asks for. Behind each step the sink may look at the book.
+    fn run_line<D: BlockDevice, S: Sink>(
+        &mut self,
+        device: &mut D,
+        line: &Line,
+        sink: &mut S,
+    ) -> Result<(), Cut>
+        requires { IsOn self.old (D.disk device.old) }
+        ensures runs { OnOk result (RunsTo S.took S.saw sink.old sink.new (world self.old (D.disk device.old)) (steps_of_line line.now) (world self.new (D.disk device.new))) }
+        ensures cut { OnErr result (CutsRun S.took S.failed sink.old sink.new (world self.old (D.disk device.old)) (steps_of_line line.now) (D.disk device.new)) }
+        ensures on { IsOn self.new (D.disk device.new) }
+        ensures same { IsSame (D.disk device.old) (D.disk device.new) }
+    {
+        match &line.entry {
+            Entry::Whole(actor, command) => self.whole(device, line.first, *actor, command, sink),
+            Entry::Step(step) => self.run_one(device, line.first, step, sink),
+        }
+    }
+
+    /// All steps of a list, in order.
+    fn run_list<D: BlockDevice, S: Sink>(
         &mut self,
         device: &mut D,
         steps: &[Step],
@@ -591,12 +605,49 @@ impl Desk {
         ensures on { IsOn self.new (D.disk device.new) }
         ensures same { IsSame (D.disk device.old) (D.disk device.new) }
     {
-        let mut at = 0;
-        while at < steps.len() {
-            let done = self.run_some(device, at, &steps[at..], sink)?;
-            at += done;
+        for at in 0..steps.len() {
+            self.run_one(device, at, &steps[at], sink)?;
         }
         Ok(())
+    }
+
+    /// All lines of a schedule, in order.
+    fn run_lines<D: BlockDevice, S: Sink>(
+        &mut self,
+        device: &mut D,
+        lines: &[Line],
+        sink: &mut S,
+    ) -> Result<(), Cut>
+        requires { IsOn self.old (D.disk device.old) }
+        ensures runs { OnOk result (RunsTo S.took S.saw sink.old sink.new (world self.old (D.disk device.old)) (steps_of lines.now) (world self.new (D.disk device.new))) }
+        ensures cut { OnErr result (CutsRun S.took S.failed sink.old sink.new (world self.old (D.disk device.old)) (steps_of lines.now) (D.disk device.new)) }
+        ensures on { IsOn self.new (D.disk device.new) }
+        ensures same { IsSame (D.disk device.old) (D.disk device.new) }
+    {
+        for line in lines {
+            self.run_line(device, line, sink)?;
+        }
+        Ok(())
+    }
+
+    /// All steps that are to be run, in order. Each answer goes to the sink as it comes, and behind each step it may look
+    /// at the book.
+    pub fn run_all<D: BlockDevice, S: Sink>(
+        &mut self,
+        device: &mut D,
+        steps: Steps<'_>,
+        sink: &mut S,
+    ) -> Result<(), Cut>
+        requires { IsOn self.old (D.disk device.old) }
+        ensures runs { OnOk result (RunsTo S.took S.saw sink.old sink.new (world self.old (D.disk device.old)) (all_steps steps.entry) (world self.new (D.disk device.new))) }
+        ensures cut { OnErr result (CutsRun S.took S.failed sink.old sink.new (world self.old (D.disk device.old)) (all_steps steps.entry) (D.disk device.new)) }
+        ensures on { IsOn self.new (D.disk device.new) }
+        ensures same { IsSame (D.disk device.old) (D.disk device.new) }
+    {
+        match steps {
+            Steps::List(list) => self.run_list(device, list, sink),
+            Steps::Lines(schedule) => self.run_lines(device, schedule.lines(), sink),
+        }
     }
 
     /// Spends what is left, and hands out the trace. Transfers whose tickets are in hand end as failed, with no
@@ -636,18 +687,5 @@ fn word_of_nothing(turns: u32) -> Word
         Word::TurnLimit
     } else {
         Word::Idle
-    }
-}
-
-/// The actor and its command, where the first two of these steps are that command from its beginning to its end.
-fn whole_of(steps: &[Step]) -> Option<(Actor, &Command)>
-    ensures whole { IfSome result (λ whole. take 2 steps.now ≡ whole_steps whole.0 whole.1.now) }
-    ensures two { IfSome result (λ _. 2 ≤ length steps.now) }
-{
-    match steps {
-        [Step::Begin(actor, command), Step::Finish(other), ..] if actor == other => {
-            Some((*actor, command))
-        }
-        _ => None,
     }
 }

@@ -8,6 +8,7 @@
 pub use machine::command::{Actor, Answer, Command, Reply, Step, Word};
 pub use machine::config::Config;
 pub use schedule::{run, run_into};
+pub use schedules::{Entry, Line, Schedule, Steps};
 pub use sink::{Closed, Sink, Stop};
 
 mod calls;

@@ -4,6 +4,7 @@ ghost use Rattle.std.specs.Prelude.{◌≡◌, ◌⊎◌, ◌+◌, ◌≤◌, tr
 ghost use Rattle.driver.specs.Schedule.{Schedules, fits, errors};
 ghost use Rattle.driver.specs.Sinks.{GivesStart, IsCut};
 ghost use Rattle.driver.specs.Traced.{GivesTrace};
+ghost use Rattle.schedules.specs.Steps.{all_steps};
 
 use crate::desk::Desk;
 use crate::sink::{Cut, Sink, Stop};
@@ -12,6 +13,7 @@ use files::blocks_for;
 use machine::command::{Reply, Step};
 use machine::config::Config;
 use machine::refusal::Refusal;
+use schedules::Steps;
 use std::alloc::Global;
 use trace::Trace;
 
@@ -36,7 +38,7 @@ pub fn run<D: BlockDevice>(
     ensures limit { (D.disk device.new).fault_limit ≡ (D.disk device.old).fault_limit }
 {
     let mut answers = Vec::new(alloc);
-    match run_into(alloc, config, device, steps, &mut answers) {
+    match run_into(alloc, config, device, Steps::List(steps), &mut answers) {
         Ok(_) => Ok(answers),
         Err(Stop::Refused(cause)) => Err(cause),
         Err(Stop::Closed) => Err(Refusal::NoMemory),
@@ -53,11 +55,11 @@ pub fn run_into<D: BlockDevice, S: Sink>(
     alloc: Global,
     config: Config,
     device: &mut D,
-    steps: &[Step],
+    steps: Steps<'_>,
     sink: &mut S,
 ) -> Result<Trace, Stop>
-    ensures gives { IfOk result (λ trace. GivesTrace S.took S.saw config (D.disk device.old) steps.now sink.old sink.new (D.disk device.new) trace.entries) }
-    ensures starts { OnErr result (fits config (D.disk device.old) ≡ true → GivesStart S.took S.failed config (D.disk device.old) steps.now sink.old sink.new (D.disk device.new)) }
+    ensures gives { IfOk result (λ trace. GivesTrace S.took S.saw config (D.disk device.old) (all_steps steps.entry) sink.old sink.new (D.disk device.new) trace.entries) }
+    ensures starts { OnErr result (fits config (D.disk device.old) ≡ true → GivesStart S.took S.failed config (D.disk device.old) (all_steps steps.entry) sink.old sink.new (D.disk device.new)) }
     ensures sized { OnOk result (fits config (D.disk device.old) ≡ true) }
     ensures err { IfErr result (λ stop. (stop ≡ Stop.Refused Refusal.Invalid) × (fits config (D.disk device.old) ≡ false) ⊎ IsCut stop × (fits config (D.disk device.old) ≡ true)) }
     ensures untouched { fits config (D.disk device.old) ≡ false → D.disk device.new ≡ D.disk device.old }

@@ -1,7 +1,7 @@
 //! Which command each actor is at.
 
 use crate::source::Source;
-use driver::{Actor, Step};
+use driver::Actor;
 use indexmap::IndexMap;
 use scripts::number_of;
 use std::alloc::{AllocError, Global};
@@ -25,8 +25,8 @@ impl Begun {
     /// Looks at the steps before this one. A step that began nothing has to be passed by before.
     pub fn look(&mut self, source: Source<'_>, step: usize) -> Result<(), AllocError> {
         for at in self.seen..step {
-            if let Some(Step::Begin(actor, _)) = source.steps.get(at) {
-                self.steps.insert(number_of(*actor), at)?;
+            if let Some((actor, _)) = source.schedule.begun_at(at) {
+                self.steps.insert(number_of(actor), at)?;
             }
             self.seen = at + 1;
         }

@@ -4,7 +4,7 @@ use crate::killing::Killing;
 use crate::options::Options;
 use crate::source::paths_of;
 use book::Book;
-use driver::Step;
+use driver::Schedule;
 use machine::bytes::PAGE_BYTES;
 use machine::event::Cause;
 use machine::id::TaskId;
@@ -69,10 +69,10 @@ impl<'s> Observed<'s> {
     pub fn asked(
         alloc: Global,
         options: Options,
-        steps: &'s [Step],
+        schedule: &'s Schedule,
     ) -> Result<Observed<'s>, AllocError> {
         if options.summary || options.explain {
-            return Observed::of(alloc, steps);
+            return Observed::of(alloc, schedule);
         }
         Ok(Observed::nothing(alloc))
     }
@@ -87,8 +87,8 @@ impl<'s> Observed<'s> {
     }
 
     /// Of the groups that the steps make, and of the root, nothing was seen yet.
-    fn of(alloc: Global, steps: &'s [Step]) -> Result<Observed<'s>, AllocError> {
-        let paths = paths_of(alloc, steps)?;
+    fn of(alloc: Global, schedule: &'s Schedule) -> Result<Observed<'s>, AllocError> {
+        let paths = paths_of(alloc, schedule)?;
         let mut groups = Vec::new(alloc);
         if !paths.iter().any(|path| *path == "/") {
             groups.push(Seen::new("/", paths.is_empty()))?;

@@ -20,7 +20,7 @@ use crate::stopped::Stopped;
 use crate::tally::{Summary, Tally};
 use block_store::BlockDevice;
 use book::Book;
-use driver::{Actor, Answer, Closed, Config, Reply, Sink, Step, Stop, Word, run_into};
+use driver::{Actor, Answer, Closed, Config, Reply, Sink, Steps, Stop, Word, run_into};
 use explain::{Reason, Told, Words, reason_of};
 use machine::event::Cause;
 use machine::id::TaskId;
@@ -340,11 +340,12 @@ impl<'o, 'e, 's, 'l, 't, 'b, 'g, 'p, 'f, O: Write, E: Write> Printer<
 
     /// How many commands were begun, those that were begun over another among them.
     fn count_begun(&self) -> u64 {
+        let done = self.done;
         self.source
-            .steps
+            .schedule
+            .lines()
             .iter()
-            .take(self.done)
-            .filter(|step| matches!(step, Step::Begin(_, _)))
+            .filter(|line| line.first < done && line.entry.begins().is_some())
             .count() as u64
     }
 
@@ -420,7 +421,7 @@ impl<'o, 'e, 's, 'l, 't, 'b, 'g, 'p, 'f, O: Write, E: Write> Printer<
         ensures err { self.new.err.ghost_name ≡ self.old.err.ghost_name }
     {
         if moved.is_some() {
-            self.done = self.source.steps.len();
+            self.done = self.source.schedule.len();
         }
         let summary = Summary {
             tally: self.tally,
@@ -492,7 +493,7 @@ fn kept_of<'s>(
     source: Source<'s>,
 ) -> Result<(Vec<Line<'s>>, Observed<'s>), AllocError> {
     let lines = lines_for(alloc, options, source.script)?;
-    let observed = Observed::asked(alloc, options, source.steps)?;
+    let observed = Observed::asked(alloc, options, source.schedule)?;
     Ok((lines, observed))
 }
 
@@ -508,10 +509,10 @@ pub fn print_run<D: BlockDevice, O: Write, E: Write>(
     err: &mut E,
 ) -> Ended
     requires { fits config (D.disk device.old) ≡ true }
-    ensures whole { OnOk result.ran (OnOk result.written (marks_lines options ≡ false → PrintsRun config (D.disk device.old) source.entry.steps.now options (O.contents out.old) (O.contents out.new))) }
-    ensures short { OnOk result.ran (marks_lines options ≡ false → PrintsStart config (D.disk device.old) source.entry.steps.now options (O.contents out.old) (O.contents out.new)) }
-    ensures start { OnErr result.ran (marks_lines options ≡ false → PrintsStart config (D.disk device.old) source.entry.steps.now options (O.contents out.old) (O.contents out.new)) }
-    ensures ends { IfErr result.written (λ why. is_end why ≡ true → IsErr result.ran × (options.strict ≡ true) × (marks_lines options ≡ false → EndsRun config (D.disk device.old) source.entry.steps.now options (O.contents out.old) (O.contents out.new))) }
+    ensures whole { OnOk result.ran (OnOk result.written (marks_lines options ≡ false → PrintsRun config (D.disk device.old) source.entry.schedule.now.steps options (O.contents out.old) (O.contents out.new))) }
+    ensures short { OnOk result.ran (marks_lines options ≡ false → PrintsStart config (D.disk device.old) source.entry.schedule.now.steps options (O.contents out.old) (O.contents out.new)) }
+    ensures start { OnErr result.ran (marks_lines options ≡ false → PrintsStart config (D.disk device.old) source.entry.schedule.now.steps options (O.contents out.old) (O.contents out.new)) }
+    ensures ends { IfErr result.written (λ why. is_end why ≡ true → IsErr result.ran × (options.strict ≡ true) × (marks_lines options ≡ false → EndsRun config (D.disk device.old) source.entry.schedule.now.steps options (O.contents out.old) (O.contents out.new))) }
     ensures quiet { speaks options ≡ false → E.contents err.new ≡ E.contents err.old }
 {
     let (lines, mut observed) = match kept_of(alloc, options, source) {
@@ -545,7 +546,13 @@ pub fn print_run<D: BlockDevice, O: Write, E: Write>(
         tally: Tally::new(),
         stopped: &mut stopped,
     };
-    let ran = run_into(alloc, config, &mut device, source.steps, &mut printer);
+    let ran = run_into(
+        alloc,
+        config,
+        &mut device,
+        Steps::Lines(source.schedule),
+        &mut printer,
+    );
     let moved = moved_by(&ran, device.calls);
     let written = printer.conclude(&ran, moved);
     Ended { ran, written }

@@ -1,7 +1,7 @@
 //! Where the steps of a run come from.
 
 use crate::options::Options;
-use driver::{Command, Step};
+use driver::{Command, Schedule};
 use indexmap::IndexSet;
 use std::alloc::{AllocError, Global};
 use std::str;
@@ -13,9 +13,7 @@ pub struct Source<'s> {
     pub name: &'s str,
     /// All bytes of the script.
     pub script: &'s [u8],
-    pub steps: &'s [Step],
-    /// For each of the steps the number of its line.
-    pub lines: &'s [usize],
+    pub schedule: &'s Schedule,
     /// The most turns of a line.
     pub turns: u32,
 }
@@ -23,20 +21,24 @@ pub struct Source<'s> {
 impl<'s> Source<'s> {
     /// The number of the line of the step that stands there; 0 where there is none.
     pub fn line_of(&self, step: usize) -> usize {
-        self.lines.get(step).copied().unwrap_or(0)
+        match self.schedule.line_at(step) {
+            Some(line) => line.number,
+            None => 0,
+        }
     }
 
     /// The number of the last line.
     pub fn last_line(&self) -> usize {
-        self.lines.last().copied().unwrap_or(0)
+        match self.schedule.lines().last() {
+            Some(line) => line.number,
+            None => 0,
+        }
     }
 
     /// The command that begins with the step that stands there.
     pub fn command_at(&self, step: usize) -> Option<&'s Command> {
-        match self.steps.get(step) {
-            Some(Step::Begin(_, command)) => Some(command),
-            _ => None,
-        }
+        let (_, command) = self.schedule.begun_at(step)?;
+        Some(command)
     }
 }
 
@@ -88,11 +90,11 @@ fn lines_of(alloc: Global, script: &[u8]) -> Result<Vec<Line<'_>>, AllocError> {
 }
 
 /// The paths of all groups that the steps make, each once, in order of their lines.
-pub fn paths_of(alloc: Global, steps: &[Step]) -> Result<Vec<&str>, AllocError> {
+pub fn paths_of(alloc: Global, schedule: &Schedule) -> Result<Vec<&str>, AllocError> {
     let mut known = IndexSet::new(alloc);
     let mut paths = Vec::new(alloc);
-    for step in steps {
-        if let Step::Begin(_, Command::Group(path)) = step {
+    for line in schedule.lines() {
+        if let Some((_, Command::Group(path))) = line.entry.begins() {
             if known.insert(path.as_str())? {
                 paths.push(path.as_str())?;
             }

@@ -218,8 +218,8 @@ pub record Says (mode : Mode) (ls : List (List ℕ)) (s : Script) : Type 0 where
   pub limits : is_config s.config ≡ true
   pub read_faults : s.read_faults.items ≡ faults_of call.Read (items_of ls)
   pub write_faults : s.write_faults.items ≡ faults_of call.Write (items_of ls)
-  pub steps : s.steps.items ≡ steps_in mode (items_of ls)
-  pub lines : s.lines.items ≡ lines_in mode (items_of ls)
+  pub steps : s.schedule.steps ≡ steps_in mode (items_of ls)
+  pub lines : s.schedule.numbers ≡ lines_in mode (items_of ls)
   pub setup : s.setup.items ≡ setup_in mode (items_of ls)
   pub work : shown_rows s.work.items ≡ work_in mode (items_of ls)
 

@@ -41,8 +41,8 @@ known_by r = record {
   gone = r.gone;
   read_faults = r.read_faults.items;
   write_faults = r.write_faults.items;
-  steps = r.steps.items;
-  lines = r.lines.items;
+  steps = r.schedule.steps;
+  lines = r.schedule.numbers;
   setup = r.setup.items;
   work = r.work;
 }
@@ -91,9 +91,9 @@ abbrev pub with_fault : Known → DeviceCall → ℕ → Known
 with_fault k call.Read n = record k { around = record k.around { given = k.around.given ++ word.Fault ∷ [] }; read_faults = k.read_faults ++ n ∷ [] }
 with_fault k call.Write n = record k { around = record k.around { given = k.around.given ++ word.Fault ∷ [] }; write_faults = k.write_faults ++ n ∷ [] }
 
--- one more step, which a command in the line of this number asks for
-abbrev pub with_step : Known → ℕ → Step → Known
-with_step k n s = record k { around = record k.around { commands = true }; steps = k.steps ++ in_schedule k.mode (s ∷ []); lines = k.lines ++ in_schedule k.mode (n ∷ []) }
+-- more steps, which the line of this number asks for
+abbrev pub with_steps : Known → ℕ → List Step → Known
+with_steps k n ss = record k { around = record k.around { commands = true }; steps = k.steps ++ in_schedule k.mode ss; lines = k.lines ++ in_schedule k.mode (replicate (length ss) n) }
 
 -- one more item, of the line of this number
 abbrev pub after : Known → ℕ → Item → Known
@@ -114,8 +114,8 @@ pub record IsSaid (s : Script) (k : Known) : Type 0 where
   pub config : s.config ≡ k.around.config
   pub read_faults : s.read_faults.items ≡ k.read_faults
   pub write_faults : s.write_faults.items ≡ k.write_faults
-  pub steps : s.steps.items ≡ k.steps
-  pub lines : s.lines.items ≡ k.lines
+  pub steps : s.schedule.steps ≡ k.steps
+  pub lines : s.schedule.numbers ≡ k.lines
   pub setup : s.setup.items ≡ k.setup
   pub work : shown_rows s.work.items ≡ k.work
 

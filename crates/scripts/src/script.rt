@@ -13,8 +13,9 @@ ghost use Rattle.scripts.specs.Meaning.{meaning};
 ghost use Rattle.scripts.specs.Lines.{Adds};
 ghost use Rattle.scripts.specs.Header.{config_of, frames_line, own_fault};
 ghost use Rattle.scripts.specs.Script.{items_of, faults_of, steps_in, lines_in, fault_at, IsFaultless, IsFirstFault, NamesFirstFault};
+ghost use Rattle.schedules.specs.Schedule.{steps_of_entry};
 ghost use Rattle.scripts.specs.Work.{setup_in, work_in, shown_rows};
-ghost use Rattle.scripts.specs.Reading.{known_by, at_start, with_fault, with_step, after, IsSaid};
+ghost use Rattle.scripts.specs.Reading.{known_by, at_start, with_fault, with_steps, after, IsSaid};
 
 use crate::context::Context;
 use crate::fault::{LineError, ScriptFault};
@@ -27,6 +28,7 @@ use crate::mode::Mode;
 use crate::work::Work;
 use machine::command::{Actor, Command, Step};
 use machine::config::Config;
+use schedules::{Entry, Schedule};
 use std::alloc::{AllocError, Global};
 
 /// What a script says.
@@ -38,10 +40,8 @@ pub struct Script {
     pub read_faults: Vec<u64>,
     /// Which writes, likewise.
     pub write_faults: Vec<u64>,
-    /// Of a schedule, what the other lines ask for, in their order.
-    pub steps: Vec<Step>,
-    /// For each of the steps the number of the line that it comes of, from 1.
-    pub lines: Vec<usize>,
+    /// Of a schedule, what the other lines ask for, in their order, with their numbers, from 1.
+    pub schedule: Schedule,
     /// Of a run on threads, what the lines before the first `go` ask for, in their order.
     pub setup: Vec<(Actor, Command)>,
     /// What those behind it ask for, in their order: a row for each actor that is asked for something, by
@@ -57,8 +57,7 @@ struct Reading {
     gone: bool,
     read_faults: Vec<u64>,
     write_faults: Vec<u64>,
-    steps: Vec<Step>,
-    lines: Vec<usize>,
+    schedule: Schedule,
     setup: Vec<(Actor, Command)>,
     work: Work,
 }
@@ -78,8 +77,7 @@ impl Reading {
             gone: false,
             read_faults: Vec::new(alloc),
             write_faults: Vec::new(alloc),
-            steps: Vec::new(alloc),
-            lines: Vec::new(alloc),
+            schedule: Schedule::new(alloc),
             setup: Vec::new(alloc),
             work: Work::new(alloc),
         }
@@ -97,15 +95,12 @@ impl Reading {
     }
 
     /// In a run on threads there are no steps.
-    fn add_step(&mut self, line: usize, step: Step) -> Result<(), AllocError>
-        ensures { OnOk result (known_by self.new ≡ with_step (known_by self.old) line step) }
+    fn add_entry(&mut self, line: usize, entry: Entry) -> Result<(), AllocError>
+        ensures { OnOk result (known_by self.new ≡ with_steps (known_by self.old) line (steps_of_entry entry)) }
     {
         self.context.commands = true;
         match self.context.mode {
-            Mode::Schedule => {
-                self.steps.push(step)?;
-                self.lines.push(line)?;
-            }
+            Mode::Schedule => self.schedule.add(line, entry)?,
             Mode::Run => {}
         }
         Ok(())
@@ -123,10 +118,7 @@ impl Reading {
     {
         self.context.commands = true;
         match self.context.mode {
-            Mode::Schedule => {
-                self.add_step(line, Step::Begin(actor, command))?;
-                self.add_step(line, Step::Finish(actor))?;
-            }
+            Mode::Schedule => self.schedule.add(line, Entry::Whole(actor, command))?,
             Mode::Run if self.gone => self.work.add(alloc, actor, command)?,
             Mode::Run => self.setup.push((actor, command))?,
         }
@@ -161,9 +153,12 @@ impl Reading {
             }
             Item::Fails(call, number) => self.add_fault(call, number)?,
             Item::Does(actor, command) => self.add_command(alloc, line, actor, command)?,
-            Item::Begins(actor, command) => self.add_step(line, Step::Begin(actor, command))?,
-            Item::Advances(actor) => self.add_step(line, Step::Advance(actor))?,
-            Item::Finishes(actor) => self.add_step(line, Step::Finish(actor))?,
+            Item::Begins(actor, command) => self.add_entry(
+                line,
+                Entry::Step(Step::Begin(actor, command)),
+            )?,
+            Item::Advances(actor) => self.add_entry(line, Entry::Step(Step::Advance(actor)))?,
+            Item::Finishes(actor) => self.add_entry(line, Entry::Step(Step::Finish(actor)))?,
             Item::EndsSetup => {
                 self.context.commands = true;
                 self.gone = true;
@@ -192,8 +187,7 @@ impl Reading {
             gone: _,
             read_faults,
             write_faults,
-            steps,
-            lines,
+            schedule,
             setup,
             work,
         } = self;
@@ -202,8 +196,7 @@ impl Reading {
             config,
             read_faults,
             write_faults,
-            steps,
-            lines,
+            schedule,
             setup,
             work: work.into_rows(alloc)?,
         })
@@ -219,8 +212,8 @@ pub fn read(alloc: Global, text: &[u8], mode: Mode) -> Result<Script, ScriptFaul
     ensures limits { IfOk result (λ s. is_config s.config ≡ true) }
     ensures read_faults { IfOk result (λ s. s.read_faults.items ≡ faults_of Read (items_of (lines text.now))) }
     ensures write_faults { IfOk result (λ s. s.write_faults.items ≡ faults_of Write (items_of (lines text.now))) }
-    ensures steps { IfOk result (λ s. s.steps.items ≡ steps_in mode (items_of (lines text.now))) }
-    ensures lines { IfOk result (λ s. s.lines.items ≡ lines_in mode (items_of (lines text.now))) }
+    ensures steps { IfOk result (λ s. s.schedule.steps ≡ steps_in mode (items_of (lines text.now))) }
+    ensures lines { IfOk result (λ s. s.schedule.numbers ≡ lines_in mode (items_of (lines text.now))) }
     ensures setup { IfOk result (λ s. s.setup.items ≡ setup_in mode (items_of (lines text.now))) }
     ensures work { IfOk result (λ s. shown_rows s.work.items ≡ work_in mode (items_of (lines text.now))) }
     ensures fault { IfErr result (λ e. NamesFirstFault mode e (lines text.now)) }

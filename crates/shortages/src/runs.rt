@@ -2,7 +2,7 @@
 
 use crate::hunt::{Hunt, Met};
 use block_store::MemDevice;
-use driver::{Answer, Config, Reply, Step, Stop, Word, run_into};
+use driver::{Answer, Config, Reply, Step, Steps, Stop, Word, run_into};
 use machine::refusal::Refusal;
 use scripts::{Mode, Script, read};
 use std::alloc::{AllocError, Global};
@@ -62,7 +62,14 @@ impl Run {
             steps,
         } = self;
         let mut answers = Vec::new(alloc);
-        let end = run_into(alloc, config, &mut device, &steps, &mut answers).err();
+        let end = run_into(
+            alloc,
+            config,
+            &mut device,
+            Steps::List(&steps),
+            &mut answers,
+        )
+        .err();
         Ran { answers, end }
     }
 }

@@ -16,7 +16,7 @@ use crate::fault::{Fault, Wanted};
 use crate::{faulty, unwritten};
 use block_store::{BlockDevice, MemDevice};
 use charts::{picture, table, watch};
-use driver::{Config, Step};
+use driver::{Config, Schedule, Steps};
 use printer::{Options, paths_of, write_bytes};
 use scripts::{Mode, Script, one_answer};
 use std::alloc::{AllocError, Global};
@@ -33,8 +33,8 @@ pub enum Drawing {
 }
 
 /// The paths whose groups are drawn: those of all groups that the steps make, or the root's where they make none.
-fn charted_paths(alloc: Global, steps: &[Step]) -> Result<Vec<&str>, AllocError> {
-    let mut paths = paths_of(alloc, steps)?;
+fn charted_paths(alloc: Global, schedule: &Schedule) -> Result<Vec<&str>, AllocError> {
+    let mut paths = paths_of(alloc, schedule)?;
     if paths.is_empty() {
         paths.push("/")?;
     }
@@ -48,24 +48,25 @@ fn text_of(
     title: &str,
     config: Config,
     device: &mut MemDevice,
-    steps: &[Step],
-    lines: &[usize],
+    schedule: &Schedule,
 ) -> Result<String, AllocError>
-    ensures listed { IfOk result (λ s. kind ≡ Drawing.Table → ListsRun config device.old steps.now lines.now (string_bytes s)) }
+    ensures listed { IfOk result (λ s. kind ≡ Drawing.Table → ListsRun config device.old schedule.now.steps schedule.now.numbers (string_bytes s)) }
 {
-    let paths = charted_paths(alloc, steps)?;
+    let paths = charted_paths(alloc, schedule)?;
+    let numbers = schedule.numbers(alloc)?;
+    let steps = Steps::Lines(schedule);
     match kind {
         Drawing::Picture => {
             let Ok(watched) = watch(alloc, config, device, steps, &paths, false) else {
                 return Err(AllocError);
             };
-            picture(alloc, title, lines, &paths, &watched)
+            picture(alloc, title, &numbers, &paths, &watched)
         }
         Drawing::Table => {
             let Ok(watched) = watch(alloc, config, device, steps, &paths, true) else {
                 return Err(AllocError);
             };
-            table(alloc, lines, &paths, &watched)
+            table(alloc, &numbers, &paths, &watched)
         }
     }
 }
@@ -88,14 +89,13 @@ fn chart_steps<O: Write>(
 ) -> Result<(), Fault>
     requires limits { is_config script.config ≡ true }
     ensures why { IfErr result IsRunFault }
-    ensures listed { OnOk result (kind ≡ Drawing.Table → (text : List ℕ) × ListsRun script.config (new_disk (blocks_of script.config) script.read_faults.items script.write_faults.items) script.steps.items script.lines.items text × Appends (O.contents out.old) (O.contents out.new) text) }
+    ensures listed { OnOk result (kind ≡ Drawing.Table → (text : List ℕ) × ListsRun script.config (new_disk (blocks_of script.config) script.read_faults.items script.write_faults.items) script.schedule.steps script.schedule.numbers text × Appends (O.contents out.old) (O.contents out.new) text) }
 {
     let Script {
         config,
         read_faults,
         write_faults,
-        steps,
-        lines,
+        schedule,
         ..
     } = script;
     let mut device = match new_device(alloc, &config, &read_faults, &write_faults) {
@@ -103,7 +103,7 @@ fn chart_steps<O: Write>(
         Err(wanted) => return Err(Fault::Memory(wanted)),
     };
     let wanted = Wanted::of(&config, device.blocks());
-    let text = match text_of(alloc, kind, title, config, &mut device, &steps, &lines) {
+    let text = match text_of(alloc, kind, title, config, &mut device, &schedule) {
         Ok(text) => text,
         Err(_) => return Err(Fault::Memory(wanted)),
     };

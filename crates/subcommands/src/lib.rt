@@ -96,10 +96,10 @@ fn run_on<O: Write, E: Write>(
     err: &mut E,
 ) -> Result<(), Fault>
     requires { fits config device.old ≡ true }
-    ensures whole { OnOk result (marks_lines options ≡ false → PrintsRun config device.old source.entry.steps.now options (O.contents out.old) (O.contents out.new)) }
-    ensures start { OnErr result (marks_lines options ≡ false → PrintsStart config device.old source.entry.steps.now options (O.contents out.old) (O.contents out.new)) }
+    ensures whole { OnOk result (marks_lines options ≡ false → PrintsRun config device.old source.entry.schedule.now.steps options (O.contents out.old) (O.contents out.new)) }
+    ensures start { OnErr result (marks_lines options ≡ false → PrintsStart config device.old source.entry.schedule.now.steps options (O.contents out.old) (O.contents out.new)) }
     ensures why { IfErr result (IsScheduleFault options) }
-    ensures refused { IfErr result (λ why. IsRefused why → marks_lines options ≡ false → EndsRun config device.old source.entry.steps.now options (O.contents out.old) (O.contents out.new)) }
+    ensures refused { IfErr result (λ why. IsRefused why → marks_lines options ≡ false → EndsRun config device.old source.entry.schedule.now.steps options (O.contents out.old) (O.contents out.new)) }
     ensures quiet { speaks options ≡ false → E.contents err.new ≡ E.contents err.old }
 {
     let wanted = Wanted::of(&config, device.blocks());
@@ -130,18 +130,17 @@ fn run_steps<O: Write, E: Write>(
     err: &mut E,
 ) -> Result<(), Fault>
     requires limits { is_config script.config ≡ true }
-    ensures whole { OnOk result (marks_lines options ≡ false → PrintsRun script.config (new_disk (blocks_of script.config) script.read_faults.items script.write_faults.items) script.steps.items options (O.contents out.old) (O.contents out.new)) }
-    ensures start { OnErr result (marks_lines options ≡ false → PrintsStart script.config (new_disk (blocks_of script.config) script.read_faults.items script.write_faults.items) script.steps.items options (O.contents out.old) (O.contents out.new)) }
+    ensures whole { OnOk result (marks_lines options ≡ false → PrintsRun script.config (new_disk (blocks_of script.config) script.read_faults.items script.write_faults.items) script.schedule.steps options (O.contents out.old) (O.contents out.new)) }
+    ensures start { OnErr result (marks_lines options ≡ false → PrintsStart script.config (new_disk (blocks_of script.config) script.read_faults.items script.write_faults.items) script.schedule.steps options (O.contents out.old) (O.contents out.new)) }
     ensures why { IfErr result (IsScheduleFault options) }
-    ensures refused { IfErr result (λ why. IsRefused why → marks_lines options ≡ false → EndsRun script.config (new_disk (blocks_of script.config) script.read_faults.items script.write_faults.items) script.steps.items options (O.contents out.old) (O.contents out.new)) }
+    ensures refused { IfErr result (λ why. IsRefused why → marks_lines options ≡ false → EndsRun script.config (new_disk (blocks_of script.config) script.read_faults.items script.write_faults.items) script.schedule.steps options (O.contents out.old) (O.contents out.new)) }
     ensures quiet { speaks options ≡ false → E.contents err.new ≡ E.contents err.old }
 {
     let Script {
         config,
         read_faults,
         write_faults,
-        steps,
-        lines,
+        schedule,
         ..
     } = script;
     let mut device = match new_device(alloc, &config, &read_faults, &write_faults) {
@@ -151,8 +150,7 @@ fn run_steps<O: Write, E: Write>(
     let source = Source {
         name: file,
         script: bytes,
-        steps: &steps,
-        lines: &lines,
+        schedule: &schedule,
         turns: config.turns,
     };
     run_on(alloc, options, config, &mut device, source, out, err)

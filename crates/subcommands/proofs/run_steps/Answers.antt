@@ -20,8 +20,8 @@ returns-clause-start g c =
     ∙ ap (λ (faults : List ℕ). new_disk (blocks_of script.config) faults c.deref-2.result.now) c.deref.ensures.value ∙ ap (λ (faults : List ℕ). new_disk (blocks_of script.config) script.read_faults.items faults) c.deref-2.ensures.value in
     on_err c.run_on.result c.run_on.ensures.start
     (λ start plain.
-    subst (λ (disk : Disk). PrintsStart script.config disk script.steps.items c.args.options (g.O.Write.contents c.args.out.now) (g.O.Write.contents c.run_on.new.out)) device
-    (subst (λ (steps : List Step). PrintsStart script.config c.in-Ok.device steps c.args.options (g.O.Write.contents c.args.out.now) (g.O.Write.contents c.run_on.new.out)) c.deref-3.ensures.value (start plain)))
+    subst (λ (disk : Disk). PrintsStart script.config disk script.schedule.steps c.args.options (g.O.Write.contents c.args.out.now) (g.O.Write.contents c.run_on.new.out)) device
+    (start plain))
 
 pub returns-clause-refused : goal.returns-clause-refused
 returns-clause-refused g c =
@@ -31,5 +31,5 @@ returns-clause-refused g c =
     ∙ ap (λ (faults : List ℕ). new_disk (blocks_of script.config) faults c.deref-2.result.now) c.deref.ensures.value ∙ ap (λ (faults : List ℕ). new_disk (blocks_of script.config) script.read_faults.items faults) c.deref-2.ensures.value in
     err_more c.run_on.result c.run_on.ensures.refused
     (λ why ended refused plain.
-    subst (λ (disk : Disk). EndsRun script.config disk script.steps.items c.args.options (g.O.Write.contents c.args.out.now) (g.O.Write.contents c.run_on.new.out)) device
-    (subst (λ (steps : List Step). EndsRun script.config c.in-Ok.device steps c.args.options (g.O.Write.contents c.args.out.now) (g.O.Write.contents c.run_on.new.out)) c.deref-3.ensures.value (ended refused plain)))
+    subst (λ (disk : Disk). EndsRun script.config disk script.schedule.steps c.args.options (g.O.Write.contents c.args.out.now) (g.O.Write.contents c.run_on.new.out)) device
+    (ended refused plain))

@@ -1,0 +1,11 @@
+//! The steps of a schedule, kept line by line.
+//!
+//! A line that begins a command and finishes it is one entry of the table, and not two steps. What the table says is the
+//! list of steps, and of each step the line: a step's place is its place in that list.
+#![tactic(auto)]
+
+mod schedule;
+mod steps;
+
+pub use schedule::{Entry, Line, Schedule};
+pub use steps::Steps;
