@@ -2,7 +2,7 @@
 
 use crate::hunt::{Hunt, Met};
 use block_store::MemDevice;
-use driver::{Answer, Config, Reply, Step, Steps, Stop, Word, run_into};
+use driver::{Answer, Config, Reply, Schedule, Steps, Stop, Word, run_into};
 use machine::refusal::Refusal;
 use scripts::{Mode, Script, read};
 use std::alloc::{AllocError, Global};
@@ -19,7 +19,7 @@ const ANSWERS: &str = "1 7\n1 0\n8192\nerror EBUSY\n";
 pub struct Run {
     config: Config,
     device: MemDevice,
-    steps: Vec<Step>,
+    schedule: Schedule,
 }
 
 /// What came of a run.
@@ -45,10 +45,16 @@ fn text(alloc: Global, answers: &[Reply]) -> Result<String, AllocError> {
 impl Run {
     pub fn new(alloc: Global) -> Option<Run> {
         match read(alloc, SCRIPT.as_bytes(), Mode::Schedule) {
-            Ok(Script { config, steps, .. }) => Some(Run {
+            Ok(
+                Script {
+                    config,
+                    schedule,
+                    ..
+                },
+            ) => Some(Run {
                 config,
                 device: MemDevice::new(alloc, 3, &[], &[]).ok()?,
-                steps,
+                schedule,
             }),
             Err(_) => None,
         }
@@ -59,14 +65,14 @@ impl Run {
         let Run {
             config,
             mut device,
-            steps,
+            schedule,
         } = self;
         let mut answers = Vec::new(alloc);
         let end = run_into(
             alloc,
             config,
             &mut device,
-            Steps::List(&steps),
+            Steps::Lines(&schedule),
             &mut answers,
         )
         .err();
