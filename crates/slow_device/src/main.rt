@@ -12,6 +12,7 @@ ghost use Rattle.scripts.specs.Work.{numbers_of, shown_rows};
 mod slow;
 
 use block_store::{Locked, MemDevice};
+use driver::{Steps, run_into};
 use files::blocks_for;
 use scripts::{Mode, Script, each_actor_has_its_row, read};
 use slow::Slow;
@@ -47,7 +48,11 @@ fn schedule<C: Clock, O: Write>(
         Ok(script) => script,
         Err(fault) => return Err(Fault::Script(fault)),
     };
-    let Script { config, steps, .. } = script;
+    let Script {
+        config,
+        schedule,
+        ..
+    } = script;
     let Some(blocks) = blocks_for(&config) else {
         return Err(out_of_memory());
     };
@@ -55,8 +60,10 @@ fn schedule<C: Clock, O: Write>(
         Ok(device) => Slow::new(clock, call, device),
         Err(_) => return Err(out_of_memory()),
     };
-    match driver::run(alloc, config, &mut device, &steps) {
-        Ok(answers) => {
+    let mut answers = Vec::new(alloc);
+    let steps = Steps::Lines(&schedule);
+    match run_into(alloc, config, &mut device, steps, &mut answers) {
+        Ok(_) => {
             let mut text = String::new(alloc);
             for answer in &answers {
                 if answer.print(&mut text).is_err() {
