@@ -16,7 +16,7 @@ use crate::fault::{Fault, Wanted};
 use crate::{faulty, unwritten};
 use block_store::{BlockDevice, MemDevice};
 use charts::{picture, table, watch};
-use driver::{Config, Schedule, Steps};
+use driver::{Config, Steps};
 use printer::{Options, paths_of, write_bytes};
 use scripts::{Mode, Script, one_answer};
 use std::alloc::{AllocError, Global};
@@ -33,7 +33,7 @@ pub enum Drawing {
 }
 
 /// The paths whose groups are drawn: those of all groups that the steps make, or the root's where they make none.
-fn charted_paths(alloc: Global, schedule: &Schedule) -> Result<Vec<&str>, AllocError> {
+fn charted_paths(alloc: Global, schedule: &driver::Schedule) -> Result<Vec<&str>, AllocError> {
     let mut paths = paths_of(alloc, schedule)?;
     if paths.is_empty() {
         paths.push("/")?;
@@ -48,7 +48,7 @@ fn text_of(
     title: &str,
     config: Config,
     device: &mut MemDevice,
-    schedule: &Schedule,
+    schedule: &driver::Schedule,
 ) -> Result<String, AllocError>
     ensures listed { IfOk result (λ s. kind ≡ Drawing.Table → ListsRun config device.old schedule.now.steps schedule.now.numbers (string_bytes s)) }
 {
