@@ -12,8 +12,9 @@ use Rattle.machine.specs.declared.command.Word.{Word as Word_of}
 use Rattle.machine.specs.declared.command.Command.{Command}
 use Rattle.driver.specs.declared.seat.Activity.{Activity}
 use Rattle.driver.specs.declared.seat.Activity.TheVariants.{Rests, Begun, Does}
+use Rattle.schedules.specs.declared.schedule.Entry.TheVariants.{Whole}
+use Rattle.schedules.specs.Schedule.{steps_of_entry}
 use Rattle.driver.specs.Seats.{place_of, is_under_way}
-use Rattle.driver.specs.Desks.{whole_steps}
 use Rattle.driver.proofs.SeatLists.{activity_of-none}
 use Rattle.machine.specs.declared.command.Reply.{Reply}
 use Rattle.machine.specs.Call.{Past}
@@ -175,7 +176,7 @@ pub one_through : (old : World) (step : Step) (answers : List Reply) (new : Worl
 one_through old step answers new h = (answers, [], [], new, h, (refl, refl, refl), sym (append-nil answers), refl)
 
 pub whole_through : (old mid new : World) (who : Actor) (what : Command) (here there : List Reply) → Stepped old (Begin who what) here mid → Stepped mid (Finish who) there new
-    → RunsThrough old (whole_steps who what) (here ++ there) (mid.past ∷ new.past ∷ []) new
+    → RunsThrough old (steps_of_entry (Whole who what)) (here ++ there) (mid.past ∷ new.past ∷ []) new
 whole_through old mid new who what here there begins finishes = (here, there, new.past ∷ [], mid, begins, one_through mid (Finish who) there new finishes, refl, refl)
 
 -- a sink that took some answers, and then none

@@ -1,10 +1,9 @@
 -- A desk, with a device, as a world of a schedule.
 use denote.Ref.{Bor}
-use Rattle.std.specs.Prelude.{◌≡◌, ℕ, ◌≤◌, true, length, List, [], ◌∷◌, Option, None, Some}
+use Rattle.std.specs.Prelude.{◌≡◌, ℕ, ◌≤◌, true, length, List, Option, None, Some}
 use Rattle.machine.specs.declared.command.Actor.{Actor}
 use Rattle.machine.specs.declared.command.Command.{Command}
 use Rattle.machine.specs.declared.command.Step.{Step}
-use Rattle.machine.specs.declared.command.Step.TheVariants.{Begin, Finish}
 use Rattle.block_store.specs.Device.{Disk}
 use Rattle.book.specs.Passes.{is_current}
 use Rattle.driver.specs.declared.seat.Activity.TheVariants.{Begun}
@@ -30,10 +29,6 @@ lent_seats who (Some what) seats = with_activity who (Begun what.now) seats
 
 abbrev pub lent_to : World → Actor → Option (Bor Command) → World
 lent_to w who lent = record w { seats = lent_seats who lent w.seats }
-
--- a command from its beginning to its end
-abbrev pub whole_steps : Actor → Command → List Step
-whole_steps who what = Begin who what ∷ Finish who ∷ []
 
 -- the steps are carried out, and the sink took their answers and saw the book behind each
 abbrev pub RunsTo : {S : Type 0} → (S → S → List Told_by → Type 0) → (S → S → List Past → Type 0) → S → S → World → List Step → World → Type 0

@@ -1,6 +1,6 @@
 //! A book, and the seats of those who work on it.
 
-ghost use Rattle.std.specs.Prelude.{reverse, ◌≡◌, ◌⊎◌, ℕ, ◌+◌, ◌<◌, ◌≤◌, ◌∷◌, [], true, false, List, length, take, None, OnOk, OnErr, IfOk, IfErr, IfSome};
+ghost use Rattle.std.specs.Prelude.{reverse, ◌≡◌, ◌⊎◌, ℕ, ◌+◌, ◌<◌, ◌≤◌, ◌∷◌, [], true, false, List, length, None, OnOk, OnErr, IfOk, IfErr, IfSome};
 ghost use Rattle.machine.specs.declared.command.Reply.{Reply as Told_by};
 ghost use Rattle.machine.specs.State.{is_config};
 ghost use Rattle.machine.specs.FirstBytes.{first_of};
@@ -13,9 +13,10 @@ ghost use Rattle.turns.specs.Turns.{AwaitsAll, judged};
 ghost use Rattle.driver.specs.Schedule.{Asks, WantTurn, StageTurn, JudgedTurn, wants_at, Turn, Advances, Finishes, Begins, Stepped, activity_of, with_activity, first_world};
 ghost use Rattle.turns.specs.Tickets.{OwnEvent, OwnStage, OwnWant, OwnTransition};
 ghost use Rattle.driver.specs.Seats.{SitsAt, IsFound, is_under_way};
-ghost use Rattle.driver.specs.Desks.{world, with_seat, lent_to, whole_steps, RunsTo, blocks_of_desk, worker_of_desk, IsOn, IsSame};
+ghost use Rattle.driver.specs.Desks.{world, with_seat, lent_to, RunsTo, blocks_of_desk, worker_of_desk, IsOn, IsSame};
 ghost use Rattle.driver.specs.Traced.{GivesUp};
-ghost use Rattle.schedules.specs.Schedule.{steps_of_line, steps_of};
+ghost use Rattle.schedules.specs.declared.schedule.Entry.TheVariants.{Whole};
+ghost use Rattle.schedules.specs.Schedule.{steps_of_entry, steps_of_line, steps_of};
 ghost use Rattle.schedules.specs.Steps.{all_steps};
 ghost use Rattle.driver.specs.Sinks.{CutsStep, CutsRun};
 ghost use Rattle.driver.specs.Hands.{OwnSeats};
@@ -479,8 +480,8 @@ impl Desk {
         sink: &mut S,
     ) -> Result<(), Cut>
         requires { IsOn self.old (D.disk device.old) }
-        ensures runs { OnOk result (RunsTo S.took S.saw sink.old sink.new (world self.old (D.disk device.old)) (whole_steps actor command.now) (world self.new (D.disk device.new))) }
-        ensures cut { OnErr result (CutsRun S.took S.failed sink.old sink.new (world self.old (D.disk device.old)) (whole_steps actor command.now) (D.disk device.new)) }
+        ensures runs { OnOk result (RunsTo S.took S.saw sink.old sink.new (world self.old (D.disk device.old)) (steps_of_entry (Whole actor command.now)) (world self.new (D.disk device.new))) }
+        ensures cut { OnErr result (CutsRun S.took S.failed sink.old sink.new (world self.old (D.disk device.old)) (steps_of_entry (Whole actor command.now)) (D.disk device.new)) }
         ensures on { IsOn self.new (D.disk device.new) }
         ensures same { IsSame (D.disk device.old) (D.disk device.new) }
     {
@@ -517,8 +518,8 @@ impl Desk {
         requires found { IsFound actor found self.old.seats }
         requires rests { is_under_way (activity_of actor self.old.seats) ≡ false }
         requires some { 0 < self.old.turns }
-        ensures runs { OnOk result (RunsTo S.took S.saw sink.old sink.new (world self.old (D.disk device.old)) (whole_steps actor command.now) (world self.new (D.disk device.new))) }
-        ensures cut { OnErr result (CutsRun S.took S.failed sink.old sink.new (world self.old (D.disk device.old)) (whole_steps actor command.now) (D.disk device.new)) }
+        ensures runs { OnOk result (RunsTo S.took S.saw sink.old sink.new (world self.old (D.disk device.old)) (steps_of_entry (Whole actor command.now)) (world self.new (D.disk device.new))) }
+        ensures cut { OnErr result (CutsRun S.took S.failed sink.old sink.new (world self.old (D.disk device.old)) (steps_of_entry (Whole actor command.now)) (D.disk device.new)) }
         ensures on { IsOn self.new (D.disk device.new) }
         ensures same { IsSame (D.disk device.old) (D.disk device.new) }
     {
@@ -541,8 +542,8 @@ impl Desk {
         sink: &mut S,
     ) -> Result<(), Cut>
         requires { IsOn self.old (D.disk device.old) }
-        ensures runs { OnOk result (RunsTo S.took S.saw sink.old sink.new (world self.old (D.disk device.old)) (whole_steps actor command.now) (world self.new (D.disk device.new))) }
-        ensures cut { OnErr result (CutsRun S.took S.failed sink.old sink.new (world self.old (D.disk device.old)) (whole_steps actor command.now) (D.disk device.new)) }
+        ensures runs { OnOk result (RunsTo S.took S.saw sink.old sink.new (world self.old (D.disk device.old)) (steps_of_entry (Whole actor command.now)) (world self.new (D.disk device.new))) }
+        ensures cut { OnErr result (CutsRun S.took S.failed sink.old sink.new (world self.old (D.disk device.old)) (steps_of_entry (Whole actor command.now)) (D.disk device.new)) }
         ensures on { IsOn self.new (D.disk device.new) }
         ensures same { IsSame (D.disk device.old) (D.disk device.new) }
     {
