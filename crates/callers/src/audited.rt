@@ -167,6 +167,7 @@ fn after_swap(alloc: Global, lie: Lie) -> Result<(Result<(), First>, usize), Fai
         watermarks: Watermarks { low: 0, high: 0 },
         trace: 100,
         turns: 1000,
+        recursive: false,
     };
     let place = Place::Virtual { page: 0, offset: 0 };
     let path = Text::new(String::from_str(alloc, "/a")?);
@@ -199,6 +200,7 @@ fn after_a_second_read(alloc: Global, lie: Lie) -> Result<(Result<(), First>, us
         watermarks: Watermarks { low: 0, high: 0 },
         trace: 100,
         turns: 1000,
+        recursive: false,
     };
     let place = Place::File {
         file: 0,
@@ -263,6 +265,7 @@ fn what_is_refused_is_kept_and_leaves_no_entry(rt: HostRuntime) -> Result<(), Fa
         watermarks: Watermarks { low: 0, high: 0 },
         trace: 100,
         turns: 1000,
+        recursive: false,
     };
     let made = Text::new(String::from_str(rt.alloc(), "/a")?);
     let sought = Text::new(String::from_str(rt.alloc(), "/b")?);

@@ -23,6 +23,7 @@ pub fn machine<R: AllocGlobal>(rt: &R) -> Result<Config, AllocError> {
         watermarks: Watermarks { low: 0, high: 0 },
         trace: 100,
         turns: 1000,
+        recursive: false,
     })
 }
 

@@ -32,6 +32,7 @@ fn open<R: Abort + AllocGlobal>(rt: &R) -> Result<State, AllocError> {
         watermarks: Watermarks { low: 0, high: 0 },
         trace: 1,
         turns: 1000,
+        recursive: false,
     };
     assert!(rt; blocks_for(&config).is_some());
     State::open(rt.alloc(), config)

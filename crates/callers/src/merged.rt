@@ -22,6 +22,7 @@ fn open(alloc: Global, trace: u32) -> Result<Book, Refusal> {
             watermarks: Watermarks { low: 0, high: 0 },
             trace,
             turns: 1000,
+            recursive: false,
         },
     )
 }

@@ -28,6 +28,7 @@ fn blocks(swap: u32, files: FileList) -> Option<u32> {
         watermarks: Watermarks { low: 0, high: 0 },
         trace: 1,
         turns: 1000,
+        recursive: false,
     })
 }
 

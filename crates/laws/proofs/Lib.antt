@@ -7,3 +7,4 @@ pub mod OrderLemmas
 pub mod LeftLemmas
 pub mod ShareLemmas
 pub mod TurnLemmas
+pub mod ProtectionLemmas

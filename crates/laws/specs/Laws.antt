@@ -1,6 +1,7 @@
 -- The headline in the words of its users: what holds of every step and of every run.
-use Rattle.std.specs.Prelude.{◌≡◌, ◌≢◌, ◌⊎◌, ℕ, ◌+◌, ◌<◌, ◌≤◌, Bool, true, false, List, ◌∷◌, ◌++◌, length, Option, Some, None, slice_get, slice_set}
+use Rattle.std.specs.Prelude.{◌≡◌, ◌≢◌, ◌⊎◌, ℕ, ◌+◌, ◌<◌, ◌≤◌, Bool, true, false, List, ◌∷◌, ◌++◌, length, sum_by, Option, Some, None, slice_get, slice_set}
 use Rattle.std.specs.List.{AllByRecursion}
+use Rattle.machine.specs.declared.amount.Amount.TheVariants.{Pages}
 use Rattle.machine.specs.declared.config.Config.{Config}
 use Rattle.machine.specs.declared.entry.Entry.{Entry}
 use Rattle.machine.specs.declared.id.FrameId.{FrameId}
@@ -25,7 +26,7 @@ use Rattle.machine.specs.declared.command.Reply.{Reply as Told_by}
 use Rattle.machine.specs.Slots.{there_and, count_there}
 use Rattle.machine.specs.Amounts.{exceeds}
 use Rattle.machine.specs.Counts.{limits_at, count_of_key, local, total, Counted, how_often}
-use Rattle.machine.specs.Tree.{Node, node_at, is_live, under}
+use Rattle.machine.specs.Tree.{Node, node_at, is_child, is_live, children, under}
 use Rattle.machine.specs.Pages.{OfFile, Residence, Away, Page, page_at, is_anon, is_held, frame_at, block_at, ticket_at, is_in_transfer, is_charged, in_transfer, used_frames, used_swap, IsFiled}
 use Rattle.machine.specs.Tasks.{lives, group_of_task, mapped_at, size_of}
 use Rattle.machine.specs.State.{Opening, State, page_numbers, usage, effective_min, is_swap_free, opening_of, blocks_of}
@@ -191,6 +192,14 @@ pub record TakesUnprotected (before : State) (target : ℕ) (after : State) : Ty
 abbrev pub ReclaimsSpareTheProtected : Type 0
 ReclaimsSpareTheProtected =
     (before after : State) (what : Event) (answer : Reply) (target : ℕ) → took_for what answer ≡ Some target → Step before what answer after → TakesUnprotected before target after
+
+-- what a group below the target has of protection is shared out below it, and no more than that: where its effective min is a number of pages, so is that of each of its live children, and
+-- together these are at most that number, with recursive protection and without. (Excludes a part that is rounded up, a rest that is shared out by what a child uses at all, and children
+-- that have what they ask for where together they ask for more than there is.)
+abbrev pub SharesStayWithin : Type 0
+SharesStayWithin =
+    (opening : Opening) (history : List Entry) (s : State) (target p most : ℕ) → Legal opening history s → under s.tree target p ≡ true → p ≢ target → effective_min s target p ≡ Pages most
+    → (share : ℕ → ℕ) × ((g : ℕ) → is_child p (node_at s.tree g) ≡ true → effective_min s target g ≡ Pages (share g)) × (sum_by share (children s.tree p) ≤ most)
 
 -- a reclaim finds nothing only where nothing can be taken for its target and no page under it is in transfer, and it leaves all as it was
 abbrev pub ReclaimsGiveUpLast : Type 0

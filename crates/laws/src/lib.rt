@@ -2,7 +2,7 @@
 //! a function that does nothing.
 #![tactic(auto)]
 
-ghost use Rattle.laws.specs.Laws.{RunsAreLegal, RunsAreHonest, NoStrangers, ErrorsAreFailures, EachFailureIsAnswered, TransfersAreInHand, NothingIsLeft, CurrentCountsPages, EventsAreThoseCounted, CountsAreOfTheHistory, ChargesStayWithinMax, OnlyAccessesCharge, KillsComeLast, VictimsHaveTheMostPages, ReadsGiveLastWrites, HonestDevicesPassTheAudit, AuditedReadsGaveLastWrites, PagesShareNoFrame, PagesShareNoBlock, BlocksAreThere, PagesShareNoTicket, FilePagesStayAtHome, FilePagesAreOne, OnlyCleanPagesAreDropped, StatAddsUpToCurrent, MappingsShowPages, MemoryWithoutAMappingIsGone, SharedBytesAgree, ForksShare, MovesTakeNoCharge, RemovalsKeepAncestorsCounts, RemovedGroupsHaveNoPages, TraceHasRoom, TransfersAreBegunLessEnded, TransfersStayCharged, RepliesAreSettled, OrdersAreSettled, WriteOutsStayCharged, ReclaimsSpareTheProtected, ReclaimsGiveUpLast, ReclaimsKillNobody, HeldPagesAreListed, GenerationsHold, GroupsHaveCursors, HeldPagesGoOn, OnlyTakesAge, HitsMark, OnlyHitsMark, OnlyMergesMark, MergesChangeMarksAlone, MergesAreServed, PagesLeaveInOrder, MarkedPagesStay, GroupsAreThere};
+ghost use Rattle.laws.specs.Laws.{RunsAreLegal, RunsAreHonest, NoStrangers, ErrorsAreFailures, EachFailureIsAnswered, TransfersAreInHand, NothingIsLeft, CurrentCountsPages, EventsAreThoseCounted, CountsAreOfTheHistory, ChargesStayWithinMax, OnlyAccessesCharge, KillsComeLast, VictimsHaveTheMostPages, ReadsGiveLastWrites, HonestDevicesPassTheAudit, AuditedReadsGaveLastWrites, PagesShareNoFrame, PagesShareNoBlock, BlocksAreThere, PagesShareNoTicket, FilePagesStayAtHome, FilePagesAreOne, OnlyCleanPagesAreDropped, StatAddsUpToCurrent, MappingsShowPages, MemoryWithoutAMappingIsGone, SharedBytesAgree, ForksShare, MovesTakeNoCharge, RemovalsKeepAncestorsCounts, RemovedGroupsHaveNoPages, TraceHasRoom, TransfersAreBegunLessEnded, TransfersStayCharged, RepliesAreSettled, OrdersAreSettled, WriteOutsStayCharged, ReclaimsSpareTheProtected, SharesStayWithin, ReclaimsGiveUpLast, ReclaimsKillNobody, HeldPagesAreListed, GenerationsHold, GroupsHaveCursors, HeldPagesGoOn, OnlyTakesAge, HitsMark, OnlyHitsMark, OnlyMergesMark, MergesChangeMarksAlone, MergesAreServed, PagesLeaveInOrder, MarkedPagesStay, GroupsAreThere};
 
 /// The history of every run leads from the opening to the run's state, one step of the plain machine
 /// an entry.
@@ -100,6 +100,12 @@ pub fn victims_have_the_most_pages()
 /// than its effective `memory.min`. No other page changes.
 pub fn reclaims_spare_the_protected()
     ensures { ReclaimsSpareTheProtected }
+{}
+
+/// Where a group below a reclaim's target has an effective `memory.min` of so many pages, its live
+/// children have together no more, with recursive protection and without.
+pub fn shares_stay_within()
+    ensures { SharesStayWithin }
 {}
 
 /// A reclaim by `memory.reclaim` or by the daemon answers that there is nothing only where no page can

@@ -35,7 +35,7 @@ sizes_of files = map (λ file. file.pages) files
 
 -- the opening that a configuration asks for
 abbrev pub opening_of : Config → Opening
-opening_of config = record { frames = config.frames; swap = config.swap; files = sizes_of config.files; watermarks = config.watermarks; trace_limit = config.trace; recursive = false }
+opening_of config = record { frames = config.frames; swap = config.swap; files = sizes_of config.files; watermarks = config.watermarks; trace_limit = config.trace; recursive = config.recursive }
 
 -- the low mark is at most the high one, and that at most the frames
 abbrev pub are_watermarks : Watermarks → ℕ → Bool

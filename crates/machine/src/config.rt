@@ -93,6 +93,9 @@ pub struct Config {
     pub trace: u32,
     /// The most turns of a line of a schedule that is run to its answer. The machine itself takes no heed of it.
     pub turns: u32,
+    /// Whether a group has a part of the protection that its siblings leave, too (kernel: the mount option
+    /// memory_recursiveprot).
+    pub recursive: bool,
 }
 
 impl Config {

@@ -14,7 +14,7 @@ use Rattle.group_tree.proofs.PreorderLemmas.{children_from-end, children_from-ch
 use Rattle.page_counter.specs.Counts.{Counts, AreCounts, usage_of}
 use Rattle.page_counter.proofs.ChargeLemmas.{count_more}
 
-sum_by-plus : (f h : ℕ → ℕ) (xs : List ℕ) → sum_by (λ x. f x + h x) xs ≡ sum_by f xs + sum_by h xs
+pub sum_by-plus : (f h : ℕ → ℕ) (xs : List ℕ) → sum_by (λ x. f x + h x) xs ≡ sum_by f xs + sum_by h xs
 sum_by-plus f h [] = refl
 sum_by-plus f h (x ∷ xs) =
     let both = sum_by-cons (λ x. f x + h x) x xs in
@@ -76,6 +76,36 @@ module _ (tree : List Node) (p : ℕ) where
       let less = sum-le f (λ c. 0) k none in
       let nothing = sum_by-nothing (children_from tree p k) in
       omega (arith, less, nothing)
+
+  -- where one function is at most the other, what it leaves of the other at one of these children is part of what it leaves at all of them
+  sum-but_before : (f h : ℕ → ℕ) (g k : ℕ) → k < length tree → (is_child p (node_at tree k) ≡ true → f k ≤ h k) → sum_from f (k + 1) + h g ≤ sum_from h (k + 1) + f g
+      → (b : Bool) → is_child p (node_at tree k) ≡ b → sum_from f k + h g ≤ sum_from h k + f g
+  sum-but_before f h g k lt less rest true is = let left = sum_from-child f k lt is in let right = sum_from-child h k lt is in let here = less is in omega (arith, left, right, here, rest)
+  sum-but_before f h g k lt less rest false other = let left = sum_from-other f k lt other in let right = sum_from-other h k lt other in omega (arith, left, right, rest)
+
+  sum-but_step : (f h : ℕ → ℕ) (g k : ℕ) → k < length tree → k ≤ g → IsLess k f h → is_child p (node_at tree g) ≡ true → (k < g → sum_from f (k + 1) + h g ≤ sum_from h (k + 1) + f g)
+      → (b : Bool) → is_child p (node_at tree k) ≡ b → sum_from f k + h g ≤ sum_from h k + f g
+  sum-but_step f h g k lt from less child later b is =
+      elim (cases_lt k g) [
+        | inl before ↦ (let rest = later before in sum-but_before f h g k lt (less k (omega arith) lt) rest b is)
+        | inr here ↦
+            (let same : k ≡ g = omega arith in
+            let there = ap (λ c. is_child p (node_at tree c)) same ∙ child in
+            let left = sum_from-child f k lt there in
+            let right = sum_from-child h k lt there in
+            let after = sum-le f h (k + 1) (λ c past. less c (omega arith)) in
+            let f_same = ap f same in
+            let h_same = ap h same in
+            omega (arith, left, right, after, f_same, h_same))
+      ]
+
+  sum-but_from : (f h : ℕ → ℕ) (g n k : ℕ) → length tree ≤ n + k → g < length tree → k ≤ g → IsLess k f h → is_child p (node_at tree g) ≡ true → sum_from f k + h g ≤ sum_from h k + f g
+  sum-but_from f h g zero k e within from less child = absurd (omega arith)
+  sum-but_from f h g (suc n) k e within from less child =
+      sum-but_step f h g k (omega arith) from less child (λ before. sum-but_from f h g n (k + 1) (omega arith) within (omega arith) (λ c past. less c (omega arith)) child) _ refl
+
+  sum-but : (f h : ℕ → ℕ) (g : ℕ) → g < length tree → IsLess 0 f h → is_child p (node_at tree g) ≡ true → sum_from f 0 + h g ≤ sum_from h 0 + f g
+  sum-but f h g within less child = sum-but_from f h g (length tree) 0 (omega arith) within (omega arith) less child
 
   -- a group is one of the children at most once
   once_step : (x k : ℕ) → k < length tree → sum_from (is_it x) (k + 1) ≤ 1 → (b : Bool) → is_child p (node_at tree k) ≡ b → sum_from (is_it x) k ≤ 1
@@ -198,3 +228,38 @@ children_min_usage-same tree setting f h same p =
     let left = ap (sum_by (min_usage setting f)) (children-from tree p) in
     let right = ap (sum_by (min_usage setting h)) (children-from tree p) in
     omega (arith, less, more, left, right)
+
+-- what is at most something else at each child is so at all of them together
+pub children-le : (tree : List Node) (p : ℕ) (f h : ℕ → ℕ) → ((c : ℕ) → is_child p (node_at tree c) ≡ true → f c ≤ h c) → sum_by f (children tree p) ≤ sum_by h (children tree p)
+children-le tree p f h less =
+    let all = sum-le tree p f h 0 (λ c from within child. less c child) in
+    let left = ap (sum_by f) (children-from tree p) in
+    let right = ap (sum_by h) (children-from tree p) in
+    omega (arith, all, left, right)
+
+-- a child asks for no more than all children together
+pub asks-most : (tree : List Node) (setting : ℕ → Amount) (usage : ℕ → ℕ) (p g : ℕ) → g < length tree → is_child p (node_at tree g) ≡ true → min_usage setting usage g ≤ children_min_usage tree setting usage p
+asks-most tree setting usage p g within child =
+    let but = sum-but tree p (λ c. 0) (min_usage setting usage) g within (λ c from there is. omega arith) child in
+    let children = ap (sum_by (min_usage setting usage)) (children-from tree p) in
+    omega (arith, but, children)
+
+-- and what it uses beyond what it asks for is part of what its parent uses beyond what all of them ask for
+pub surplus-most : (tree : List Node) (setting : ℕ → Amount) (usage : ℕ → ℕ) (p g : ℕ) → g < length tree → is_child p (node_at tree g) ≡ true → sum_by usage (children tree p) ≤ usage p
+    → usage g + children_min_usage tree setting usage p ≤ usage p + min_usage setting usage g
+surplus-most tree setting usage p g within child all =
+    let but = sum-but tree p (min_usage setting usage) usage g within (λ c from there is. at_most-le (usage c) (setting c)) child in
+    let asked = ap (sum_by (min_usage setting usage)) (children-from tree p) in
+    let used = ap (sum_by usage) (children-from tree p) in
+    omega (arith, but, asked, used, all)
+
+-- what is counted of charges at the children of a group is at most what is counted of them at the group
+pub children_count-le : (tree : List Node) → IsTree tree → (charges : List ℕ) (p : ℕ) → sum_by (λ c. count_by (λ x. under tree c x) charges) (children tree p) ≤ count_by (λ x. under tree p x) charges
+children_count-le tree is charges p =
+    let all = count-children tree is p charges in
+    let children = ap (sum_by (λ c. count_by (λ x. under tree c x) charges)) (children-from tree p) in
+    omega (arith, all, children)
+
+-- what the children of a group count together is at most what the group counts
+pub children_usage-le : (s : Counts) (charges : List ℕ) → IsTree s.tree → AreCounts s charges → (p : ℕ) → p < length s.tree → sum_by (usage_of s) (children s.tree p) ≤ usage_of s p
+children_usage-le s charges is counted p lt = children_min_usage-le s (λ g. Max) charges is counted p lt

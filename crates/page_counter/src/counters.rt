@@ -280,12 +280,14 @@ impl Counters {
         Charge::new(parent)
     }
 
-    /// Nothing is done: what holds of all counters. The counts are those of some charges.
+    /// Nothing is done: what holds of all counters. The counts are those of some charges, so the groups
+    /// that hang below one count together no more than it does.
     pub fn are_counted(&self)
         ensures lineage { IsLineage self.now.tree }
         ensures limits { length self.now.limits ≡ length self.now.tree }
         ensures usage { length self.now.usage ≡ length self.now.tree }
         ensures counted { (charges : List ℕ) × AreCounts self.now charges }
+        ensures within { (p : ℕ) → is_live self.now.tree p ≡ true → sum_by (usage_of self.now) (children self.now.tree p) ≤ usage_of self.now p }
     {
         self.lineage.is_lineage();
         let _ = &self.limits;

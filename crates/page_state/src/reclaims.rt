@@ -1,6 +1,6 @@
 //! What a reclaim takes, and how it begins to leave.
 
-ghost use Rattle.std.specs.Prelude.{◌≡◌, Some, true, false, is_some, IfSome};
+ghost use Rattle.std.specs.Prelude.{◌≡◌, Some, true, is_some, IfSome};
 ghost use Rattle.machine.specs.Tree.{is_live};
 ghost use Rattle.machine.specs.State.{is_swap_free};
 ghost use Rattle.machine.specs.Reclaim.{has_takeable, has_transfer};
@@ -16,13 +16,11 @@ use protection::Protection;
 use reclaim::ScanControl;
 
 impl State {
-    /// Whether protection is recursive, which no opening says yet (kernel: memory_recursiveprot).
+    /// Whether protection is recursive (kernel: memory_recursiveprot).
     pub(crate) fn is_recursive(&self) -> bool
-        ensures opening { result ≡ self.now.tables.opening.recursive }
-        ensures off { result ≡ false }
+        ensures { result ≡ self.now.tables.opening.recursive }
     {
-        let _ = &self.config;
-        false
+        self.config.recursive
     }
 
     /// The group that gives the next page to a reclaim of the target. There is one exactly where a page may

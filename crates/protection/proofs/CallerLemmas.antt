@@ -2,14 +2,11 @@
 use Rattle.std.proofs.Common.{inl, inr, ◌≡◌, ◌≢◌, ℕ, zero, suc, ◌<◌, Bool, true, List, length, Option, Some, None, refl, sym, ap, ◌∙◌, arith}
 use Rattle.machine.specs.declared.amount.Amount.{Amount}
 use Rattle.machine.specs.Amounts.{at_most}
-use Rattle.machine.specs.Protection.{below_parent, effective}
+use Rattle.machine.specs.Protection.{effective}
 use Rattle.machine.specs.Tree.{Node, node_at, IsTree, under}
 use Rattle.machine.proofs.TreeLemmas.{eq_cases}
 use Rattle.page_counter.proofs.ChildLemmas.{children_min_usage-same}
-use Rattle.protection.proofs.EffectiveLemmas.{effective-child, effective-step, has_parent, under-parent}
-
-same_below : (recursive : Bool) {e k : Amount} {s t a b u v n m : ℕ} → e ≡ k → s ≡ t → a ≡ b → u ≡ v → n ≡ m → below_parent recursive e s a u n ≡ below_parent recursive k t b v m
-same_below recursive p q r x y = cc
+use Rattle.protection.proofs.EffectiveLemmas.{same_below, effective-child, effective-step, has_parent, under-parent}
 
 -- counts that agree at each group that is there give the same effective values
 module _ (tree : List Node) (is : IsTree tree) (target : ℕ) (recursive : Bool) (setting : ℕ → Amount) (f h : ℕ → ℕ) (same : (a : ℕ) → a < length tree → f a ≡ h a) where

@@ -7,6 +7,10 @@ use Rattle.machine.specs.Protection.{min_usage, children_min_usage, below_parent
 use Rattle.machine.specs.Tree.{Node, node_at, IsTree, chain, chain_below, under, under_at}
 use Rattle.machine.proofs.TreeLemmas.{chain-step, under_at-None, under_at-step}
 
+-- equal numbers give the same value below a parent
+pub same_below : (recursive : Bool) {e k : Amount} {s t a b u v n m : ℕ} → e ≡ k → s ≡ t → a ≡ b → u ≡ v → n ≡ m → below_parent recursive e s a u n ≡ below_parent recursive k t b v m
+same_below recursive p q r x y = cc
+
 module _ (tree : List Node) (is : IsTree tree) (target : ℕ) where
   below : Option ℕ → List ℕ
   below at = take_while (λ a. not (a == target)) (chain tree at)

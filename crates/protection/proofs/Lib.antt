@@ -1,3 +1,4 @@
 pub mod KinLemmas
 pub mod EffectiveLemmas
 pub mod CallerLemmas
+pub mod ShareLemmas

@@ -9,6 +9,11 @@
 //! 4. It has what it asks for, where its parent's effective value is as much as the parent's
 //!    children ask for together. Where they ask for more, each has a part of that value in
 //!    proportion to what it asks for, rounded down. So together they never have more than it.
+//! 5. With recursive protection, what the children leave of their parent's value is shared out too:
+//!    each has a part of it in proportion to what it uses beyond what it asks for, out of what the
+//!    parent uses beyond what its children ask for, rounded down. So a group without a
+//!    `memory.min` has protection as well. What the parent uses in no live child has its part too,
+//!    which then goes to nobody.
 //!
 //! So for a reclaim of the root, in pages:
 //!
@@ -21,10 +26,19 @@
 //!
 //! The value belongs to a group and a target, not to the group alone: for a reclaim of `/p`, both
 //! `/p/a` and `/p/b` have 6.
+//!
+//! With recursive protection, and more to give than is asked for:
+//!
+//! ```text
+//! group   memory.min   uses   asks for   effective
+//! /p               8     10                      8
+//! /p/a             2      6          2           5   = 2 + (8 - 2) * (6 - 2) / (10 - 2)
+//! /p/b             0      4          0           3   = 0 + (8 - 2) * (4 - 0) / (10 - 2)
+//! ```
 #![tactic(auto)]
 
-ghost use Rattle.std.specs.Prelude.{◌≡◌, false};
-ghost use Rattle.machine.specs.Protection.{part_of};
+ghost use Rattle.std.specs.Prelude.{◌≡◌, ◌+◌, ◌≤◌};
+ghost use Rattle.machine.specs.Protection.{below_parent, part_of, with_rest};
 ghost use Rattle.group_tree.specs.Kin.{AreKin};
 
 use group_tree::Tree;
@@ -47,8 +61,6 @@ pub struct Protection<'t, 'c> {
     pub target: GroupId,
     /// The counters are those of these groups.
     pub ghost kin: { AreKin counters.now.tree tree.now },
-    /// No code gives that part yet.
-    pub ghost off: { recursive ≡ false },
 }
 
 impl<'t, 'c> Protection<'t, 'c> {
@@ -72,7 +84,12 @@ impl<'t, 'c> Protection<'t, 'c> {
         }
         let above = self.effective(parent);
         let siblings = *self.counters.children_min_usage(parent);
-        part_of(above, siblings, self.counters.min_usage(group))
+        let parent_usage = self.counters.usage(parent);
+        let usage = self.counters.usage(group);
+        let own = self.counters.min_usage(group);
+        // The children of a group count together no more than it does.
+        self.counters.are_counted();
+        below_parent(self.recursive, above, siblings, parent_usage, usage, own)
     }
 
     /// Whether a reclaim of the target may take nothing from the group, since it uses no more than its
@@ -90,6 +107,28 @@ impl<'t, 'c> Protection<'t, 'c> {
     }
 }
 
+/// The effective value of a group, where that of its parent is `above`, the parent uses
+/// `parent_usage`, and all its children ask together for `siblings`; and the group itself uses
+/// `usage`, and asks for `own` of that.
+fn below_parent(
+    recursive: bool,
+    above: Amount,
+    siblings: u64,
+    parent_usage: u64,
+    usage: u64,
+    own: u64,
+) -> Amount
+    requires asked { own ≤ siblings }
+    requires fits { usage + siblings ≤ parent_usage + own }
+    ensures { result ≡ below_parent recursive above siblings parent_usage usage own }
+{
+    if recursive && !above.exceeded_by(siblings) {
+        with_rest(above, siblings, parent_usage, usage, own)
+    } else {
+        part_of(above, siblings, own)
+    }
+}
+
 /// A group's part of its parent's effective value, `above`, where it asks for `own`, and all
 /// children of the parent together for `siblings`.
 fn part_of(above: Amount, siblings: u64, own: u64) -> Amount
@@ -104,4 +143,27 @@ fn part_of(above: Amount, siblings: u64, own: u64) -> Amount
     // The product may be larger than any count. The part is at most what is asked for.
     let part = u128::from(own) * u128::from(value) / u128::from(siblings);
     Amount::Pages(part as u64)
+}
+
+/// What a group asks for, and its part of what all children of its parent leave of the parent's
+/// effective value, `above`.
+fn with_rest(above: Amount, siblings: u64, parent_usage: u64, usage: u64, own: u64) -> Amount
+    requires asked { own ≤ siblings }
+    requires fits { usage + siblings ≤ parent_usage + own }
+    ensures { result ≡ with_rest above siblings parent_usage usage own }
+{
+    if parent_usage <= siblings || usage <= own {
+        return Amount::Pages(own);
+    }
+    let Amount::Pages(value) = above else {
+        return Amount::Max;
+    };
+    if value <= siblings {
+        return Amount::Pages(own);
+    }
+    // The product may be larger than any count. The part is at most the rest, since the group uses no
+    // more beyond what it asks for than its parent does.
+    let rest = u128::from(value - siblings) * u128::from(usage - own)
+        / u128::from(parent_usage - siblings);
+    Amount::Pages(own + rest as u64)
 }

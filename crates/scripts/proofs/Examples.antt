@@ -428,6 +428,21 @@ late_and_twice = refl
 fault_twice : behind mode.Schedule false (word.Fault ∷ []) (codes "fault read 1") ≡ None
 fault_twice = refl
 
+-- and `recursiveprot`, which says the same again
+recursive_twice : behind mode.Schedule false (word.RecursiveProtection ∷ []) (codes "recursiveprot") ≡ None
+recursive_twice = refl
+
+recursive_late : behind mode.Schedule true [] (codes "recursiveprot") ≡ Some HeaderAfterCommands
+recursive_late = refl
+
+-- nothing follows it
+recursive_extra : cause (codes "recursiveprot 1") ≡ Some ExtraArgument
+recursive_extra = refl
+
+-- it is not begun
+begin_recursive : cause (codes "begin recursiveprot") ≡ Some UnknownWord
+begin_recursive = refl
+
 -- a wrong number comes before either
 number_before_late : behind mode.Schedule true (word.Frames ∷ []) (codes "frames 0") ≡ Some BadNumber
 number_before_late = refl

@@ -61,6 +61,7 @@ number_ends first word.File e h = (let f : is_numeral first ≡ false = ap is_nu
 number_ends first word.Watermarks e h = (let f : is_numeral first ≡ false = ap is_numeral e in absurd cc)
 number_ends first word.Trace e h = (let f : is_numeral first ≡ false = ap is_numeral e in absurd cc)
 number_ends first word.Fault e h = (let f : is_numeral first ≡ false = ap is_numeral e in absurd cc)
+number_ends first word.RecursiveProtection e h = (let f : is_numeral first ≡ false = ap is_numeral e in absurd cc)
 number_ends first _ e h = refl
 
 number_is_no_word : (first : List ℕ) (o : Option Word) → ((w : Word) → o ≡ Some w → first ≡ (form_of w).name) → is_numeral first ≡ true → is_of_header o ≡ false
@@ -149,6 +150,7 @@ Tells a goes frames own says (item.File file) =
 Tells a goes frames own says (item.Marks m) = (goes ≡ true) × (frames ≡ false) × (are_watermarks m a.frames ≡ true)
 Tells a goes frames own says (item.Trace n) = (goes ≡ true) × (frames ≡ false) × (is_within 1 1048576 (Some n) ≡ true)
 Tells a goes frames own says (item.Fails what n) = (goes ≡ true) × (frames ≡ false)
+Tells a goes frames own says item.Recursive = (goes ≡ true) × (frames ≡ false)
 Tells a goes frames own says item.Nothing = (goes ≡ true) × (frames ≡ false)
 Tells a goes frames own says (item.Does who what) = goes ≡ false
 Tells a goes frames own says (item.Begins who what) = goes ≡ false
@@ -172,6 +174,7 @@ task_word files task text word.Swap ws h = absurd cc
 task_word files task text word.Watermarks ws h = absurd cc
 task_word files task text word.Trace ws h = absurd cc
 task_word files task text word.Fault ws h = absurd cc
+task_word files task text word.RecursiveProtection ws h = absurd cc
 task_word files task text word.Begin ws h = absurd cc
 task_word files task text _ ws h = refl
 
@@ -192,6 +195,7 @@ begun_word files m a word.Swap ws h = absurd cc
 begun_word files m a word.Watermarks ws h = absurd cc
 begun_word files m a word.Trace ws h = absurd cc
 begun_word files m a word.Fault ws h = absurd cc
+begun_word files m a word.RecursiveProtection ws h = absurd cc
 begun_word files m a word.Begin ws h = absurd cc
 begun_word files m a _ ws h = refl
 
@@ -223,6 +227,7 @@ by_word m a word.File ws t h = let f = fine m a manner.Whole None word.File ws h
 by_word m a word.Watermarks ws t h = let f = fine m a manner.Whole None word.Watermarks ws h in (refl, refl, not_false (are_watermarks (marks_of (at ws 0) (at ws 1)) a.frames) f.marks)
 by_word m a word.Trace ws t h = let f = fine m a manner.Whole None word.Trace ws h in (refl, refl, size 1 1048576 ws f.short f.numbers)
 by_word m a word.Fault ws t h = (refl, refl)
+by_word m a word.RecursiveProtection ws t h = (refl, refl)
 by_word m a word.Begin ws t h = absurd cc
 by_word m a _ ws t h = refl
 

@@ -70,6 +70,7 @@ form_of word.File = header_many (codes "file") (kind.Name ∷ kind.Number 1 4294
 form_of word.Watermarks = header (codes "watermarks") (number ∷ number ∷ [])
 form_of word.Trace = header (codes "trace") (kind.Number 1 1048576 ∷ [])
 form_of word.Fault = header_many (codes "fault") (kind.Call ∷ kind.Number 1 4294967295 ∷ [])
+form_of word.RecursiveProtection = header_many (codes "recursiveprot") []
 form_of word.Group = shell (codes "group") (kind.Path ∷ [])
 form_of word.Rmdir = shell (codes "rmdir") (kind.Path ∷ [])
 form_of word.Task = shell (codes "task") (number ∷ kind.Path ∷ [])
@@ -92,7 +93,7 @@ form_of word.Go = border (codes "go") []
 
 abbrev pub words : List Word
 words =
-    word.Frames ∷ word.Swap ∷ word.File ∷ word.Watermarks ∷ word.Trace ∷ word.Fault ∷ word.Group ∷ word.Rmdir ∷ word.Task ∷ word.Attach ∷ word.Set ∷ word.Cat ∷ word.Protection ∷ word.Write
+    word.Frames ∷ word.Swap ∷ word.File ∷ word.Watermarks ∷ word.Trace ∷ word.Fault ∷ word.RecursiveProtection ∷ word.Group ∷ word.Rmdir ∷ word.Task ∷ word.Attach ∷ word.Set ∷ word.Cat ∷ word.Protection ∷ word.Write
     ∷ word.Read ∷ word.FileWrite ∷ word.FileRead ∷ word.Fork ∷ word.Free ∷ word.Exit ∷ word.Daemon ∷ word.Begin ∷ word.Step ∷ word.Finish ∷ word.Go ∷ []
 
 abbrev pub same_speaker : Speaker → Speaker → Bool
@@ -154,25 +155,26 @@ place word.File = 2
 place word.Watermarks = 3
 place word.Trace = 4
 place word.Fault = 5
-place word.Group = 6
-place word.Rmdir = 7
-place word.Task = 8
-place word.Attach = 9
-place word.Set = 10
-place word.Cat = 11
-place word.Protection = 12
-place word.Write = 13
-place word.Read = 14
-place word.FileWrite = 15
-place word.FileRead = 16
-place word.Fork = 17
-place word.Free = 18
-place word.Exit = 19
-place word.Daemon = 20
-place word.Begin = 21
-place word.Step = 22
-place word.Finish = 23
-place word.Go = 24
+place word.RecursiveProtection = 6
+place word.Group = 7
+place word.Rmdir = 8
+place word.Task = 9
+place word.Attach = 10
+place word.Set = 11
+place word.Cat = 12
+place word.Protection = 13
+place word.Write = 14
+place word.Read = 15
+place word.FileWrite = 16
+place word.FileRead = 17
+place word.Fork = 18
+place word.Free = 19
+place word.Exit = 20
+place word.Daemon = 21
+place word.Begin = 22
+place word.Step = 23
+place word.Finish = 24
+place word.Go = 25
 
 abbrev pub same_word : Word → Word → Bool
 same_word v w = place v == place w

@@ -20,7 +20,7 @@ use Rattle.scripts.specs.Faults.{fault}
 
 -- what holds where the header says nothing
 abbrev pub default_config : Config
-default_config = record { frames = 64; swap = 0; files = []; watermarks = record { low = 0; high = 0 }; trace = 65536; turns = 1000 }
+default_config = record { frames = 64; swap = 0; files = []; watermarks = record { low = 0; high = 0 }; trace = 65536; turns = 1000; recursive = false }
 
 abbrev pub config_after : Config → Item → Config
 config_after c (item.Frames n) = record c { frames = n }
@@ -30,6 +30,7 @@ config_after c (item.Marks m) = record c { watermarks = m }
 config_after c (item.Trace n) = record c { trace = n }
 config_after c item.Nothing = c
 config_after c (item.Fails what n) = c
+config_after c item.Recursive = record c { recursive = true }
 config_after c (item.Does actor what) = c
 config_after c (item.Begins actor what) = c
 config_after c (item.Advances actor) = c

@@ -75,6 +75,7 @@ word_means files task word.File a = item.File (file_of (at a 0) (at a 1))
 word_means files task word.Watermarks a = item.Marks (marks_of (at a 0) (at a 1))
 word_means files task word.Trace a = item.Trace (number_value (at a 0))
 word_means files task word.Fault a = item.Fails (call_value (at a 0)) (number_value (at a 1))
+word_means files task word.RecursiveProtection a = item.Recursive
 word_means files task word.Group a = item.Does (actor_of task) (command.Group (at a 0))
 word_means files task word.Rmdir a = item.Does (actor_of task) (command.Rmdir (at a 0))
 word_means files task word.Task a = item.Does (actor_of task) (command.Task (number_value (at a 0)) (at a 1))

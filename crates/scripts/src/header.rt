@@ -31,6 +31,7 @@ pub fn default_config(alloc: Global) -> Config
         watermarks: Watermarks { low: 0, high: 0 },
         trace: 65_536,
         turns: USUAL_TURNS,
+        recursive: false,
     }
 }
 

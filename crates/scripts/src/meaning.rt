@@ -36,6 +36,8 @@ pub enum Item {
     Trace(u32),
     /// This call of the device fails, counted from 1 among those of its kind.
     Fails(DeviceCall, u32),
+    /// Protection is recursive.
+    Recursive,
     /// The actor does this, from its beginning to its end.
     Does(Actor, Command),
     /// The actor begins this.
@@ -201,6 +203,7 @@ pub fn item_of_word(
             let call = call_value(&arguments[0]);
             return Ok(Item::Fails(call, number_value(&arguments[1])));
         }
+        Word::RecursiveProtection => return Ok(Item::Recursive),
         Word::Group => Command::Group(text_of(alloc, &arguments[0])?),
         Word::Rmdir => Command::Rmdir(text_of(alloc, &arguments[0])?),
         Word::Task => Command::Task {

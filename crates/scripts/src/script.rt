@@ -152,6 +152,10 @@ impl Reading {
                 self.context.config.trace = trace;
             }
             Item::Fails(call, number) => self.add_fault(call, number)?,
+            Item::Recursive => {
+                self.context.given.push(Word::RecursiveProtection)?;
+                self.context.config.recursive = true;
+            }
             Item::Does(actor, command) => self.add_command(alloc, line, actor, command)?,
             Item::Begins(actor, command) => self.add_entry(
                 line,

@@ -73,6 +73,7 @@ pub fn config(alloc: Global) -> Result<Config, AllocError> {
         watermarks: Watermarks { low: 0, high: 0 },
         trace: ALL_ROOM,
         turns: 1000,
+        recursive: false,
     })
 }
 

@@ -1,10 +1,9 @@
 use Rattle.std.proofs.Common.{◌<◌, ◌∷◌, length, refl, ap, ◌∙◌, arith}
 use Rattle.std.proofs.lemmas.List.{with_items_is}
-use Rattle.machine.specs.declared.amount.Amount.TheVariants.{Max}
 use Rattle.page_counter.specs.Counts.{usage_of}
 use Rattle.page_counter.specs.Tables.{counts_of}
 use Rattle.page_counter.proofs.ChargeLemmas.{AreCounts-charge}
-use Rattle.page_counter.proofs.ChildLemmas.{children_min_usage-le}
+use Rattle.page_counter.proofs.ChildLemmas.{children_usage-le}
 use Rattle.page_counter.proofs.RootLemmas.{root_counts_most}
 use Rattle.page_counter.proofs.WriteLemmas.{Charges-added, IsCounted-counts}
 use Rattle.page_counter.proofs.counters.Counters.try_charge.Goals as goal
@@ -17,7 +16,7 @@ add_up-requires-clause-room c =
 
 pub add_up-requires-clause-within : goal.add_up-requires-clause-within
 add_up-requires-clause-within c =
-    rw c.as_mut_slice-usage.ensures.value (λ a lt. children_min_usage-le (counts_of c.self.inside) (λ g. Max) c.self.invariant.tables.charges c.is_lineage.ensures.earlier_parents c.self.invariant.tables.counted a lt)
+    rw c.as_mut_slice-usage.ensures.value (λ a lt. children_usage-le (counts_of c.self.inside) c.self.invariant.tables.charges c.is_lineage.ensures.earlier_parents c.self.invariant.tables.counted a lt)
 
 pub add_up-requires-clause-kept : goal.add_up-requires-clause-kept
 add_up-requires-clause-kept c = rw (c.deref.ensures.value, c.as_mut_slice-usage.ensures.value) c.self.invariant.min_sums

@@ -26,7 +26,7 @@ module _ (c : goal.After-next_group) where
   swap = subst (λ (s : StateOf). c.has_swap-swap_free.result ≡ is_swap_free s.tables) (sym c.self.view_is) c.has_swap-swap_free.ensures
 
   recursive : c.is_recursive-recursive.result ≡ (joined_of c.self.inside).tables.opening.recursive
-  recursive = subst (λ (s : StateOf). c.is_recursive-recursive.result ≡ s.tables.opening.recursive) (sym c.self.view_is) c.is_recursive-recursive.ensures.opening
+  recursive = subst (λ (s : StateOf). c.is_recursive-recursive.result ≡ s.tables.opening.recursive) (sym c.self.view_is) c.is_recursive-recursive.ensures
 
   -- by these lists a group gives a page
   abbrev listed : Bool → List Gens → Bool → ℕ → Bool
