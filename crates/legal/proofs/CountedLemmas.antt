@@ -1,8 +1,9 @@
 -- What a step counts, and that no key is counted more often than entries allow.
-use Rattle.std.proofs.Common.{◌≡◌, ◌⊎◌, inl, inr, ℕ, zero, suc, ◌+◌, ◌<◌, ◌≤◌, ◌==◌, ◌&&◌, Bool, true, false, cond, List, [], ◌∷◌, ◌++◌, length, Option, Some, None, refl, sym, ap, ◌∙◌, add-one, eqb-true, arith}
+use Rattle.std.proofs.Common.{◌≡◌, ◌⊎◌, inl, inr, ℕ, zero, suc, ◌+◌, ◌<◌, ◌≤◌, ◌==◌, ◌&&◌, Bool, true, false, cond, List, [], ◌∷◌, ◌++◌, length, Option, Some, None, refl, sym, ap, ◌∙◌, subst, add-one, eqb-true, arith}
 use Rattle.std.specs.Prelude.{MatchBool, slice_set}
 use Rattle.machine.specs.declared.record.EventCounts.{EventCounts}
 use Rattle.machine.specs.declared.record.Key.{Key}
+use Rattle.machine.specs.declared.record.Key.TheVariants as key
 use Rattle.machine.specs.declared.record.Life.{Life}
 use Rattle.machine.specs.declared.record.Life.TheVariants.{Live, Exited, Killed}
 use Rattle.machine.specs.declared.record.Task.{Task}
@@ -16,16 +17,18 @@ use Rattle.machine.specs.declared.event.Event.{Event}
 use Rattle.machine.specs.declared.event.Event.TheVariants as event
 use Rattle.machine.specs.declared.reply.Reply.{Reply}
 use Rattle.machine.specs.declared.reply.Reply.TheVariants as reply
-use Rattle.machine.specs.Pages.{Content, Memory, OfFile, Residence, Held, Coming, Going, Away, Page, home_block}
+use Rattle.machine.specs.Slots.{there_and}
+use Rattle.machine.specs.Pages.{Content, Memory, OfFile, Residence, Held, Coming, Going, Away, Page, is_held, is_held_in, home_block}
 use Rattle.machine.specs.Tree.{Node, under}
 use Rattle.machine.specs.Counts.{Counted, no_counts, once_more, counts_at, with_event, local, total, is_key}
 use Rattle.machine.specs.Tasks.{task_at}
 use Rattle.machine.specs.State.{Opening, State, over_in, is_frame_free}
 use Rattle.machine.specs.Access.{Meeting, Unmapped, Hits, Transferring, NeedsPage, NeedsCopy, NeedsSwapIn, NeedsRead, Dangling, meets}
-use Rattle.machine.specs.Reclaim.{has_takeable, has_transfer, stands, target_of}
+use Rattle.machine.specs.Reclaim.{has_takeable, has_open, has_transfer, stands, target_of}
 use Rattle.machine.specs.Step.{ChargeStep, HitStep, UnmappedStep, MeetStep, LifeStep, TaskStep, StartsLeave, Drops, LeavesBy, LeavesFrom, Takes, ReclaimStep, KillStep, Step}
 use Rattle.machine.specs.Legal.{Legal}
-use Rattle.machine.specs.Events.{counts_named, with_events, for_groups}
+use Rattle.machine.specs.Events.{count_of, counts_named, took_for, low_named, NamesTaken, NamesFor, Names, with_events, for_groups}
+use Rattle.machine.proofs.TakeableLemmas.{next-takeable, takeable-held, taken-named}
 use Rattle.machine.proofs.TreeLemmas.{lt_cases}
 use Rattle.counts.proofs.CountLemmas.{count_of_key-none, local-event, local-push, sum_from, sum_from-same, sum_from-le, sum_from-zero, part_under, total-is}
 
@@ -35,105 +38,139 @@ use Rattle.counts.proofs.CountLemmas.{count_of_key-none, local-event, local-push
 abbrev pub counted_after : State → Event → Reply → List EventCounts
 counted_after old what answer = with_events (for_groups old.counted what) (counts_named old what answer)
 
+-- the events that the step counts, and the table with them
+pub record Counts (old : State) (what : Event) (answer : Reply) (new : State) : Type 0 where
+  pub named : List Counted
+  pub names : Names old what answer new named
+  pub after : new.counted ≡ with_events (for_groups old.counted what) named
+
 module _ (old new : State) (what : Event) where
+  -- a step that takes no page counts what its case names
+  plain : (answer : Reply) → took_for what answer ≡ None → new.counted ≡ counted_after old what answer → Counts old what answer new
+  plain answer none after = record { named = counts_named old what answer; names = subst (λ taken. NamesFor taken old what answer new (counts_named old what answer)) (sym none) refl; after = after }
+
   -- an answer that counts nothing
-  quiet : (answer expected : Reply) → counted_after old what expected ≡ old.counted → answer ≡ expected → new.counted ≡ old.counted → new.counted ≡ counted_after old what answer
-  quiet answer expected none is same = same ∙ sym (ap (counted_after old what) is ∙ none)
+  quiet : (answer expected : Reply) → took_for what expected ≡ None → counted_after old what expected ≡ old.counted → answer ≡ expected → new.counted ≡ old.counted → Counts old what answer new
+  quiet answer expected none nothing is same = plain answer (ap (took_for what) is ∙ none) (same ∙ sym (ap (counted_after old what) is ∙ nothing))
 
   by_test : {Yes No : Type 0} {Goal : Type 0} (b : Bool) → (Yes → Goal) → (No → Goal) → MatchBool b Yes No → Goal
   by_test true on off h = on h
   by_test false on off h = off h
 
-  -- a page that leaves its frame counts nothing
-  module _ (answer : Reply) (out : (n : ℕ) → counted_after old what (reply.Out (record { 0 = n })) ≡ old.counted) (dropped : counted_after old what reply.Dropped ≡ old.counted) where
-    sent : (p frame block : ℕ) (page : Page) → StartsLeave old p page frame block old.counted answer new → new.counted ≡ counted_after old what answer
-    sent p frame block page h = quiet answer _ (out h.ticket) h.answers (ap (λ (s : State). s.counted) h.state)
+  -- a page that leaves its frame
+  module _ (answer : Reply) (target : ℕ) (same_groups : for_groups old.counted what ≡ old.counted) (out : (n : ℕ) → took_for what (reply.Out (record { 0 = n })) ≡ Some target) (dropped : took_for what reply.Dropped ≡ Some target) where
+    -- is held no more, whatever is counted then
+    record Leaves (p : ℕ) (counted : List EventCounts) : Type 0 where
+      took : took_for what answer ≡ Some target
+      leaves : is_held_in new.pages p ≡ false
+      counts : new.counted ≡ counted
 
-    dropped_counts : (p : ℕ) → Drops old p old.counted answer new → new.counted ≡ counted_after old what answer
-    dropped_counts p h = quiet answer _ dropped h.answers (ap (λ (s : State). s.counted) h.state)
+    sent : (p frame block : ℕ) (page : Page) (counted : List EventCounts) → StartsLeave old p page frame block counted answer new → Leaves p counted
+    sent p frame block page counted h = record { took = ap (took_for what) h.answers ∙ out h.ticket; leaves = ap (there_and is_held) h.placed.changed; counts = ap (λ (s : State). s.counted) h.state }
 
-    leaves_by : (p frame : ℕ) (page : Page) (content : Content) → LeavesBy old p page content frame old.counted answer new → new.counted ≡ counted_after old what answer
-    leaves_by p frame page Memory h = sent p frame h.block page h.leave
-    leaves_by p frame page (OfFile file q) h = by_test page.dirty (sent p frame (home_block old.opening.swap old.opening.files file q) page) (dropped_counts p) h
+    gone : (p : ℕ) (counted : List EventCounts) → Drops old p counted answer new → Leaves p counted
+    gone p counted h = record { took = ap (took_for what) h.answers ∙ dropped; leaves = ap (there_and is_held) h.gone.changed; counts = ap (λ (s : State). s.counted) h.state }
 
-    leaves_from : (p : ℕ) (page : Page) (residence : Residence) → LeavesFrom old p page residence old.counted answer new → new.counted ≡ counted_after old what answer
-    leaves_from p page (Held frame) h = leaves_by p frame page page.content h
-    leaves_from p page (Coming frame block ticket) h = absurd h
-    leaves_from p page (Going frame block ticket) h = absurd h
-    leaves_from p page (Away block) h = absurd h
+    leaves_by : (p frame : ℕ) (page : Page) (content : Content) (counted : List EventCounts) → LeavesBy old p page content frame counted answer new → Leaves p counted
+    leaves_by p frame page Memory counted h = sent p frame h.block page counted h.leave
+    leaves_by p frame page (OfFile file q) counted h = by_test page.dirty (sent p frame (home_block old.opening.swap old.opening.files file q) page counted) (gone p counted) h
 
-    reclaims : (target : ℕ) (Idle : Type 0) → counted_after old what reply.Wait ≡ old.counted → (Idle → new.counted ≡ counted_after old what answer) → ReclaimStep old target Idle answer new → new.counted ≡ counted_after old what answer
-    reclaims target Idle wait idle h =
-        by_test (has_takeable old target) (λ (k : Takes old target answer new). leaves_from k.p k.page k.page.residence k.leaves)
-        (by_test (has_transfer old target) (λ w. quiet answer reply.Wait wait w.0 (ap (λ (s : State). s.counted) w.1)) idle) h
+    leaves_from : (p : ℕ) (page : Page) (residence : Residence) (counted : List EventCounts) → LeavesFrom old p page residence counted answer new → Leaves p counted
+    leaves_from p page (Held frame) counted h = leaves_by p frame page page.content counted h
+    leaves_from p page (Coming frame block ticket) counted h = absurd h
+    leaves_from p page (Going frame block ticket) counted h = absurd h
+    leaves_from p page (Away block) counted h = absurd h
+
+    takes : Takes old target answer new → Counts old what answer new
+    takes h =
+        let left = leaves_from h.p h.page h.page.residence _ h.leaves in
+        let names : NamesTaken old target new (low_named old target h.page.group) =
+        record {
+          p = h.p;
+          page = h.page;
+          there = h.there;
+          held = takeable-held old target h.page (next-takeable old target h.page h.next);
+          leaves = left.leaves;
+          are = refl;
+        } in
+        record {
+          named = low_named old target h.page.group;
+          names = subst (λ taken. NamesFor taken old what answer new (low_named old target h.page.group)) (sym left.took) names;
+          after = left.counts ∙ taken-named old target h.page.group ∙ ap (λ cs. with_events cs (low_named old target h.page.group)) (sym same_groups);
+        }
+
+    reclaims : (Idle : Type 0) → took_for what reply.Wait ≡ None → counted_after old what reply.Wait ≡ old.counted → (Idle → Counts old what answer new) → ReclaimStep old target Idle answer new → Counts old what answer new
+    reclaims Idle none wait idle h =
+        by_test (has_takeable old target) takes (by_test (has_transfer old target) (λ w. quiet answer reply.Wait none wait w.0 (ap (λ (s : State). s.counted) w.1)) idle) h
 
   -- an event of a task
-  of_task : (slot : Option Task) (Live_step : Task → Type 0) (answer : Reply) → counted_after old what reply.Killed ≡ old.counted → ((task : Task) → Live_step task → new.counted ≡ counted_after old what answer)
-      → TaskStep old slot Live_step answer new → new.counted ≡ counted_after old what answer
-  of_task None Live_step answer killed living h = absurd h
-  of_task (Some task) Live_step answer killed living h = by_life task.life h
+  of_task : (slot : Option Task) (Live_step : Task → Type 0) (answer : Reply) → took_for what reply.Killed ≡ None → counted_after old what reply.Killed ≡ old.counted → ((task : Task) → Live_step task → Counts old what answer new)
+      → TaskStep old slot Live_step answer new → Counts old what answer new
+  of_task None Live_step answer none killed living h = absurd h
+  of_task (Some task) Live_step answer none killed living h = by_life task.life h
     where
-      by_life : (life : Life) → LifeStep old life (Live_step task) answer new → new.counted ≡ counted_after old what answer
+      by_life : (life : Life) → LifeStep old life (Live_step task) answer new → Counts old what answer new
       by_life Live k = living task k
       by_life Exited k = absurd k
-      by_life Killed k = quiet answer reply.Killed killed k.0 (ap (λ (s : State). s.counted) k.1)
+      by_life Killed k = quiet answer reply.Killed none killed k.0 (ap (λ (s : State). s.counted) k.1)
 
 -- an access
 module _ (old new : State) (t : TaskId) (place : Place) (op : Op) where
   abbrev access : Event
   access = event.Access t place op
 
-  charged : (low : Option ℕ) (free : Bool) (Granted : Type 0) (answer : Reply) → (Granted → new.counted ≡ counted_after old access answer) → ChargeStep old low free Granted answer new → new.counted ≡ counted_after old access answer
-  charged (Some a) free Granted answer granted h = ap (λ (s : State). s.counted) h.1 ∙ sym (ap (counted_after old access) h.0)
-  charged None free Granted answer granted h = by_test old new access free granted (λ k. quiet old new access answer reply.NoFrame refl k.0 (ap (λ (s : State). s.counted) k.1)) h
+  charged : (low : Option ℕ) (free : Bool) (Granted : Type 0) (answer : Reply) → (Granted → Counts old access answer new) → ChargeStep old low free Granted answer new → Counts old access answer new
+  charged (Some a) free Granted answer granted h = plain old new access answer (ap (took_for access) h.0) (ap (λ (s : State). s.counted) h.1 ∙ sym (ap (counted_after old access) h.0))
+  charged None free Granted answer granted h = by_test old new access free granted (λ k. quiet old new access answer reply.NoFrame refl refl k.0 (ap (λ (s : State). s.counted) k.1)) h
 
-  hit : (p frame : ℕ) (page : Page) (op' : Op) (answer : Reply) → HitStep old p page frame op' answer new → new.counted ≡ counted_after old access answer
-  hit p frame page Read (reply.Done byte at) h = ap (λ (s : State). s.counted) h.1
-  hit p frame page (Write b) (reply.Done byte at) h = ap (λ (s : State). s.counted) h.3
+  hit : (p frame : ℕ) (page : Page) (op' : Op) (answer : Reply) → HitStep old p page frame op' answer new → Counts old access answer new
+  hit p frame page Read (reply.Done byte at) h = plain old new access (reply.Done byte at) refl (ap (λ (s : State). s.counted) h.1)
+  hit p frame page (Write b) (reply.Done byte at) h = plain old new access (reply.Done byte at) refl (ap (λ (s : State). s.counted) h.3)
   hit p frame page op' answer h = absurd h
 
-  unmapped : (answer : Reply) → UnmappedStep old answer new → new.counted ≡ counted_after old access answer
-  unmapped (reply.Done byte at) h = ap (λ (s : State). s.counted) h.1
+  unmapped : (answer : Reply) → UnmappedStep old answer new → Counts old access answer new
+  unmapped (reply.Done byte at) h = plain old new access (reply.Done byte at) refl (ap (λ (s : State). s.counted) h.1)
   unmapped answer h = absurd h
 
-  meeting : (g : ℕ) (met : Meeting) (answer : Reply) → MeetStep old t.0 g op met answer new → new.counted ≡ counted_after old access answer
+  meeting : (g : ℕ) (met : Meeting) (answer : Reply) → MeetStep old t.0 g op met answer new → Counts old access answer new
   meeting g Unmapped answer h = unmapped answer h
   meeting g (Hits p page frame) answer h = hit p frame page op answer h
-  meeting g Transferring answer h = quiet old new access answer reply.Busy refl h.0 (ap (λ (s : State). s.counted) h.1)
-  meeting g (NeedsPage v) answer h = charged (over_in old g) (is_frame_free old) _ answer (λ k. quiet old new access answer _ refl k.answers (ap (λ (s : State). s.counted) k.state)) h
-  meeting g (NeedsCopy v) answer h = charged (over_in old g) (is_frame_free old) _ answer (λ k. quiet old new access answer _ refl k.answers (ap (λ (s : State). s.counted) k.state)) h
-  meeting g (NeedsSwapIn p page block) answer h = charged (over_in old page.group) (is_frame_free old) _ answer (λ k. quiet old new access answer _ refl k.answers (ap (λ (s : State). s.counted) k.state)) h
-  meeting g (NeedsRead file q) answer h = charged (over_in old g) (is_frame_free old) _ answer (λ k. quiet old new access answer _ refl k.fetch.answers (ap (λ (s : State). s.counted) k.fetch.state)) h
+  meeting g Transferring answer h = quiet old new access answer reply.Busy refl refl h.0 (ap (λ (s : State). s.counted) h.1)
+  meeting g (NeedsPage v) answer h = charged (over_in old g) (is_frame_free old) _ answer (λ k. quiet old new access answer _ refl refl k.answers (ap (λ (s : State). s.counted) k.state)) h
+  meeting g (NeedsCopy v) answer h = charged (over_in old g) (is_frame_free old) _ answer (λ k. quiet old new access answer _ refl refl k.answers (ap (λ (s : State). s.counted) k.state)) h
+  meeting g (NeedsSwapIn p page block) answer h = charged (over_in old page.group) (is_frame_free old) _ answer (λ k. quiet old new access answer _ refl refl k.answers (ap (λ (s : State). s.counted) k.state)) h
+  meeting g (NeedsRead file q) answer h = charged (over_in old g) (is_frame_free old) _ answer (λ k. quiet old new access answer _ refl refl k.fetch.answers (ap (λ (s : State). s.counted) k.fetch.state)) h
   meeting g Dangling answer h = absurd h
 
 -- a relief
-kills : (old new : State) (why : Cause) (answer : Reply) → KillStep old (target_of why) answer new → new.counted ≡ counted_after old (event.Relieve why) answer
-kills old new why (reply.KilledTask t) h = ap (λ (s : State). s.counted) h.1.state
-kills old new why reply.NoVictim h = ap (λ (s : State). s.counted) h.1
+kills : (old new : State) (why : Cause) (answer : Reply) → KillStep old (target_of why) answer new → Counts old (event.Relieve why) answer new
+kills old new why (reply.KilledTask t) h = plain old new (event.Relieve why) (reply.KilledTask t) refl (ap (λ (s : State). s.counted) h.1.state)
+kills old new why reply.NoVictim h = plain old new (event.Relieve why) reply.NoVictim refl (ap (λ (s : State). s.counted) h.1)
 kills old new why answer h = absurd h
 
 -- a step counts what its case names, and nothing else
-pub step-counted : (old new : State) (what : Event) (answer : Reply) → Step old what answer new → new.counted ≡ counted_after old what answer
+pub step-counted : (old new : State) (what : Event) (answer : Reply) → Step old what answer new → Counts old what answer new
 step-counted old new (event.Access t place op) answer h =
-    of_task old new (event.Access t place op) (task_at old.tasks t.0) _ answer refl (λ task k. meeting old new t place op task.group.0 (meets old t.0 place op) answer k) h
-step-counted old new (event.Arrived ticket bytes) answer h = ap (λ (s : State). s.counted) h.state
-step-counted old new (event.FetchFailed ticket) answer h = ap (λ (s : State). s.counted) h.state
-step-counted old new (event.Left ticket) answer h = ap (λ (s : State). s.counted) h.state
-step-counted old new (event.LeaveFailed ticket) answer h = ap (λ (s : State). s.counted) h.state
+    of_task old new (event.Access t place op) (task_at old.tasks t.0) _ answer refl refl (λ task k. meeting old new t place op task.group.0 (meets old t.0 place op) answer k) h
+step-counted old new (event.Arrived ticket bytes) answer h = plain old new _ answer refl (ap (λ (s : State). s.counted) h.state)
+step-counted old new (event.FetchFailed ticket) answer h = plain old new _ answer refl (ap (λ (s : State). s.counted) h.state)
+step-counted old new (event.Left ticket) answer h = plain old new _ answer refl (ap (λ (s : State). s.counted) h.state)
+step-counted old new (event.LeaveFailed ticket) answer h = plain old new _ answer refl (ap (λ (s : State). s.counted) h.state)
 step-counted old new (event.Relieve why) answer h =
-    by_test old new (event.Relieve why) (stands old why) (reclaims old new (event.Relieve why) answer (λ n. refl) refl (target_of why) _ refl (kills old new why answer))
-    (λ k. quiet old new (event.Relieve why) answer reply.Room refl k.0 (ap (λ (s : State). s.counted) k.1)) h
-step-counted old new (event.ReclaimOne g) answer h = reclaims old new (event.ReclaimOne g) answer (λ n. refl) refl g.0 _ refl (λ k. ap (λ (s : State). s.counted) k.1) h
-step-counted old new (event.Spawn t g) reply.Ok h = ap (λ (s : State). s.counted) h.2
-step-counted old new (event.Fork t child) answer h = of_task old new (event.Fork t child) (task_at old.tasks t.0) _ answer refl (λ task k. ap (λ (s : State). s.counted) k.3) h
-step-counted old new (event.Exit t) answer h = of_task old new (event.Exit t) (task_at old.tasks t.0) _ answer refl (λ task k. ap (λ (s : State). s.counted) k.1.state) h
-step-counted old new (event.Free t v) answer h = of_task old new (event.Free t v) (task_at old.tasks t.0) _ answer refl (λ task k. ap (λ (s : State). s.counted) k.state) h
-step-counted old new (event.Attach t g) reply.Ok h = ap (λ (s : State). s.counted) h.1
-step-counted old new (event.Mkdir path) reply.Ok h = ap (λ (s : State). s.counted) h
-step-counted old new (event.Rmdir g) reply.Ok h = ap (λ (s : State). s.counted) h.state
-step-counted old new (event.Set g what) reply.Ok h = ap (λ (s : State). s.counted) h
-step-counted old new (event.Show what) (reply.Shown numbers) h = ap (λ (s : State). s.counted) h.1
-step-counted old new (event.MergeMarks word bits) reply.Ok h = ap (λ (s : State). s.counted) h
+    by_test old new (event.Relieve why) (stands old why) (reclaims old new (event.Relieve why) answer (target_of why) refl (λ n. refl) refl _ refl refl (kills old new why answer))
+    (λ k. quiet old new (event.Relieve why) answer reply.Room refl refl k.0 (ap (λ (s : State). s.counted) k.1)) h
+step-counted old new (event.ReclaimOne g) answer h =
+    reclaims old new (event.ReclaimOne g) answer g.0 refl (λ n. refl) refl _ refl refl (λ k. quiet old new (event.ReclaimOne g) answer reply.Nothing refl refl k.0 (ap (λ (s : State). s.counted) k.1)) h
+step-counted old new (event.Spawn t g) reply.Ok h = plain old new _ reply.Ok refl (ap (λ (s : State). s.counted) h.2)
+step-counted old new (event.Fork t child) answer h = of_task old new (event.Fork t child) (task_at old.tasks t.0) _ answer refl refl (λ task k. plain old new _ answer refl (ap (λ (s : State). s.counted) k.3)) h
+step-counted old new (event.Exit t) answer h = of_task old new (event.Exit t) (task_at old.tasks t.0) _ answer refl refl (λ task k. plain old new _ answer refl (ap (λ (s : State). s.counted) k.1.state)) h
+step-counted old new (event.Free t v) answer h = of_task old new (event.Free t v) (task_at old.tasks t.0) _ answer refl refl (λ task k. plain old new _ answer refl (ap (λ (s : State). s.counted) k.state)) h
+step-counted old new (event.Attach t g) reply.Ok h = plain old new _ reply.Ok refl (ap (λ (s : State). s.counted) h.1)
+step-counted old new (event.Mkdir path) reply.Ok h = plain old new (event.Mkdir path) reply.Ok refl (ap (λ (s : State). s.counted) h)
+step-counted old new (event.Rmdir g) reply.Ok h = plain old new _ reply.Ok refl (ap (λ (s : State). s.counted) h.state)
+step-counted old new (event.Set g what) reply.Ok h = plain old new _ reply.Ok refl (ap (λ (s : State). s.counted) h)
+step-counted old new (event.Show what) (reply.Shown numbers) h = plain old new _ (reply.Shown numbers) refl (ap (λ (s : State). s.counted) h.1)
+step-counted old new (event.MergeMarks word bits) reply.Ok h = plain old new _ reply.Ok refl (ap (λ (s : State). s.counted) h)
 step-counted old new what answer h = absurd h
 
 -- ---- how often at most
@@ -201,11 +238,22 @@ everywhere-groups counted (event.Mkdir path) k n =
     let same = sum_from-same (λ g. local (counted ++ no_counts ∷ []) g k) (λ g. local counted g k) 0 n (λ g from to. local-push counted g k) in omega (arith, same)
 everywhere-groups counted what k n = omega arith
 
-named-two : (s : State) (what : Event) (answer : Reply) → length (counts_named s what answer) ≤ 2
-named-two s (event.Access t place op) (reply.Over g) = omega arith
-named-two s (event.Relieve why) (reply.KilledTask t) = omega arith
-named-two s (event.Relieve why) reply.NoVictim = omega arith
-named-two s what answer = omega arith
+named-two : (s : State) (what : Event) (answer : Reply) (new : State) (named : List Counted) → Names s what answer new named → length named ≤ 2
+named-two s what answer new named names = by_taken (took_for what answer) names
+  where
+    of_case : (what : Event) (answer : Reply) → length (counts_named s what answer) ≤ 2
+    of_case (event.Access t place op) (reply.Over g) = omega arith
+    of_case (event.Relieve why) (reply.KilledTask t) = omega arith
+    of_case (event.Relieve why) reply.NoVictim = omega arith
+    of_case what answer = omega arith
+
+    of_low : (b : Bool) (g : ℕ) → length (cond b [] (count_of g key.Low ∷ [])) ≤ 2
+    of_low true g = omega arith
+    of_low false g = omega arith
+
+    by_taken : (taken : Option ℕ) → NamesFor taken s what answer new named → length named ≤ 2
+    by_taken None is = let same = ap (λ (cs : List Counted). length cs) is in let le = of_case what answer in omega (arith, same, le)
+    by_taken (Some target) taken = let same = ap (λ (cs : List Counted). length cs) taken.are in let le = of_low (has_open s target) taken.page.group in omega (arith, same, le)
 
 -- each entry counts at most two events
 pub few-everywhere : (opening : Opening) (history : List Entry) (s : State) → Legal opening history s → (k : Key) (n : ℕ) → everywhere s.counted k n ≤ length history + length history
@@ -216,10 +264,11 @@ few-everywhere opening [] s legal k n = let none = ap (λ (t : State). everywher
     nothing (suc g) = count_of_key-none k
 few-everywhere opening (entry ∷ earlier) s (before, legal, extends) k n =
     let so_far = few-everywhere opening earlier before legal k n in
-    let is = ap (λ (cs : List EventCounts). everywhere cs k n) (step-counted before s entry.event entry.reply extends.steps) in
-    let more = everywhere-events (for_groups before.counted entry.event) (counts_named before entry.event entry.reply) k n in
+    let counts = step-counted before s entry.event entry.reply extends.steps in
+    let is = ap (λ (cs : List EventCounts). everywhere cs k n) counts.after in
+    let more = everywhere-events (for_groups before.counted entry.event) counts.named k n in
     let groups = everywhere-groups before.counted entry.event k n in
-    let two = named-two before entry.event entry.reply in
+    let two = named-two before entry.event entry.reply s counts.named counts.names in
     let longer = add-one (length earlier) in
     omega (arith, so_far, is, more, groups, two, longer)
 

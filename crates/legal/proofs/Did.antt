@@ -27,7 +27,7 @@ use Rattle.machine.specs.State.{State, page_numbers, over_in, is_frame_free}
 use Rattle.machine.specs.Access.{Meeting, Unmapped, Hits, Transferring, NeedsPage, NeedsCopy, NeedsSwapIn, NeedsRead, Dangling, page_size, is_place, meets}
 use Rattle.machine.specs.Refusals.{first_cause, life_refusal, task_refusal, refusal}
 use Rattle.machine.specs.declared.refusal.Refusal.TheVariants.{BadPlace}
-use Rattle.machine.specs.Reclaim.{has_takeable, has_transfer, stands, target_of}
+use Rattle.machine.specs.Reclaim.{counted_at_take, has_takeable, has_transfer, stands, target_of}
 use Rattle.machine.specs.Step.{ChargeStep, IsFreeBlock, MakesPage, StartsFetch, ReadsFile, HitStep, UnmappedStep, MeetStep, LifeStep, TaskStep, Takes, StartsLeave, LeavesBy, LeavesFrom, ReclaimStep, KillStep, RelieveStep, still, Frees, Removes, EndsTask, EndsTransfer, in_frame, on_block, new_node, new_page, Step}
 use Rattle.machine.proofs.Values.{some_inj, never_some, unlike}
 use Rattle.legal.proofs.MoveLemmas.{MayGo, MayStay, Met, met, MetFile, met_file, Settled, hits_held, swaps_away, in_frame-cases, on_block-cases, in_frame-memory, on_block-memory}
@@ -265,16 +265,16 @@ module _ (old new : State) (what : Event) where
 
   -- ---- reclaims
 
-  sent : (p frame block : ℕ) (page : Page) (answer : Reply) → page_at old.pages p ≡ Some page → page.residence ≡ Held frame → GoesTo old page block page.content
-      → StartsLeave old p page frame block old.counted answer new → Did old what answer new
-  sent p frame block page answer there held goes h = Moved p page page.dirty _ old.counted there h.placed (Goes frame block h.ticket held refl refl goes h.ticket_free)
+  sent : (p frame block : ℕ) (page : Page) (counted : List EventCounts) (answer : Reply) → page_at old.pages p ≡ Some page → page.residence ≡ Held frame → GoesTo old page block page.content
+      → StartsLeave old p page frame block counted answer new → Did old what answer new
+  sent p frame block page counted answer there held goes h = Moved p page page.dirty _ counted there h.placed (Goes frame block h.ticket held refl refl goes h.ticket_free)
       (λ moving. unlike (in_transfer_at page.residence) moving (ap in_transfer_at held)) h.state
 
-  leaves_by : (p frame : ℕ) (page : Page) (content : Content) (answer : Reply) → page_at old.pages p ≡ Some page → page.residence ≡ Held frame → page.content ≡ content
-      → LeavesBy old p page content frame old.counted answer new → Did old what answer new
-  leaves_by p frame page Memory answer there held is h = sent p frame h.block page answer there held (subst (GoesTo old page h.block) (sym is) h.block_free) h.leave
-  leaves_by p frame page (OfFile file q) answer there held is h =
-      by_dirty page.dirty refl (λ dirty k. sent p frame _ page answer there held (subst (GoesTo old page _) (sym is) (refl, dirty)) k) (λ clean k. Dropped p page old.counted (ap is_out k.answers) there (λ memory. of_file memory) (WasClean frame held clean) k.gone k.state) h
+  leaves_by : (p frame : ℕ) (page : Page) (content : Content) (counted : List EventCounts) (answer : Reply) → page_at old.pages p ≡ Some page → page.residence ≡ Held frame → page.content ≡ content
+      → LeavesBy old p page content frame counted answer new → Did old what answer new
+  leaves_by p frame page Memory counted answer there held is h = sent p frame h.block page counted answer there held (subst (GoesTo old page h.block) (sym is) h.block_free) h.leave
+  leaves_by p frame page (OfFile file q) counted answer there held is h =
+      by_dirty page.dirty refl (λ dirty k. sent p frame _ page counted answer there held (subst (GoesTo old page _) (sym is) (refl, dirty)) k) (λ clean k. Dropped p page counted (ap is_out k.answers) there (λ memory. of_file memory) (WasClean frame held clean) k.gone k.state) h
     where
       by_dirty : {P Q R : Type 0} (b : Bool) → page.dirty ≡ b → (page.dirty ≡ true → P → R) → (page.dirty ≡ false → Q → R) → MatchBool b P Q → R
       by_dirty true dirty f g k = f dirty k
@@ -286,8 +286,8 @@ module _ (old new : State) (what : Event) where
   takes : (target : ℕ) (answer : Reply) → Takes old target answer new → Did old what answer new
   takes target answer h = by_residence h.page.residence refl h.leaves
     where
-      by_residence : (r : Residence) → h.page.residence ≡ r → LeavesFrom old h.p h.page r old.counted answer new → Did old what answer new
-      by_residence (Held frame) held k = leaves_by h.p frame h.page h.page.content answer h.there held refl k
+      by_residence : (r : Residence) → h.page.residence ≡ r → LeavesFrom old h.p h.page r (counted_at_take old target h.page.group) answer new → Did old what answer new
+      by_residence (Held frame) held k = leaves_by h.p frame h.page h.page.content _ answer h.there held refl k
       by_residence (Coming frame block ticket) held k = absurd k
       by_residence (Going frame block ticket) held k = absurd k
       by_residence (Away block) held k = absurd k

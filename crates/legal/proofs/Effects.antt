@@ -27,7 +27,7 @@ use Rattle.machine.specs.declared.record.EventCounts.{EventCounts}
 use Rattle.machine.specs.Tasks.{Tasks, PageTables, ShowsNothing, SetsTask, task_at, is_live_life, is_live_task, lives, mapped_at, mappers}
 use Rattle.machine.specs.State.{State, over_in, is_frame_free}
 use Rattle.machine.specs.Access.{Meeting, Unmapped, Hits, Transferring, NeedsPage, NeedsCopy, NeedsSwapIn, NeedsRead, Dangling, meets, is_shared_write}
-use Rattle.machine.specs.Reclaim.{has_takeable, has_transfer, stands, target_of}
+use Rattle.machine.specs.Reclaim.{counted_at_take, has_takeable, has_transfer, stands, target_of}
 use Rattle.machine.specs.Refusals.{refusal}
 use Rattle.machine.specs.Step.{ChargeStep, TriesCharge, MakesPage, StartsFetch, ReadsFile, HitStep, UnmappedStep, MeetStep, LifeStep, TaskStep, Takes, StartsLeave, Drops, LeavesBy, LeavesFrom, ReclaimStep, ReclaimOneStep, KillStep, RelieveStep, still, Exits, Forks, Frees, Attaches, Removes, regrouped, EndsTransfer, in_frame, on_block, Step}
 use Rattle.machine.specs.History.{Spot, InTask, is_spot, Byte, As, Nothing, says_if, says, follow, ticket_given}
@@ -675,16 +675,16 @@ module _ (old new : State) (alive : AllLive old.page_tables old.tasks) (shows : 
         one_page what answer p None h.state h.gone (inl (ap ticket_in there ∙ ap ticket_at held)) tt (silent answer) (gives_none answer (ap ticket_given h.answers))
 
     -- by what the page holds
-    leaves_by : (p frame : ℕ) (page : Page) (content : Content) (answer : Reply) → page_at old.pages p ≡ Some page → page.residence ≡ Held frame → LeavesBy old p page content frame old.counted answer new → OnTasks old what answer new
-    leaves_by p frame page Memory answer there held h = sent p frame h.block page old.counted answer there held h.leave
-    leaves_by p frame page (OfFile file q) answer there held h = by_either page.dirty (λ k. sent p frame _ page old.counted answer there held k) (λ k. dropped p frame page old.counted answer there held k) h
+    leaves_by : (p frame : ℕ) (page : Page) (content : Content) (counted : List EventCounts) (answer : Reply) → page_at old.pages p ≡ Some page → page.residence ≡ Held frame → LeavesBy old p page content frame counted answer new → OnTasks old what answer new
+    leaves_by p frame page Memory counted answer there held h = sent p frame h.block page counted answer there held h.leave
+    leaves_by p frame page (OfFile file q) counted answer there held h = by_either page.dirty (λ k. sent p frame _ page counted answer there held k) (λ k. dropped p frame page counted answer there held k) h
 
     -- by where it stands
     takes : (target : ℕ) (answer : Reply) → Takes old target answer new → OnTasks old what answer new
     takes target answer h = by_residence h.page.residence refl h.leaves
       where
-        by_residence : (r : Residence) → h.page.residence ≡ r → LeavesFrom old h.p h.page r old.counted answer new → OnTasks old what answer new
-        by_residence (Held frame) held k = leaves_by h.p frame h.page h.page.content answer h.there held k
+        by_residence : (r : Residence) → h.page.residence ≡ r → LeavesFrom old h.p h.page r (counted_at_take old target h.page.group) answer new → OnTasks old what answer new
+        by_residence (Held frame) held k = leaves_by h.p frame h.page h.page.content _ answer h.there held k
         by_residence (Coming frame block ticket) held k = absurd k
         by_residence (Going frame block ticket) held k = absurd k
         by_residence (Away block) held k = absurd k

@@ -7,6 +7,7 @@ use Rattle.std.proofs.Math.ListN.{get_or-eq_default}
 use Rattle.machine.specs.declared.entry.Entry.{Entry}
 use Rattle.machine.specs.declared.record.EventCounts.{EventCounts}
 use Rattle.machine.specs.declared.record.Key.{Key}
+use Rattle.machine.specs.declared.record.Key.TheVariants as key
 use Rattle.machine.specs.declared.record.Life.{Life}
 use Rattle.machine.specs.declared.record.Life.TheVariants.{Live, Exited, Killed}
 use Rattle.machine.specs.declared.record.Limits.{Limits}
@@ -23,16 +24,16 @@ use Rattle.machine.specs.declared.reply.Reply.{Reply}
 use Rattle.machine.specs.declared.reply.Reply.TheVariants as reply
 use Rattle.machine.specs.Slots.{there_and}
 use Rattle.machine.specs.Tree.{Node, IsTree, node_at, no_node, is_live}
-use Rattle.machine.specs.Pages.{Content, Memory, OfFile, Residence, Held, Coming, Going, Away, Page, home_block}
+use Rattle.machine.specs.Pages.{Content, Memory, OfFile, Residence, Held, Coming, Going, Away, Page, page_at, home_block}
 use Rattle.machine.specs.Counts.{Counted, is_full, over_at, no_counts, once_more, counts_at, with_event, local, is_key, how_often}
 use Rattle.machine.specs.Tasks.{Tasks, task_at, is_live_life, is_live_task, lives, group_of, group_of_task}
 use Rattle.machine.specs.State.{Opening, State, usage, over_in, is_frame_free}
 use Rattle.machine.specs.Access.{Meeting, Unmapped, Hits, Transferring, NeedsPage, NeedsCopy, NeedsSwapIn, NeedsRead, Dangling, meets}
-use Rattle.machine.specs.Reclaim.{has_takeable, has_transfer, stands, target_of}
+use Rattle.machine.specs.Reclaim.{has_takeable, has_open, has_transfer, stands, target_of}
 use Rattle.machine.specs.Victim.{is_live_under, is_candidate}
 use Rattle.machine.specs.Step.{Only, ChargeStep, HitStep, MeetStep, LifeStep, TaskStep, StartsLeave, Drops, LeavesBy, LeavesFrom, Takes, ReclaimStep, KillStep, RelieveStep, new_node, Step}
 use Rattle.machine.specs.Legal.{Legal}
-use Rattle.machine.specs.Events.{counts_named, AreCounted, with_events, for_groups}
+use Rattle.machine.specs.Events.{count_of, counts_named, took_for, low_named, NamesFor, Names, AreCounted, with_events, for_groups}
 use Rattle.machine.proofs.Values.{some_inj, unlike}
 use Rattle.machine.proofs.TreeLemmas.{lt_cases, over_at-None, over_at-step}
 use Rattle.counts.proofs.CountLemmas.{count_of_key-none, local-event, local-push}
@@ -105,7 +106,7 @@ taking_from old new p page (Going frame block ticket) counted answer h = absurd 
 taking_from old new p page (Away block) counted answer h = absurd h
 
 never_taken : (old : State) (target : ℕ) (answer : Reply) (new : State) → is_taking answer ≡ false → Takes old target answer new → ⊥
-never_taken old target answer new other h = unlike (is_taking answer) (taking_from old new h.p h.page h.page.residence old.counted answer h.leaves) other
+never_taken old target answer new other h = unlike (is_taking answer) (taking_from old new h.p h.page h.page.residence _ answer h.leaves) other
 
 -- who can be killed is live
 candidate_lives : (tree : List Node) (tasks : Tasks) (limit t : ℕ) → is_candidate tree tasks limit t ≡ true → lives tasks t ≡ true
@@ -203,15 +204,33 @@ module _ (opening : Opening) (history : List Entry) (old new : State) (legal : L
         by_cause true is h = (is, wanted h)
         by_cause false is h = absurd (not_room h.0)
 
-  pub named-there : 0 < length old.tree → (what : Event) (answer : Reply) → Step old what answer new → AreOf (length old.tree) (counts_named old what answer)
-  named-there some (event.Access t place op) (reply.Over g) h = (accesses t.0 place op g.0 h, tt)
-  named-there some (event.Relieve why) (reply.KilledTask t) h =
+  case-there : 0 < length old.tree → (what : Event) (answer : Reply) → Step old what answer new → AreOf (length old.tree) (counts_named old what answer)
+  case-there some (event.Access t place op) (reply.Over g) h = (accesses t.0 place op g.0 h, tt)
+  case-there some (event.Relieve why) (reply.KilledTask t) h =
       let kill = relieves why (reply.KilledTask t) refl (λ e. cc) (λ e. cc) h in (
         target-there some why kill.0,
         (live-within old.tree (group_of_task old.tasks t.0) (sound.homes t.0 (candidate_lives old.tree old.tasks (target_of why) t.0 kill.1.0.among)), tt),
       )
-  named-there some (event.Relieve why) reply.NoVictim h = let kill = relieves why reply.NoVictim refl (λ e. cc) (λ e. cc) h in (target-there some why kill.0, tt)
-  named-there some what answer h = tt
+  case-there some (event.Relieve why) reply.NoVictim h = let kill = relieves why reply.NoVictim refl (λ e. cc) (λ e. cc) h in (target-there some why kill.0, tt)
+  case-there some what answer h = tt
+
+  -- the group of a page that is taken
+  low-there : (target p : ℕ) (page : Page) → page_at old.pages p ≡ Some page → AreOf (length old.tree) (low_named old target page.group)
+  low-there target p page there = by_open (has_open old target)
+    where
+      live : is_live old.tree page.group ≡ true
+      live = (legal-fit opening history old legal p page there).live
+
+      by_open : (b : Bool) → AreOf (length old.tree) (cond b [] (count_of page.group key.Low ∷ []))
+      by_open true = tt
+      by_open false = (live-within old.tree page.group live, tt)
+
+  pub named-there : 0 < length old.tree → (what : Event) (answer : Reply) → Step old what answer new → (named : List Counted) → Names old what answer new named → AreOf (length old.tree) named
+  named-there some what answer h named names = by_taken (took_for what answer) names
+    where
+      by_taken : (taken : Option ℕ) → NamesFor taken old what answer new named → AreOf (length old.tree) named
+      by_taken None is = subst (AreOf (length old.tree)) (sym is) (case-there some what answer h)
+      by_taken (Some target) taken = subst (AreOf (length old.tree)) (sym taken.are) (low-there target taken.p taken.page taken.there)
 
 -- ---- the table and the events
 
@@ -246,8 +265,9 @@ has-counts opening (entry ∷ earlier) s (before, legal, extends) =
     let same : length s.tree ≡ length (tree_after before entry.event) = ap length tree in
     let more = more-groups before entry.event in
     let some = so_far.some in
+    let counts = step-counted before s entry.event entry.reply extends.steps in
     record {
-      all = ap length (step-counted before s entry.event entry.reply extends.steps) ∙ length-events (for_groups before.counted entry.event) (counts_named before entry.event entry.reply)
+      all = ap length counts.after ∙ length-events (for_groups before.counted entry.event) counts.named
           ∙ length-groups before entry.event so_far.all ∙ sym same;
       some = omega (arith, same, more, some);
     }
@@ -293,15 +313,16 @@ legal-tells opening [] s legal = record { events = []; counted = (legal, refl); 
 legal-tells opening (entry ∷ earlier) s (before, legal, extends) =
     let so_far = legal-tells opening earlier before legal in
     let has = has-counts opening earlier before legal in
-    let named = counts_named before entry.event entry.reply in
-    let there = named-there opening earlier before s legal has.some entry.event entry.reply extends.steps in
+    let counts = step-counted before s entry.event entry.reply extends.steps in
+    let named = counts.named in
+    let there = named-there opening earlier before s legal has.some entry.event entry.reply extends.steps named counts.names in
     let all = length-groups before entry.event has.all in
     let more = more-groups before entry.event in
     record {
       events = so_far.events ++ named;
-      counted = (before, so_far.events, so_far.counted, extends, refl);
+      counted = (before, so_far.events, named, so_far.counted, extends, counts.names, refl);
       locals = λ g k.
-          ap (λ (cs : List EventCounts). local cs g k) (step-counted before s entry.event entry.reply extends.steps)
+          ap (λ (cs : List EventCounts). local cs g k) counts.after
           ∙ local-events (for_groups before.counted entry.event) named (more-of (length before.tree) _ (omega (arith, all, more)) named there) g k
           ∙ ap (λ n. n + how_often named g k) (local-groups before.counted entry.event g k ∙ so_far.locals g k)
           ∙ sym (sum_by-append (λ (x : Counted). cond ((x.group == g) && is_key x.key k) 1 0) so_far.events named);

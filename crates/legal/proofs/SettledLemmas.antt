@@ -6,6 +6,7 @@ use Rattle.std.proofs.lemmas.Bool.Decides.{nat_tests}
 use Rattle.machine.specs.declared.id.TaskId.{TaskId}
 use Rattle.machine.specs.declared.id.TicketId.{TicketId}
 use Rattle.machine.specs.declared.id.GroupId.{GroupId}
+use Rattle.machine.specs.declared.record.EventCounts.{EventCounts}
 use Rattle.machine.specs.declared.record.Life.{Life}
 use Rattle.machine.specs.declared.record.Life.TheVariants.{Live, Exited, Killed}
 use Rattle.machine.specs.declared.record.Task.{Task}
@@ -103,35 +104,35 @@ record Taken (old : State) (order : Order) (target : ℕ) (answer : Reply) : Typ
 
 module _ (old new : State) (answer : Reply) where
   -- it is written out
-  sent : (p frame block : ℕ) (page : Page) → is_clean_file page ≡ false → StartsLeave old p page frame block old.counted answer new → Left old p page answer new
-  sent p frame block page stays h =
+  sent : (p frame block : ℕ) (page : Page) (counted : List EventCounts) → is_clean_file page ≡ false → StartsLeave old p page frame block counted answer new → Left old p page answer new
+  sent p frame block page counted stays h =
       record { answers = subst (λ b. LeftWith b answer) (sym stays) (record { 0 = h.ticket }, h.answers); others = h.placed.others }
 
   -- or dropped
-  left_by : (p frame : ℕ) (page : Page) (content : Content) → page.content ≡ content → LeavesBy old p page content frame old.counted answer new → Left old p page answer new
-  left_by p frame page Memory is h = sent p frame h.block page (ap (λ c. not (is_anon c) && not page.dirty) is) h.leave
-  left_by p frame page (OfFile file q) is h = by_dirty page.dirty refl h
+  left_by : (p frame : ℕ) (page : Page) (content : Content) (counted : List EventCounts) → page.content ≡ content → LeavesBy old p page content frame counted answer new → Left old p page answer new
+  left_by p frame page Memory counted is h = sent p frame h.block page counted (ap (λ c. not (is_anon c) && not page.dirty) is) h.leave
+  left_by p frame page (OfFile file q) counted is h = by_dirty page.dirty refl h
     where
-      by_dirty : (b : Bool) → page.dirty ≡ b → MatchBool b (StartsLeave old p page frame (home_block old.opening.swap old.opening.files file q) old.counted answer new) (Drops old p old.counted answer new)
+      by_dirty : (b : Bool) → page.dirty ≡ b → MatchBool b (StartsLeave old p page frame (home_block old.opening.swap old.opening.files file q) counted answer new) (Drops old p counted answer new)
           → Left old p page answer new
-      by_dirty true dirty k = sent p frame _ page (rw (is, dirty) refl) k
+      by_dirty true dirty k = sent p frame _ page counted (rw (is, dirty) refl) k
       by_dirty false clean k =
           let dropped : is_clean_file page ≡ true = rw (is, clean) refl in
           record { answers = subst (λ b. LeftWith b answer) (sym dropped) k.answers; others = k.gone.others }
 
   -- where it stood in its frame
-  left_from : (p : ℕ) (page : Page) (r : Residence) → LeavesFrom old p page r old.counted answer new → Left old p page answer new
-  left_from p page (Held frame) h = left_by p frame page page.content refl h
-  left_from p page (Coming frame block ticket) h = absurd h
-  left_from p page (Going frame block ticket) h = absurd h
-  left_from p page (Away block) h = absurd h
+  left_from : (p : ℕ) (page : Page) (r : Residence) (counted : List EventCounts) → LeavesFrom old p page r counted answer new → Left old p page answer new
+  left_from p page (Held frame) counted h = left_by p frame page page.content counted refl h
+  left_from p page (Coming frame block ticket) counted h = absurd h
+  left_from p page (Going frame block ticket) counted h = absurd h
+  left_from p page (Away block) counted h = absurd h
 
   -- the page that is held no more is the one that the order says
   taken : (order order' : Order) (target : ℕ) → ((b : Bool) → LeftWith b answer → TakesNext old order target new order') → Takes old target answer new → Taken old order target answer
   taken order order' target by_order h = by_turn (by_order (is_clean_file h.page) gone.answers)
     where
       gone : Left old h.p h.page answer new
-      gone = left_from h.p h.page h.page.residence h.leaves
+      gone = left_from h.p h.page h.page.residence _ h.leaves
 
       by_turn : TakesNext old order target new order' → Taken old order target answer
       by_turn turn =

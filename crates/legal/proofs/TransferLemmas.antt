@@ -3,6 +3,7 @@ use Rattle.std.proofs.Common.{◌≡◌, inl, inr, ℕ, ◌+◌, ◌≤◌, ◌=
 use Rattle.std.specs.Prelude.{MatchBool, if◌then◌else◌, is_none, nat_lt}
 use Rattle.std.proofs.lemmas.Bool.Decides.{nat_tests}
 use Rattle.std.proofs.lemmas.List.Sums.{sum_by-cons}
+use Rattle.machine.specs.declared.record.EventCounts.{EventCounts}
 use Rattle.machine.specs.declared.record.Life.{Life}
 use Rattle.machine.specs.declared.record.Life.TheVariants.{Live, Exited, Killed}
 use Rattle.machine.specs.declared.record.Task.{Task}
@@ -22,7 +23,7 @@ use Rattle.machine.specs.Pages.{Content, Memory, OfFile, Residence, Held, Coming
 use Rattle.machine.specs.Tasks.{PageTables, mappers, task_at}
 use Rattle.machine.specs.State.{Opening, State, over_in, is_frame_free}
 use Rattle.machine.specs.Access.{Meeting, Unmapped, Hits, Transferring, NeedsPage, NeedsCopy, NeedsSwapIn, NeedsRead, Dangling, charges, is_fetch, meets}
-use Rattle.machine.specs.Reclaim.{has_takeable, has_transfer, stands, target_of}
+use Rattle.machine.specs.Reclaim.{counted_at_take, has_takeable, has_transfer, stands, target_of}
 use Rattle.machine.specs.Call.{is_granted, meeting_fetches, life_fetches, task_fetches, fetches, need, leaves_entry}
 use Rattle.machine.specs.Step.{ChargeStep, TriesCharge, MakesPage, StartsFetch, ReadsFile, HitStep, UnmappedStep, MeetStep, LifeStep, TaskStep, StartsLeave, Drops, LeavesBy, LeavesFrom, Takes, ReclaimStep, KillStep, RelieveStep, still, EndsTransfer, touched, Step}
 use Rattle.machine.proofs.SlotLemmas.{one_if, count_there-changes}
@@ -207,17 +208,17 @@ module _ (old new : State) where
   -- ---- reclaims and ends of tasks
 
   -- a page leaves: it begins to be written out, or is gone
-  sent : (p frame block : ℕ) (page : Page) (answer : Reply) → page_at old.pages p ≡ Some page → page.residence ≡ Held frame → StartsLeave old p page frame block old.counted answer new
+  sent : (p frame block : ℕ) (page : Page) (counted : List EventCounts) (answer : Reply) → page_at old.pages p ≡ Some page → page.residence ≡ Held frame → StartsLeave old p page frame block counted answer new
       → in_transfer new.pages ≡ in_transfer old.pages + one_if (begins_transfer answer)
-  sent p frame block page answer there held h =
+  sent p frame block page counted answer there held h =
       let one = one_changes p (Some page) _ there h.placed in
       let none : flying (Some page) ≡ 0 = ap (λ r. one_if (in_transfer_at r)) held in
       let begins : one_if (begins_transfer answer) ≡ 1 = ap (λ a. one_if (begins_transfer a)) h.answers in
       omega (arith, one, none, begins)
 
-  dropped : (p frame : ℕ) (page : Page) (answer : Reply) → page_at old.pages p ≡ Some page → page.residence ≡ Held frame → Drops old p old.counted answer new
+  dropped : (p frame : ℕ) (page : Page) (counted : List EventCounts) (answer : Reply) → page_at old.pages p ≡ Some page → page.residence ≡ Held frame → Drops old p counted answer new
       → in_transfer new.pages ≡ in_transfer old.pages + one_if (begins_transfer answer)
-  dropped p frame page answer there held h =
+  dropped p frame page counted answer there held h =
       let one = one_changes p (Some page) None there h.gone in
       let none : flying (Some page) ≡ 0 = ap (λ r. one_if (in_transfer_at r)) held in
       let begins : one_if (begins_transfer answer) ≡ 0 = ap (λ a. one_if (begins_transfer a)) h.answers in
@@ -226,11 +227,11 @@ module _ (old new : State) where
   takes : (target : ℕ) (answer : Reply) → Takes old target answer new → in_transfer new.pages ≡ in_transfer old.pages + one_if (begins_transfer answer)
   takes target answer h = by_residence h.page.residence refl h.leaves
     where
-      by_content : (frame : ℕ) (content : Content) → h.page.residence ≡ Held frame → LeavesBy old h.p h.page content frame old.counted answer new → in_transfer new.pages ≡ in_transfer old.pages + one_if (begins_transfer answer)
-      by_content frame Memory held k = sent h.p frame k.block h.page answer h.there held k.leave
-      by_content frame (OfFile file q) held k = by_test h.page.dirty (sent h.p frame _ h.page answer h.there held) (dropped h.p frame h.page answer h.there held) k
+      by_content : (frame : ℕ) (content : Content) → h.page.residence ≡ Held frame → LeavesBy old h.p h.page content frame (counted_at_take old target h.page.group) answer new → in_transfer new.pages ≡ in_transfer old.pages + one_if (begins_transfer answer)
+      by_content frame Memory held k = sent h.p frame k.block h.page _ answer h.there held k.leave
+      by_content frame (OfFile file q) held k = by_test h.page.dirty (sent h.p frame _ h.page _ answer h.there held) (dropped h.p frame h.page _ answer h.there held) k
 
-      by_residence : (r : Residence) → h.page.residence ≡ r → LeavesFrom old h.p h.page r old.counted answer new → in_transfer new.pages ≡ in_transfer old.pages + one_if (begins_transfer answer)
+      by_residence : (r : Residence) → h.page.residence ≡ r → LeavesFrom old h.p h.page r (counted_at_take old target h.page.group) answer new → in_transfer new.pages ≡ in_transfer old.pages + one_if (begins_transfer answer)
       by_residence (Held frame) held k = by_content frame h.page.content held k
       by_residence (Coming frame block ticket) held k = absurd k
       by_residence (Going frame block ticket) held k = absurd k

@@ -15,3 +15,4 @@ pub mod HandedLemmas
 pub mod PicksLemmas
 pub mod EntryLemmas
 pub mod MergeLemmas
+pub mod TakeableLemmas

@@ -6,6 +6,7 @@ use Rattle.machine.specs.declared.amount.Amount.{Amount}
 use Rattle.machine.specs.declared.amount.Amount.TheVariants.{Max, Pages}
 use Rattle.machine.specs.declared.control.ControlFile.{ControlFile}
 use Rattle.machine.specs.declared.control.ControlFile.TheVariants as file
+use Rattle.machine.specs.declared.record.Guard.TheVariants as guard
 use Rattle.machine.specs.declared.record.EventCounts.{EventCounts}
 use Rattle.machine.specs.declared.record.MemoryStat.{MemoryStat}
 use Rattle.machine.specs.declared.reply.Shown.{Shown}
@@ -90,7 +91,8 @@ abbrev pub file_named : List ℕ → Option ControlFile
 file_named name =
     if bytes_eq name (codes "memory.current") then Some file.Current
     else if bytes_eq name (codes "memory.max") then Some file.Max
-    else if bytes_eq name (codes "memory.min") then Some file.Min
+    else if bytes_eq name (codes "memory.min") then Some (file.Guard guard.Min)
+    else if bytes_eq name (codes "memory.low") then Some (file.Guard guard.Low)
     else if bytes_eq name (codes "memory.events") then Some file.Events
     else if bytes_eq name (codes "memory.events.local") then Some file.EventsLocal
     else if bytes_eq name (codes "memory.stat") then Some file.Stat
@@ -101,7 +103,7 @@ file_named name =
 abbrev pub has_file : ℕ → ControlFile → Bool
 has_file g file.Current = not (g == 0)
 has_file g file.Max = not (g == 0)
-has_file g file.Min = not (g == 0)
+has_file g (file.Guard guard) = not (g == 0)
 has_file g file.Events = not (g == 0)
 has_file g file.EventsLocal = not (g == 0)
 has_file g file.Stat = not (g == 0)

@@ -1,6 +1,9 @@
 -- Limits, charges against them (mm/page_counter.c: page_counter_try_charge), and event counts (admin-guide/cgroup-v2, memory.events).
 use Rattle.std.specs.Prelude.{ℕ, ◌+◌, ◌==◌, ◌&&◌, Bool, true, false, List, count_by, filter, find, sum_by, Option, Some, slice_index_or, slice_set}
+use Rattle.machine.specs.declared.amount.Amount.{Amount}
 use Rattle.machine.specs.declared.amount.Amount.TheVariants as amount
+use Rattle.machine.specs.declared.record.Guard.{Guard}
+use Rattle.machine.specs.declared.record.Guard.TheVariants as guard
 use Rattle.machine.specs.declared.record.Limits.{Limits}
 use Rattle.machine.specs.declared.record.EventCounts.{EventCounts}
 use Rattle.machine.specs.declared.record.Key.{Key}
@@ -10,7 +13,16 @@ use Rattle.machine.specs.Amounts.{exceeds}
 
 -- a new group's, and those of a number that is no group's: no limit and no protection
 abbrev pub no_limits : Limits
-no_limits = record { max = amount.Max; min = amount.Pages 0 }
+no_limits = record { max = amount.Max; min = amount.Pages 0; low = amount.Pages 0 }
+
+-- how much one of the two protects
+abbrev pub guard_of : Guard → Limits → Amount
+guard_of guard.Min limits = limits.min
+guard_of guard.Low limits = limits.low
+
+abbrev pub with_guard : Limits → Guard → Amount → Limits
+with_guard limits guard.Min amount = record limits { min = amount }
+with_guard limits guard.Low amount = record limits { low = amount }
 
 abbrev pub limits_at : List Limits → ℕ → Limits
 limits_at limits g = slice_index_or limits g no_limits

@@ -17,7 +17,7 @@ use Rattle.machine.specs.Tasks.{mapped_at}
 use Rattle.machine.specs.Order.{served_by, cursor_at}
 use Rattle.machine.specs.State.{Opening, State, page_numbers, is_swap_free}
 use Rattle.machine.specs.Tree.{node_at}
-use Rattle.machine.specs.Reclaim.{is_takeable, target_of}
+use Rattle.machine.specs.Reclaim.{is_next, target_of}
 use Rattle.machine.specs.Generations.{Row, Gens, of_kind, row_of, has_page, new_gens, added, gens_at, with_gens, handed_over, IsGens}
 use Rattle.machine.specs.Aging.{Seen, is_marked}
 use Rattle.machine.specs.Eviction.{Picks}
@@ -38,12 +38,12 @@ first_order opening = record { held = record { groups = new_gens ∷ []; marks =
 
 -- ---- the group and the page
 
--- a page of the group is takeable for the target
-abbrev pub is_takeable_of : State → ℕ → ℕ → Page → Bool
-is_takeable_of s target g page = (page.group == g) && is_takeable s target page
+-- a page of the group may be taken now for the target
+abbrev pub is_next_of : State → ℕ → ℕ → Page → Bool
+is_next_of s target g page = (page.group == g) && is_next s target page
 
 abbrev pub gives : State → ℕ → ℕ → Bool
-gives s target g = any_there (is_takeable_of s target g) s.pages
+gives s target g = any_there (is_next_of s target g) s.pages
 
 -- the group that gives a page to a reclaim of the target
 abbrev pub served : State → Order → ℕ → Option ℕ

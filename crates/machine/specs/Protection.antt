@@ -5,14 +5,15 @@
 --   4. Where the children of one parent ask for more than the parent's effective value, each has its part of that value in proportion to what it asks.
 --   5. With recursive protection, a child has on top of that its part of what the children leave of the parent's value: what it uses beyond what it asks, out of
 --      what the parent uses beyond what its children ask. What the parent uses in no live child has its part too, which then goes to nobody.
--- `setting` is the memory.min of a group; for memory.low the same words take the low.
+-- `setting` is the memory.min of a group, or its memory.low: both come down to the groups below by the same rules, each by its own settings.
 use Rattle.std.specs.Prelude.{ℕ, ◌+◌, ◌-◌, ◌*◌, ◌/◌, ◌==◌, ◌&&◌, ◌||◌, nat_lt, Bool, true, false, if◌then◌else◌, List, [], ◌∷◌, sum_by}
 use Rattle.machine.specs.declared.amount.Amount.{Amount}
 use Rattle.machine.specs.declared.amount.Amount.TheVariants.{Max, Pages}
 use Rattle.machine.specs.Tree.{Node, children, chain_below}
 use Rattle.machine.specs.Amounts.{exceeds, at_most}
 use Rattle.machine.specs.declared.record.Limits.{Limits}
-use Rattle.machine.specs.Counts.{limits_at}
+use Rattle.machine.specs.declared.record.Guard.{Guard}
+use Rattle.machine.specs.Counts.{limits_at, guard_of}
 
 -- what a group asks for: its use, at most its setting
 abbrev pub min_usage : (ℕ → Amount) → (ℕ → ℕ) → ℕ → ℕ
@@ -51,10 +52,11 @@ effective_along recursive tree setting usage (g ∷ p ∷ above) =
 abbrev pub effective : Bool → List Node → (ℕ → Amount) → (ℕ → ℕ) → ℕ → ℕ → Amount
 effective recursive tree setting usage target g = effective_along recursive tree setting usage (chain_below tree target g)
 
-abbrev pub min_of : List Limits → ℕ → Amount
-min_of limits g = (limits_at limits g).min
+-- by group, the memory.min or the memory.low
+abbrev pub setting_of : Guard → List Limits → ℕ → Amount
+setting_of guard limits g = guard_of guard (limits_at limits g)
 
--- a reclaim of the target may take from the group: from itself always, and from a group below it while that uses more than its effective value.
+-- the setting does not protect the group from a reclaim of the target: the target itself never, and a group below it not while it uses more than its effective value.
 -- (Excludes counting the target's own min.)
-abbrev pub is_unprotected_in : Bool → List Node → List Limits → (ℕ → ℕ) → ℕ → ℕ → Bool
-is_unprotected_in recursive tree limits usage target g = (g == target) || exceeds (usage g) (effective recursive tree (min_of limits) usage target g)
+abbrev pub is_beyond : Bool → List Node → (ℕ → Amount) → (ℕ → ℕ) → ℕ → ℕ → Bool
+is_beyond recursive tree setting usage target g = (g == target) || exceeds (usage g) (effective recursive tree setting usage target g)

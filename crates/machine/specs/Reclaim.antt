@@ -1,18 +1,30 @@
 -- What can be reclaimed, why, and for whom (admin-guide/cgroup-v2, memory.min and memory.max; mm/vmscan.c: shrink_node_memcgs).
-use Rattle.std.specs.Prelude.{ℕ, ◌+◌, ◌&&◌, ◌||◌, not, Bool}
+use Rattle.std.specs.Prelude.{ℕ, ◌+◌, ◌&&◌, ◌||◌, not, Bool, List, if◌then◌else◌}
 use Rattle.machine.specs.declared.event.Cause.{Cause}
 use Rattle.machine.specs.declared.event.Cause.TheVariants.{Charge, Lower, Frame}
 use Rattle.machine.specs.Slots.{any_there}
 use Rattle.machine.specs.Tree.{is_live, under}
 use Rattle.machine.specs.Amounts.{exceeds}
 use Rattle.machine.specs.Pages.{Page, is_anon, is_held, is_in_transfer}
-use Rattle.machine.specs.Counts.{limits_at}
-use Rattle.machine.specs.Protection.{is_unprotected_in}
+use Rattle.machine.specs.declared.record.EventCounts.{EventCounts}
+use Rattle.machine.specs.declared.record.Guard.{Guard}
+use Rattle.machine.specs.declared.record.Guard.TheVariants as guard
+use Rattle.machine.specs.declared.record.Key.TheVariants as key
+use Rattle.machine.specs.Counts.{limits_at, with_event}
+use Rattle.machine.specs.Protection.{is_beyond, setting_of}
 use Rattle.machine.specs.State.{State, usage, is_frame_free, is_swap_free}
 
--- the target itself is never protected from its own reclaim, and a group below it up to its effective min
+-- the group is not within its effective min, or low: the target itself never is, and a group below it up to its effective value
+abbrev pub is_beyond_its : Guard → State → ℕ → ℕ → Bool
+is_beyond_its guard s target g = is_beyond s.opening.recursive s.tree (setting_of guard s.limits) (usage s) target g
+
+-- a page of the group may be taken
 abbrev pub is_unprotected : State → ℕ → ℕ → Bool
-is_unprotected s target g = is_unprotected_in s.opening.recursive s.tree s.limits (usage s) target g
+is_unprotected s target g = is_beyond_its guard.Min s target g
+
+-- and is taken before those of groups that their low protects
+abbrev pub is_above_low : State → ℕ → ℕ → Bool
+is_above_low s target g = is_beyond_its guard.Low s target g
 
 -- the page may be taken for the target: it is held, in an unprotected group under the target, and it is a file page or has a swap block to go to
 abbrev pub is_takeable : State → ℕ → Page → Bool
@@ -20,6 +32,22 @@ is_takeable s target page = is_held page && under s.tree target page.group && is
 
 abbrev pub has_takeable : State → ℕ → Bool
 has_takeable s target = any_there (is_takeable s target) s.pages
+
+-- the page is open: it may be taken, and no low protects its group
+abbrev pub is_open : State → ℕ → Page → Bool
+is_open s target page = is_takeable s target page && is_above_low s target page.group
+
+abbrev pub has_open : State → ℕ → Bool
+has_open s target = any_there (is_open s target) s.pages
+
+-- the page may be taken now: an open one, and any that is takeable where none is open. (Excludes a page within its group's low that is taken while there is another.)
+abbrev pub is_next : State → ℕ → Page → Bool
+is_next s target page = is_takeable s target page && (is_above_low s target page.group || not (has_open s target))
+
+-- what stands counted where a page of the group is taken for the target: where it was no open one, `low` once more at the group. (Excludes a count at the target, and one for each group that is
+-- passed over.)
+abbrev pub counted_at_take : State → ℕ → ℕ → List EventCounts
+counted_at_take s target g = if has_open s target then s.counted else with_event s.counted g key.Low
 
 -- a page of a group under the target is in transfer
 abbrev pub is_transfer_under : State → ℕ → Page → Bool

@@ -71,11 +71,11 @@ below_target tree target g = is_live tree target && (is_live tree g && (under tr
 abbrev pub show_refusal : State → Query → Option Refusal
 show_refusal s (query.Current g) = file_refusal s.tree g.0
 show_refusal s (query.Max g) = file_refusal s.tree g.0
-show_refusal s (query.Min g) = file_refusal s.tree g.0
+show_refusal s (query.Guard guard g) = file_refusal s.tree g.0
 show_refusal s (query.Events g) = file_refusal s.tree g.0
 show_refusal s (query.EventsLocal g) = file_refusal s.tree g.0
 show_refusal s (query.Stat g) = file_refusal s.tree g.0
-show_refusal s (query.Protection target g) = first_cause (not (below_target s.tree target.0 g.0)) NoEntry None
+show_refusal s (query.Protection guard target g) = first_cause (not (below_target s.tree target.0 g.0)) NoEntry None
 
 abbrev pub spawn_refusal : State → ℕ → ℕ → Option Refusal
 spawn_refusal s t g = group_refusal s.tree g (first_cause (bars_tasks s.tree g) Busy (number_refusal s.tasks t))

@@ -10,11 +10,13 @@ use Rattle.machine.specs.Names.{is_name}
 use Rattle.machine.specs.Tree.{Node, root}
 use Rattle.machine.specs.Pages.{Pages, charged, charged_anon, charged_file, used_frames, used_swap}
 use Rattle.machine.specs.Tasks.{Tasks, PageTables}
+use Rattle.machine.specs.declared.record.Guard.{Guard}
+use Rattle.machine.specs.declared.record.Guard.TheVariants as guard
 use Rattle.machine.specs.declared.record.Limits.{Limits}
 use Rattle.machine.specs.declared.record.MemoryStat.{MemoryStat}
 use Rattle.machine.specs.declared.record.EventCounts.{EventCounts}
 use Rattle.machine.specs.Counts.{no_limits, no_counts, over}
-use Rattle.machine.specs.Protection.{effective, min_of}
+use Rattle.machine.specs.Protection.{effective, setting_of}
 
 -- what the opening fixes: frames, swap blocks, the sizes of the files in pages, the daemon's marks, the trace's limit, and whether protection is recursive
 pub record Opening : Type 0 where
@@ -104,6 +106,12 @@ is_frame_free s = nat_lt (used_frames s.pages) s.opening.frames
 abbrev pub is_swap_free : State → Bool
 is_swap_free s = nat_lt (used_swap s.pages) s.opening.swap
 
--- the effective min of a group for a reclaim of the target
+-- the effective min, or low, of a group for a reclaim of the target
+abbrev pub effective_in : State → Guard → ℕ → ℕ → Amount
+effective_in s guard target g = effective s.opening.recursive s.tree (setting_of guard s.limits) (usage s) target g
+
 abbrev pub effective_min : State → ℕ → ℕ → Amount
-effective_min s target g = effective s.opening.recursive s.tree (min_of s.limits) (usage s) target g
+effective_min s target g = effective_in s guard.Min target g
+
+abbrev pub effective_low : State → ℕ → ℕ → Amount
+effective_low s target g = effective_in s guard.Low target g

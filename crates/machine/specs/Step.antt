@@ -25,11 +25,11 @@ use Rattle.machine.specs.Tree.{Node, node_at, find_group, without_group}
 use Rattle.machine.specs.Pages.{Content, Memory, OfFile, Residence, Held, Coming, Going, Away, Page, is_anon, in_transfer_at, page_at, home_block, is_frame_taken, is_swap_taken, is_ticket_taken}
 use Rattle.machine.specs.declared.record.Limits.{Limits}
 use Rattle.machine.specs.declared.record.EventCounts.{EventCounts}
-use Rattle.machine.specs.Counts.{no_limits, limits_at, no_counts, with_event, local, total, counts_by}
+use Rattle.machine.specs.Counts.{no_limits, limits_at, guard_of, with_guard, no_counts, with_event, local, total, counts_by}
 use Rattle.machine.specs.Tasks.{PageTables, task_at, SetsTask, group_of_task, mappers, Shows, Copies, ShowsNothing}
-use Rattle.machine.specs.State.{State, page_numbers, usage, over_in, is_frame_free, effective_min, stat_of}
+use Rattle.machine.specs.State.{State, page_numbers, usage, over_in, is_frame_free, effective_in, stat_of}
 use Rattle.machine.specs.Access.{Meeting, Unmapped, Hits, Transferring, NeedsPage, NeedsCopy, NeedsSwapIn, NeedsRead, Dangling, meets}
-use Rattle.machine.specs.Reclaim.{is_takeable, has_takeable, has_transfer, stands, target_of}
+use Rattle.machine.specs.Reclaim.{is_next, counted_at_take, has_takeable, has_transfer, stands, target_of}
 use Rattle.machine.specs.Victim.{IsVictim}
 
 -- the reply, and nothing changes
@@ -165,13 +165,14 @@ abbrev pub LeavesFrom : State → ℕ → Page → Residence → List EventCount
 LeavesFrom old p page (Held frame) counted answer new = LeavesBy old p page page.content frame counted answer new
 LeavesFrom old p page residence counted answer new = ⊥
 
--- some takeable page is taken: a clean file page is dropped, any other written out. Nothing is counted for it
+-- a page is taken, an open one where there is one, else one that is takeable: a clean file page is dropped, any other written out. Where it is none that is open, `low` is counted at its group.
+-- (Excludes a page that its group's low protects while there is another, and a count of `low` for a pass, and not for a page.)
 pub record Takes (old : State) (target : ℕ) (answer : Reply) (new : State) : Type 0 where
   pub p : ℕ
   pub page : Page
   pub there : page_at old.pages p ≡ Some page
-  pub takeable : is_takeable old target page ≡ true
-  pub leaves : LeavesFrom old p page page.residence old.counted answer new
+  pub next : is_next old target page ≡ true
+  pub leaves : LeavesFrom old p page page.residence (counted_at_take old target page.group) answer new
 
 -- a page is taken; or one under the target is in transfer and may come free; or nothing is to be found. (Excludes a relief that always waits.)
 abbrev pub ReclaimStep : State → ℕ → Type 0 → Reply → State → Type 0
@@ -280,18 +281,18 @@ pub record Removes (old : State) (g : ℕ) (new : State) : Type 0 where
 
 abbrev pub with_setting : Limits → Setting → Limits
 with_setting limits (setting.Max amount) = record limits { max = amount }
-with_setting limits (setting.Min amount) = record limits { min = amount }
+with_setting limits (setting.Guard guard amount) = with_guard limits guard amount
 
 -- ---- what is shown
 
 abbrev pub shown_of : State → Query → Shown
 shown_of s (query.Current g) = shown.Pages (usage s g.0)
 shown_of s (query.Max g) = shown.Amount (limits_at s.limits g.0).max
-shown_of s (query.Min g) = shown.Amount (limits_at s.limits g.0).min
+shown_of s (query.Guard guard g) = shown.Amount (guard_of guard (limits_at s.limits g.0))
 shown_of s (query.Events g) = shown.Events (counts_by (total s.tree s.counted g.0))
 shown_of s (query.EventsLocal g) = shown.Events (counts_by (local s.counted g.0))
 shown_of s (query.Stat g) = shown.Stat (stat_of s g.0)
-shown_of s (query.Protection target g) = shown.Amount (effective_min s target.0 g.0)
+shown_of s (query.Protection guard target g) = shown.Amount (effective_in s guard target.0 g.0)
 
 -- ---- the step
 

@@ -4,6 +4,7 @@ ghost use Rattle.std.specs.Prelude.{◌≡◌, IfOk};
 
 use crate::event::{Op, Place};
 use crate::id::TaskId;
+use crate::record::Guard;
 use crate::refusal::Refusal;
 use crate::text::Text;
 use std::alloc::{AllocError, Global};
@@ -44,8 +45,13 @@ pub enum Command {
     Set { path: Text, file: Text, text: Text },
     /// Prints a control file of the group of a path.
     Cat { path: Text, file: Text },
-    /// Prints the effective `memory.min` of the group of a path, for a reclaim of the target's.
-    Protection { target: Text, path: Text },
+    /// Prints the effective `memory.min`, or `memory.low`, of the group of a path, for a reclaim of the
+    /// target's.
+    Protection {
+        guard: Guard,
+        target: Text,
+        path: Text,
+    },
     /// One run of the daemon.
     Daemon,
 }
@@ -82,7 +88,12 @@ impl Command {
                 path: path.copy(alloc)?,
                 file: file.copy(alloc)?,
             }),
-            Command::Protection { target, path } => Ok(Command::Protection {
+            Command::Protection {
+                guard,
+                target,
+                path,
+            } => Ok(Command::Protection {
+                guard: *guard,
                 target: target.copy(alloc)?,
                 path: path.copy(alloc)?,
             }),

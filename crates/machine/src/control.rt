@@ -1,5 +1,7 @@
 //! Control files of a group.
 
+use crate::record::Guard;
+
 /// A control file (admin-guide/cgroup-v2, "Memory Interface Files"). The root has `memory.reclaim`
 /// alone.
 #[derive(Clone, Copy, Debug, PartialEq, Eq)]
@@ -8,8 +10,8 @@ pub enum ControlFile {
     Current,
     /// `memory.max`, which is read and written.
     Max,
-    /// `memory.min`, which is read and written.
-    Min,
+    /// `memory.min` or `memory.low`, which is read and written.
+    Guard(Guard),
     /// `memory.events`, which is read: what was counted at the group and below it.
     Events,
     /// `memory.events.local`, which is read: what was counted at the group itself.

@@ -4,6 +4,7 @@
 use crate::amount::Amount;
 use crate::bytes::PageBytes;
 use crate::id::{GroupId, TaskId, TicketId};
+use crate::record::Guard;
 use crate::text::Text;
 
 /// Where an access goes.
@@ -39,8 +40,8 @@ pub enum Cause {
 pub enum Setting {
     /// `memory.max`
     Max(Amount),
-    /// `memory.min`
-    Min(Amount),
+    /// `memory.min` or `memory.low`
+    Guard(Guard, Amount),
 }
 
 /// Whose numbers are asked for: those of one control file of one group, or a group's protection.
@@ -50,17 +51,21 @@ pub enum Query {
     Current(GroupId),
     /// `memory.max`
     Max(GroupId),
-    /// `memory.min`
-    Min(GroupId),
+    /// `memory.min` or `memory.low`
+    Guard(Guard, GroupId),
     /// `memory.events`
     Events(GroupId),
     /// `memory.events.local`
     EventsLocal(GroupId),
     /// `memory.stat`
     Stat(GroupId),
-    /// The effective `memory.min` of a group below the target, for a reclaim of the target (kernel:
-    /// `emin` of a `struct page_counter`).
-    Protection { target: GroupId, group: GroupId },
+    /// The effective `memory.min`, or `memory.low`, of a group below the target, for a reclaim of the
+    /// target (kernel: `emin` and `elow` of a `struct page_counter`).
+    Protection {
+        guard: Guard,
+        target: GroupId,
+        group: GroupId,
+    },
 }
 
 /// One event of the machine.

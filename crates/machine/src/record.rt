@@ -75,6 +75,15 @@ pub struct MemoryStat {
     pub file: u64,
 }
 
+/// Which of its two settings protects a group from a reclaim above it.
+#[derive(Clone, Copy, Debug, PartialEq, Eq)]
+pub enum Guard {
+    /// `memory.min`: what it protects is never taken.
+    Min,
+    /// `memory.low`: what it protects is taken only where nothing else is left to take.
+    Low,
+}
+
 /// The settings of a group.
 #[derive(Clone, Copy, Debug, PartialEq, Eq)]
 pub struct Limits {
@@ -82,12 +91,44 @@ pub struct Limits {
     pub max: Amount,
     /// `memory.min`: how much is protected from reclaim.
     pub min: Amount,
+    /// `memory.low`: how much is protected from reclaim as long as others have something to give.
+    pub low: Amount,
 }
 
 impl Limits {
+    ghost use Rattle.std.specs.Prelude.{◌≡◌};
+    ghost use Rattle.machine.specs.Counts.{guard_of, with_guard};
+
     /// A new group's: no limit and no protection.
     pub const NONE: Limits = Limits {
         max: Amount::Max,
         min: Amount::Pages(0),
+        low: Amount::Pages(0),
     };
+
+    /// How much this one of the two protects.
+    pub fn guard(self, guard: Guard) -> Amount
+        ensures { result ≡ guard_of guard self }
+    {
+        match guard {
+            Guard::Min => self.min,
+            Guard::Low => self.low,
+        }
+    }
+
+    /// These, with another value of this one of the two.
+    pub fn with_guard(self, guard: Guard, amount: Amount) -> Limits
+        ensures { result ≡ with_guard self guard amount }
+    {
+        match guard {
+            Guard::Min => Limits {
+                min: amount,
+                ..self
+            },
+            Guard::Low => Limits {
+                low: amount,
+                ..self
+            },
+        }
+    }
 }

@@ -8,3 +8,4 @@ pub mod SumLemmas
 pub mod KeptLemmas
 pub mod GroupSums
 pub mod SettingLemmas
+pub mod GuardLemmas

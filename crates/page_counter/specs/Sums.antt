@@ -14,11 +14,6 @@ pub record AreKept (tree : List Node) (setting : ℕ → Amount) (usage sums : L
   pub len : length sums ≡ length tree
   pub kept : (p : ℕ) → p < length tree → slice_index sums p ≡ children_min_usage tree setting (λ a. slice_index usage a) p
 
--- the sums are kept by these counts now, and there is memory for as many groups more as before
-pub record GoOnKept (tree : List Node) (setting : ℕ → Amount) (usage : List ℕ) (old new : SumsOf) : Type 0 where
-  pub kept : AreKept tree setting usage new.sums
-  pub room : new.room ≡ old.room
-
 -- where g counts n pages, and that is more than it did, what the children of its parent ask for together fits in 64 bits still, by any setting
 abbrev pub ChildrenFit : List Node → List ℕ → ℕ → ℕ → Type 0
 ChildrenFit tree usage g n =

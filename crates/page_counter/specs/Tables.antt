@@ -1,8 +1,7 @@
 -- The tables that the counters stand in, by the groups' numbers.
 use Rattle.std.specs.Prelude.{◌≡◌, ℕ, ◌-◌, List, length, min, vec_len, vec_capacity}
-use Rattle.machine.specs.Protection.{min_of}
 use Rattle.page_counter.specs.Counts.{Counts, AreCounts}
-use Rattle.page_counter.specs.Sums.{AreKept}
+use Rattle.page_counter.specs.GuardSums.{AreBothKept}
 use Rattle.page_counter.specs.declared.counters.Counters.TheInside.{Inside}
 
 -- what the tables say. There is memory for as many groups more as each table has room for
@@ -11,7 +10,7 @@ counts_of c = record {
   tree = c.lineage.tree;
   limits = c.limits.items;
   usage = c.usage.items;
-  room = min c.lineage.room (min (vec_capacity c.limits - vec_len c.limits) (min (vec_capacity c.usage - vec_len c.usage) c.min_sums.room));
+  room = min c.lineage.room (min (vec_capacity c.limits - vec_len c.limits) (min (vec_capacity c.usage - vec_len c.usage) c.sums.room));
 }
 
 -- each table has one entry a group, and the counts are those of some list of charges
@@ -21,7 +20,7 @@ pub record IsCounted (s : Counts) : Type 0 where
   pub charges : List ℕ
   pub counted : AreCounts s charges
 
--- and the sums of each setting are kept
+-- and the sums of both settings are kept
 pub record IsCounters (c : Inside) : Type 0 where
   pub tables : IsCounted (counts_of c)
-  pub min_sums : AreKept c.lineage.tree (min_of c.limits.items) c.usage.items c.min_sums.sums
+  pub sums : AreBothKept c.lineage.tree c.limits.items c.usage.items c.sums

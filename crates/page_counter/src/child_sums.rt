@@ -10,8 +10,8 @@ use std::alloc::{AllocError, Global};
 use std::marker::Model;
 
 /// For each group, what its live children ask for together by one of their settings (kernel:
-/// `children_min_usage` of a `struct page_counter`). It is kept, and not asked of them, so that it
-/// costs a look however many they are.
+/// `children_min_usage`, or `children_low_usage`, of a `struct page_counter`). It is kept, and not
+/// asked of them, so that it costs a look however many they are.
 ///
 /// A contract sees the sums as a list by the groups' numbers, and for how many groups more there is
 /// memory.
@@ -81,6 +81,9 @@ impl ChildSums {
         ensures sums { length self.new.sums ≡ length self.old.sums }
         ensures room { self.new.room ≡ self.old.room }
     {
+        if before == after {
+            return;
+        }
         let Some(parent) = lineage.parent(group) else {
             return;
         };

@@ -1,19 +1,21 @@
 //! The counters of all groups.
 
 ghost use Rattle.std.specs.Prelude.{◌≡◌, ◌+◌, ◌<◌, ◌≤◌, ◌++◌, ◌∷◌, ℕ, List, [], length, sum_by, slice_index, slice_set, Some, None, true, false, option_map, IfOk, OnOk, IfErr, OnErr, IsOk, IsSome};
-ghost use Rattle.machine.specs.Protection.{min_usage, children_min_usage, min_of};
-ghost use Rattle.machine.specs.Counts.{no_limits, limits_at, over_at};
+ghost use Rattle.machine.specs.declared.record.Guard.{Guard as Guard_of};
+ghost use Rattle.machine.specs.Protection.{min_usage, children_min_usage, setting_of};
+ghost use Rattle.machine.specs.Counts.{no_limits, limits_at, guard_of, with_guard, over_at};
 ghost use Rattle.machine.specs.Tree.{IsTree, IsAbove, node_at, is_live, is_child, children, has_children, share};
 ghost use Rattle.group_tree.specs.Lineages.{bare, IsLineage};
 ghost use Rattle.group_tree.specs.Tables.{number};
-ghost use Rattle.page_counter.specs.Sums.{AreKept, GoOnKept, ChildrenFit};
+ghost use Rattle.page_counter.specs.Sums.{AreKept, ChildrenFit};
+ghost use Rattle.page_counter.specs.GuardSums.{sums_in, IsOther, AreBothKept, GoOnKept};
 
 use crate::charge::{Charge, Over};
-use crate::child_sums::ChildSums;
+use crate::guard_sums::GuardSums;
 use group_tree::Lineage;
 use machine::amount::Amount;
 use machine::id::GroupId;
-use machine::record::Limits;
+use machine::record::{Guard, Limits};
 use std::alloc::{AllocError, Global};
 use std::marker::Model;
 
@@ -27,7 +29,7 @@ pub struct Counters {
     lineage: Lineage,
     limits: Vec<Limits>,
     usage: Vec<u64>,
-    min_sums: ChildSums,
+    sums: GuardSums,
 }
 
 impl Model for Counters {
@@ -56,14 +58,14 @@ impl Counters {
         let lineage = Lineage::new(alloc)?;
         let mut limits = Vec::with_capacity(alloc, 1)?;
         let mut usage = Vec::with_capacity(alloc, 1)?;
-        let min_sums = ChildSums::new(alloc)?;
+        let sums = GuardSums::new(alloc)?;
         limits.push_reserved(Limits::NONE);
         usage.push_reserved(0);
         Ok(Counters {
             lineage,
             limits,
             usage,
-            min_sums,
+            sums,
         })
     }
 
@@ -81,7 +83,7 @@ impl Counters {
         self.lineage.reserve()?;
         self.limits.reserve(1)?;
         self.usage.reserve(1)?;
-        self.min_sums.reserve()
+        self.sums.reserve()
     }
 
     /// A group more, below another, with no limit and no page charged. Its memory was asked for by
@@ -101,7 +103,7 @@ impl Counters {
         self.lineage.add(parent);
         self.limits.push_reserved(Limits::NONE);
         self.usage.push_reserved(0);
-        self.min_sums.add_reserved();
+        self.sums.add_reserved();
     }
 
     /// A group more, below another, with no limit and no page charged. `AllocError` where there is
@@ -160,20 +162,20 @@ impl Counters {
         self.limits[group.0 as usize].max = max;
     }
 
-    /// Up to how many pages that it uses, with all below it, the group asks to be protected,
-    /// `memory.min`.
-    pub fn min(&self, group: GroupId) -> Amount
+    /// Up to how many pages that it uses, with all below it, the group asks to be protected, by
+    /// `memory.min` or `memory.low`.
+    pub fn guard(&self, guard: Guard, group: GroupId) -> Amount
         requires live { is_live self.now.tree group.0 ≡ true }
-        ensures { result ≡ (limits_at self.now.limits group.0).min }
+        ensures { result ≡ guard_of guard (limits_at self.now.limits group.0) }
     {
-        self.limits[group.0 as usize].min
+        self.limits[group.0 as usize].guard(guard)
     }
 
     /// Sets up to how many pages that it uses, with all below it, the group asks to be protected
-    /// (kernel: page_counter_set_min).
-    pub fn set_min(&mut self, group: GroupId, min: Amount)
+    /// (kernel: page_counter_set_min, page_counter_set_low).
+    pub fn set_guard(&mut self, guard: Guard, group: GroupId, amount: Amount)
         requires live { is_live self.old.tree group.0 ≡ true }
-        ensures limits { self.new.limits ≡ slice_set self.old.limits group.0 (record (limits_at self.old.limits group.0) { min = min }) }
+        ensures limits { self.new.limits ≡ slice_set self.old.limits group.0 (with_guard (limits_at self.old.limits group.0) guard amount) }
         ensures tree { self.new.tree ≡ self.old.tree }
         ensures usage { self.new.usage ≡ self.old.usage }
         ensures room { self.new.room ≡ self.old.room }
@@ -183,28 +185,29 @@ impl Counters {
         // What the children ask for fits, since no count is too large.
         counts_fit(&self.usage);
         let usage = self.usage[group.0 as usize];
-        let before = self.limits[group.0 as usize].min.at_most(usage);
-        let after = min.at_most(usage);
-        self.limits[group.0 as usize].min = min;
-        self.min_sums.propagate(&self.lineage, group, before, after);
+        let limits = self.limits[group.0 as usize];
+        let before = limits.guard(guard).at_most(usage);
+        let after = amount.at_most(usage);
+        self.limits[group.0 as usize] = limits.with_guard(guard, amount);
+        self.sums.propagate(&self.lineage, guard, group, before, after);
     }
 
-    /// How many of the pages that are charged to the group or below it its min protects (kernel:
-    /// `min_usage` of a `struct page_counter`).
-    pub fn min_usage(&self, group: GroupId) -> u64
+    /// How many of the pages that are charged to the group or below it it asks to be protected (kernel:
+    /// `min_usage` and `low_usage` of a `struct page_counter`).
+    pub fn guard_usage(&self, guard: Guard, group: GroupId) -> u64
         requires live { is_live self.now.tree group.0 ≡ true }
-        ensures { result ≡ min_usage (min_of self.now.limits) (usage_of self.now) group.0 }
+        ensures { result ≡ min_usage (setting_of guard self.now.limits) (usage_of self.now) group.0 }
     {
-        self.min(group).at_most(self.usage(group))
+        self.guard(guard, group).at_most(self.usage(group))
     }
 
-    /// The sum of `min_usage` over the live groups that hang below this one (kernel:
-    /// `children_min_usage` of a `struct page_counter`).
-    pub fn children_min_usage(&self, group: GroupId) -> &u64
+    /// The sum of `guard_usage` over the live groups that hang below this one (kernel:
+    /// `children_min_usage` and `children_low_usage` of a `struct page_counter`).
+    pub fn children_guard_usage(&self, guard: Guard, group: GroupId) -> &u64
         requires live { is_live self.now.tree group.0 ≡ true }
-        ensures { result.now ≡ children_min_usage self.now.tree (min_of self.now.limits) (usage_of self.now) group.0 }
+        ensures { result.now ≡ children_min_usage self.now.tree (setting_of guard self.now.limits) (usage_of self.now) group.0 }
     {
-        self.min_sums.of(group)
+        self.sums.of(guard, group)
     }
 
     /// How many pages are charged to the group or below it (kernel: page_counter_read).
@@ -241,8 +244,8 @@ impl Counters {
     {
         self.lineage.is_lineage();
         let usage = self.usage.as_mut_slice();
-        let min_sums = &mut self.min_sums;
-        add_up(&self.lineage, &self.limits, usage, min_sums, group)?;
+        let sums = &mut self.sums;
+        add_up(&self.lineage, &self.limits, usage, sums, group)?;
         Ok(Charge::new(group))
     }
 
@@ -256,8 +259,8 @@ impl Counters {
         self.lineage.is_lineage();
         let group = charge.into_group();
         let usage = self.usage.as_mut_slice();
-        let min_sums = &mut self.min_sums;
-        take_down(&self.lineage, &self.limits, usage, min_sums, group, None);
+        let sums = &mut self.sums;
+        take_down(&self.lineage, &self.limits, usage, sums, group, None);
     }
 
     /// Gives a charge to what its group hangs below: a page less at the group itself, and the same
@@ -275,8 +278,8 @@ impl Counters {
         };
         let usage = self.usage.as_mut_slice();
         let fewer = usage[group.0 as usize] - 1;
-        let min_sums = &mut self.min_sums;
-        set_usage(&self.lineage, &self.limits, usage, min_sums, group, fewer);
+        let sums = &mut self.sums;
+        set_usage(&self.lineage, &self.limits, usage, sums, group, fewer);
         Charge::new(parent)
     }
 
@@ -322,7 +325,7 @@ fn add_up(
     lineage: &Lineage,
     limits: &[Limits],
     usage: &mut [u64],
-    min_sums: &mut ChildSums,
+    sums: &mut GuardSums,
     group: GroupId,
 ) -> Result<(), Over>
     requires tree { IsLineage lineage.now.tree }
@@ -331,21 +334,21 @@ fn add_up(
     requires live { is_live lineage.now.tree group.0 ≡ true }
     requires room { (a : ℕ) → a < length lineage.now.tree → slice_index usage.old a < 18446744073709551615 }
     requires within { (a : ℕ) → a < length lineage.now.tree → sum_by (λ c. slice_index usage.old c) (children lineage.now.tree a) ≤ slice_index usage.old a }
-    requires kept { AreKept lineage.now.tree (min_of limits.now) usage.old min_sums.old.sums }
+    requires kept { AreBothKept lineage.now.tree limits.now usage.old sums.old }
     ensures under { OnOk result (over_at lineage.now.tree limits.now (λ a. slice_index usage.old a) (Some group.0) ≡ None) }
     ensures over { IfErr result (λ limit. over_at lineage.now.tree limits.now (λ a. slice_index usage.old a) (Some group.0) ≡ Some limit.0.0) }
     ensures charged { OnOk result ((a : ℕ) → a < length lineage.now.tree → slice_index usage.new a ≡ slice_index usage.old a + share lineage.now.tree a (Some group.0)) }
     ensures err { OnErr result (usage.new ≡ usage.old) }
-    ensures kept { GoOnKept lineage.now.tree (min_of limits.now) usage.new min_sums.old min_sums.new }
+    ensures kept { GoOnKept lineage.now.tree limits.now usage.new sums.old sums.new }
 {
     let mut at = Some(group);
     while let Some(here) = at {
         let count = usage[here.0 as usize];
         if limits[here.0 as usize].max.is_full(count) {
-            take_down(lineage, limits, usage, min_sums, group, Some(here));
+            take_down(lineage, limits, usage, sums, group, Some(here));
             return Err(Over(here));
         }
-        set_usage(lineage, limits, usage, min_sums, here, count + 1);
+        set_usage(lineage, limits, usage, sums, here, count + 1);
         at = lineage.parent(here);
     }
     Ok(())
@@ -357,7 +360,7 @@ fn take_down(
     lineage: &Lineage,
     limits: &[Limits],
     usage: &mut [u64],
-    min_sums: &mut ChildSums,
+    sums: &mut GuardSums,
     group: GroupId,
     until: Option<GroupId>,
 )
@@ -367,9 +370,9 @@ fn take_down(
     requires live { is_live lineage.now.tree group.0 ≡ true }
     requires above { IsAbove lineage.now.tree (number until) (Some group.0) }
     requires counted { (a : ℕ) → a < length lineage.now.tree → share lineage.now.tree a (Some group.0) ≤ slice_index usage.old a + share lineage.now.tree a (number until) }
-    requires kept { AreKept lineage.now.tree (min_of limits.now) usage.old min_sums.old.sums }
+    requires kept { AreBothKept lineage.now.tree limits.now usage.old sums.old }
     ensures taken { (a : ℕ) → a < length lineage.now.tree → slice_index usage.new a + share lineage.now.tree a (Some group.0) ≡ slice_index usage.old a + share lineage.now.tree a (number until) }
-    ensures kept { GoOnKept lineage.now.tree (min_of limits.now) usage.new min_sums.old min_sums.new }
+    ensures kept { GoOnKept lineage.now.tree limits.now usage.new sums.old sums.new }
 {
     let mut at = Some(group);
     while let Some(here) = at {
@@ -377,7 +380,7 @@ fn take_down(
             return;
         }
         let count = usage[here.0 as usize];
-        set_usage(lineage, limits, usage, min_sums, here, count - 1);
+        set_usage(lineage, limits, usage, sums, here, count - 1);
         at = lineage.parent(here);
     }
 }
@@ -395,7 +398,7 @@ fn set_usage(
     lineage: &Lineage,
     limits: &[Limits],
     usage: &mut [u64],
-    min_sums: &mut ChildSums,
+    sums: &mut GuardSums,
     group: GroupId,
     pages: u64,
 )
@@ -404,12 +407,37 @@ fn set_usage(
     requires usage { length usage.old ≡ length lineage.now.tree }
     requires live { is_live lineage.now.tree group.0 ≡ true }
     requires fits { ChildrenFit lineage.now.tree usage.old group.0 pages }
-    requires kept { AreKept lineage.now.tree (min_of limits.now) usage.old min_sums.old.sums }
+    requires kept { AreBothKept lineage.now.tree limits.now usage.old sums.old }
     ensures usage { usage.new ≡ slice_set usage.old group.0 pages }
-    ensures kept { GoOnKept lineage.now.tree (min_of limits.now) usage.new min_sums.old min_sums.new }
+    ensures kept { GoOnKept lineage.now.tree limits.now usage.new sums.old sums.new }
 {
-    let before = usage[group.0 as usize];
+    recount(lineage, limits, usage, sums, Guard::Min, group, pages);
+    recount(lineage, limits, usage, sums, Guard::Low, group, pages);
     usage[group.0 as usize] = pages;
-    let min = limits[group.0 as usize].min;
-    min_sums.propagate(lineage, group, min.at_most(before), min.at_most(pages));
+}
+
+/// By this setting the group asks for what it lets through of so many pages, where it counts as many as
+/// before (kernel: propagate_protected_usage).
+fn recount(
+    lineage: &Lineage,
+    limits: &[Limits],
+    usage: &[u64],
+    sums: &mut GuardSums,
+    guard: Guard,
+    group: GroupId,
+    pages: u64,
+)
+    requires tree { IsLineage lineage.now.tree }
+    requires limits { length limits.now ≡ length lineage.now.tree }
+    requires usage { length usage.now ≡ length lineage.now.tree }
+    requires live { is_live lineage.now.tree group.0 ≡ true }
+    requires fits { ChildrenFit lineage.now.tree usage.now group.0 pages }
+    requires kept { AreKept lineage.now.tree (setting_of guard limits.now) usage.now (sums_in guard sums.old) }
+    ensures kept { AreKept lineage.now.tree (setting_of guard limits.now) (slice_set usage.now group.0 pages) (sums_in guard sums.new) }
+    ensures others { (other : Guard_of) → IsOther guard other → sums_in other sums.new ≡ sums_in other sums.old }
+    ensures room { sums.new.room ≡ sums.old.room }
+{
+    let setting = limits[group.0 as usize].guard(guard);
+    let before = setting.at_most(usage[group.0 as usize]);
+    sums.propagate(lineage, guard, group, before, setting.at_most(pages));
 }

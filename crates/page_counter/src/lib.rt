@@ -11,3 +11,4 @@ pub use counters::Counters;
 mod charge;
 mod child_sums;
 mod counters;
+mod guard_sums;

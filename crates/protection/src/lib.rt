@@ -44,6 +44,7 @@ ghost use Rattle.group_tree.specs.Kin.{AreKin};
 use group_tree::Tree;
 use machine::amount::Amount;
 use machine::id::GroupId;
+use machine::record::Guard;
 use page_counter::Counters;
 
 /// A reclaim of the target, as the protection of the groups below it sees it (kernel: the arguments
@@ -66,43 +67,46 @@ pub struct Protection<'t, 'c> {
 impl<'t, 'c> Protection<'t, 'c> {
     ghost use Rattle.std.specs.Prelude.{◌≢◌, not, true};
     ghost use Rattle.machine.specs.Tree.{is_live, under};
-    ghost use Rattle.protection.specs.Effective.{effective_by, is_unprotected_by};
+    ghost use Rattle.protection.specs.Effective.{effective_by, is_beyond_by};
 
-    /// A group's effective `memory.min`: while it uses no more, with all below it, a reclaim of the
-    /// target takes no page of its own (kernel: effective_protection). The target is above the group.
-    pub fn effective(self, group: GroupId) -> Amount
+    /// A group's effective `memory.min` or `memory.low`: while it uses no more, with all below it, that
+    /// protects it from a reclaim of the target (kernel: effective_protection). The target is above the
+    /// group.
+    pub fn effective(self, guard: Guard, group: GroupId) -> Amount
         requires live { is_live self.tree.now group.0 ≡ true }
         requires under { under self.tree.now self.target.0 group.0 ≡ true }
         requires below { self.target.0 ≢ group.0 }
-        ensures { result ≡ effective_by self.entry group.0 }
+        ensures { result ≡ effective_by self.entry guard group.0 }
     {
         let Some(parent) = self.tree.parent(group) else {
             unreachable!()
         };
         if parent == self.target {
-            return self.counters.min(group);
+            return self.counters.guard(guard, group);
         }
-        let above = self.effective(parent);
-        let siblings = *self.counters.children_min_usage(parent);
+        let above = self.effective(guard, parent);
+        let siblings = *self.counters.children_guard_usage(guard, parent);
         let parent_usage = self.counters.usage(parent);
         let usage = self.counters.usage(group);
-        let own = self.counters.min_usage(group);
+        let own = self.counters.guard_usage(guard, group);
         // The children of a group count together no more than it does.
         self.counters.are_counted();
         below_parent(self.recursive, above, siblings, parent_usage, usage, own)
     }
 
-    /// Whether a reclaim of the target may take nothing from the group, since it uses no more than its
-    /// effective `memory.min` (kernel: mem_cgroup_below_min). The target itself is never protected.
-    pub fn is_protected(self, group: GroupId) -> bool
+    /// Whether the group uses no more than its effective `memory.min`, so that a reclaim of the target
+    /// takes nothing from it, or than its effective `memory.low`, so that it is passed over while others
+    /// have something (kernel: mem_cgroup_below_min, mem_cgroup_below_low). The target itself is never
+    /// protected.
+    pub fn is_protected(self, guard: Guard, group: GroupId) -> bool
         requires live { is_live self.tree.now group.0 ≡ true }
         requires under { under self.tree.now self.target.0 group.0 ≡ true }
-        ensures { result ≡ not (is_unprotected_by self.entry group.0) }
+        ensures { result ≡ not (is_beyond_by self.entry guard group.0) }
     {
         if group == self.target {
             return false;
         }
-        let kept = self.effective(group);
+        let kept = self.effective(guard, group);
         !kept.exceeded_by(self.counters.usage(group))
     }
 }

@@ -1,6 +1,6 @@
 -- Which group gives a page, and that one does wherever one has a page to give.
 use Rattle.std.proofs.Common.{inl, inr, ◌≡◌, ℕ, ◌+◌, ◌==◌, ◌&&◌, ◌||◌, Bool, true, false, if◌then◌else◌, List, [], ◌∷◌, get_or, drop, take, Option, Some, None, refl, sym, ap, ◌∙◌, subst, arith}
-use Rattle.std.specs.Prelude.{find, is_some, All, IfSome, IfNone}
+use Rattle.std.specs.Prelude.{find, is_some, All}
 use Rattle.std.specs.Option.{option_or}
 use Rattle.std.specs.List.{list_any}
 use Rattle.std.proofs.lemmas.Bool.{cases_Bool, and_parts}
@@ -153,31 +153,23 @@ around : (test : ℕ → Bool) (gs : List ℕ) (last : Option ℕ) → (list_any
 around test gs None = ap (list_any test) (up_to-none gs)
 around test gs (Some last) = around_place test gs last
 
-module _ (sc : ScanControl) (groups : IsGroupTree sc.protection.tree.now) (last : Option ℕ) where
+module _ (sc : ScanControl) (low_reclaim : Bool) (groups : IsGroupTree sc.protection.tree.now) (last : Option ℕ) where
   abbrev tree : List Node
   tree = sc.protection.tree.now
 
   abbrev target : ℕ
   target = sc.protection.target.0
 
-  one_serves : (g : ℕ) → served_by tree (gives_by sc) target last ≡ Some g → IsGiver sc g
-  one_serves g found =
-      let is = found-passes (λ a. (is_live tree a ≡ true) × (under tree target a ≡ true)) (gives_by sc) (asking_order tree target last) g (asked-order tree target last groups sc.live) found in
+  -- the group that is served has a page to give
+  pub one-serves : (g : ℕ) → served_by tree (gives_by sc low_reclaim) target last ≡ Some g → IsGiver sc low_reclaim g
+  one-serves g found =
+      let is = found-passes (λ a. (is_live tree a ≡ true) × (under tree target a ≡ true)) (gives_by sc low_reclaim) (asking_order tree target last) g (asked-order tree target last groups sc.live) found in
       record { live = is.0.0; below = is.0.1; gives = is.1 }
 
-  none_serves : served_by tree (gives_by sc) target last ≡ None → GivesNone sc
-  none_serves nothing g there below =
-      among (gives_by sc) g (preorder tree target)
-      (preorder-has tree groups target g sc.live ∙ ap (λ b. b && under tree target g) there ∙ below)
-      (sym (around (gives_by sc) (preorder tree target) last) ∙ sym (list_any-append (gives_by sc) (behind_last (preorder tree target) last) (up_to (preorder tree target) last))
-      ∙ ap (list_any (gives_by sc)) (parts (preorder tree target) last) ∙ none-passes (gives_by sc) (asking_order tree target last) nothing)
-
-  -- the group that is served has a page to give
-  pub giver-served : (group : Option GroupId) → number group ≡ served_by tree (gives_by sc) target last → IfSome group (λ g. IsGiver sc g.0)
-  giver-served None e = tt
-  giver-served (Some g) e = one_serves g.0 (sym e)
-
   -- and where none is served, none has
-  pub none-serves : (group : Option GroupId) → number group ≡ served_by tree (gives_by sc) target last → IfNone group (GivesNone sc)
-  none-serves None e = none_serves (sym e)
-  none-serves (Some g) e = tt
+  pub none-serves : served_by tree (gives_by sc low_reclaim) target last ≡ None → GivesNone sc low_reclaim
+  none-serves nothing g there below =
+      among (gives_by sc low_reclaim) g (preorder tree target)
+      (preorder-has tree groups target g sc.live ∙ ap (λ b. b && under tree target g) there ∙ below)
+      (sym (around (gives_by sc low_reclaim) (preorder tree target) last) ∙ sym (list_any-append (gives_by sc low_reclaim) (behind_last (preorder tree target) last) (up_to (preorder tree target) last))
+      ∙ ap (list_any (gives_by sc low_reclaim)) (parts (preorder tree target) last) ∙ none-passes (gives_by sc low_reclaim) (asking_order tree target last) nothing)

@@ -1,6 +1,6 @@
 //! The cursors of all targets.
 
-ghost use Rattle.std.specs.Prelude.{◌≡◌, ◌+◌, ◌<◌, ◌≤◌, ◌++◌, ◌∷◌, [], true, length, option_map, slice_set, Some, None, IfSome, IfNone, IfOk, OnOk, OnErr, IsOk};
+ghost use Rattle.std.specs.Prelude.{◌≡◌, ◌+◌, ◌<◌, ◌≤◌, ◌++◌, ◌∷◌, [], true, false, length, slice_set, Some, None, IfSome, IfNone, IfOk, OnOk, OnErr, IsOk};
 ghost use Rattle.machine.specs.Order.{served_by, cursor_at};
 ghost use Rattle.reclaim.specs.Pass.{gives_by, IsGiver, GivesNone};
 
@@ -8,6 +8,15 @@ use crate::scan_control::ScanControl;
 use machine::id::GroupId;
 use std::alloc::{AllocError, Global};
 use std::marker::Model;
+
+/// The group that gives a page to a reclaim.
+#[derive(Clone, Copy, Debug, PartialEq, Eq)]
+pub struct Served {
+    pub group: GroupId,
+    /// Its low protects it, and no group that is not so protected has a page to give (kernel:
+    /// memcg_low_reclaim of a `struct scan_control`).
+    pub low_reclaim: bool,
+}
 
 /// For each group, as a reclaim's target, the group that was served last for it (kernel:
 /// `struct mem_cgroup_reclaim_iter`).
@@ -88,18 +97,32 @@ impl Cursors {
 
     /// The group that gives the next page to a reclaim of the target. Nothing changes. `None` where no
     /// group at or below the target has a page to give.
-    pub fn next_group(&self, scan: ScanControl<'_, '_, '_>) -> Option<GroupId>
+    ///
+    /// A first pass leaves out the groups that their low protects. Where it finds none, a second one
+    /// asks these too (kernel: memcg_low_skipped, and the retry of do_try_to_free_pages).
+    pub fn next_group(&self, scan: ScanControl<'_, '_, '_>) -> Option<Served>
         requires { scan.protection.target.0 < length self.now.cursors }
-        // It is the one whose turn it is.
-        ensures group { option_map (λ g. g.0) result
-            ≡ served_by scan.entry.protection.tree.now (gives_by scan.entry) scan.entry.protection.target.0 (cursor_at self.now.cursors scan.entry.protection.target.0) }
+        // It is the one whose turn it is, in the pass that finds it.
+        ensures group { IfSome result (λ s. served_by scan.entry.protection.tree.now (gives_by scan.entry s.low_reclaim) scan.entry.protection.target.0 (cursor_at self.now.cursors scan.entry.protection.target.0) ≡ Some s.group.0) }
+        // The second pass comes only where nobody has a page to give in the first.
+        ensures spared { IfSome result (λ s. s.low_reclaim ≡ true → GivesNone scan.entry false) }
         // There is one exactly where one has a page to give.
-        ensures giver { IfSome result (λ g. IsGiver scan.entry g.0) }
-        ensures none { IfNone result (GivesNone scan.entry) }
+        ensures giver { IfSome result (λ s. IsGiver scan.entry s.low_reclaim s.group.0) }
+        ensures none { IfNone result (GivesNone scan.entry true) }
     {
         scan.protection.tree.groups_form_a_tree();
         let last = self.last[scan.protection.target.0 as usize];
-        scan.served(last)
+        if let Some(group) = scan.served(false, last) {
+            return Some(Served {
+                group,
+                low_reclaim: false,
+            });
+        }
+        let group = scan.served(true, last)?;
+        Some(Served {
+            group,
+            low_reclaim: true,
+        })
     }
 
     /// The group gives a page to a reclaim of the target: the target's cursor goes to it. It takes no

@@ -7,8 +7,10 @@
 //! 2. A pass begins behind the group that was served last for this target, goes round, and ends at
 //!    that group. So no group gives a second page before each of the others was asked for one.
 //!    Where none was served yet, or where that group is no more, the pass begins at the target.
-//! 3. A group is passed over while it is protected from a reclaim of the target, and where it has
-//!    no page that may be taken.
+//! 3. A group is passed over while its `memory.min` protects it from a reclaim of the target, and where
+//!    it has no page that may be taken.
+//!    Those that their `memory.low` protects are left out of a first pass, and asked in a second one
+//!    where the first finds nothing. Both begin behind the group that was served last.
 //! 4. A page can only be taken where it has somewhere to go. So a group gives anonymous pages only
 //!    where a block in swap is free, and pages of files always.
 //! 5. Of the group that is served, the page is the one that its generation lists say: the crate
@@ -28,7 +30,7 @@
 //! Each target has a cursor of its own: a reclaim of `/p` neither reads nor moves that of the root.
 #![tactic(auto)]
 
-pub use cursors::Cursors;
+pub use cursors::{Cursors, Served};
 pub use scan_control::ScanControl;
 
 mod cursors;

@@ -11,42 +11,49 @@ ghost use Rattle.reclaim.specs.Walk.{behind_last, up_to, AreAsked};
 use crate::scan_control::ScanControl;
 use group_tree::Preorder;
 use machine::id::GroupId;
+use machine::record::Guard;
 
 impl<'t, 'c, 'g> ScanControl<'t, 'c, 'g> {
-    /// The group that gives a page to the target, where `last` was served last.
-    pub(crate) fn served(self, last: Option<GroupId>) -> Option<GroupId>
-        ensures { number result ≡ served_by self.entry.protection.tree.now (gives_by self.entry) self.entry.protection.target.0 (number last) }
+    /// The group that gives a page to the target, where `last` was served last: in a pass that takes from
+    /// groups that their low protects (kernel: memcg_low_reclaim), or in one that does not.
+    pub(crate) fn served(self, low_reclaim: bool, last: Option<GroupId>) -> Option<GroupId>
+        ensures { number result ≡ served_by self.entry.protection.tree.now (gives_by self.entry low_reclaim) self.entry.protection.target.0 (number last) }
     {
         self.protection.tree.groups_form_a_tree();
-        let found = self.first_behind(last);
+        let found = self.first_behind(low_reclaim, last);
         if found.is_some() {
             return found;
         }
         let walk = self.protection.tree.preorder(self.protection.target);
-        self.first_to_give(walk, last)
+        self.first_to_give(low_reclaim, walk, last)
     }
 
     /// The first group that has a page to give of those behind the group that was served last. The
     /// walk begins there, however many groups come before it.
-    fn first_behind(self, last: Option<GroupId>) -> Option<GroupId>
-        ensures { number result ≡ find (gives_by self.entry) (behind_last (preorder self.entry.protection.tree.now self.entry.protection.target.0) (number last)) }
+    fn first_behind(self, low_reclaim: bool, last: Option<GroupId>) -> Option<GroupId>
+        ensures { number result ≡ find (gives_by self.entry low_reclaim) (behind_last (preorder self.entry.protection.tree.now self.entry.protection.target.0) (number last)) }
     {
         self.protection.tree.groups_form_a_tree();
         let rest = self
             .protection
             .tree
             .preorder_behind(self.protection.target, last?);
-        self.first_to_give(rest, None)
+        self.first_to_give(low_reclaim, rest, None)
     }
 
     /// The first group of a walk that has a page to give. The walk ends at the group that was served
     /// last.
-    fn first_to_give(self, walk: Preorder<'_>, last: Option<GroupId>) -> Option<GroupId>
+    fn first_to_give(
+        self,
+        low_reclaim: bool,
+        walk: Preorder<'_>,
+        last: Option<GroupId>,
+    ) -> Option<GroupId>
         requires { AreAsked self.protection.tree.now self.protection.target.0 walk }
-        ensures { number result ≡ find (gives_by self.entry) (up_to walk.entry (number last)) }
+        ensures { number result ≡ find (gives_by self.entry low_reclaim) (up_to walk.entry (number last)) }
     {
         for group in walk {
-            if self.gives(group) {
+            if self.gives(low_reclaim, group) {
                 return Some(group);
             }
             if Some(group) == last {
@@ -57,12 +64,14 @@ impl<'t, 'c, 'g> ScanControl<'t, 'c, 'g> {
     }
 
     /// Whether the group has a page to give to the target.
-    fn gives(self, group: GroupId) -> bool
+    fn gives(self, low_reclaim: bool, group: GroupId) -> bool
         requires live { is_live self.protection.tree.now group.0 ≡ true }
         requires under { under self.protection.tree.now self.protection.target.0 group.0 ≡ true }
-        ensures { result ≡ gives_by self.entry group.0 }
+        ensures { result ≡ gives_by self.entry low_reclaim group.0 }
     {
         // The lists cost less than the group's protection, which goes up to the target.
-        self.gens.has_usable(group, self.swap_free) && !self.protection.is_protected(group)
+        self.gens.has_usable(group, self.swap_free)
+            && !self.protection.is_protected(Guard::Min, group)
+            && (low_reclaim || !self.protection.is_protected(Guard::Low, group))
     }
 }

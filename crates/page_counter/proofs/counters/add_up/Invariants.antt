@@ -1,9 +1,8 @@
 use Rattle.std.proofs.Common.{◌≡◌, ◌+◌, ◌<◌, ℕ, length, Some, slice_index}
 use Rattle.machine.specs.Counts.{over_at}
-use Rattle.machine.specs.Protection.{min_of}
 use Rattle.machine.specs.Tree.{share, IsAbove, IsBelow, rank}
 use Rattle.group_tree.specs.Tables.{number}
-use Rattle.page_counter.specs.Sums.{GoOnKept}
+use Rattle.page_counter.specs.GuardSums.{GoOnKept}
 use Rattle.page_counter.proofs.WalkLemmas.{IsLiveAt}
 use Rattle.page_counter.proofs.counters.add_up.Given as goal
 
@@ -14,7 +13,7 @@ invariant-loop-at l = record {
   above : IsAbove l.lineage.tree (number l.at) (Some l.group.0);
   counts : (a : ℕ) → a < length l.lineage.tree → slice_index l.usage a + share l.lineage.tree a (number l.at) ≡ slice_index l.fn.usage a + share l.lineage.tree a (Some l.group.0);
   over : over_at l.lineage.tree l.limits (λ a. slice_index l.fn.usage a) (number l.at) ≡ over_at l.lineage.tree l.limits (λ a. slice_index l.fn.usage a) (Some l.group.0);
-  kept : GoOnKept l.lineage.tree (min_of l.limits) l.usage l.fn.min_sums l.min_sums;
+  kept : GoOnKept l.lineage.tree l.limits l.usage l.fn.sums l.sums;
 }
 
 abbrev pub decreases-loop-at : goal.decreases-loop-at

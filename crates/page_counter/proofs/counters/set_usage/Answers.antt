@@ -1,29 +1,21 @@
-use Rattle.std.proofs.Common.{refl, arith}
-use Rattle.group_tree.proofs.LineageLemmas.{live-within}
-use Rattle.page_counter.proofs.KeptLemmas.{covered, fits, counts_more, AreKept-propagated}
-use Rattle.page_counter.proofs.SettingLemmas.{counted-anew}
+use Rattle.std.proofs.Common.{◌≡◌, List, ◌∙◌, sym, subst, slice_set, ℕ}
+use Rattle.machine.specs.declared.record.Guard.{Guard}
+use Rattle.machine.specs.declared.record.Guard.TheVariants.{Min, Low}
+use Rattle.machine.specs.Protection.{setting_of}
+use Rattle.page_counter.specs.Sums.{AreKept}
+use Rattle.page_counter.specs.GuardSums.{GuardSumsOf, sums_in}
 use Rattle.page_counter.proofs.counters.set_usage.Goals as goal
 
-pub propagate-requires-clause-covered : goal.propagate-requires-clause-covered
-propagate-requires-clause-covered c =
-    let there = live-within c.args.lineage.now.tree c.args.group.0 c.requires.live in
-    covered c.requires.tree.earlier_parents there c.requires.kept
-    (counted-anew (λ l. l.min) c.args.limits.now c.args.group.0 (omega arith) c.args.lineage.now.tree c.args.usage.now (omega arith) _ 0 _ _ refl refl c.at_most.result c.at_most-2.result c.at_most.ensures c.args.pages c.at_most-2.ensures)
+pub recount-requires-clause-kept : goal.recount-requires-clause-kept
+recount-requires-clause-kept c = c.requires.kept Min
 
-pub propagate-requires-clause-fits : goal.propagate-requires-clause-fits
-propagate-requires-clause-fits c p child more =
-    let there = live-within c.args.lineage.now.tree c.args.group.0 c.requires.live in
-    fits c.requires.tree.earlier_parents there c.requires.kept
-    (counted-anew (λ l. l.min) c.args.limits.now c.args.group.0 (omega arith) c.args.lineage.now.tree c.args.usage.now (omega arith) _ 0 _ _ refl refl c.at_most.result c.at_most-2.result c.at_most.ensures c.args.pages c.at_most-2.ensures)
-    18446744073709551615 p child (c.requires.fits (counts_more _ _ _ (rw (c.at_most.ensures, c.at_most-2.ensures) at more)) _ p child)
+pub recount-requires-2-clause-kept : goal.recount-requires-2-clause-kept
+recount-requires-2-clause-kept c = subst (AreKept c.args.lineage.now.tree (setting_of Low c.args.limits.now) c.args.usage.now) (sym (c.recount.ensures.others Low tt)) (c.requires.kept Low)
 
 pub returns-clause-kept : goal.returns-clause-kept
-returns-clause-kept c =
-    let there = live-within c.args.lineage.now.tree c.args.group.0 c.requires.live in
-    record {
-      kept =
-          AreKept-propagated c.requires.tree.earlier_parents there c.requires.kept
-          (counted-anew (λ l. l.min) c.args.limits.now c.args.group.0 (omega arith) c.args.lineage.now.tree c.args.usage.now (omega arith) _ 0 _ _ refl refl c.at_most.result c.at_most-2.result c.at_most.ensures c.args.pages c.at_most-2.ensures)
-          c.propagate.new.self.sums c.propagate.ensures.sums c.propagate.ensures.propagates;
-      room = c.propagate.ensures.room;
-    }
+returns-clause-kept c = record { kept = kept; room = c.recount-2.ensures.room ∙ c.recount.ensures.room }
+  where
+
+    kept : (guard : Guard) → AreKept c.args.lineage.now.tree (setting_of guard c.args.limits.now) (slice_set c.args.usage.now c.args.group.0 c.args.pages) (sums_in guard c.recount-2.new.sums)
+    kept Min = subst (AreKept c.args.lineage.now.tree (setting_of Min c.args.limits.now) (slice_set c.args.usage.now c.args.group.0 c.args.pages)) (sym (c.recount-2.ensures.others Min tt)) c.recount.ensures.kept
+    kept Low = c.recount-2.ensures.kept

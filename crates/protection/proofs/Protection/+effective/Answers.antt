@@ -1,5 +1,5 @@
 use Rattle.std.proofs.Common.{◌≡◌, ◌≢◌, ◌==◌, ℕ, true, false, Some, eqb-true, sym, ap, ◌∙◌, arith}
-use Rattle.machine.specs.Protection.{min_of}
+use Rattle.machine.specs.Protection.{setting_of}
 use Rattle.machine.specs.Tree.{node_at, is_child, is_live}
 use Rattle.group_tree.proofs.LineageLemmas.{live-within}
 use Rattle.page_counter.specs.Counts.{usage_of}
@@ -18,8 +18,8 @@ unreachable-requires t c = has_parent c.args.self.tree.now c.parent.ensures.tree
 pub returns-then-eq : goal.returns-then-eq
 returns-then-eq t c =
     let same = eqb-true c.in-Some.parent.0 c.args.self.target.0 (sym c.eq.ensures ∙ c.if-eq.true) in
-    c.min.ensures
-    ∙ sym (effective-child c.args.self.tree.now c.parent.ensures.tree.earlier_parents c.args.self.target.0 c.args.self.recursive (min_of c.args.self.counters.now.limits) (usage_of c.args.self.counters.now) c.args.group.0 c.requires.below
+    c.guard.ensures
+    ∙ sym (effective-child c.args.self.tree.now c.parent.ensures.tree.earlier_parents c.args.self.target.0 c.args.self.recursive (setting_of c.args.guard c.args.self.counters.now.limits) (usage_of c.args.self.counters.now) c.args.group.0 c.requires.below
     (sym c.in-Some.ensures.parent ∙ ap Some same))
 
 pub effective-above-requires : goal.effective-above-requires
@@ -45,21 +45,21 @@ among_children t c = child_of c.args.self.counters.now.tree c.args.group.0 (live
 pub below_parent-requires-clause-asked : goal.below_parent-requires-clause-asked
 below_parent-requires-clause-asked t c =
     let counters = c.args.self.counters.now in
-    let most = asks-most counters.tree (min_of counters.limits) (usage_of counters) c.in-Some.parent.0 c.args.group.0 (live-within counters.tree c.args.group.0 (live_there t c)) (among_children t c) in
-    omega (arith, most, c.min_usage-own.ensures, c.children_min_usage-siblings.ensures)
+    let most = asks-most counters.tree (setting_of c.args.guard counters.limits) (usage_of counters) c.in-Some.parent.0 c.args.group.0 (live-within counters.tree c.args.group.0 (live_there t c)) (among_children t c) in
+    omega (arith, most, c.guard_usage-own.ensures, c.children_guard_usage-siblings.ensures)
 
 pub below_parent-requires-clause-fits : goal.below_parent-requires-clause-fits
 below_parent-requires-clause-fits t c =
     let counters = c.args.self.counters.now in
     let p = c.in-Some.parent.0 in
     let live = c.args.self.kin.living p ∙ c.parent.ensures.tree.parents_live c.args.group.0 p c.requires.live (sym c.in-Some.ensures.parent) in
-    let most = surplus-most counters.tree (min_of counters.limits) (usage_of counters) p c.args.group.0 (live-within counters.tree c.args.group.0 (live_there t c)) (among_children t c) (c.are_counted.ensures.within p live) in
-    omega (arith, most, c.min_usage-own.ensures, c.children_min_usage-siblings.ensures, c.usage-usage.ensures, c.usage-parent_usage.ensures)
+    let most = surplus-most counters.tree (setting_of c.args.guard counters.limits) (usage_of counters) p c.args.group.0 (live-within counters.tree c.args.group.0 (live_there t c)) (among_children t c) (c.are_counted.ensures.within p live) in
+    omega (arith, most, c.guard_usage-own.ensures, c.children_guard_usage-siblings.ensures, c.usage-usage.ensures, c.usage-parent_usage.ensures)
 
 pub returns : goal.returns
 returns t c =
     let counters = c.args.self.counters.now in
     let more = other_number c.in-Some.parent.0 c.args.self.target.0 (sym c.eq.ensures ∙ c.if-eq.false) in
-    let siblings = c.children_min_usage-siblings.ensures ∙ children_min_usage-kin counters.tree c.args.self.tree.now c.args.self.kin (min_of counters.limits) (usage_of counters) c.in-Some.parent.0 in
-    c.below_parent.ensures ∙ same_below c.args.self.recursive c.effective-above.ensures siblings c.usage-parent_usage.ensures c.usage-usage.ensures c.min_usage-own.ensures
-    ∙ sym (effective-step c.args.self.tree.now c.parent.ensures.tree.earlier_parents c.args.self.target.0 c.args.self.recursive (min_of counters.limits) (usage_of counters) c.args.group.0 c.in-Some.parent.0 c.requires.below (sym c.in-Some.ensures.parent) more)
+    let siblings = c.children_guard_usage-siblings.ensures ∙ children_min_usage-kin counters.tree c.args.self.tree.now c.args.self.kin (setting_of c.args.guard counters.limits) (usage_of counters) c.in-Some.parent.0 in
+    c.below_parent.ensures ∙ same_below c.args.self.recursive c.effective-above.ensures siblings c.usage-parent_usage.ensures c.usage-usage.ensures c.guard_usage-own.ensures
+    ∙ sym (effective-step c.args.self.tree.now c.parent.ensures.tree.earlier_parents c.args.self.target.0 c.args.self.recursive (setting_of c.args.guard counters.limits) (usage_of counters) c.args.group.0 c.in-Some.parent.0 c.requires.below (sym c.in-Some.ensures.parent) more)

@@ -8,7 +8,7 @@ invariant_of-self c =
     let uncharged = rw (← c.self.view_is) at c.requires.uncharged in
     record {
       tables = IsCounted-remove _ c.args.group.0 c.is_lineage.ensures (rw (← c.self.view_is) at c.requires.live) uncharged _ c.remove.ensures.tree refl refl c.self.invariant.tables;
-      min_sums = rw c.remove.ensures.tree (AreKept-remove _ _ _ _ c.args.group.0 uncharged c.self.invariant.min_sums);
+      sums = λ guard. rw c.remove.ensures.tree (AreKept-remove _ _ _ _ c.args.group.0 uncharged (c.self.invariant.sums guard));
     }
 
 pub returns-clause-counted : goal.returns-clause-counted

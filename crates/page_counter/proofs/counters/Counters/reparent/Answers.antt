@@ -22,7 +22,7 @@ pub set_usage-requires-clause-fits : goal.set_usage-requires-clause-fits
 set_usage-requires-clause-fits c more = absurd (omega (arith, more))
 
 pub set_usage-requires-clause-kept : goal.set_usage-requires-clause-kept
-set_usage-requires-clause-kept c = rw (c.deref.ensures.value, c.as_mut_slice-usage.ensures.value) c.self.invariant.min_sums
+set_usage-requires-clause-kept c = rw (c.deref.ensures.value, c.as_mut_slice-usage.ensures.value) c.self.invariant.sums
 
 pub invariant_of-self : goal.invariant_of-self
 invariant_of-self c =
@@ -35,7 +35,7 @@ invariant_of-self c =
           (IsCounted-counts (counts_of c.self.inside) _ (c.new.result ∷ out.others) c.self.invariant.tables (record { tree = refl; limits = refl; room = refl }) (length-set _ _ _)
           (AreCounts-reparent _ _ c.args.charge c.new.result out.others c.parent.ensures.lineage (moved_to c.self.inside.lineage.tree _ _ _ c.parent.result c.in-Some.parent c.into_group-group.ensures c.parent.ensures.parent c.in-Some.is c.new.ensures)
           (MovesUp-set _ c.args.charge c.parent.ensures.lineage.earlier_parents c.self.invariant.tables.usage_length out) out.counted));
-      min_sums = rw items (rw c.deref.ensures.value at c.set_usage.ensures.kept).kept;
+      sums = rw items (rw c.deref.ensures.value at c.set_usage.ensures.kept).kept;
     }
 
 pub returns-clause-moved : goal.returns-clause-moved

@@ -19,14 +19,14 @@ add_up-requires-clause-within c =
     rw c.as_mut_slice-usage.ensures.value (λ a lt. children_usage-le (counts_of c.self.inside) c.self.invariant.tables.charges c.is_lineage.ensures.earlier_parents c.self.invariant.tables.counted a lt)
 
 pub add_up-requires-clause-kept : goal.add_up-requires-clause-kept
-add_up-requires-clause-kept c = rw (c.deref.ensures.value, c.as_mut_slice-usage.ensures.value) c.self.invariant.min_sums
+add_up-requires-clause-kept c = rw (c.deref.ensures.value, c.as_mut_slice-usage.ensures.value) c.self.invariant.sums
 
 pub invariant_of-self : goal.invariant_of-self
 invariant_of-self c =
     let items = with_items_is c.self.inside.usage c.add_up.new.usage (omega arith) in
     record {
       tables = rw (items ∙ c.in_err-add_up.ensures.err ∙ c.as_mut_slice-usage.ensures.value, c.in_err-add_up.ensures.kept.room) c.self.invariant.tables;
-      min_sums = rw items (rw c.deref.ensures.value at c.in_err-add_up.ensures.kept).kept;
+      sums = rw items (rw c.deref.ensures.value at c.in_err-add_up.ensures.kept).kept;
     }
 
 pub invariant_of-self-2 : goal.invariant_of-self-2
@@ -39,7 +39,7 @@ invariant_of-self-2 c =
           (IsCounted-counts (counts_of c.self.inside) _ (c.args.group.0 ∷ c.self.invariant.tables.charges) c.self.invariant.tables (record { tree = refl; limits = refl; room = refl }) (omega (arith, len))
           (AreCounts-charge _ _ c.args.group.0 c.self.invariant.tables.charges c.is_lineage.ensures.earlier_parents (rw (← c.self.view_is) at c.requires.live)
           (Charges-added _ c.add_up.new.usage _ c.args.group.0 items (rw c.as_mut_slice-usage.ensures.value at c.in_ok-add_up.ensures.charged)) c.self.invariant.tables.counted));
-      min_sums = rw items (rw c.deref.ensures.value at c.in_ok-add_up.ensures.kept).kept;
+      sums = rw items (rw c.deref.ensures.value at c.in_ok-add_up.ensures.kept).kept;
     }
 
 pub returns-clause-counted : goal.returns-clause-counted

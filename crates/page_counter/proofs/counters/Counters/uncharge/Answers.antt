@@ -15,7 +15,7 @@ take_down-requires-clause-counted c =
     (λ a lt. let counted = share-counted _ c.args.charge c.is_lineage.ensures.earlier_parents (rw (← c.self.view_is) at c.requires.out) a lt in omega (arith, counted))
 
 pub take_down-requires-clause-kept : goal.take_down-requires-clause-kept
-take_down-requires-clause-kept c = rw (c.deref.ensures.value, c.as_mut_slice-usage.ensures.value) c.self.invariant.min_sums
+take_down-requires-clause-kept c = rw (c.deref.ensures.value, c.as_mut_slice-usage.ensures.value) c.self.invariant.sums
 
 pub invariant_of-self : goal.invariant_of-self
 invariant_of-self c =
@@ -28,7 +28,7 @@ invariant_of-self c =
           (IsCounted-counts (counts_of c.self.inside) _ out.others c.self.invariant.tables (record { tree = refl; limits = refl; room = refl }) (omega (arith, len))
           (AreCounts-uncharge _ _ c.args.charge out.others c.is_lineage.ensures.earlier_parents
           (Charges-taken _ c.take_down.new.usage _ c.args.charge c.is_lineage.ensures.earlier_parents items (rw (c.into_group-group.ensures, c.as_mut_slice-usage.ensures.value) at c.take_down.ensures.taken)) out.counted));
-      min_sums = rw items (rw c.deref.ensures.value at c.take_down.ensures.kept).kept;
+      sums = rw items (rw c.deref.ensures.value at c.take_down.ensures.kept).kept;
     }
 
 pub returns-clause-uncharged : goal.returns-clause-uncharged

@@ -16,5 +16,5 @@ first_to_give-requires c =
 pub returns : goal.returns
 returns c =
     c.first_to_give.ensures
-    ∙ ap (find (gives_by c.args.self)) (up_to-none _ ∙ c.preorder_behind-rest.ensures)
-    ∙ ap (λ last. find (gives_by c.args.self) (behind_last (preorder c.args.self.protection.tree.now c.args.self.protection.target.0) (number last))) (sym c.in_ok-last.was)
+    ∙ ap (find (gives_by c.args.self c.args.low_reclaim)) (up_to-none _ ∙ c.preorder_behind-rest.ensures)
+    ∙ ap (λ last. find (gives_by c.args.self c.args.low_reclaim) (behind_last (preorder c.args.self.protection.tree.now c.args.self.protection.target.0) (number last))) (sym c.in_ok-last.was)

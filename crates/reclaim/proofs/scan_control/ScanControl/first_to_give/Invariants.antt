@@ -9,6 +9,6 @@ abbrev pub invariant-loop-group : goal.invariant-loop-group
 invariant-loop-group l = record {
   asked : AreAsked l.self.protection.tree.now l.self.protection.target.0 l.group-iterator;
   same :
-      find (gives_by l.self) (up_to l.group-iterator (number l.last))
-      ≡ find (gives_by l.self) (up_to l.fn.walk (number l.last));
+      find (gives_by l.self l.low_reclaim) (up_to l.group-iterator (number l.last))
+      ≡ find (gives_by l.self l.low_reclaim) (up_to l.fn.walk (number l.last));
 }

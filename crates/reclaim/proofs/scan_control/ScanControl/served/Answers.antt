@@ -11,9 +11,9 @@ first_to_give-requires c =
 
 pub returns-then-is_some : goal.returns-then-is_some
 returns-then-is_some c =
-    first_part c.args.self.protection.tree.now (gives_by c.args.self) c.args.self.protection.target.0 (number c.args.last) c.first_behind-found.result c.first_behind-found.ensures (sym c.is_some.ensures ∙ c.if-is_some.true)
+    first_part c.args.self.protection.tree.now (gives_by c.args.self c.args.low_reclaim) c.args.self.protection.target.0 (number c.args.last) c.first_behind-found.result c.first_behind-found.ensures (sym c.is_some.ensures ∙ c.if-is_some.true)
 
 pub returns : goal.returns
 returns c =
-    second_part c.args.self.protection.tree.now (gives_by c.args.self) c.args.self.protection.target.0 (number c.args.last) c.preorder-walk.result c.first_behind-found.result c.first_to_give.result
+    second_part c.args.self.protection.tree.now (gives_by c.args.self c.args.low_reclaim) c.args.self.protection.target.0 (number c.args.last) c.preorder-walk.result c.first_behind-found.result c.first_to_give.result
     c.preorder-walk.ensures c.first_behind-found.ensures (sym c.is_some.ensures ∙ c.if-is_some.false) c.first_to_give.ensures
