@@ -14,7 +14,11 @@ use Rattle.machine.specs.Counts.{with_event, limits_at}
 use Rattle.machine.specs.Tasks.{group_of_task}
 use Rattle.machine.specs.State.{State, page_numbers}
 use Rattle.machine.proofs.Values.{some_inj}
-use Rattle.machine.specs.Reclaim.{has_takeable, has_transfer}
+use Rattle.machine.specs.declared.record.EventCounts.{EventCounts}
+use Rattle.machine.specs.declared.record.Key.TheVariants as key
+use Rattle.machine.specs.Counts.{with_event}
+use Rattle.machine.specs.Reclaim.{has_open, has_takeable, has_transfer, counted_at_take}
+use Rattle.reclaim.specs.declared.cursors.Served.{Served}
 use Rattle.machine.specs.Victim.{IsVictim}
 use Rattle.machine.specs.Step.{with_setting, Step, TriesCharge}
 use Rattle.machine.specs.History.{InTask}
@@ -41,7 +45,7 @@ use Rattle.book.proofs.EndLemmas.{counting, makes_step-kill}
 use Rattle.book.specs.declared.decision.PageFault.{PageFault}
 use Rattle.book.specs.Decisions.{MeetsSource, offset_at, IsFault, met_by, MeetsSo, HasRoomFor, LacksRoomFor, IsIdleFor, IsOfKilled, AsksPage, WantsRoom, HasItsRoom, FindsNothing, AnswersTo, Carries}
 use Rattle.book.proofs.StepLemmas.{InOrder, still-self, still-counts, held-known, over_step, frameless_step, granted_step, makes_step-set, makes_step-killed, makes_step-undone, met_step, tries_charge, makes_step-room, makes_step-wait, makes_step-no_victim, makes_step-nothing}
-use Rattle.book.proofs.MoveLemmas.{filed-single, holders-beside, holders-new, makes_step-fetch, makes_step-out, makes_step-dropped}
+use Rattle.book.proofs.MoveLemmas.{moves-pages, filed-single, holders-beside, holders-new, makes_step-fetch, makes_step-out, makes_step-dropped}
 use Rattle.book.proofs.TouchLemmas.{makes_step-made}
 use Rattle.page_state.specs.declared.room.NoRoom.{NoRoom}
 use Rattle.machine.proofs.FileLemmas.{holds_page}
@@ -117,7 +121,7 @@ carries-fetch old new fault from g ticket is meets has fetch =
         (subst (λ (l : Label). BeginsReadIn old new fetch.page l meets.0 ticket) reads.1 (subst (λ (b : ℕ). BeginsReadIn old new fetch.page fetch.label b ticket) (sym (some_inj block)) fetch.begins)) in
         makes_step-fetch old new fault _ g.0 page.0 meets.0 (memory_of g.0) ticket is has meets.1 refl refl (ap (there_and is_in_transfer) meets.2) refl begins
         (λ room starts. granted_step old.tables _ _ _ _ _ room.under room.free starts)
-        (holders-beside old new begins.tables page.0 (Some (labelled (memory_of g.0) (Coming begins.frame meets.0 ticket.number))) begins.begins.placed (λ f q. sym (ap (holds_page f q) meets.2)))
+        (holders-beside old new (moves-pages old.tables new.tables begins.tables) page.0 (Some (labelled (memory_of g.0) (Coming begins.frame meets.0 ticket.number))) begins.begins.placed (λ f q. sym (ap (holds_page f q) meets.2)))
     by_source (source.File at) meets reads =
         let home = home_block old.tables.opening.swap old.tables.opening.files at.file at.page in
         let label = of_file at.file at.page fault.group.0 false in
@@ -126,7 +130,7 @@ carries-fetch old new fault from g ticket is meets has fetch =
         subst (λ (l : Label). BeginsReadIn old new fetch.page l home ticket) (reads.1 ∙ ap (λ (x : ℕ). of_file at.file at.page x false) own) (subst (λ (b : ℕ). BeginsReadIn old new fetch.page fetch.label b ticket) reads.2 fetch.begins) in
         makes_step-fetch old new fault _ fault.group.0 fetch.page home label ticket is has meets.0 refl refl (ap (there_and is_in_transfer) reads.3) refl begins
         (λ room starts. granted_step old.tables _ _ _ _ _ room.under room.free (record { page = fetch.page; in_range = reads.0; slot_free = reads.3; fetch = starts }))
-        (holders-new old new begins.tables fetch.page at.file at.page (labelled label (Coming begins.frame home ticket.number)) begins.begins.placed reads.3 refl meets.2 refl)
+        (holders-new old new (moves-pages old.tables new.tables begins.tables) fetch.page at.file at.page (labelled label (Coming begins.frame home ticket.number)) begins.begins.placed reads.3 refl meets.2 refl)
 
 -- a charge is refused
 lacked : (old : StateOf) (fault : PageFault) (why : NoRoom) (answer : Reply) (new : State) → IsFault old.tables fault → (lacks : LacksRoomFor old.tables fault why) → ((Granted : Type 0) → TriesCharge old.tables lacks.0 Granted answer new)
@@ -156,18 +160,26 @@ replies-asked s (event.Relieve why) target said asks relieves reclaims = relieve
 replies-asked s (event.ReclaimOne g) target said asks relieves reclaims = reclaims
 replies-asked s other target said asks relieves reclaims = absurd asks
 
-pub carries-out : (old new : StateOf) (target g : GroupId) (ticket : TicketOf) → BeginsWriteOut old new target.0 ticket → Carries old (decision.Take target g) (given.Out ticket) new
-carries-out old new target g ticket begins what is =
+-- what is counted for the group that is served is what the machine counts
+counts-so : (s : StateOf) (target : GroupId) (found : Served) → found.low_reclaim ≡ not (has_open s.tables target.0) → counted_for s.tables found ≡ counted_at_take s.tables target.0 found.group.0
+counts-so s target found low = ap (λ (b : Bool). let cs : List EventCounts = cond b (with_event s.tables.counted found.group.0 key.Low) s.tables.counted in cs) low ∙ by_test (has_open s.tables target.0)
+  where
+    by_test : (b : Bool) → cond (not b) (with_event s.tables.counted found.group.0 key.Low) s.tables.counted ≡ cond b s.tables.counted (with_event s.tables.counted found.group.0 key.Low)
+    by_test true = refl
+    by_test false = refl
+
+pub carries-out : (old new : StateOf) (target : GroupId) (found : Served) (ticket : TicketOf) → BeginsWriteOut (with_counted old (counted_for old.tables found)) new target.0 found.group.0 ticket → Carries old (decision.Take target found) (given.Out ticket) new
+carries-out old new target found ticket begins what is =
     record {
-      makes_step = makes_step-out old new target.0 ticket begins what is.fits;
+      makes_step = makes_step-out old new (counted_for old.tables found) target.0 found.group.0 ticket begins (counts-so old target found is.sound.3) what is.fits;
       gives = (begins.p, begins.label, begins.frame, begins.begins.placed.changed, begins.begins.given, begins.holds);
       replies = replies-asked old.tables what target.0 (given.Out ticket) is.fits tt tt;
     }
 
-pub carries-dropped : (old new : StateOf) (files : FilesOf) (target g : GroupId) → AreFiled files old.tables.pages → DropsClean old new target.0 → Carries old (decision.Take target g) given.Dropped new
-carries-dropped old new files target g filed drops what is =
+pub carries-dropped : (old new : StateOf) (files : FilesOf) (target : GroupId) (found : Served) → AreFiled files old.tables.pages → DropsClean (with_counted old (counted_for old.tables found)) new target.0 found.group.0 → Carries old (decision.Take target found) given.Dropped new
+carries-dropped old new files target found filed drops what is =
     record {
-      makes_step = makes_step-dropped old new target.0 (filed-single files old.tables.pages filed) drops what is.fits;
+      makes_step = makes_step-dropped old new (counted_for old.tables found) target.0 found.group.0 (filed-single files old.tables.pages filed) drops (counts-so old target found is.sound.3) what is.fits;
       gives = tt;
       replies = replies-asked old.tables what target.0 given.Dropped is.fits tt tt;
     }

@@ -23,6 +23,7 @@ use Rattle.machine.specs.Step.{Step, EndsTask as EndsTask_of}
 use Rattle.machine.specs.History.{Spot, InTask, InFile}
 use Rattle.machine.proofs.Values.{unlike}
 use Rattle.page_state.specs.States.{StateOf}
+use Rattle.book.specs.Decisions.{with_counted}
 use Rattle.book.specs.Spots.{IsThere}
 use Rattle.book.specs.Effects.{byte_at_spot, KnowsSpot, WasByte, ReadsByte}
 use Rattle.page_state.specs.Changes.{EndsTask}
@@ -31,12 +32,8 @@ use Rattle.book.specs.MakesStep.{AgesByThree, MakesStep}
 use Rattle.book.proofs.TouchLemmas.{drops-shown, drops-filed}
 use Rattle.book.proofs.StepLemmas.{IsQuiet, was, order-on, flights-kept, live_step, relieve_step, relief-needs}
 
--- with this counted, all else as it was
-abbrev pub counting : StateOf → List EventCounts → StateOf
-counting s counted = record s { tables = record (s.tables) { counted = counted } }
-
 -- the events counted for the end, if any, are counted before it
-module _ (old new : StateOf) (counted : List EventCounts) (t : ℕ) (life : Life) (dead : is_live_life life ≡ false) (ends : EndsTask (counting old counted) new t life) where
+module _ (old new : StateOf) (counted : List EventCounts) (t : ℕ) (life : Life) (dead : is_live_life life ≡ false) (ends : EndsTask (with_counted old counted) new t life) where
   -- the task itself is no live one
   ended : (u : ℕ) → u ≡ t → lives new.tables.tasks u ≡ false
   ended u same = ap (λ (x : ℕ). lives new.tables.tasks x) same ∙ ap (there_and is_live_task) ends.ends.changed ∙ dead
@@ -49,8 +46,8 @@ module _ (old new : StateOf) (counted : List EventCounts) (t : ℕ) (life : Life
 
   -- what another task shows stays, and so does what files have
   bytes_kept : (spot : Spot) → IsThere new.tables spot → KnowsSpot new spot → WasByte old spot (byte_at_spot new spot)
-  bytes_kept (InTask u v o) alive known = drops-shown (counting old counted) new ends.drops u v o (ends.shown.others u v (other_of u alive)) (lived_before u alive) known
-  bytes_kept (InFile f q o) there known = drops-filed (counting old counted) new ends.drops f q o known
+  bytes_kept (InTask u v o) alive known = drops-shown (with_counted old counted) new ends.drops u v o (ends.shown.others u v (other_of u alive)) (lived_before u alive) known
+  bytes_kept (InFile f q o) there known = drops-filed (with_counted old counted) new ends.drops f q o known
 
   -- an end of a task, whatever it was for
   pub makes_step-ended : (what : Event) (answer : Reply) → IsQuiet what answer → Step old.tables what answer new.tables → Orders old.tables old.order what answer new.tables new.order × AgesByThree old new → ReadsByte old what answer
@@ -63,7 +60,7 @@ module _ (old new : StateOf) (counted : List EventCounts) (t : ℕ) (life : Life
         reads = reads;
         bytes = λ spot there known. inr (was old what answer spot (byte_at_spot new spot) (quiet.says spot) (bytes_kept spot there known));
         flights = flights-kept old new answer ends.drops.flights;
-        kept = (let same : in_transfer new.tables.pages ≡ in_transfer old.tables.pages = moving_alike (counting old counted) new ends.drops in omega (arith, same, needs));
+        kept = (let same : in_transfer new.tables.pages ≡ in_transfer old.tables.pages = moving_alike (with_counted old counted) new ends.drops in omega (arith, same, needs));
         given = quiet.given;
         opening = ap (λ (s : State). s.opening) ends.tables;
       }
@@ -75,7 +72,7 @@ module _ (old new : StateOf) (counted : List EventCounts) (t : ℕ) (life : Life
 -- both events are counted, and then the task ends
 pub makes_step-kill : (old new : StateOf) (why : Cause) (t : ℕ) → stands old.tables why ≡ true → has_takeable old.tables (target_of why) ≡ false → has_transfer old.tables (target_of why) ≡ false
     → IsVictim old.tables.tree old.tables.tasks old.tables.page_tables (target_of why) (Some t)
-    → EndsTask (counting old (with_event (with_event old.tables.counted (target_of why) key.Oom) (group_of_task old.tables.tasks t) key.OomKill)) new t Killed
+    → EndsTask (with_counted old (with_event (with_event old.tables.counted (target_of why) key.Oom) (group_of_task old.tables.tasks t) key.OomKill)) new t Killed
     → MakesStep old (event.Relieve why) (reply.KilledTask (record { 0 = t })) new
 makes_step-kill old new why t wants untakeable settled victim ends =
     makes_step-ended old new _ t Killed refl ends (event.Relieve why) (reply.KilledTask (record { 0 = t })) (record { says = λ spot. refl; given = refl })

@@ -13,8 +13,10 @@ use Rattle.machine.specs.Tasks.{PageTables, mapped_at, mappers}
 use Rattle.machine.specs.State.{State}
 use Rattle.machine.specs.Access.{Meeting, charges, is_fetch}
 use Rattle.machine.specs.Call.{need}
-use Rattle.machine.specs.Reclaim.{stands, target_of, is_takeable, has_takeable}
-use Rattle.machine.specs.Lists.{Youngest, entry_after, TakesNext, Orders}
+use Rattle.machine.specs.declared.record.EventCounts.{EventCounts}
+use Rattle.machine.specs.Reclaim.{stands, target_of, is_takeable, has_takeable, counted_at_take}
+use Rattle.machine.proofs.TakeableLemmas.{next-takeable}
+use Rattle.machine.specs.Lists.{Order, Youngest, entry_after, TakesNext, Orders}
 use Rattle.machine.specs.Step.{Step, MeetStep, StartsFetch, StartsLeave, Drops, LeavesBy, Takes, EndsTransfer, or_gone, in_frame, on_block, on_block_of}
 use Rattle.machine.specs.History.{Spot, InTask, InFile, Nothing, says, ticket_given}
 use Rattle.machine.proofs.Values.{some_inj, unlike}
@@ -35,7 +37,7 @@ use Rattle.pages.specs.declared.end.End.{End}
 use Rattle.pages.specs.declared.end.End.TheVariants.{InFrame, OnBlock}
 use Rattle.page_state.specs.Changes.{BeginsReadIn, IsWrittenTo, BeginsWriteOut, DropsClean, ended_as, EndsTransfer as Settles, HasRoom}
 use Rattle.book.specs.Events.{ended}
-use Rattle.book.specs.Decisions.{AsksPage, IsFault, met_by, HasRoomFor}
+use Rattle.book.specs.Decisions.{with_counted, AsksPage, IsFault, met_by, HasRoomFor}
 use Rattle.pages.proofs.TableLemmas.{any-some}
 use Rattle.book.proofs.FlightLemmas.{in_transfer-changes}
 use Rattle.book.proofs.StepLemmas.{order-on, was, there-same, holder-same, stays-was, flight-kept, flights-kept, quiet-access, reads-access, met_step, asks_step, asks-need}
@@ -51,7 +53,15 @@ filed-single files pages filed = record { single = λ f q p p' page page' there 
     found : (f q p : ℕ) (page : Page) → page_at pages p ≡ Some page → page.content ≡ OfFile f q → file_page pages f q ≡ Some p
     found f q p page there holds = subst (λ (slot : Option Page). IfSome slot (λ page. page.content ≡ OfFile f q → file_page pages f q ≡ Some p)) there (filed.single p f q) holds
 
-module _ (old new : StateOf) (tables : new.tables ≡ record old.tables { pages = new.tables.pages }) where
+-- only the pages change, and what is counted
+abbrev pub MovesPages : State → State → Type 0
+MovesPages old new = new ≡ record old { pages = new.pages; counted = new.counted }
+
+-- only the pages change
+pub moves-pages : (old new : State) → new ≡ record old { pages = new.pages } → MovesPages old new
+moves-pages old new same = same ∙ ap (λ (cs : List EventCounts). record old { pages = new.pages; counted = cs }) (sym (ap (λ (s : State). s.counted) same))
+
+module _ (old new : StateOf) (tables : MovesPages old.tables new.tables) where
   same_place : (t v : ℕ) → mapped_at new.tables.page_tables t v ≡ mapped_at old.tables.page_tables t v
   same_place t v = ap (λ (s : State). mapped_at s.page_tables t v) tables
 
@@ -86,7 +96,7 @@ module _ (old new : StateOf) (tables : new.tables ≡ record old.tables { pages 
 
 -- one page comes to stand elsewhere, or goes; the event says nothing of any byte
 pub record IsMove (old new : StateOf) (what : Event) (answer : Reply) (p : ℕ) (to : Option Page) : Type 0 where
-  pub tables : new.tables ≡ record old.tables { pages = new.tables.pages }
+  pub tables : MovesPages old.tables new.tables
   pub placed : Changes old.tables.pages new.tables.pages p to
   pub others : (q o : ℕ) → q ≢ p → byte_in new.bytes q o ≡ byte_in old.bytes q o
   pub silent : (spot : Spot) → says what answer spot ≡ Nothing
@@ -203,7 +213,7 @@ pub makes_step-fetch : (old new : StateOf) (fault : PageFault) (met : Meeting) (
 makes_step-fetch old new fault met g p b label ticket is has meeting fetch needs rested clean begins starts holders =
     makes_step-move old new (event.Access fault.task fault.place fault.op) (reply.Fetch (record { 0 = ticket.number })) p (Some (labelled label (Coming begins.frame b ticket.number)))
     (record {
-      tables = begins.tables;
+      tables = moves-pages old.tables new.tables begins.tables;
       placed = begins.begins.placed;
       others = begins.bytes;
       silent = (quiet-access fault.task.0 fault.place fault.op (reply.Fetch (record { 0 = ticket.number })) refl refl).says;
@@ -225,7 +235,7 @@ makes_step-fetch old new fault met g p b label ticket is has meeting fetch needs
 module _ (old new : StateOf) (target : ℕ) (answer : Reply) (p : ℕ) (to : Option Page) (some : has_takeable old.tables target ≡ true)
     (takes : Takes old.tables target answer new.tables)
     (relief_order : (why : Cause) → target_of why ≡ target → Orders old.tables old.order (event.Relieve why) answer new.tables new.order)
-    (reclaim_order : (h : GroupId) → h.0 ≡ target → Orders old.tables old.order (event.ReclaimOne h) answer new.tables new.order) (ages : AgesByThree old new) (tables : new.tables ≡ record old.tables { pages = new.tables.pages })
+    (reclaim_order : (h : GroupId) → h.0 ≡ target → Orders old.tables old.order (event.ReclaimOne h) answer new.tables new.order) (ages : AgesByThree old new) (tables : MovesPages old.tables new.tables)
     (placed : Changes old.tables.pages new.tables.pages p to) (others : (q o : ℕ) → q ≢ p → byte_in new.bytes q o ≡ byte_in old.bytes q o) (given : is_refused answer ≡ false) (flights : KeepsFlights old answer new)
     (holders : (spot : Spot) → KnowsSpot new spot → holder new.tables spot ≡ holder old.tables spot)
     (own : (spot : Spot) → holder old.tables spot ≡ Some p → there_and (λ page. is_in_memory page.residence) to ≡ true → (is_known old.tables.pages p ≡ true) × (byte_in new.bytes p (offset_of spot) ≡ byte_in old.bytes p (offset_of spot)))
@@ -249,12 +259,17 @@ module _ (old new : StateOf) (target : ℕ) (answer : Reply) (p : ℕ) (to : Opt
   makes_step-taken (event.ReclaimOne h) asks = makes_step-asked (event.ReclaimOne h) asks (reclaim_order h asks) tt (λ spot. refl)
   makes_step-taken other asks = absurd asks
 
--- it begins to be written out
-module _ (old new : StateOf) (target : ℕ) (ticket : TicketOf) (taken : BeginsWriteOut old new target ticket) where
-  out-some : has_takeable old.tables target ≡ true
-  out-some = any-some (is_takeable old.tables target) old.tables.pages taken.p (ap (there_and (is_takeable old.tables target)) taken.stood ∙ taken.takeable)
+-- what is counted beside it says nothing of whose turn it is
+next-counted : (old : State) (counted : List EventCounts) (order : Order) (target : ℕ) (new : State) (order' : Order) → TakesNext (record old { counted = counted }) order target new order' → TakesNext old order target new order'
+next-counted old counted order target new order' next =
+    record { g = next.g; next = next.next; p = next.p; looked = next.looked; picked = next.picked; was = next.was; taken = next.taken; leaves = next.leaves; moves = next.moves }
 
-  starts_leave : (block : ℕ) → ticket.block ≡ block → StartsLeave old.tables taken.p (labelled taken.label (Held taken.frame)) taken.frame block old.tables.counted (reply.Out (record { 0 = ticket.number })) new.tables
+-- it begins to be written out, where this stands counted
+module _ (old new : StateOf) (counted : List EventCounts) (target g : ℕ) (ticket : TicketOf) (taken : BeginsWriteOut (with_counted old counted) new target g ticket) (counts : counted ≡ counted_at_take old.tables target g) where
+  out-some : has_takeable old.tables target ≡ true
+  out-some = any-some (is_takeable old.tables target) old.tables.pages taken.p (ap (there_and (is_takeable old.tables target)) taken.stood ∙ next-takeable old.tables target (labelled taken.label (Held taken.frame)) taken.may)
+
+  starts_leave : (block : ℕ) → ticket.block ≡ block → StartsLeave old.tables taken.p (labelled taken.label (Held taken.frame)) taken.frame block counted (reply.Out (record { 0 = ticket.number })) new.tables
   starts_leave block same =
       record {
         ticket = ticket.number;
@@ -265,33 +280,52 @@ module _ (old new : StateOf) (target : ℕ) (ticket : TicketOf) (taken : BeginsW
       }
 
   leaves_by : (content : Content) → IsWrittenTo old.tables content taken.label.dirty ticket.block
-      → LeavesBy old.tables taken.p (labelled taken.label (Held taken.frame)) content taken.frame old.tables.counted (reply.Out (record { 0 = ticket.number })) new.tables
-  leaves_by Memory free = record { block = ticket.block; block_free = free; leave = starts_leave ticket.block refl }
+      → LeavesBy old.tables taken.p (labelled taken.label (Held taken.frame)) content taken.frame counted (reply.Out (record { 0 = ticket.number })) new.tables
+  leaves_by Memory free = record { block = ticket.block; block_free = record { in_range = free.in_range; unused = free.unused }; leave = starts_leave ticket.block refl }
   leaves_by (OfFile file q) home =
       subst
       (λ (dirty : Bool). MatchBool dirty
-      (StartsLeave old.tables taken.p (labelled taken.label (Held taken.frame)) taken.frame (home_block old.tables.opening.swap old.tables.opening.files file q) old.tables.counted (reply.Out (record { 0 = ticket.number })) new.tables)
-      (Drops old.tables taken.p old.tables.counted (reply.Out (record { 0 = ticket.number })) new.tables))
+      (StartsLeave old.tables taken.p (labelled taken.label (Held taken.frame)) taken.frame (home_block old.tables.opening.swap old.tables.opening.files file q) counted (reply.Out (record { 0 = ticket.number })) new.tables)
+      (Drops old.tables taken.p counted (reply.Out (record { 0 = ticket.number })) new.tables))
       (sym home.0) (starts_leave (home_block old.tables.opening.swap old.tables.opening.files file q) home.1)
 
+  -- the block is free whatever is counted
+  written_to : (content : Content) → IsWrittenTo (with_counted old counted).tables content taken.label.dirty ticket.block → IsWrittenTo old.tables content taken.label.dirty ticket.block
+  written_to Memory free = record { in_range = free.in_range; unused = free.unused }
+  written_to (OfFile file q) home = home
+
   takes_out : Takes old.tables target (reply.Out (record { 0 = ticket.number })) new.tables
-  takes_out = record { p = taken.p; page = labelled taken.label (Held taken.frame); there = taken.stood; takeable = taken.takeable; leaves = leaves_by taken.label.content taken.block }
+  takes_out =
+      record {
+        p = taken.p;
+        page = labelled taken.label (Held taken.frame);
+        there = taken.stood;
+        next = taken.may;
+        leaves = subst (λ cs. LeavesBy old.tables taken.p (labelled taken.label (Held taken.frame)) taken.label.content taken.frame cs (reply.Out (record { 0 = ticket.number })) new.tables)
+            (counts ∙ ap (counted_at_take old.tables target) (sym taken.own)) (leaves_by taken.label.content (written_to taken.label.content taken.block));
+      }
+
+  moved : MovesPages old.tables new.tables
+  moved = taken.tables ∙ ap (λ (cs : List EventCounts). record old.tables { pages = new.tables.pages; counted = cs }) (sym (ap (λ (s : State). s.counted) taken.tables))
+
+  turn : TakesNext old.tables old.order target new.tables new.order
+  turn = next-counted old.tables counted old.order target new.tables new.order taken.next
 
   pub makes_step-out : (what : Event) → AsksPage old.tables what target → MakesStep old what (reply.Out (record { 0 = ticket.number })) new
   makes_step-out what asks =
       makes_step-taken old new target (reply.Out (record { 0 = ticket.number })) taken.p (Some (labelled taken.label (Going taken.frame ticket.block ticket.number))) out-some takes_out
-      (λ why same. subst (λ (t : ℕ). TakesNext old.tables old.order t new.tables new.order) (sym same) taken.next) (λ h same. subst (λ (t : ℕ). TakesNext old.tables old.order t new.tables new.order) (sym same) taken.next)
-      taken.ages taken.tables taken.begins.placed (λ q k other. taken.bytes q k) refl
+      (λ why same. subst (λ (t : ℕ). TakesNext old.tables old.order t new.tables new.order) (sym same) turn) (λ h same. subst (λ (t : ℕ). TakesNext old.tables old.order t new.tables new.order) (sym same) turn)
+      taken.ages moved taken.begins.placed (λ q k other. taken.bytes q k) refl
       (flights-begun old new taken.p ticket.number Out (reply.Out (record { 0 = ticket.number })) refl taken.begins.listed)
-      (holders-beside old new taken.tables taken.p (Some (labelled taken.label (Going taken.frame ticket.block ticket.number))) taken.begins.placed (λ f q. sym (ap (holds_page f q) taken.stood)))
+      (holders-beside old new moved taken.p (Some (labelled taken.label (Going taken.frame ticket.block ticket.number))) taken.begins.placed (λ f q. sym (ap (holds_page f q) taken.stood)))
       (λ spot is there. (ap (there_and (λ (page : Page). is_in_memory page.residence)) taken.stood, taken.bytes taken.p (offset_of spot)))
       (ap (there_and is_in_transfer) taken.stood)
       what asks
 
 -- it is dropped
-module _ (old new : StateOf) (target : ℕ) (single : IsSingle old.tables.pages) (taken : DropsClean old new target) where
+module _ (old new : StateOf) (counted : List EventCounts) (target g : ℕ) (single : IsSingle old.tables.pages) (taken : DropsClean (with_counted old counted) new target g) (counts : counted ≡ counted_at_take old.tables target g) where
   dropped-some : has_takeable old.tables target ≡ true
-  dropped-some = any-some (is_takeable old.tables target) old.tables.pages taken.p (ap (there_and (is_takeable old.tables target)) taken.stood ∙ taken.takeable)
+  dropped-some = any-some (is_takeable old.tables target) old.tables.pages taken.p (ap (there_and (is_takeable old.tables target)) taken.stood ∙ next-takeable old.tables target (labelled (of_file taken.file taken.q taken.g false) (Held taken.frame)) taken.may)
 
   takes_away : Takes old.tables target reply.Dropped new.tables
   takes_away =
@@ -299,17 +333,23 @@ module _ (old new : StateOf) (target : ℕ) (single : IsSingle old.tables.pages)
         p = taken.p;
         page = labelled (of_file taken.file taken.q taken.g false) (Held taken.frame);
         there = taken.stood;
-        takeable = taken.takeable;
-        leaves = record { answers = refl; gone = taken.drops.gone; state = taken.tables };
+        next = taken.may;
+        leaves = record { answers = refl; gone = taken.drops.gone; state = taken.tables ∙ ap (λ (cs : List EventCounts). record old.tables { pages = new.tables.pages; counted = cs }) (counts ∙ ap (counted_at_take old.tables target) (sym taken.own)) };
       }
+
+  gone_pages : MovesPages old.tables new.tables
+  gone_pages = taken.tables ∙ ap (λ (cs : List EventCounts). record old.tables { pages = new.tables.pages; counted = cs }) (sym (ap (λ (s : State). s.counted) taken.tables))
+
+  its_turn : TakesNext old.tables old.order target new.tables new.order
+  its_turn = next-counted old.tables counted old.order target new.tables new.order taken.next
 
   pub makes_step-dropped : (what : Event) → AsksPage old.tables what target → MakesStep old what reply.Dropped new
   makes_step-dropped what asks =
       makes_step-taken old new target reply.Dropped taken.p None dropped-some takes_away
-      (λ why same. subst (λ (t : ℕ). TakesNext old.tables old.order t new.tables new.order) (sym same) taken.next) (λ h same. subst (λ (t : ℕ). TakesNext old.tables old.order t new.tables new.order) (sym same) taken.next)
-      taken.ages taken.tables taken.drops.gone taken.drops.others refl
+      (λ why same. subst (λ (t : ℕ). TakesNext old.tables old.order t new.tables new.order) (sym same) its_turn) (λ h same. subst (λ (t : ℕ). TakesNext old.tables old.order t new.tables new.order) (sym same) its_turn)
+      taken.ages gone_pages taken.drops.gone taken.drops.others refl
       (flights-kept old new reply.Dropped taken.drops.flights)
-      (holders-gone old new taken.tables taken.p taken.file taken.q (labelled (of_file taken.file taken.q taken.g false) (Held taken.frame)) single taken.drops.gone taken.stood refl)
+      (holders-gone old new gone_pages taken.p taken.file taken.q (labelled (of_file taken.file taken.q taken.g false) (Held taken.frame)) single taken.drops.gone taken.stood refl)
       (λ spot is there. unlike false there refl)
       (ap (there_and is_in_transfer) taken.stood)
       what asks
@@ -342,7 +382,7 @@ module _ (old new : StateOf) (p n : ℕ) (direction : Direction) (label : Label)
       → MakesStep old what reply.Ok new
   makes_step-end steps orders reads silent holders own =
       makes_step-move old new what reply.Ok p to
-      (record { tables = ends.tables; placed = ends.settles.placed; others = ends.settles.others; silent = silent; given = refl; holders = holders; own = own })
+      (record { tables = moves-pages old.tables new.tables ends.tables; placed = ends.settles.placed; others = ends.settles.others; silent = silent; given = refl; holders = holders; own = own })
       steps orders reads
       (flights-ended old new n reply.Ok ends.settles.unlisted)
       (let less = in_transfer-changes old.tables.pages new.tables.pages p to ends.settles.placed in
@@ -366,16 +406,16 @@ module _ (old new : StateOf) (p f b n : ℕ) (direction : Direction) (label : La
       by_content : (content : Content) → label.content ≡ content → Changes old.tables.pages new.tables.pages p (on_block_of content old.tables.page_tables p (labelled label from) b)
           → (spot : Spot) → KnowsSpot new spot → holder new.tables spot ≡ holder old.tables spot
       by_content Memory is placed =
-          holders-beside old new ends.tables p (or_gone old.tables.page_tables p (labelled label (Away b))) placed
+          holders-beside old new (moves-pages old.tables new.tables ends.tables) p (or_gone old.tables.page_tables p (labelled label (Away b))) placed
           (λ g q. left-holds old.tables.page_tables p g q (labelled label (Away b)) ∙ sym (ap (holds_page g q) stood))
-      by_content (OfFile file q) is placed = holders-gone old new ends.tables p file q (labelled label from) single placed stood is
+      by_content (OfFile file q) is placed = holders-gone old new (moves-pages old.tables new.tables ends.tables) p file q (labelled label from) single placed stood is
 
 -- and one in its frame
 module _ (old new : StateOf) (p f b n : ℕ) (direction : Direction) (label : Label) (from : Residence) (stood : HasResidence old.tables.pages p label from)
     (ends : Settles old new direction p n (in_frame old.tables.page_tables p (labelled label from) f b)) where
   frame-holders : (spot : Spot) → KnowsSpot new spot → holder new.tables spot ≡ holder old.tables spot
   frame-holders =
-      holders-beside old new ends.tables p (in_frame old.tables.page_tables p (labelled label from) f b) ends.settles.placed
+      holders-beside old new (moves-pages old.tables new.tables ends.tables) p (in_frame old.tables.page_tables p (labelled label from) f b) ends.settles.placed
       (λ g q. left-holds old.tables.page_tables p g q (labelled label (Held f)) ∙ sym (ap (holds_page g q) stood))
 
   -- where it is in memory it is there

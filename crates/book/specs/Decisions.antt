@@ -1,5 +1,5 @@
 -- What an event without a ticket will do, as it is decided before anything changes.
-use Rattle.std.specs.Prelude.{◌≡◌, ℕ, ◌<◌, Bool, true, false, Option, Some, None}
+use Rattle.std.specs.Prelude.{◌≡◌, ℕ, ◌<◌, Bool, true, false, not, List, Option, Some, None, if◌then◌else◌}
 use Rattle.machine.specs.declared.id.GroupId.{GroupId}
 use Rattle.machine.specs.declared.record.Life.{Life}
 use Rattle.machine.specs.declared.record.Life.TheVariants.{Live, Killed}
@@ -15,7 +15,11 @@ use Rattle.machine.specs.State.{State}
 use Rattle.machine.specs.Access as plain
 use Rattle.machine.specs.Access.{Meeting as Met, task_pages, is_place, meets, charges}
 use Rattle.machine.specs.Refusals.{refusal, number_refusal, rmdir_refusal}
-use Rattle.machine.specs.Reclaim.{stands, target_of, has_takeable, has_transfer}
+use Rattle.machine.specs.declared.record.EventCounts.{EventCounts}
+use Rattle.machine.specs.declared.record.Key.TheVariants as key
+use Rattle.machine.specs.Counts.{with_event}
+use Rattle.machine.specs.Reclaim.{stands, target_of, has_open, has_takeable, has_transfer}
+use Rattle.reclaim.specs.declared.cursors.Served.{Served}
 use Rattle.machine.specs.Victim.{IsVictim}
 use Rattle.machine.specs.Lists.{Order, served}
 use Rattle.machine.specs.History.{Spot, spot_of}
@@ -102,11 +106,19 @@ pub record IsIdleFor (s : State) (target : ℕ) : Type 0 where
   pub untakeable : has_takeable s target ≡ false
   pub settled : has_transfer s target ≡ false
 
+-- with another table of counts
+abbrev pub with_counted : StateOf → List EventCounts → StateOf
+with_counted s counted = record s { tables = record (s.tables) { counted = counted } }
+
+-- the table for a page of the group that is served
+abbrev pub counted_for : State → Served → List EventCounts
+counted_for s found = if found.low_reclaim then with_event s.counted found.group.0 key.Low else s.counted
+
 -- what is known of a decision, whatever event it is for
 abbrev pub IsSound : State → Order → Decision → Type 0
 IsSound s order (decision.Access fault met) = IsFault s fault × MeetsSo s fault met × HasRoomFor s fault
 IsSound s order (decision.Lacks fault why) = IsFault s fault × LacksRoomFor s fault why
-IsSound s order (decision.Take target g) = (is_live s.tree target.0 ≡ true) × (served s order target.0 ≡ Some g.0) × (has_takeable s target.0 ≡ true)
+IsSound s order (decision.Take target found) = (is_live s.tree target.0 ≡ true) × (served s order target.0 ≡ Some found.group.0) × (has_takeable s target.0 ≡ true) × (found.low_reclaim ≡ not (has_open s target.0))
 IsSound s order (decision.Kill limit t) = (is_live s.tree limit.0 ≡ true) × IsIdleFor s limit.0 × IsVictim s.tree s.tasks s.page_tables limit.0 (Some t.0)
 IsSound s order (decision.NoVictim limit) = (is_live s.tree limit.0 ≡ true) × IsIdleFor s limit.0 × IsVictim s.tree s.tasks s.page_tables limit.0 None
 IsSound s order (decision.Fork t child) = HasLife s t.0 Live × (number_refusal s.tasks child.0 ≡ None)
@@ -152,7 +164,7 @@ Fits s what decision.Killed = IsOfKilled s what
 Fits s what (decision.Access fault met) = what ≡ event.Access fault.task fault.place fault.op
 Fits s what (decision.Lacks fault why) = what ≡ event.Access fault.task fault.place fault.op
 Fits s what decision.Room = HasItsRoom s what
-Fits s what (decision.Take target g) = AsksPage s what target.0
+Fits s what (decision.Take target found) = AsksPage s what target.0
 Fits s what decision.Wait = (target : ℕ) × AsksPage s what target × (has_takeable s target ≡ false) × (has_transfer s target ≡ true)
 Fits s what decision.Nothing = FindsNothing s what
 Fits s what (decision.Kill limit t) = WantsRoom s what limit.0
@@ -178,7 +190,7 @@ pub record IsDecided (s : StateOf) (what : Event) (decided : Decision) : Type 0 
 -- how many entries of the trace: two where a transfer begins, one of them for its end, or a page is dropped
 abbrev pub entries_for : Decision → ℕ
 entries_for (decision.Access fault (meeting.NeedsFetch from g)) = 2
-entries_for (decision.Take target g) = 2
+entries_for (decision.Take target found) = 2
 entries_for other = 1
 
 -- whether it makes something, and so may want memory: a group, a task, or what the bytes of a read-in arrive in

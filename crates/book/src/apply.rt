@@ -6,7 +6,7 @@ ghost use Rattle.machine.specs.Refusals.{show_refusal};
 ghost use Rattle.machine.specs.Step.{shown_of};
 ghost use Rattle.machine.specs.declared.event.Event.{Event as Event_of};
 ghost use Rattle.page_state.specs.States.{AreFew, AreYoung};
-ghost use Rattle.book.specs.Decisions.{IsFault, MeetsSo, HasRoomFor, LacksRoomFor, IsSound, IsDecided, makes, Carries};
+ghost use Rattle.book.specs.Decisions.{with_counted, counted_for, IsFault, MeetsSo, HasRoomFor, LacksRoomFor, IsSound, IsDecided, makes, Carries};
 ghost use Rattle.book.specs.declared.decision.Decision.TheVariants as decision;
 ghost use Rattle.book.specs.declared.decision.Meeting.TheVariants as meeting;
 
@@ -17,6 +17,7 @@ use machine::id::{FrameId, GroupId, PageId, TaskId};
 use machine::record::{Key, Life};
 use machine::reply::Shown;
 use page_state::{NoRoom, State};
+use reclaim::Served;
 use std::alloc::{AllocError, Global};
 
 /// Does what was decided. A ticket that it gives out is nobody's yet. `AllocError` where memory was wanted
@@ -38,7 +39,7 @@ pub fn apply(state: &mut State, alloc: Global, decided: Decision<'_>) -> Result<
         }
         Decision::Lacks(fault, why) => Ok(refuse(state, fault, why)),
         Decision::Room => Ok(Reply::Room),
-        Decision::Take { target, group } => Ok(take(state, target, group)),
+        Decision::Take { target, served } => Ok(take(state, target, served)),
         Decision::Wait => Ok(Reply::Wait),
         Decision::Nothing => Ok(Reply::Nothing),
         Decision::Kill { limit, task } => Ok(kill(state, limit, task)),
@@ -153,16 +154,31 @@ fn refuse(state: &mut State, fault: PageFault, why: NoRoom) -> Reply
     }
 }
 
-/// The page that is next for the target leaves its frame: it begins to be written out, or is dropped.
-fn take(state: &mut State, target: GroupId, group: GroupId) -> Reply
+/// The page that is next for the target leaves its frame: it begins to be written out, or is dropped. Where
+/// its group's low protects it, that is counted at the group.
+fn take(state: &mut State, target: GroupId, served: Served) -> Reply
+    requires few { AreFew state.old.tables }
     requires young { AreYoung state.old.order.held }
-    requires sound { IsSound state.old.tables state.old.order (decision.Take target group) }
-    ensures { Carries state.old (decision.Take target group) result state.new }
+    requires sound { IsSound state.old.tables state.old.order (decision.Take target served) }
+    ensures { Carries state.old (decision.Take target served) result state.new }
 {
     state.is_joined();
-    match state.take_out(target, group) {
+    count_low(state, served);
+    match state.take_out(target, served.group) {
         Some(ticket) => Reply::Out(ticket),
         None => Reply::Dropped,
+    }
+}
+
+/// Counts `low` at the group that is served, if its low is passed over (kernel: memcg_memory_event with
+/// MEMCG_LOW, in shrink_node_memcgs).
+fn count_low(state: &mut State, served: Served)
+    requires few { AreFew state.old.tables }
+    requires live { is_live state.old.tables.tree served.group.0 ≡ true }
+    ensures { state.new ≡ with_counted state.old (counted_for state.old.tables served) }
+{
+    if served.low_reclaim {
+        state.count(served.group, Key::Low);
     }
 }
 
@@ -200,10 +216,14 @@ fn shown(state: &State, query: Query) -> Shown
     match query {
         Query::Current(group) => Shown::Pages(state.usage(group)),
         Query::Max(group) => Shown::Amount(state.limits(group).max),
-        Query::Min(group) => Shown::Amount(state.limits(group).min),
+        Query::Guard(guard, group) => Shown::Amount(state.limits(group).guard(guard)),
         Query::Events(group) => Shown::Events(state.events(group)),
         Query::EventsLocal(group) => Shown::Events(state.local_events(group)),
         Query::Stat(group) => Shown::Stat(state.stat(group)),
-        Query::Protection { target, group } => Shown::Amount(state.protection(target, group)),
+        Query::Protection {
+            guard,
+            target,
+            group,
+        } => Shown::Amount(state.protection(guard, target, group)),
     }
 }

@@ -234,8 +234,8 @@ fn decide_relief<'e>(state: &State, cause: Cause) -> Decision<'e>
         return Decision::Room;
     }
     let target = target_of(cause);
-    if let Some(group) = state.next_group(target) {
-        return Decision::Take { target, group };
+    if let Some(served) = state.next_group(target) {
+        return Decision::Take { target, served };
     }
     if state.has_transfer(target) {
         return Decision::Wait;
@@ -256,8 +256,8 @@ fn decide_reclaim<'e>(state: &State, target: GroupId) -> Result<Decision<'e>, Re
     if !state.tree().is_live(target) {
         return Err(Refusal::NoEntry);
     }
-    if let Some(group) = state.next_group(target) {
-        return Ok(Decision::Take { target, group });
+    if let Some(served) = state.next_group(target) {
+        return Ok(Decision::Take { target, served });
     }
     if state.has_transfer(target) {
         return Ok(Decision::Wait);
@@ -436,11 +436,15 @@ fn show_refusal(state: &State, query: Query) -> Option<Refusal>
     match query {
         Query::Current(group)
         | Query::Max(group)
-        | Query::Min(group)
+        | Query::Guard(_, group)
         | Query::Events(group)
         | Query::EventsLocal(group)
         | Query::Stat(group) => file_refusal(state, group),
-        Query::Protection { target, group } => {
+        Query::Protection {
+            guard: _,
+            target,
+            group,
+        } => {
             if is_below(state, target, group) {
                 None
             } else {

@@ -6,6 +6,7 @@ ghost use Rattle.book.specs.Decisions.{offset_at, entries_for};
 use machine::event::{Op, Place, Query, Setting};
 use machine::id::{FrameId, GroupId, PageId, TaskId};
 use page_state::NoRoom;
+use reclaim::Served;
 use pages::Source;
 
 /// A live task's access to a byte (kernel: `struct vm_fault`).
@@ -64,7 +65,7 @@ pub enum Decision<'e> {
     /// Room is not wanted any more.
     Room,
     /// This group gives the next page to a reclaim of the target.
-    Take { target: GroupId, group: GroupId },
+    Take { target: GroupId, served: Served },
     /// No page can be taken, but one in transfer may come free.
     Wait,
     /// No page can be taken, none is in transfer, and nobody is killed for it.
@@ -103,7 +104,7 @@ impl Decision<'_> {
             Decision::Access(_, Meeting::NeedsFetch(_, _)) => 2,
             Decision::Take {
                 target: _,
-                group: _,
+                served: _,
             } => 2,
             _ => 1,
         }

@@ -4,7 +4,8 @@ use Rattle.std.specs.Prelude.{nat_lt, slice_set}
 use Rattle.std.proofs.lemmas.Bool.Decides.{nat_tests}
 use Rattle.machine.specs.Slots.{there_and}
 use Rattle.machine.specs.Pages.{Content, Memory, OfFile, Page, Held, Going, page_at, home_block, is_anon, is_held, is_held_in, used_swap}
-use Rattle.machine.specs.Reclaim.{is_takeable}
+use Rattle.machine.specs.Reclaim.{is_next}
+use Rattle.machine.proofs.TakeableLemmas.{next-takeable}
 use Rattle.machine.specs.Generations.{is_listed, gens_at}
 use Rattle.machine.specs.Lists.{Youngest, AreGenerations, GoesOn, PicksOf, TakesNext, served}
 use Rattle.machine.specs.State.{is_swap_free}
@@ -77,13 +78,13 @@ module _ (s : Inside) (is : IsJoined s) (sound : AreGenerations s.parts.held.lis
       agree-counted h h.counters looked h.pages.groups h.pages.room is.agree.kept.counted (held-searched h.pages.pages h.held.lists is.agree.held looked.lists picks.rows) (picks.rows.groups ∙ is.agree.held_groups) is.agree.page_groups
       (ap (λ (held : HeldOf). held.numbers) picks.others) is.agree
 
-  takeable : is_takeable (joined_of s).tables target (labelled picks.label (Held picks.frame)) ≡ true
-  takeable = given-takes (joined_of s).tables target g (joined_of s).order serves is.agree.held sound p looked.lists picks.label picks.frame picks.group picks.stands picks.picked
+  may : is_next (joined_of s).tables target (labelled picks.label (Held picks.frame)) ≡ true
+  may = given-takes (joined_of s).tables target g (joined_of s).order serves is.agree.held sound p looked.lists picks.label picks.frame picks.group picks.stands picks.picked
 
   -- for memory a swap block is free
   pub leaves-swap : (x : Page) → page_at s.parts.pages.pages p ≡ Some x → is_anon x.content ≡ true → used_swap s.parts.pages.pages < s.parts.slots.blocks
   leaves-swap x there anon =
-      let free = takeable-swap (joined_of s).tables target (labelled picks.label (Held picks.frame)) takeable (ap (λ (y : Page). is_anon y.content) (some_inj (sym picks.stands ∙ there)) ∙ anon) in
+      let free = takeable-swap (joined_of s).tables target (labelled picks.label (Held picks.frame)) (next-takeable (joined_of s).tables target (labelled picks.label (Held picks.frame)) may) (ap (λ (y : Page). is_anon y.content) (some_inj (sym picks.stands ∙ there)) ∙ anon) in
       less (used_swap s.parts.pages.pages) s.config.swap s.parts.slots.blocks free is.swap
     where
       less : (used config blocks : ℕ) → nat_lt used config ≡ true → blocks ≡ config → used < blocks
@@ -134,14 +135,15 @@ module _ (s : Inside) (is : IsJoined s) (sound : AreGenerations s.parts.held.lis
           joined_after now agree out.stays cursors moves
           (mapped-begun s.parts.pages.pages s.spaces.page_tables is.mapped now.pages.pages p (labelled picks.label (Held picks.frame)) (labelled picks.label (Going picks.frame ticket.block ticket.number)) picks.stands out.begins.placed refl refl)
 
-      begins-out : BeginsWriteOut (joined_of s) (joined_of (record s { parts = now; cursors = cursors })) target ticket
+      begins-out : BeginsWriteOut (joined_of s) (joined_of (record s { parts = now; cursors = cursors })) target g ticket
       begins-out =
           record {
             p = p;
             label = picks.label;
+            own = picks.group;
             frame = picks.frame;
             stood = picks.stands;
-            takeable = takeable;
+            may = may;
             block = goes-to picks.label.content picks.label.dirty out.block;
             begins = record { ticket_free = out.begins.ticket_free; given = out.begins.given; placed = out.begins.placed; listed = out.begins.listed };
             holds = λ o within. out.holds o within ∙ sym (out.bytes p o);
@@ -159,16 +161,17 @@ module _ (s : Inside) (is : IsJoined s) (sound : AreGenerations s.parts.held.lis
       joined-gone : IsJoined (record s { parts = now; cursors = cursors })
       joined-gone = joined_after now agree gone.stays cursors moves (mapped-gone s.parts.pages.pages s.spaces.page_tables is.mapped now.pages.pages p is_file gone.drops.gone)
 
-      drops-clean : DropsClean (joined_of s) (joined_of (record s { parts = now; cursors = cursors })) target
+      drops-clean : DropsClean (joined_of s) (joined_of (record s { parts = now; cursors = cursors })) target g
       drops-clean =
           record {
             p = p;
             file = file;
             q = q;
             g = picks.label.group;
+            own = picks.group;
             frame = picks.frame;
             stood = subst (λ (l : Label). HasResidence s.parts.pages.pages p l (Held picks.frame)) (same-label picks.label file q holds clean) picks.stands;
-            takeable = subst (λ (l : Label). is_takeable (joined_of s).tables target (labelled l (Held picks.frame)) ≡ true) (same-label picks.label file q holds clean) takeable;
+            may = subst (λ (l : Label). is_next (joined_of s).tables target (labelled l (Held picks.frame)) ≡ true) (same-label picks.label file q holds clean) may;
             drops = record { gone = gone.drops.gone; others = gone.drops.others; flights = gone.drops.flights };
             tables = tables-same s is now agree (stays_all now agree gone.stays cursors moves);
             next = next now agree gone.stays cursors moves gone.held (ap (there_and is_held) gone.drops.gone.changed);
@@ -179,6 +182,6 @@ module _ (s : Inside) (is : IsJoined s) (sound : AreGenerations s.parts.held.lis
     joined-left (Some ticket) out = joined-out ticket out
     joined-left None gone = let is_clean = dropped-file picks.label.content picks.label.dirty gone.0 in joined-gone is_clean.0 is_clean.1 is_clean.2 is_clean.3 gone.1
 
-    pub takes-page : (result : Option TicketOf) → LeavesSo searched now p picks.label picks.frame result → TakesPage (joined_of s) (joined_of (record s { parts = now; cursors = cursors })) target result
+    pub takes-page : (result : Option TicketOf) → LeavesSo searched now p picks.label picks.frame result → TakesPage (joined_of s) (joined_of (record s { parts = now; cursors = cursors })) target g result
     takes-page (Some ticket) out = begins-out ticket out
     takes-page None gone = let is_clean = dropped-file picks.label.content picks.label.dirty gone.0 in drops-clean is_clean.0 is_clean.1 is_clean.2 is_clean.3 gone.1

@@ -13,14 +13,16 @@ use Rattle.machine.specs.Amounts.{exceeds}
 use Rattle.machine.specs.Slots.{there_and, any_there}
 use Rattle.machine.specs.Tree.{IsTree, is_live, under}
 use Rattle.machine.specs.Pages.{Held, Page, Pages, page_at, is_anon, is_held, is_held_in, charged}
-use Rattle.machine.specs.Protection.{effective, min_of, is_unprotected_in}
+use Rattle.machine.specs.declared.record.Guard.{Guard}
+use Rattle.machine.specs.declared.record.Guard.TheVariants.{Min, Low}
+use Rattle.machine.specs.Protection.{effective, setting_of, is_beyond}
 use Rattle.machine.specs.Order.{asking_order, served_by, cursor_at}
 use Rattle.machine.specs.declared.record.Kind.{Kind}
 use Rattle.machine.specs.declared.record.Kind.TheVariants.{Anon, File}
 use Rattle.machine.specs.Generations.{Listed, Gens, row_of, has_page, is_listed, gens_at}
 use Rattle.machine.specs.Aging.{is_marked}
 use Rattle.machine.specs.Eviction.{is_nil, has_usable}
-use Rattle.machine.specs.Lists.{HeldLists, ListsHeld, AreGenerations, Order, PicksOf, is_held_of, is_takeable_of, gives, served}
+use Rattle.machine.specs.Lists.{HeldLists, ListsHeld, AreGenerations, Order, PicksOf, is_held_of, is_next_of, gives, served}
 use Rattle.machine.proofs.SlotLemmas.{any_there-none, count_there-none}
 use Rattle.machine.proofs.TreeLemmas.{eq_cases}
 use Rattle.machine.proofs.HeldChanges.{unheld-unlisted}
@@ -29,11 +31,13 @@ use Rattle.group_tree.proofs.LineageLemmas.{live-within}
 use Rattle.page_counter.specs.Counts.{usage_of}
 use Rattle.protection.proofs.CallerLemmas.{effective-same}
 use Rattle.pages.specs.PagesOf.{Label, label_of, labelled, HasResidence}
+use Rattle.reclaim.specs.declared.cursors.Served.{Served}
 use Rattle.reclaim.proofs.PassLemmas.{found-passes, asked-order}
 use Rattle.page_state.specs.declared.joined.State.TheInside.{Inside}
 use Rattle.page_state.specs.Joined.{joined_of, IsJoined}
 use Rattle.machine.specs.State.{State, is_swap_free}
-use Rattle.machine.specs.Reclaim.{is_unprotected, is_takeable, has_takeable}
+use Rattle.machine.specs.Reclaim.{is_beyond_its, is_unprotected, is_above_low, is_takeable, has_takeable, is_open, has_open, is_next}
+use Rattle.machine.proofs.TakeableLemmas.{next-takeable, next-open, takeable-goes, takeable-unprotected, takeable-below, takeable-held}
 use Rattle.counts.specs.Numbers.{times}
 use Rattle.page_state.specs.Queue.{numbers_of}
 use Rattle.held_pages.specs.Held.{KeepsRows}
@@ -93,6 +97,11 @@ any_both f h b (slot ∷ pages) same = both (there_and f slot) (any_there f page
     both x y p q = ap (λ c. c || any_there h pages) p ∙ ap (λ c. (b && x) || c) q ∙ shared b x y
 
 -- a test of pages by their numbers is that of the numbers
+any_same : (f h : Page → Bool) (pages : Pages) → ((page : Page) → f page ≡ h page) → any_there f pages ≡ any_there h pages
+any_same f h [] same = refl
+any_same f h (None ∷ pages) same = any_same f h pages same
+any_same f h (Some page ∷ pages) same = ap (λ b. b || any_there f pages) (same page) ∙ ap (λ b. h page || b) (any_same f h pages same)
+
 pub any-numbers : (f : ℕ → Bool) (xs : List PageId) → list_any (λ (x : PageId). f x.0) xs ≡ list_any f (numbers_of xs)
 any-numbers f [] = refl
 any-numbers f (x ∷ xs) = ap (λ b. f x.0 || b) (any-numbers f xs)
@@ -228,118 +237,171 @@ module _ (s : Inside) (is : IsJoined s) where
       by_slot (Some page) live = sym (is.held_kin.living page.group) ∙ live
 
   module _ (order : IsTree s.tree) (target : ℕ) where
-    pub effective-charged : (g : ℕ) → is_live s.tree g ≡ true → target ≢ g → under s.tree target g ≡ true
-        → effective tables.opening.recursive s.tree (min_of s.parts.counters.limits) (usage_of s.parts.counters) target g ≡ effective tables.opening.recursive s.tree (min_of s.parts.counters.limits) (charged s.tree s.parts.pages.pages) target g
-    effective-charged g live differs below = effective-same s.tree order target tables.opening.recursive (min_of s.parts.counters.limits) (usage_of s.parts.counters) (charged s.tree s.parts.pages.pages) usages g (live-within s.tree g live) differs below
+    pub effective-charged : (guard : Guard) (g : ℕ) → is_live s.tree g ≡ true → target ≢ g → under s.tree target g ≡ true
+        → effective tables.opening.recursive s.tree (setting_of guard s.parts.counters.limits) (usage_of s.parts.counters) target g ≡ effective tables.opening.recursive s.tree (setting_of guard s.parts.counters.limits) (charged s.tree s.parts.pages.pages) target g
+    effective-charged guard g live differs below =
+        effective-same s.tree order target tables.opening.recursive (setting_of guard s.parts.counters.limits) (usage_of s.parts.counters) (charged s.tree s.parts.pages.pages) usages g (live-within s.tree g live) differs below
 
-    -- by the counters a reclaim of the target may take from the group
-    abbrev unprotected : ℕ → Bool
-    unprotected g = is_unprotected_in tables.opening.recursive s.tree s.parts.counters.limits (usage_of s.parts.counters) target g
+    -- by the counters the setting does not protect the group from a reclaim of the target
+    abbrev beyond : Guard → ℕ → Bool
+    beyond guard g = is_beyond tables.opening.recursive s.tree (setting_of guard s.parts.counters.limits) (usage_of s.parts.counters) target g
 
-    open-same : (g : ℕ) → is_live s.tree g ≡ true → under s.tree target g ≡ true → is_unprotected tables target g ≡ unprotected g
-    open-same g live below =
+    beyond-same : (guard : Guard) (g : ℕ) → is_live s.tree g ≡ true → under s.tree target g ≡ true → is_beyond_its guard tables target g ≡ beyond guard g
+    beyond-same guard g live below =
         elim (eq_cases g target) [
           | inl same ↦
               (let hit : (g == target) ≡ true = grind (arith, nat_tests, same) in
-              ap (λ b. b || exceeds (charged s.tree s.parts.pages.pages g) (effective tables.opening.recursive s.tree (min_of s.parts.counters.limits) (charged s.tree s.parts.pages.pages) target g)) hit
-              ∙ sym (ap (λ b. b || exceeds (usage_of s.parts.counters g) (effective tables.opening.recursive s.tree (min_of s.parts.counters.limits) (usage_of s.parts.counters) target g)) hit))
-          | inr other ↦ same_open (g == target) (sym (usages g (live-within s.tree g live))) (sym (effective-charged g live (λ e. other (sym e)) below))
+              ap (λ b. b || exceeds (charged s.tree s.parts.pages.pages g) (effective tables.opening.recursive s.tree (setting_of guard s.parts.counters.limits) (charged s.tree s.parts.pages.pages) target g)) hit
+              ∙ sym (ap (λ b. b || exceeds (usage_of s.parts.counters g) (effective tables.opening.recursive s.tree (setting_of guard s.parts.counters.limits) (usage_of s.parts.counters) target g)) hit))
+          | inr other ↦ same_open (g == target) (sym (usages g (live-within s.tree g live))) (sym (effective-charged guard g live (λ e. other (sym e)) below))
         ]
 
     -- a swap block is free
     abbrev free : Bool
     free = is_swap_free tables
 
-    -- by these lists the group gives one
-    abbrev pub listed_by : Bool → List Gens → Bool → ℕ → Bool
-    listed_by recursive groups swap_free g = is_unprotected_in recursive s.tree s.parts.counters.limits (usage_of s.parts.counters) target g && has_usable swap_free (gens_at groups g)
+    -- by these lists the group gives one, in a pass that takes from groups within their low or in one that does not
+    abbrev pub listed_by : Bool → List Gens → Bool → Bool → ℕ → Bool
+    listed_by recursive groups swap_free low_reclaim g =
+        (is_beyond recursive s.tree (setting_of Min s.parts.counters.limits) (usage_of s.parts.counters) target g && (low_reclaim || is_beyond recursive s.tree (setting_of Low s.parts.counters.limits) (usage_of s.parts.counters) target g))
+        && has_usable swap_free (gens_at groups g)
 
-    abbrev pub NoneListedBy : Bool → List Gens → Bool → Type 0
-    NoneListedBy recursive groups swap_free = (g : ℕ) → is_live s.tree g ≡ true → under s.tree target g ≡ true → listed_by recursive groups swap_free g ≡ false
+    abbrev pub NoneListedBy : Bool → List Gens → Bool → Bool → Type 0
+    NoneListedBy recursive groups swap_free low_reclaim = (g : ℕ) → is_live s.tree g ≡ true → under s.tree target g ≡ true → listed_by recursive groups swap_free low_reclaim g ≡ false
 
-    abbrev listed : ℕ → Bool
+    abbrev listed : Bool → ℕ → Bool
     listed = listed_by tables.opening.recursive s.parts.held.lists.groups free
 
-    abbrev NoneListed : Type 0
+    abbrev NoneListed : Bool → Type 0
     NoneListed = NoneListedBy tables.opening.recursive s.parts.held.lists.groups free
 
-    -- a group below the target gives one, by the table and by the lists
-    listed-same : (g : ℕ) → is_live s.tree g ≡ true → under s.tree target g ≡ true → gives tables target g ≡ listed g
-    listed-same g live below =
-        any_both (is_usable free g) (λ page. (page.group == g) && is_takeable tables target page) (unprotected g) s.parts.pages.pages (λ p. by_slot (page_at s.parts.pages.pages p))
-        ∙ ap (λ b. unprotected g && b) (sym (usable-held s.parts.pages.pages s.parts.held.lists is.agree.held free g))
-      where
-        own_bits : (t u o o' b : Bool) → u ≡ true → o ≡ o' → (((t && u) && o) && b) ≡ (o' && (t && b))
-        own_bits true true true true b e same = refl
-        own_bits true true false false b e same = refl
-        own_bits false u true true b e same = refl
-        own_bits false u false false b e same = refl
-        own_bits t false o o' b e same = absurd cc
-        own_bits t u true false b e same = absurd cc
-        own_bits t u false true b e same = absurd cc
+    -- a page is taken in such a pass
+    abbrev passes_in : Bool → Page → Bool
+    passes_in low_reclaim page = is_takeable tables target page && (is_above_low tables target page.group || low_reclaim)
 
-        by_test : (page : Page) (e : Bool) → (page.group == g) ≡ e → (e && is_takeable tables target page) ≡ (unprotected g && (is_held page && (e && (not (is_anon page.content) || free))))
+    abbrev gives_in : Bool → ℕ → Bool
+    gives_in low_reclaim g = any_there (λ page. (page.group == g) && passes_in low_reclaim page) s.parts.pages.pages
+
+    -- a group below the target gives one, by the table and by the lists
+    listed-same : (low_reclaim : Bool) (g : ℕ) → is_live s.tree g ≡ true → under s.tree target g ≡ true → gives_in low_reclaim g ≡ listed low_reclaim g
+    listed-same low_reclaim g live below =
+        any_both (is_usable free g) (λ page. (page.group == g) && passes_in low_reclaim page) (beyond Min g && (low_reclaim || beyond Low g)) s.parts.pages.pages (λ p. by_slot (page_at s.parts.pages.pages p))
+        ∙ ap (λ b. (beyond Min g && (low_reclaim || beyond Low g)) && b) (sym (usable-held s.parts.pages.pages s.parts.held.lists is.agree.held free g))
+      where
+        bits : (t o b a l : Bool) → ((((t && true) && o) && b) && (a || l)) ≡ ((o && (l || a)) && (t && b))
+        bits false false b a l = refl
+        bits false true b a true = refl
+        bits false true b true false = refl
+        bits false true b false false = refl
+        bits true false b a l = refl
+        bits true true false a true = refl
+        bits true true false true false = refl
+        bits true true false false false = refl
+        bits true true true true true = refl
+        bits true true true true false = refl
+        bits true true true false true = refl
+        bits true true true false false = refl
+
+        own_bits : (t u o o' b a a' l : Bool) → u ≡ true → o ≡ o' → a ≡ a' → ((((t && u) && o) && b) && (a || l)) ≡ ((o' && (l || a')) && (t && b))
+        own_bits t u o o' b a a' l below same_min same_low = rw (below, same_min, same_low) (bits t o' b a' l)
+
+        by_test : (page : Page) (e : Bool) → (page.group == g) ≡ e → (e && passes_in low_reclaim page) ≡ ((beyond Min g && (low_reclaim || beyond Low g)) && (is_held page && (e && (not (is_anon page.content) || free))))
         by_test page true hit =
             let same : page.group ≡ g = grind (arith, nat_tests, hit) in
-            own_bits (is_held page) (under s.tree target page.group) (is_unprotected tables target page.group) (unprotected g) (not (is_anon page.content) || free)
-            (ap (under s.tree target) same ∙ below) (ap (is_unprotected tables target) same ∙ open-same g live below)
-        by_test page false miss = sym (ap (λ b. unprotected g && b) (and_right (is_held page) false refl) ∙ and_right (unprotected g) false refl)
+            own_bits (is_held page) (under s.tree target page.group) (is_unprotected tables target page.group) (beyond Min g) (not (is_anon page.content) || free) (is_above_low tables target page.group) (beyond Low g) low_reclaim
+            (ap (under s.tree target) same ∙ below) (ap (is_unprotected tables target) same ∙ beyond-same Min g live below) (ap (is_above_low tables target) same ∙ beyond-same Low g live below)
+        by_test page false miss = sym (ap (λ b. (beyond Min g && (low_reclaim || beyond Low g)) && b) (and_right (is_held page) false refl) ∙ and_right (beyond Min g && (low_reclaim || beyond Low g)) false refl)
 
-        by_slot : (slot : Option Page) → there_and (λ page. (page.group == g) && is_takeable tables target page) slot ≡ (unprotected g && there_and (is_usable free g) slot)
-        by_slot None = sym (and_right (unprotected g) false refl)
+        by_slot : (slot : Option Page) → there_and (λ page. (page.group == g) && passes_in low_reclaim page) slot ≡ ((beyond Min g && (low_reclaim || beyond Low g)) && there_and (is_usable free g) slot)
+        by_slot None = sym (and_right (beyond Min g && (low_reclaim || beyond Low g)) false refl)
         by_slot (Some page) = by_test page (page.group == g) refl
 
-    module _ (groups : IsGroupTree s.tree) (live : is_live s.tree target ≡ true) (last : Option ℕ) (group : Option GroupId)
-        (serves : option_map (λ (g : GroupId). g.0) group ≡ served_by s.tree listed target last) where
-      -- the group that the lists tell is the one that the table tells
-      turn_told : option_map (λ (g : GroupId). g.0) group ≡ served_by s.tree (gives tables target) target last
-      turn_told =
-          serves
-          ∙ sym
-          (find_agree (gives tables target) listed (asking_order s.tree target last)
-          (λ k d lt. let here = asked-order s.tree target last groups live k d lt in listed-same (get_or (asking_order s.tree target last) k d) here.0 here.1))
+    -- where no group gives one in such a pass, no page may be taken in it
+    none_taken : (low_reclaim : Bool) → NoneListed low_reclaim → any_there (passes_in low_reclaim) s.parts.pages.pages ≡ false
+    none_taken low_reclaim none = any_there-none (passes_in low_reclaim) s.parts.pages.pages (count_there-none (passes_in low_reclaim) s.parts.pages.pages (λ p. by_slot p (page_at s.parts.pages.pages p) refl (live_at p)))
+      where
+        fails : (p : ℕ) (page : Page) → page_at s.parts.pages.pages p ≡ Some page → is_live s.tree page.group ≡ true → passes_in low_reclaim page ≡ true → passes_in low_reclaim page ≡ false
+        fails p page there alive passes =
+            let below = takeable-below tables target page (and_parts (is_takeable tables target page) _ passes).0 in
+            let own : (page.group == page.group) ≡ true = grind (arith, nat_tests) in
+            let given = any-some (λ (x : Page). (x.group == page.group) && passes_in low_reclaim x) s.parts.pages.pages p
+            (ap (there_and (λ (x : Page). (x.group == page.group) && passes_in low_reclaim x)) there ∙ and_from (page.group == page.group) (passes_in low_reclaim page) own passes) in
+            let told = sym (listed-same low_reclaim page.group alive below) ∙ given in
+            let wrong : true ≡ false = sym told ∙ none page.group alive below in
+            absurd cc
 
-      turn_of : (g : Option GroupId) → option_map (λ (x : GroupId). x.0) g ≡ served_by s.tree (gives tables target) target last → IfSome g (λ x. served_by s.tree (gives tables target) target last ≡ Some x.0)
-      turn_of None told = tt
-      turn_of (Some g) told = sym told
+        by_slot : (p : ℕ) (slot : Option Page) → page_at s.parts.pages.pages p ≡ slot → IfSome slot (λ page. is_live s.tree page.group ≡ true) → there_and (passes_in low_reclaim) slot ≡ false
+        by_slot p None there alive = refl
+        by_slot p (Some page) there alive =
+            elim (cases_Bool (passes_in low_reclaim page)) [
+              | inl passes ↦ fails p page there alive passes
+              | inr not_so ↦ not_so
+            ]
 
-      pub turn-is : IfSome group (λ g. served_by s.tree (gives tables target) target last ≡ Some g.0)
-      turn-is = turn_of group turn_told
+    -- where a group gives one in such a pass, a page may be taken in it
+    one_taken : (low_reclaim : Bool) (g : ℕ) → is_live s.tree g ≡ true → under s.tree target g ≡ true → listed low_reclaim g ≡ true → any_there (passes_in low_reclaim) s.parts.pages.pages ≡ true
+    one_taken low_reclaim g live below given =
+        any_more (there_and (λ page. (page.group == g) && passes_in low_reclaim page)) (there_and (passes_in low_reclaim)) s.parts.pages.pages passes (listed-same low_reclaim g live below ∙ given)
+      where
+        passes : (slot : Option Page) → there_and (λ page. (page.group == g) && passes_in low_reclaim page) slot ≡ true → there_and (passes_in low_reclaim) slot ≡ true
+        passes None e = e
+        passes (Some page) e = (and_parts (page.group == g) _ e).1
 
-      none_taken : NoneListed → any_there (is_takeable tables target) s.parts.pages.pages ≡ false
-      none_taken none = any_there-none (is_takeable tables target) s.parts.pages.pages (count_there-none (is_takeable tables target) s.parts.pages.pages (λ p. by_slot p (page_at s.parts.pages.pages p) refl (live_at p)))
+    -- an open page is one that is taken in the first pass, and a takeable one in the second
+    first_pass : any_there (passes_in false) s.parts.pages.pages ≡ has_open tables target
+    first_pass = any_same (passes_in false) (is_open tables target) s.parts.pages.pages (λ page. ap (λ b. is_takeable tables target page && b) (or_right_false (is_above_low tables target page.group)))
+      where
+        or_right_false : (b : Bool) → (b || false) ≡ b
+        or_right_false true = refl
+        or_right_false false = refl
+
+    second_pass : any_there (passes_in true) s.parts.pages.pages ≡ has_takeable tables target
+    second_pass = any_same (passes_in true) (is_takeable tables target) s.parts.pages.pages (λ page. by_bits (is_takeable tables target page) (is_above_low tables target page.group))
+      where
+        by_bits : (a b : Bool) → (a && (b || true)) ≡ a
+        by_bits true true = refl
+        by_bits true false = refl
+        by_bits false b = refl
+
+    takeable-passes : (low_reclaim : Bool) → any_there (passes_in low_reclaim) s.parts.pages.pages ≡ true → has_takeable tables target ≡ true
+    takeable-passes low_reclaim given = any_more (there_and (passes_in low_reclaim)) (there_and (is_takeable tables target)) s.parts.pages.pages by_slot given
+      where
+        by_slot : (slot : Option Page) → there_and (passes_in low_reclaim) slot ≡ true → there_and (is_takeable tables target) slot ≡ true
+        by_slot None e = e
+        by_slot (Some page) e = (and_parts (is_takeable tables target page) _ e).0
+
+    -- what the pass says of the group that it finds
+    pub record Found (last : Option ℕ) (found : Served) : Type 0 where
+      pub turn : served_by s.tree (listed found.low_reclaim) target last ≡ Some found.group.0
+      pub live : is_live s.tree found.group.0 ≡ true
+      pub below : under s.tree target found.group.0 ≡ true
+      pub given : listed found.low_reclaim found.group.0 ≡ true
+      pub spared : found.low_reclaim ≡ true → NoneListed false
+
+    module _ (groups : IsGroupTree s.tree) (live : is_live s.tree target ≡ true) (last : Option ℕ) (found : Served) (is_found : Found last found) where
+      -- it is the second one exactly where no page is open
+      pub passes-low : found.low_reclaim ≡ not (has_open tables target)
+      passes-low = by_pass found.low_reclaim is_found.spared (λ e. one_taken found.low_reclaim found.group.0 is_found.live is_found.below is_found.given) refl
         where
-          fails : (p : ℕ) (page : Page) → page_at s.parts.pages.pages p ≡ Some page → is_live s.tree page.group ≡ true → is_takeable tables target page ≡ true → is_takeable tables target page ≡ false
-          fails p page there alive passes =
-              let below = (and_parts (is_held page) (under s.tree target page.group) (and_parts (is_held page && under s.tree target page.group) _ (and_parts _ _ passes).0).0).1 in
-              let own : (page.group == page.group) ≡ true = grind (arith, nat_tests) in
-              let given = any-some (λ (x : Page). (x.group == page.group) && is_takeable tables target x) s.parts.pages.pages p
-              (ap (there_and (λ (x : Page). (x.group == page.group) && is_takeable tables target x)) there ∙ and_from (page.group == page.group) (is_takeable tables target page) own passes) in
-              let told = sym (listed-same page.group alive below) ∙ given in
-              let wrong : true ≡ false = sym told ∙ none page.group alive below in
-              absurd cc
+          by_pass : (low : Bool) → (low ≡ true → NoneListed false) → (found.low_reclaim ≡ low → any_there (passes_in found.low_reclaim) s.parts.pages.pages ≡ true) → found.low_reclaim ≡ low → low ≡ not (has_open tables target)
+          by_pass true spared given is = ap not (sym (sym first_pass ∙ none_taken false (spared refl)))
+          by_pass false spared given is = ap not (sym (sym first_pass ∙ ap (λ low. any_there (passes_in low) s.parts.pages.pages) (sym is) ∙ given is))
 
-          by_slot : (p : ℕ) (slot : Option Page) → page_at s.parts.pages.pages p ≡ slot → IfSome slot (λ page. is_live s.tree page.group ≡ true) → there_and (is_takeable tables target) slot ≡ false
-          by_slot p None there alive = refl
-          by_slot p (Some page) there alive =
-              elim (cases_Bool (is_takeable tables target page)) [
-                | inl passes ↦ fails p page there alive passes
-                | inr not_so ↦ not_so
-              ]
+      -- and the group is the one that the table tells
+      pub turn-is : served_by s.tree (gives tables target) target last ≡ Some found.group.0
+      turn-is =
+          find_agree (gives tables target) (listed found.low_reclaim) (asking_order s.tree target last)
+          (λ k d lt.
+          let here = asked-order s.tree target last groups live k d lt in
+          ap (λ low. gives_in low (get_or (asking_order s.tree target last) k d)) (sym passes-low) ∙ listed-same found.low_reclaim (get_or (asking_order s.tree target last) k d) here.0 here.1)
+          ∙ is_found.turn
 
-      one_of : (g : Option GroupId) → IfSome g (λ x. served_by s.tree (gives tables target) target last ≡ Some x.0) → IfNone g NoneListed → is_some g ≡ has_takeable tables target
-      one_of None turn none = sym (none_taken none)
-      one_of (Some g) turn none =
-          let given = (found-passes (λ (x : ℕ). Unit {0}) (gives tables target) (asking_order s.tree target last) g.0 (λ k d lt. tt) turn).1 in
-          sym (any_more (there_and (is_takeable_of tables target g.0)) (there_and (is_takeable tables target)) s.parts.pages.pages passes given)
-        where
-          passes : (slot : Option Page) → there_and (is_takeable_of tables target g.0) slot ≡ true → there_and (is_takeable tables target) slot ≡ true
-          passes None e = e
-          passes (Some page) e = (and_parts (page.group == g.0) _ e).1
+      pub one-is : has_takeable tables target ≡ true
+      one-is = takeable-passes found.low_reclaim (one_taken found.low_reclaim found.group.0 is_found.live is_found.below is_found.given)
 
-      -- there is one exactly where a page may be taken
-      pub one-is : IfNone group NoneListed → is_some group ≡ has_takeable tables target
-      one-is none = one_of group turn-is none
+    -- where the second pass finds nothing, nothing may be taken
+    pub none-is : NoneListed true → has_takeable tables target ≡ false
+    none-is none = sym second_pass ∙ none_taken true none
 
 -- ---- the page that a group gives
 
@@ -348,32 +410,32 @@ module _ (t : State) (target g : ℕ) where
   record MayGive : Type 0 where
     pub below : under t.tree target g ≡ true
     pub opened : is_unprotected t target g ≡ true
+    pub now : (is_above_low t target g || not (has_open t target)) ≡ true
 
   usable_given : gives t target g ≡ true → any_there (is_usable (is_swap_free t) g) t.pages ≡ true
-  usable_given given = any_more (there_and (is_takeable_of t target g)) (there_and (is_usable (is_swap_free t) g)) t.pages by_slot given
+  usable_given given = any_more (there_and (is_next_of t target g)) (there_and (is_usable (is_swap_free t) g)) t.pages by_slot given
     where
-      by_slot : (slot : Option Page) → there_and (is_takeable_of t target g) slot ≡ true → there_and (is_usable (is_swap_free t) g) slot ≡ true
+      by_slot : (slot : Option Page) → there_and (is_next_of t target g) slot ≡ true → there_and (is_usable (is_swap_free t) g) slot ≡ true
       by_slot None e = e
       by_slot (Some page) e =
           let both = and_parts (page.group == g) _ e in
-          let swaps = and_parts _ (not (is_anon page.content) || is_swap_free t) both.1 in
-          let opened = and_parts (is_held page && under t.tree target page.group) _ swaps.0 in
-          and_from (is_held page) ((page.group == g) && (not (is_anon page.content) || is_swap_free t)) (and_parts (is_held page) _ opened.0).0
-          (and_from (page.group == g) (not (is_anon page.content) || is_swap_free t) both.0 swaps.1)
+          let takes = next-takeable t target page both.1 in
+          and_from (is_held page) ((page.group == g) && (not (is_anon page.content) || is_swap_free t)) (takeable-held t target page takes)
+          (and_from (page.group == g) (not (is_anon page.content) || is_swap_free t) both.0 (takeable-goes t target page takes))
 
   may_give : gives t target g ≡ true → MayGive
-  may_give given = one_passes (λ slot. Unit {0}) (there_and (is_takeable_of t target g)) t.pages (λ k d lt. tt) given by_slot
+  may_give given = one_passes (λ slot. Unit {0}) (there_and (is_next_of t target g)) t.pages (λ k d lt. tt) given by_slot
     where
-      by_slot : (slot : Option Page) → Unit {0} → there_and (is_takeable_of t target g) slot ≡ true → MayGive
+      by_slot : (slot : Option Page) → Unit {0} → there_and (is_next_of t target g) slot ≡ true → MayGive
       by_slot None any e = absurd cc
       by_slot (Some page) any e =
           let both = and_parts (page.group == g) _ e in
           let same : page.group ≡ g = grind (arith, nat_tests, both.0) in
-          let swaps = and_parts _ (not (is_anon page.content) || is_swap_free t) both.1 in
-          let opened = and_parts (is_held page && under t.tree target page.group) _ swaps.0 in
+          let takes = next-takeable t target page both.1 in
           record {
-            below = ap (under t.tree target) (sym same) ∙ (and_parts (is_held page) _ opened.0).1;
-            opened = ap (is_unprotected t target) (sym same) ∙ opened.1;
+            below = ap (under t.tree target) (sym same) ∙ takeable-below t target page takes;
+            opened = ap (is_unprotected t target) (sym same) ∙ takeable-unprotected t target page takes;
+            now = ap (λ h. is_above_low t target h || not (has_open t target)) (sym same) ∙ next-open t target page both.1;
           }
 
   -- a group that is served has a page to give
@@ -387,12 +449,14 @@ module _ (t : State) (target g : ℕ) where
 
     -- the page that is picked may be taken, memory where a swap block is free
     pub given-takes : AreGenerations order.held → (p : ℕ) (looked : HeldLists) (label : Label) (f : ℕ) → label.group ≡ g → HasResidence t.pages p label (Held f) → PicksOf (is_swap_free t) order.held g (Some p) looked
-        → is_takeable t target (labelled label (Held f)) ≡ true
+        → is_next t target (labelled label (Held f)) ≡ true
     given-takes sound p looked label f own stands picked =
         let may = may_give (served-gives order serves) in
-        and_from (true && under t.tree target label.group && is_unprotected t target label.group) (not (is_anon label.content) || is_swap_free t)
+        and_from (is_takeable t target (labelled label (Held f))) (is_above_low t target label.group || not (has_open t target))
+        (and_from (true && under t.tree target label.group && is_unprotected t target label.group) (not (is_anon label.content) || is_swap_free t)
         (and_from (under t.tree target label.group) (is_unprotected t target label.group) (ap (under t.tree target) own ∙ may.below) (ap (is_unprotected t target) own ∙ may.opened))
-        (picked-usable (is_swap_free t) t.pages order.held looked g p lists sound picked (labelled label (Held f)) stands)
+        (picked-usable (is_swap_free t) t.pages order.held looked g p lists sound picked (labelled label (Held f)) stands))
+        (ap (λ h. is_above_low t target h || not (has_open t target)) own ∙ may.now)
 
 -- and for memory a swap block is free
 pub takeable-swap : (t : State) (target : ℕ) (page : Page) → is_takeable t target page ≡ true → is_anon page.content ≡ true → is_swap_free t ≡ true

@@ -12,7 +12,7 @@ use Rattle.machine.specs.Counts.{no_limits, no_counts, with_event}
 use Rattle.machine.specs.Tasks.{PageTables, SetsTask, group_of_task, mapped_at, mappers, Shows, Copies, ShowsNothing}
 use Rattle.machine.specs.State.{Opening, State, page_numbers, over_in, is_frame_free}
 use Rattle.machine.specs.Access.{page_size}
-use Rattle.machine.specs.Reclaim.{is_takeable}
+use Rattle.machine.specs.Reclaim.{is_next}
 use Rattle.machine.specs.Generations.{gens_at}
 use Rattle.machine.specs.Lists.{Generation, Youngest, entry_after, MergesMarks, GoesOn, TakesNext, AddsLists, RemovesLists}
 use Rattle.machine.specs.Step.{IsFreeFrame, IsFreeBlock, touched, still, in_frame, on_block, new_node, regrouped}
@@ -116,13 +116,14 @@ abbrev pub IsWrittenTo : State → Content → Bool → ℕ → Type 0
 IsWrittenTo s Memory dirty block = IsFreeBlock s block
 IsWrittenTo s (OfFile file q) dirty block = (dirty ≡ true) × (block ≡ home_block s.opening.swap s.opening.files file q)
 
--- the page that is next for the target is from now on being written out; the ticket has its bytes
-pub record BeginsWriteOut (old new : StateOf) (target : ℕ) (ticket : TicketOf) : Type 0 where
+-- of the group that is served for the target the page that is next is from now on being written out; the ticket has its bytes
+pub record BeginsWriteOut (old new : StateOf) (target group : ℕ) (ticket : TicketOf) : Type 0 where
   pub p : ℕ
   pub label : Label
+  pub own : label.group ≡ group
   pub frame : ℕ
   pub stood : HasResidence old.tables.pages p label (Held frame)
-  pub takeable : is_takeable old.tables target (labelled label (Held frame)) ≡ true
+  pub may : is_next old.tables target (labelled label (Held frame)) ≡ true
   pub block : IsWrittenTo old.tables label.content label.dirty ticket.block
   pub begins : BeginsTransfer (stored_of old) (stored_of new) Out p label frame ticket.block ticket
   pub holds : (k : ℕ) → k < page_size → slice_index ticket.bytes k ≡ byte_in new.bytes p k
@@ -132,25 +133,26 @@ pub record BeginsWriteOut (old new : StateOf) (target : ℕ) (ticket : TicketOf)
   -- three generations more are begun at most
   pub ages : (h : ℕ) → (gens_at new.order.held.groups h).max_seq ≤ (gens_at old.order.held.groups h).max_seq + 3
 
--- the page that is next for the target, a page of a file as its home block has it, is gone
-pub record DropsClean (old new : StateOf) (target : ℕ) : Type 0 where
+-- of the group that is served the page that is next, one of a file as its home block has it, is gone
+pub record DropsClean (old new : StateOf) (target group : ℕ) : Type 0 where
   pub p : ℕ
   pub file : ℕ
   pub q : ℕ
   pub g : ℕ
+  pub own : g ≡ group
   pub frame : ℕ
   pub stood : HasResidence old.tables.pages p (of_file file q g false) (Held frame)
-  pub takeable : is_takeable old.tables target (labelled (of_file file q g false) (Held frame)) ≡ true
+  pub may : is_next old.tables target (labelled (of_file file q g false) (Held frame)) ≡ true
   pub drops : DropsPage (stored_of old) (stored_of new) p
   pub tables : new.tables ≡ record old.tables { pages = new.tables.pages }
   pub next : TakesNext old.tables old.order target new.tables new.order
   -- three generations more are begun at most
   pub ages : (h : ℕ) → (gens_at new.order.held.groups h).max_seq ≤ (gens_at old.order.held.groups h).max_seq + 3
 
--- the page that is next for the target begins to be written out under this ticket, or is dropped
-abbrev pub TakesPage : StateOf → StateOf → ℕ → Option TicketOf → Type 0
-TakesPage old new target (Some ticket) = BeginsWriteOut old new target ticket
-TakesPage old new target None = DropsClean old new target
+-- that page begins to be written out under this ticket, or is dropped
+abbrev pub TakesPage : StateOf → StateOf → ℕ → ℕ → Option TicketOf → Type 0
+TakesPage old new target group (Some ticket) = BeginsWriteOut old new target group ticket
+TakesPage old new target group None = DropsClean old new target group
 
 -- what becomes of a page whose transfer between a frame and a block ends so, with these page tables
 abbrev pub ended_as : End → PageTables → ℕ → Page → ℕ → ℕ → Option Page

@@ -6,7 +6,7 @@ ghost use Rattle.machine.specs.Names.{parent_path};
 ghost use Rattle.machine.specs.Tree.{is_live, under, find_group};
 ghost use Rattle.machine.specs.Counts.{is_key, limits_at, counts_by, total, local};
 ghost use Rattle.machine.specs.Generations.{gens_at};
-ghost use Rattle.machine.specs.State.{usage, stat_of, effective_min};
+ghost use Rattle.machine.specs.State.{usage, stat_of, effective_in};
 ghost use Rattle.machine.specs.Step.{with_setting};
 ghost use Rattle.machine.specs.Refusals.{mkdir_refusal, rmdir_refusal, bars_children};
 ghost use Rattle.page_state.specs.Changes.{counts_event, AddsGroup, RemovesGroup, sets_limits};
@@ -17,7 +17,7 @@ use crate::removal::reparent;
 use machine::amount::Amount;
 use machine::event::Setting;
 use machine::id::GroupId;
-use machine::record::{EventCounts, Key, Limits, MemoryStat};
+use machine::record::{EventCounts, Guard, Key, Limits, MemoryStat};
 use page_counter::Counters;
 use protection::Protection;
 use std::alloc::AllocError;
@@ -30,7 +30,8 @@ impl State {
     {
         Limits {
             max: self.parts.counters.max(group),
-            min: self.parts.counters.min(group),
+            min: self.parts.counters.guard(Guard::Min, group),
+            low: self.parts.counters.guard(Guard::Low, group),
         }
     }
 
@@ -52,12 +53,12 @@ impl State {
         MemoryStat { anon, file }
     }
 
-    /// The effective `memory.min` of a group below the target, for a reclaim of the target.
-    pub fn protection(&self, target: GroupId, group: GroupId) -> Amount
+    /// The effective `memory.min` or `memory.low` of a group below the target, for a reclaim of the target.
+    pub fn protection(&self, guard: Guard, target: GroupId, group: GroupId) -> Amount
         requires live { is_live self.now.tables.tree group.0 ≡ true }
         requires under { under self.now.tables.tree target.0 group.0 ≡ true }
         requires below { target.0 ≢ group.0 }
-        ensures { result ≡ effective_min self.now.tables target.0 group.0 }
+        ensures { result ≡ effective_in self.now.tables guard target.0 group.0 }
     {
         self.tree.groups_form_a_tree();
         let recursive = self.is_recursive();
@@ -67,7 +68,7 @@ impl State {
             recursive,
             target,
         };
-        protection.effective(group)
+        protection.effective(guard, group)
     }
 
     /// How often each key was counted at the group or anywhere below it.
@@ -172,6 +173,6 @@ fn set_in(counters: &mut Counters, group: GroupId, setting: Setting)
 {
     match setting {
         Setting::Max(max) => counters.set_max(group, max),
-        Setting::Min(min) => counters.set_min(group, min),
+        Setting::Guard(guard, amount) => counters.set_guard(guard, group, amount),
     }
 }

@@ -1,9 +1,9 @@
 //! What a reclaim takes, and how it begins to leave.
 
-ghost use Rattle.std.specs.Prelude.{◌≡◌, Some, true, is_some, IfSome};
+ghost use Rattle.std.specs.Prelude.{◌≡◌, Some, true, not, is_some, IfSome};
 ghost use Rattle.machine.specs.Tree.{is_live};
 ghost use Rattle.machine.specs.State.{is_swap_free};
-ghost use Rattle.machine.specs.Reclaim.{has_takeable, has_transfer};
+ghost use Rattle.machine.specs.Reclaim.{has_open, has_takeable, has_transfer};
 ghost use Rattle.machine.specs.Lists.{served};
 ghost use Rattle.page_state.specs.States.{AreYoung};
 ghost use Rattle.page_state.specs.Changes.{TakesPage};
@@ -13,7 +13,7 @@ use crate::lookup::is_any_under;
 use machine::id::GroupId;
 use pages::OutTicket;
 use protection::Protection;
-use reclaim::ScanControl;
+use reclaim::{ScanControl, Served};
 
 impl State {
     /// Whether protection is recursive (kernel: memory_recursiveprot).
@@ -24,10 +24,11 @@ impl State {
     }
 
     /// The group that gives the next page to a reclaim of the target. There is one exactly where a page may
-    /// be taken.
-    pub fn next_group(&self, target: GroupId) -> Option<GroupId>
+    /// be taken, and its low is passed over exactly where no page is open.
+    pub fn next_group(&self, target: GroupId) -> Option<Served>
         requires { is_live self.now.tables.tree target.0 ≡ true }
-        ensures next { IfSome result (λ g. served self.now.tables self.now.order target.0 ≡ Some g.0) }
+        ensures next { IfSome result (λ s. served self.now.tables self.now.order target.0 ≡ Some s.group.0) }
+        ensures low { IfSome result (λ s. s.low_reclaim ≡ not (has_open self.now.tables target.0)) }
         ensures takeable { is_some result ≡ has_takeable self.now.tables target.0 }
     {
         self.is_joined();
@@ -68,7 +69,7 @@ impl State {
         requires live { is_live self.old.tables.tree target.0 ≡ true }
         requires next { served self.old.tables self.old.order target.0 ≡ Some group.0 }
         requires young { AreYoung self.old.order.held }
-        ensures { TakesPage self.old self.new target.0 result }
+        ensures { TakesPage self.old self.new target.0 group.0 result }
     {
         self.parts.held.are_generations();
         let swap_free = self.has_swap();
