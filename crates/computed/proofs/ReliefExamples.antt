@@ -63,7 +63,7 @@ out = record {
     p = 1;
     page = memory 2 (Held 5);
     there = refl;
-    takeable = refl;
+    next = refl;
     leaves = record {
       block = 0;
       block_free = record { in_range = omega arith; unused = refl };
