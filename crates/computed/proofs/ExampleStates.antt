@@ -51,6 +51,9 @@ max_of n = record no_limits { max = amount.Pages n }
 abbrev pub min_of : ℕ → Limits
 min_of n = record no_limits { min = amount.Pages n }
 
+abbrev pub low_of : ℕ → Limits
+low_of n = record no_limits { low = amount.Pages n }
+
 -- ---- a state with a page in each residence, and a task in each life
 
 -- a page of memory of a group

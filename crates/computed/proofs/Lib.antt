@@ -4,6 +4,7 @@ mod AccessExamples
 mod FileExamples
 mod ProtectionExamples
 mod ReclaimExamples
+mod LowExamples
 mod StepExamples
 mod CallExamples
 mod TurnExamples
