@@ -9,6 +9,7 @@ mod StepExamples
 mod CallExamples
 mod TurnExamples
 mod ReliefExamples
+mod LowStepExamples
 mod LegalExamples
 mod HistoryExamples
 mod FileHistoryExamples

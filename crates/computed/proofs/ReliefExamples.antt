@@ -46,7 +46,7 @@ module _ (s new : State) (p : ℕ) (page : Page) (counted : List EventCounts) (a
       by_dirty true k = not_sent frame _ k
       by_dirty false k = not_dropped k
 
-  not_taken : (residence : Residence) → LeavesFrom s p page residence counted answer new → ⊥
+  pub not_taken : (residence : Residence) → LeavesFrom s p page residence counted answer new → ⊥
   not_taken (Held frame) h = not_by frame page.content h
   not_taken residence h = absurd h
 
@@ -96,7 +96,7 @@ abbrev relieve : Event
 relieve = event.Relieve (cause.Charge (group 1))
 
 -- task 2, the larger, is killed, and its pages are gone. That it came to this is counted at /p, where room was wanted, and the kill at the task's own group
-abbrev killed : State
+abbrev pub killed : State
 killed = record stuck {
   pages = Some (memory 2 (Held 0)) ∷ [];
   tasks = None ∷ Some (task_of 2 Live) ∷ Some (task_of 3 Killed) ∷ [];
