@@ -13,6 +13,7 @@ mod LowStepExamples
 mod LegalExamples
 mod HistoryExamples
 mod FileHistoryExamples
+mod LowHistoryExamples
 mod SharingExamples
 mod SharedHistoryExamples
 mod RemovalExamples

@@ -1,5 +1,5 @@
 -- Examples: memory.low, which keeps pages as long as others have some to give. What it protects, which pages are open, who gives one, and what is counted where none is open.
-use Rattle.std.proofs.Common.{◌≡◌, ℕ, true, false, Bool, List, [], ◌∷◌, Option, Some, None, refl}
+use Rattle.std.proofs.Common.{◌≡◌, ℕ, true, false, Bool, List, [], ◌∷◌, ◌++◌, Option, Some, None, refl}
 use Rattle.machine.specs.declared.amount.Amount.TheVariants.{Max, Pages}
 use Rattle.machine.specs.declared.event.Setting.TheVariants as setting
 use Rattle.machine.specs.declared.event.Query.TheVariants as query
@@ -13,7 +13,7 @@ use Rattle.machine.specs.declared.reply.Reply.TheVariants as reply
 use Rattle.machine.specs.declared.reply.Shown.TheVariants as shown
 use Rattle.machine.specs.declared.refusal.Refusal.TheVariants.{NoEntry}
 use Rattle.machine.specs.Tree.{chain_up, chain, under_at, chain_below, preorder_to}
-use Rattle.machine.specs.Pages.{Held, Going, Page}
+use Rattle.machine.specs.Pages.{Residence, Held, Going, Away, Page}
 use Rattle.machine.specs.Counts.{no_limits, guard_of, no_counts, local, total}
 use Rattle.machine.specs.Tasks.{task_of}
 use Rattle.machine.specs.Protection.{effective_along}
@@ -270,6 +270,40 @@ other-serves = refl
 other-counts : counted_at_take other_within 1 2 ≡ other_within.counted
 unfolding chain_up chain under_at chain_below effective_along
 other-counts = refl
+
+-- page 0 is /p's, and pages 1 and 2 are /p/a's. /p has a low of 3, which it uses, and /p/a one of 1
+abbrev nested : State
+nested = record free {
+  limits = no_limits ∷ low_of 3 ∷ low_of 1 ∷ no_limits ∷ no_limits ∷ no_limits ∷ [];
+  pages = Some (memory 1 (Held 0)) ∷ Some (memory 2 (Held 1)) ∷ Some (memory 2 (Held 2)) ∷ [];
+}
+
+-- a reclaim of the root passes over /p, and not over what is below it
+nested-serves : served nested (full_order None) 0 ≡ Some 2
+unfolding chain_up chain under_at chain_below effective_along preorder_to
+nested-serves = refl
+
+-- a page more is /p's: it is the first to give one then
+nested-serves_more : served (record nested { pages = nested.pages ++ Some (memory 1 (Held 3)) ∷ [] }) (full_order None) 0 ≡ Some 1
+unfolding chain_up chain under_at chain_below effective_along preorder_to
+nested-serves_more = refl
+
+-- /p/a has a low of 1, and its page 1 stands here
+abbrev second_at : Residence → State
+second_at residence = record free {
+  limits = no_limits ∷ max_of 3 ∷ low_of 1 ∷ no_limits ∷ no_limits ∷ no_limits ∷ [];
+  pages = Some (memory 2 (Held 0)) ∷ Some (memory 2 residence) ∷ Some (memory 3 (Held 2)) ∷ [];
+}
+
+-- while it is written out, it is of what /p/a uses: page 0 is open
+second-going : is_open (second_at (Going 1 0 9)) 1 (memory 2 (Held 0)) ≡ true
+unfolding chain_up chain under_at chain_below effective_along
+second-going = refl
+
+-- when it has left, /p/a is within its low
+second-away : is_open (second_at (Away 0)) 1 (memory 2 (Held 0)) ≡ false
+unfolding chain_up chain under_at chain_below effective_along
+second-away = refl
 
 -- ---- all are within their lows
 

@@ -1,6 +1,6 @@
 -- Examples: a reclaim and a relief where lows protect pages. What does not come of them is shown not to: a page within its group's low while another is open, a wrong count of `low`, a kill.
 use Rattle.std.proofs.Common.{◌≡◌, ◌≢◌, ℕ, zero, suc, ◌<◌, Bool, true, false, List, [], ◌∷◌, length, Some, None, refl, sym, ap, ◌∙◌, subst, arith}
-use Rattle.std.specs.Prelude.{MatchBool, replicate}
+use Rattle.std.specs.Prelude.{MatchBool}
 use Rattle.machine.specs.declared.event.Cause.TheVariants as cause
 use Rattle.machine.specs.declared.event.Event.{Event}
 use Rattle.machine.specs.declared.event.Event.TheVariants as event
@@ -11,7 +11,7 @@ use Rattle.machine.specs.declared.reply.Reply.TheVariants as reply
 use Rattle.machine.specs.Slots.{at, there_and}
 use Rattle.machine.specs.Tree.{chain_up, chain, under_at, chain_below, preorder_to}
 use Rattle.machine.specs.Pages.{Content, Memory, OfFile, Residence, Held, Going, Page, page_at, is_held, is_held_in, home_block}
-use Rattle.machine.specs.Counts.{Counted, no_counts, local, total}
+use Rattle.machine.specs.Counts.{Counted, local, total}
 use Rattle.machine.specs.Protection.{effective_along}
 use Rattle.machine.specs.State.{State}
 use Rattle.machine.specs.Reclaim.{is_next, counted_at_take}
@@ -25,7 +25,7 @@ use Rattle.machine.specs.Call.{Past, Called}
 use Rattle.machine.proofs.Values.{some_inj, unlike}
 use Rattle.legal.proofs.OrdersLemmas.{taken_is_picked, takes_next_alike}
 use Rattle.computed.proofs.ExampleStates.{group, task, ticket, memory, listed_at, young, searched, lists_of, no_marks, stuck}
-use Rattle.computed.proofs.CallExamples.{caller, past, after, not_new, stay_unmarked}
+use Rattle.computed.proofs.CallExamples.{caller, past, after, stay_unmarked}
 use Rattle.computed.proofs.ReliefExamples.{killed, not_taken}
 use Rattle.computed.proofs.LowExamples.{one_within, all_within, moving, full_order, lows_at_two}
 
