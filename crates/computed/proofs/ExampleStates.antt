@@ -46,10 +46,13 @@ abbrev pub tree : List Node
 tree = root ∷ below 0 (codes "/p") ∷ below 1 (codes "/p/a") ∷ below 1 (codes "/p/b") ∷ record (below 0 (codes "/q")) { live = false } ∷ below 0 (codes "/r") ∷ []
 
 abbrev pub max_of : ℕ → Limits
-max_of n = record { max = amount.Pages n; min = amount.Pages 0 }
+max_of n = record no_limits { max = amount.Pages n }
 
 abbrev pub min_of : ℕ → Limits
-min_of n = record { max = amount.Max; min = amount.Pages n }
+min_of n = record no_limits { min = amount.Pages n }
+
+abbrev pub low_of : ℕ → Limits
+low_of n = record no_limits { low = amount.Pages n }
 
 -- ---- a state with a page in each residence, and a task in each life
 

@@ -25,6 +25,7 @@ use Rattle.machine.specs.Call.{need}
 use Rattle.machine.specs.Lists.{shown_at, is_in_bits}
 use Rattle.machine.specs.Step.{in_frame, on_block, touched, shown_of, LeavesFrom, Step}
 use Rattle.machine.proofs.Values.{some_inj}
+use Rattle.machine.proofs.TakeableLemmas.{next-takeable}
 use Rattle.computed.proofs.ExampleStates.{group, task, frame, shows, tree, max_of, memory, opening}
 use Rattle.std.specs.Prelude.{replicate}
 
@@ -286,7 +287,7 @@ takes-some = refl
 
 takes-number : (answer : Reply) (new : State) → Step swapless (event.ReclaimOne (group 3)) answer new → (p : ℕ) × (page : Page) × (page_at kept p ≡ Some page) × (p ≡ 2)
 unfolding chain_up chain under_at chain_below effective_along
-takes-number answer new step = (step.p, step.page, step.there, only_dirty step.p step.page step.there step.takeable)
+takes-number answer new step = (step.p, step.page, step.there, only_dirty step.p step.page step.there (next-takeable swapless 3 step.page step.next))
 
 -- ---- ends of transfers
 

@@ -216,7 +216,7 @@ reclaims = record {
     p = 1;
     page = dirty;
     there = refl;
-    takeable = refl;
+    next = refl;
     leaves = record { ticket = 6; ticket_free = refl; placed = record { changed = refl; others = only (Some dirty) (Some going) }; answers = refl; state = refl };
   };
 }

@@ -151,7 +151,7 @@ reclaims = record {
     p = 1;
     page = memory 0 made;
     there = refl;
-    takeable = refl;
+    next = refl;
     leaves = record {
       block = 4;
       block_free = record { in_range = omega arith; unused = refl };

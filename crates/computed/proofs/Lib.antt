@@ -4,13 +4,16 @@ mod AccessExamples
 mod FileExamples
 mod ProtectionExamples
 mod ReclaimExamples
+mod LowExamples
 mod StepExamples
 mod CallExamples
 mod TurnExamples
 mod ReliefExamples
+mod LowStepExamples
 mod LegalExamples
 mod HistoryExamples
 mod FileHistoryExamples
+mod LowHistoryExamples
 mod SharingExamples
 mod SharedHistoryExamples
 mod RemovalExamples

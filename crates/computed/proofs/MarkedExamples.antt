@@ -322,7 +322,7 @@ takes-1 = record {
     p = 1;
     page = memory 1 (Held 1);
     there = refl;
-    takeable = refl;
+    next = refl;
     leaves = record {
       block = 0;
       block_free = record { in_range = omega arith; unused = refl };
@@ -480,7 +480,7 @@ takes-3 = record {
     p = 3;
     page = memory 1 (Held 1);
     there = refl;
-    takeable = refl;
+    next = refl;
     leaves = record {
       block = 1;
       block_free = record { in_range = omega arith; unused = refl };

@@ -4,7 +4,6 @@ use Rattle.std.specs.Prelude.{MatchBool}
 use Rattle.machine.specs.declared.event.Cause.TheVariants as cause
 use Rattle.machine.specs.declared.event.Event.{Event}
 use Rattle.machine.specs.declared.event.Event.TheVariants as event
-use Rattle.machine.specs.declared.record.Key.TheVariants as key
 use Rattle.machine.specs.declared.record.Life.TheVariants.{Live, Killed}
 use Rattle.machine.specs.declared.reply.Reply.{Reply}
 use Rattle.machine.specs.declared.reply.Reply.TheVariants as reply
@@ -46,7 +45,7 @@ module _ (s new : State) (p : ℕ) (page : Page) (counted : List EventCounts) (a
       by_dirty true k = not_sent frame _ k
       by_dirty false k = not_dropped k
 
-  not_taken : (residence : Residence) → LeavesFrom s p page residence counted answer new → ⊥
+  pub not_taken : (residence : Residence) → LeavesFrom s p page residence counted answer new → ⊥
   not_taken (Held frame) h = not_by frame page.content h
   not_taken residence h = absurd h
 
@@ -63,7 +62,7 @@ out = record {
     p = 1;
     page = memory 2 (Held 5);
     there = refl;
-    takeable = refl;
+    next = refl;
     leaves = record {
       block = 0;
       block_free = record { in_range = omega arith; unused = refl };
@@ -96,7 +95,7 @@ abbrev relieve : Event
 relieve = event.Relieve (cause.Charge (group 1))
 
 -- task 2, the larger, is killed, and its pages are gone. That it came to this is counted at /p, where room was wanted, and the kill at the task's own group
-abbrev killed : State
+abbrev pub killed : State
 killed = record stuck {
   pages = Some (memory 2 (Held 0)) ∷ [];
   tasks = None ∷ Some (task_of 2 Live) ∷ Some (task_of 3 Killed) ∷ [];

@@ -170,7 +170,7 @@ reclaims = record {
     p = 1;
     page = memory 1 made;
     there = refl;
-    takeable = refl;
+    next = refl;
     leaves = record {
       block = 4;
       block_free = record { in_range = omega arith; unused = refl };

@@ -10,6 +10,7 @@ use Rattle.machine.specs.declared.event.Query.TheVariants as query
 use Rattle.machine.specs.declared.event.Event.{Event}
 use Rattle.machine.specs.declared.event.Event.TheVariants as event
 use Rattle.machine.specs.declared.id.FrameId.{FrameId}
+use Rattle.machine.specs.declared.record.Guard.TheVariants as guard
 use Rattle.machine.specs.declared.record.Life.TheVariants.{Exited, Killed}
 use Rattle.machine.specs.declared.record.Key.TheVariants as key
 use Rattle.machine.specs.declared.reply.Reply.{Reply}
@@ -91,7 +92,7 @@ set-root : refusal busy (event.Set (group 0) (setting.Max amount.Max)) ≡ Some 
 set-root = refl
 
 -- the target has no protection from itself to be asked for
-show-own : refusal busy (event.Show (query.Protection (group 1) (group 1))) ≡ Some NoEntry
+show-own : refusal busy (event.Show (query.Protection guard.Min (group 1) (group 1))) ≡ Some NoEntry
 unfolding chain_up chain under_at
 show-own = refl
 
