@@ -1,5 +1,5 @@
 -- What was decided and done is an answer to every event that the decision is one for.
-use Rattle.std.proofs.Common.{◌≡◌, ◌∙◌, ℕ, false, Some, None, refl, sym, ap, subst}
+use Rattle.std.proofs.Common.{true, Bool, List, cond, not, ◌≡◌, ◌∙◌, ℕ, false, Some, None, refl, sym, ap, subst}
 use Rattle.machine.specs.declared.id.GroupId.{GroupId}
 use Rattle.machine.specs.declared.id.TaskId.{TaskId}
 use Rattle.machine.specs.declared.id.PageId.{PageId}
@@ -41,9 +41,9 @@ use Rattle.book.specs.Events.{reply_of}
 use Rattle.book.specs.Replies.{IsAccessReply, IsReliefReply, IsReclaimReply}
 use Rattle.book.specs.Effects.{knows}
 use Rattle.book.specs.MakesStep.{MakesStep, GivesTicket, RepliesTo}
-use Rattle.book.proofs.EndLemmas.{counting, makes_step-kill}
+use Rattle.book.proofs.EndLemmas.{makes_step-kill}
 use Rattle.book.specs.declared.decision.PageFault.{PageFault}
-use Rattle.book.specs.Decisions.{MeetsSource, offset_at, IsFault, met_by, MeetsSo, HasRoomFor, LacksRoomFor, IsIdleFor, IsOfKilled, AsksPage, WantsRoom, HasItsRoom, FindsNothing, AnswersTo, Carries}
+use Rattle.book.specs.Decisions.{with_counted, counted_for, MeetsSource, offset_at, IsFault, met_by, MeetsSo, HasRoomFor, LacksRoomFor, IsIdleFor, IsOfKilled, AsksPage, WantsRoom, HasItsRoom, FindsNothing, AnswersTo, Carries}
 use Rattle.book.proofs.StepLemmas.{InOrder, still-self, still-counts, held-known, over_step, frameless_step, granted_step, makes_step-set, makes_step-killed, makes_step-undone, met_step, tries_charge, makes_step-room, makes_step-wait, makes_step-no_victim, makes_step-nothing}
 use Rattle.book.proofs.MoveLemmas.{moves-pages, filed-single, holders-beside, holders-new, makes_step-fetch, makes_step-out, makes_step-dropped}
 use Rattle.book.proofs.TouchLemmas.{makes_step-made}
@@ -171,7 +171,7 @@ counts-so s target found low = ap (λ (b : Bool). let cs : List EventCounts = co
 pub carries-out : (old new : StateOf) (target : GroupId) (found : Served) (ticket : TicketOf) → BeginsWriteOut (with_counted old (counted_for old.tables found)) new target.0 found.group.0 ticket → Carries old (decision.Take target found) (given.Out ticket) new
 carries-out old new target found ticket begins what is =
     record {
-      makes_step = makes_step-out old new (counted_for old.tables found) target.0 found.group.0 ticket begins (counts-so old target found is.sound.3) what is.fits;
+      makes_step = makes_step-out old new (counted_for old.tables found) target.0 found.group.0 ticket begins (counts-so old target found is.sound.4) what is.fits;
       gives = (begins.p, begins.label, begins.frame, begins.begins.placed.changed, begins.begins.given, begins.holds);
       replies = replies-asked old.tables what target.0 (given.Out ticket) is.fits tt tt;
     }
@@ -179,7 +179,7 @@ carries-out old new target found ticket begins what is =
 pub carries-dropped : (old new : StateOf) (files : FilesOf) (target : GroupId) (found : Served) → AreFiled files old.tables.pages → DropsClean (with_counted old (counted_for old.tables found)) new target.0 found.group.0 → Carries old (decision.Take target found) given.Dropped new
 carries-dropped old new files target found filed drops what is =
     record {
-      makes_step = makes_step-dropped old new (counted_for old.tables found) target.0 found.group.0 (filed-single files old.tables.pages filed) drops (counts-so old target found is.sound.3) what is.fits;
+      makes_step = makes_step-dropped old new (counted_for old.tables found) target.0 found.group.0 (filed-single files old.tables.pages filed) drops (counts-so old target found is.sound.4) what is.fits;
       gives = tt;
       replies = replies-asked old.tables what target.0 given.Dropped is.fits tt tt;
     }
@@ -220,7 +220,7 @@ carries-kill old first second new limit t g oom kills home ends what is = by_eve
     idle : IsIdleFor old.tables limit.0
     idle = is.sound.1
 
-    ended : EndsTask (counting old (with_event (with_event old.tables.counted limit.0 key.Oom) (group_of_task old.tables.tasks t.0) key.OomKill)) new t.0 Killed
+    ended : EndsTask (with_counted old (with_event (with_event old.tables.counted limit.0 key.Oom) (group_of_task old.tables.tasks t.0) key.OomKill)) new t.0 Killed
     ended =
         subst (λ (s : StateOf). EndsTask s new t.0 Killed)
         (kills ∙ ap (λ (s : StateOf). counts_event s g key.OomKill) oom ∙ ap (λ (h : ℕ). counts_event (counts_event old limit.0 key.Oom) h key.OomKill) (sym home)) ends
@@ -230,7 +230,7 @@ carries-kill old first second new limit t g oom kills home ends what is = by_eve
         record {
           makes_step = makes_step-kill old new why t.0 wants.0 (ap (has_takeable old.tables) wants.1 ∙ idle.untakeable) (ap (has_transfer old.tables) wants.1 ∙ idle.settled)
               (subst (λ (l : ℕ). IsVictim old.tables.tree old.tables.tasks old.tables.page_tables l (Some t.0)) (sym wants.1) is.sound.2)
-              (subst (λ (l : ℕ). EndsTask (counting old (with_event (with_event old.tables.counted l key.Oom) (group_of_task old.tables.tasks t.0) key.OomKill)) new t.0 Killed) (sym wants.1) ended);
+              (subst (λ (l : ℕ). EndsTask (with_counted old (with_event (with_event old.tables.counted l key.Oom) (group_of_task old.tables.tasks t.0) key.OomKill)) new t.0 Killed) (sym wants.1) ended);
           gives = tt;
           replies = tt;
         }

@@ -118,7 +118,7 @@ counted_for s found = if found.low_reclaim then with_event s.counted found.group
 abbrev pub IsSound : State → Order → Decision → Type 0
 IsSound s order (decision.Access fault met) = IsFault s fault × MeetsSo s fault met × HasRoomFor s fault
 IsSound s order (decision.Lacks fault why) = IsFault s fault × LacksRoomFor s fault why
-IsSound s order (decision.Take target found) = (is_live s.tree target.0 ≡ true) × (served s order target.0 ≡ Some found.group.0) × (has_takeable s target.0 ≡ true) × (found.low_reclaim ≡ not (has_open s target.0))
+IsSound s order (decision.Take target found) = (is_live s.tree target.0 ≡ true) × (served s order target.0 ≡ Some found.group.0) × (has_takeable s target.0 ≡ true) × (is_live s.tree found.group.0 ≡ true) × (found.low_reclaim ≡ not (has_open s target.0))
 IsSound s order (decision.Kill limit t) = (is_live s.tree limit.0 ≡ true) × IsIdleFor s limit.0 × IsVictim s.tree s.tasks s.page_tables limit.0 (Some t.0)
 IsSound s order (decision.NoVictim limit) = (is_live s.tree limit.0 ≡ true) × IsIdleFor s limit.0 × IsVictim s.tree s.tasks s.page_tables limit.0 None
 IsSound s order (decision.Fork t child) = HasLife s t.0 Live × (number_refusal s.tasks child.0 ≡ None)

@@ -28,6 +28,7 @@ impl State {
     pub fn next_group(&self, target: GroupId) -> Option<Served>
         requires { is_live self.now.tables.tree target.0 ≡ true }
         ensures next { IfSome result (λ s. served self.now.tables self.now.order target.0 ≡ Some s.group.0) }
+        ensures live { IfSome result (λ s. is_live self.now.tables.tree s.group.0 ≡ true) }
         ensures low { IfSome result (λ s. s.low_reclaim ≡ not (has_open self.now.tables target.0)) }
         ensures takeable { is_some result ≡ has_takeable self.now.tables target.0 }
     {

@@ -5,6 +5,12 @@ use Rattle.std.proofs.Common.{Option, subst}
 use Rattle.pages.specs.Tickets.{TicketOf}
 use Rattle.book.proofs.apply.take.Goals as goal
 
+pub count_low-requires-clause-live : goal.count_low-requires-clause-live
+count_low-requires-clause-live c = c.requires.sound.3
+
+pub take_out-requires-clause-next : goal.take_out-requires-clause-next
+take_out-requires-clause-next c = rw c.count_low.ensures c.requires.sound.1
+
 pub returns-in-Some : goal.returns-in-Some
 returns-in-Some c =
     let s = c.args.state.now in

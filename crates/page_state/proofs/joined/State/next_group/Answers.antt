@@ -86,6 +86,9 @@ returns-clause-next c =
     rw (← c.self.view_is)
     (with_it c.next_group.result (found c) (λ s is. turn-is c.self.inside c.self.invariant c.groups_form_a_tree.ensures.earlier_parents c.args.target.0 c.groups_form_a_tree.ensures (live c) (last c) s is))
 
+pub returns-clause-live : goal.returns-clause-live
+returns-clause-live c = rw (← c.self.view_is) (with_it c.next_group.result (found c) (λ s is. is.live))
+
 pub returns-clause-low : goal.returns-clause-low
 returns-clause-low c =
     rw (← c.self.view_is)
