@@ -5,6 +5,7 @@ ghost use Rattle.machine.specs.Control.{file_named, has_file};
 
 use machine::control::ControlFile;
 use machine::id::GroupId;
+use machine::record::Guard;
 
 /// The control file of a name.
 pub fn file_named(name: &str) -> Option<ControlFile>
@@ -13,7 +14,8 @@ pub fn file_named(name: &str) -> Option<ControlFile>
     match name {
         "memory.current" => Some(ControlFile::Current),
         "memory.max" => Some(ControlFile::Max),
-        "memory.min" => Some(ControlFile::Min),
+        "memory.min" => Some(ControlFile::Guard(Guard::Min)),
+        "memory.low" => Some(ControlFile::Guard(Guard::Low)),
         "memory.events" => Some(ControlFile::Events),
         "memory.events.local" => Some(ControlFile::EventsLocal),
         "memory.stat" => Some(ControlFile::Stat),
@@ -27,7 +29,7 @@ pub fn has_file(group: GroupId, file: ControlFile) -> bool
     ensures { result ≡ has_file group.0 file }
 {
     match file {
-        ControlFile::Current | ControlFile::Max | ControlFile::Min => group.0 != 0,
+        ControlFile::Current | ControlFile::Max | ControlFile::Guard(_) => group.0 != 0,
         ControlFile::Events | ControlFile::EventsLocal | ControlFile::Stat => group.0 != 0,
         ControlFile::Reclaim => true,
     }

@@ -61,11 +61,11 @@ file_causes tree g = causes (not (is_live tree g) || (g == 0)) NoEntry None (λ 
 show_causes : (s : State) (what : Query) → NoStranger (show_refusal s what)
 show_causes s (query.Current g) = file_causes s.tree g.0
 show_causes s (query.Max g) = file_causes s.tree g.0
-show_causes s (query.Min g) = file_causes s.tree g.0
+show_causes s (query.Guard guard g) = file_causes s.tree g.0
 show_causes s (query.Events g) = file_causes s.tree g.0
 show_causes s (query.EventsLocal g) = file_causes s.tree g.0
 show_causes s (query.Stat g) = file_causes s.tree g.0
-show_causes s (query.Protection target g) = causes (not (below_target s.tree target.0 g.0)) NoEntry None (λ e. cc) no_cause
+show_causes s (query.Protection guard target g) = causes (not (below_target s.tree target.0 g.0)) NoEntry None (λ e. cc) no_cause
 
 life_causes : (life : Life) (others : Option Refusal) → NoStranger others → NoStranger (life_refusal life others)
 life_causes Live others h = h

@@ -256,7 +256,7 @@ amount-owed (Some a) next none = none a
 reads-owed : (g : ℕ) (f : ControlFile) → owed_judged (reads_file g f) ≡ 0
 reads-owed g file.Current = refl
 reads-owed g file.Max = refl
-reads-owed g file.Min = refl
+reads-owed g (file.Guard guard) = refl
 reads-owed g file.Events = refl
 reads-owed g file.EventsLocal = refl
 reads-owed g file.Stat = refl
@@ -272,7 +272,7 @@ writes-owed g text file.Events = refl
 writes-owed g text file.EventsLocal = refl
 writes-owed g text file.Stat = refl
 writes-owed g text file.Max = amount-owed (amount_of text) _ (λ a. refl)
-writes-owed g text file.Min = amount-owed (amount_of text) _ (λ a. refl)
+writes-owed g text (file.Guard guard) = amount-owed (amount_of text) _ (λ a. refl)
 writes-owed g text file.Reclaim = amount-owed (amount_of text) _ (reclaims-owed g)
 
 task-owed : (t : ℕ) (what : Command) → owed_judged (task_judged t what) ≡ 0
@@ -294,7 +294,7 @@ shell-owed (command.Task t path) found = group-owed (at found 0) _ (λ g. refl)
 shell-owed (command.Attach t path) found = group-owed (at found 0) _ (λ g. refl)
 shell-owed (command.Set path name text) found = group-owed (at found 0) _ (λ g. file-owed g (file_named name) _ (writes-owed g text))
 shell-owed (command.Cat path name) found = group-owed (at found 0) _ (λ g. file-owed g (file_named name) _ (reads-owed g))
-shell-owed (command.Protection target path) found = group-owed (at found 0) _ (λ t. group-owed (at found 1) _ (λ g. refl))
+shell-owed (command.Protection guard target path) found = group-owed (at found 0) _ (λ t. group-owed (at found 1) _ (λ g. refl))
 
 daemon-owed : (what : Command) → owed_judged (daemon_judged what) ≡ 0
 daemon-owed command.Daemon = refl

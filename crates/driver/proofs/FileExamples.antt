@@ -372,7 +372,7 @@ drops = record {
 
 -- /r is full, so that an access of its task has to make room
 abbrev full : Pages → State
-full pages = record (with_pages pages) { limits = no_limits ∷ record { max = amount.Pages 1; min = amount.Pages 0 } ∷ [] }
+full pages = record (with_pages pages) { limits = no_limits ∷ record no_limits { max = amount.Pages 1 } ∷ [] }
 
 abbrev full_once : Past
 full_once = record cached_once { state = full held }

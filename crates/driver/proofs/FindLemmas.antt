@@ -42,7 +42,7 @@ few-shell (command.Task t path) = omega arith
 few-shell (command.Attach t path) = omega arith
 few-shell (command.Set path name text) = omega arith
 few-shell (command.Cat path name) = omega arith
-few-shell (command.Protection target path) = omega arith
+few-shell (command.Protection guard target path) = omega arith
 few-shell others = omega arith
 
 -- a command has two paths at most

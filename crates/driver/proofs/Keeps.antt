@@ -228,7 +228,7 @@ judged-plain tree who what = by_actor who
     reads : (g : ℕ) (f : ControlFile) → Plain (reads_file g f)
     reads g file.Current = refl
     reads g file.Max = refl
-    reads g file.Min = refl
+    reads g (file.Guard guard) = refl
     reads g file.Events = refl
     reads g file.EventsLocal = refl
     reads g file.Stat = refl
@@ -244,7 +244,7 @@ judged-plain tree who what = by_actor who
     writes g text file.EventsLocal = λ e. cc
     writes g text file.Stat = λ e. cc
     writes g text file.Max = by_amount (amount_of text) _ (λ amount. refl)
-    writes g text file.Min = by_amount (amount_of text) _ (λ amount. refl)
+    writes g text (file.Guard guard) = by_amount (amount_of text) _ (λ amount. refl)
     writes g text file.Reclaim = by_amount (amount_of text) _ (reclaimed g)
 
     by_shell : (what : Command) (found : List (Option ℕ)) → Plain (shell_judged what found)
@@ -259,7 +259,7 @@ judged-plain tree who what = by_actor who
     by_shell (command.Attach t path) found = by_group (at found 0) _ (λ g. refl)
     by_shell (command.Set path name text) found = by_group (at found 0) _ (λ g. by_file g (file_named name) _ (writes g text))
     by_shell (command.Cat path name) found = by_group (at found 0) _ (λ g. by_file g (file_named name) _ (reads g))
-    by_shell (command.Protection target path) found = by_group (at found 0) _ (λ t. by_group (at found 1) _ (λ g. refl))
+    by_shell (command.Protection guard target path) found = by_group (at found 0) _ (λ t. by_group (at found 1) _ (λ g. refl))
 
     by_daemon : (what : Command) → Plain (daemon_judged what)
     by_daemon command.Daemon = refl

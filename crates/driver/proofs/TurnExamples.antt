@@ -73,7 +73,7 @@ abbrev world : Past → Activity → World
 world at what = record { past = at; caller = caller; disk = disk; seats = record { actor = actor.Shell; activity = what } ∷ []; turns = 1000 }
 
 abbrev limited : State
-limited = record empty { limits = no_limits ∷ record { max = amount.Pages 1; min = amount.Pages 0 } ∷ [] }
+limited = record empty { limits = no_limits ∷ record no_limits { max = amount.Pages 1 } ∷ [] }
 
 abbrev once_set : Past
 once_set = after opened (event.Set r (setting.Max (amount.Pages 1))) reply.Ok limited

@@ -117,7 +117,12 @@ fn give_up_stage(book: &mut Book, pass: &mut Pass, stage: Stage)
             give_out(book, pass, ticket)
         }
         Stage::Try(_) | Stage::MakeRoom(_, _) | Stage::SetMax { group: _, max: _ } => {}
-        Stage::Lower(_) | Stage::SetMin { group: _, min: _ } => {}
+        Stage::Lower(_)
+        | Stage::SetGuard {
+            group: _,
+            guard: _,
+            amount: _,
+        } => {}
         Stage::Reclaim { group: _, left: _ } | Stage::Watch | Stage::Balance => {}
         Stage::Spawn { task: _, group: _ } | Stage::Fork { task: _, child: _ } => {}
         Stage::Exit(_) | Stage::Free { task: _, page: _ } => {}

@@ -20,7 +20,7 @@ path_in (command.Task number path) = Some path
 path_in (command.Attach number path) = Some path
 path_in (command.Set path file text) = Some path
 path_in (command.Cat path file) = Some path
-path_in (command.Protection target path) = Some path
+path_in (command.Protection guard target path) = Some path
 path_in command.Daemon = Some (codes "/")
 path_in other = None
 

@@ -88,7 +88,11 @@ fn path_of(command: &Command) -> Option<&str>
             text: _,
         } => Some(path.as_str()),
         Command::Cat { path, file: _ } => Some(path.as_str()),
-        Command::Protection { target: _, path } => Some(path.as_str()),
+        Command::Protection {
+            guard: _,
+            target: _,
+            path,
+        } => Some(path.as_str()),
         Command::Daemon => Some("/"),
         Command::Access { place: _, op: _ } | Command::Fork { child: _ } => None,
         Command::Free { page: _ } | Command::Exit => None,
@@ -146,7 +150,11 @@ fn no_entry<'a>(told: Told<'a>) -> Option<Reason<'a>>
             text: _,
         } => no_file(told, file.as_str()),
         Command::Cat { path: _, file } => no_file(told, file.as_str()),
-        Command::Protection { target, path } => {
+        Command::Protection {
+            guard: _,
+            target,
+            path,
+        } => {
             Some(no_target(told, target.as_str(), path.as_str()))
         }
         command => Some(Reason::NoGroup(path_of(command)?)),
@@ -326,7 +334,7 @@ fn not_set<'a>(told: Told<'a>, file: &'a str, text: &'a str) -> Option<Reason<'a
     ensures { IfSome result (IsSo told.entry.actor told.entry.command.now) }
 {
     match file_named(file) {
-        Some(ControlFile::Max | ControlFile::Min | ControlFile::Reclaim) => {}
+        Some(ControlFile::Max | ControlFile::Guard(_) | ControlFile::Reclaim) => {}
         _ => return Some(Reason::NotWritten(file)),
     }
     match parse_amount(text) {

@@ -37,7 +37,8 @@ use Rattle.legal.proofs.RemovedCounts.{removal, SameNumbers, numbers-handed, len
 use Rattle.legal.proofs.OrdersLemmas.{orders_alike}
 use Rattle.legal.proofs.SoundLemmas.{legal-sound}
 use Rattle.eviction.proofs.SoundLemmas.{picked-length, picked-generations, picked-size, picked-held, picked-of, picked-marked, picked-unmarked}
-use Rattle.laws.specs.Laws.{took_for, TakesUnprotected, ListsGoOn, HeldPagesGoOn, KeepNumbers, OnlyTakesAge, OnlyMergesMark, ChangesMarksAlone, MergesChangeMarksAlone, LeavesInOrder, OrdersAreSettled}
+use Rattle.machine.specs.Events.{took_for}
+use Rattle.laws.specs.Laws.{TakesUnprotected, ListsGoOn, HeldPagesGoOn, KeepNumbers, OnlyTakesAge, OnlyMergesMark, ChangesMarksAlone, MergesChangeMarksAlone, LeavesInOrder, OrdersAreSettled}
 use Rattle.machine.proofs.MergeLemmas.{held-merged, generations-merged}
 use Rattle.legal.proofs.TransferLemmas.{legal-room}
 use Rattle.laws.proofs.LawLemmas.{by_test}

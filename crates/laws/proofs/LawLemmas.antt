@@ -108,18 +108,18 @@ is_taking reply.Dropped = true
 is_taking answer = false
 
 -- so does the answer where one leaves
-taking_by : (old new : State) (p frame : ℕ) (page : Page) (content : Content) (answer : Reply) → LeavesBy old p page content frame old.counted answer new → is_taking answer ≡ true
-taking_by old new p frame page Memory answer h = ap is_taking h.leave.answers
-taking_by old new p frame page (OfFile file q) answer h = by_test page.dirty (λ k. ap is_taking k.answers) (λ k. ap is_taking k.answers) h
+taking_by : (old new : State) (p frame : ℕ) (page : Page) (content : Content) (counted : List EventCounts) (answer : Reply) → LeavesBy old p page content frame counted answer new → is_taking answer ≡ true
+taking_by old new p frame page Memory counted answer h = ap is_taking h.leave.answers
+taking_by old new p frame page (OfFile file q) counted answer h = by_test page.dirty (λ k. ap is_taking k.answers) (λ k. ap is_taking k.answers) h
 
-taking_from : (old new : State) (p : ℕ) (page : Page) (residence : Residence) (answer : Reply) → LeavesFrom old p page residence old.counted answer new → is_taking answer ≡ true
-taking_from old new p page (Held frame) answer h = taking_by old new p frame page page.content answer h
-taking_from old new p page (Coming frame block ticket) answer h = absurd h
-taking_from old new p page (Going frame block ticket) answer h = absurd h
-taking_from old new p page (Away block) answer h = absurd h
+taking_from : (old new : State) (p : ℕ) (page : Page) (residence : Residence) (counted : List EventCounts) (answer : Reply) → LeavesFrom old p page residence counted answer new → is_taking answer ≡ true
+taking_from old new p page (Held frame) counted answer h = taking_by old new p frame page page.content counted answer h
+taking_from old new p page (Coming frame block ticket) counted answer h = absurd h
+taking_from old new p page (Going frame block ticket) counted answer h = absurd h
+taking_from old new p page (Away block) counted answer h = absurd h
 
 pub never_taken : (old : State) (target : ℕ) (answer : Reply) (new : State) → is_taking answer ≡ false → Takes old target answer new → ⊥
-never_taken old target answer new other h = unlike (is_taking answer) (taking_from old new h.p h.page h.page.residence answer h.leaves) other
+never_taken old target answer new other h = unlike (is_taking answer) (taking_from old new h.p h.page h.page.residence _ answer h.leaves) other
 
 pub idle_of : (a b : Bool) (P Q R S : Type 0) → (P → ⊥) → (Q → ⊥) → (R → S) → MatchBool a P (MatchBool b Q R) → ((not a && not b) ≡ true) × S
 idle_of true b P Q R S f g k h = absurd (f h)

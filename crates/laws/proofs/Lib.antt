@@ -8,3 +8,4 @@ pub mod LeftLemmas
 pub mod ShareLemmas
 pub mod TurnLemmas
 pub mod ProtectionLemmas
+pub mod LowLemmas

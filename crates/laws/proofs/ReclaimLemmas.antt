@@ -19,11 +19,13 @@ use Rattle.machine.specs.Pages.{Content, Memory, OfFile, Residence, Held, Coming
 use Rattle.machine.specs.State.{State, usage, over_in, is_frame_free, effective_min}
 use Rattle.machine.specs.Tasks.{task_at}
 use Rattle.machine.specs.Access.{Meeting, Unmapped, Hits, Transferring, NeedsPage, NeedsCopy, NeedsSwapIn, NeedsRead, Dangling, meets}
-use Rattle.machine.specs.Reclaim.{is_unprotected, has_takeable, has_transfer, stands, target_of}
+use Rattle.machine.specs.Reclaim.{is_unprotected, counted_at_take, has_takeable, has_transfer, stands, target_of}
 use Rattle.machine.specs.Step.{Only, ChargeStep, HitStep, MeetStep, LifeStep, TaskStep, StartsLeave, Drops, Takes, LeavesBy, LeavesFrom, ReclaimStep, ReclaimOneStep, KillStep, RelieveStep, Step}
 use Rattle.machine.proofs.Values.{some_inj, never_some, unlike}
 use Rattle.machine.proofs.TreeLemmas.{eq_cases}
-use Rattle.laws.specs.Laws.{took_for, TakesUnprotected, ReclaimsSpareTheProtected, ReclaimsGiveUpLast, ReclaimsKillNobody, OnlyCleanPagesAreDropped}
+use Rattle.machine.specs.Events.{took_for}
+use Rattle.machine.proofs.TakeableLemmas.{next-takeable, takeable-held, takeable-below, takeable-unprotected}
+use Rattle.laws.specs.Laws.{TakesUnprotected, ReclaimsSpareTheProtected, ReclaimsGiveUpLast, ReclaimsKillNobody, OnlyCleanPagesAreDropped}
 use Rattle.laws.proofs.LawLemmas.{by_test, is_taking, never_taken, idle_of}
 
 -- ---- where the answer is that a page was taken, one was
@@ -46,7 +48,7 @@ module _ (before after : State) (answer : Reply) (taking : is_taking answer ≡ 
   one_takes : (g : ℕ) → ReclaimOneStep before g answer after → Takes before g answer after
   one_takes g step = reclaim_takes g _ (not_only reply.Nothing refl) step
 
-step_takes : (before after : State) (what : Event) (answer : Reply) (target : ℕ) → took_for what answer ≡ Some target → Step before what answer after → Takes before target answer after
+pub step_takes : (before after : State) (what : Event) (answer : Reply) (target : ℕ) → took_for what answer ≡ Some target → Step before what answer after → Takes before target answer after
 step_takes before after (event.Relieve why) (reply.Out ticket) target e step = subst (λ t. Takes before t (reply.Out ticket) after) (some_inj e) (relief_takes before after (reply.Out ticket) refl why step)
 step_takes before after (event.Relieve why) reply.Dropped target e step = subst (λ t. Takes before t reply.Dropped after) (some_inj e) (relief_takes before after reply.Dropped refl why step)
 step_takes before after (event.ReclaimOne g) (reply.Out ticket) target e step = subst (λ t. Takes before t (reply.Out ticket) after) (some_inj e) (one_takes before after (reply.Out ticket) refl g.0 step)
@@ -65,7 +67,7 @@ module _ (before after : State) (target : ℕ) where
 
   module _ (answer : Reply) (h : Takes before target answer after) where
     takeable : (is_held h.page ≡ true) × (under before.tree target h.page.group ≡ true) × (is_unprotected before target h.page.group ≡ true)
-    takeable = let all = and_parts _ _ h.takeable in let three = and_parts _ _ all.0 in let two = and_parts _ _ three.0 in (two.0, two.1, three.1)
+    takeable = let takes = next-takeable before target h.page h.next in (takeable-held before target h.page takes, takeable-below before target h.page takes, takeable-unprotected before target h.page takes)
 
     leaves_for : (to : Option Page) → Changes before.pages after.pages h.p to → there_and is_held to ≡ false → TakesUnprotected before target after
     leaves_for to changes gone =
@@ -83,11 +85,11 @@ module _ (before after : State) (target : ℕ) where
     taken_unprotected : TakesUnprotected before target after
     taken_unprotected = by_residence h.page.residence h.leaves
       where
-        by_content : (frame : ℕ) (content : Content) → LeavesBy before h.p h.page content frame before.counted answer after → TakesUnprotected before target after
+        by_content : (frame : ℕ) (content : Content) → LeavesBy before h.p h.page content frame (counted_at_take before target h.page.group) answer after → TakesUnprotected before target after
         by_content frame Memory k = leaves_for _ k.leave.placed refl
         by_content frame (OfFile file q) k = by_test h.page.dirty (λ l. leaves_for _ l.placed refl) (λ l. leaves_for None l.gone refl) k
 
-        by_residence : (r : Residence) → LeavesFrom before h.p h.page r before.counted answer after → TakesUnprotected before target after
+        by_residence : (r : Residence) → LeavesFrom before h.p h.page r (counted_at_take before target h.page.group) answer after → TakesUnprotected before target after
         by_residence (Held frame) k = by_content frame h.page.content k
         by_residence (Coming frame block ticket) k = absurd k
         by_residence (Going frame block ticket) k = absurd k
@@ -112,18 +114,18 @@ module _ (before after : State) (target : ℕ) (h : Takes before target reply.Dr
   taken_clean = by_residence h.page.residence h.leaves
     where
       by_dirty : (frame file q : ℕ) (dirty : Bool) → h.page.content ≡ OfFile file q → h.page.dirty ≡ dirty
-          → MatchBool dirty (StartsLeave before h.p h.page frame (home_block before.opening.swap before.opening.files file q) before.counted reply.Dropped after)
-          (Drops before h.p before.counted reply.Dropped after)
+          → MatchBool dirty (StartsLeave before h.p h.page frame (home_block before.opening.swap before.opening.files file q) (counted_at_take before target h.page.group) reply.Dropped after)
+          (Drops before h.p (counted_at_take before target h.page.group) reply.Dropped after)
           → (is_anon page.content ≡ false) × (page.dirty ≡ false)
       by_dirty frame file q true content dirty k = absurd (let e = k.answers in cc)
       by_dirty frame file q false content clean k = let same = its None k.gone in (ap (λ (x : Page). is_anon x.content) same ∙ ap is_anon content, ap (λ (x : Page). x.dirty) same ∙ clean)
 
-      by_content : (frame : ℕ) (content : Content) → h.page.content ≡ content → LeavesBy before h.p h.page content frame before.counted reply.Dropped after
+      by_content : (frame : ℕ) (content : Content) → h.page.content ≡ content → LeavesBy before h.p h.page content frame (counted_at_take before target h.page.group) reply.Dropped after
           → (is_anon page.content ≡ false) × (page.dirty ≡ false)
       by_content frame Memory is k = absurd (let e = k.leave.answers in cc)
       by_content frame (OfFile file q) is k = by_dirty frame file q h.page.dirty is refl k
 
-      by_residence : (r : Residence) → LeavesFrom before h.p h.page r before.counted reply.Dropped after → (is_anon page.content ≡ false) × (page.dirty ≡ false)
+      by_residence : (r : Residence) → LeavesFrom before h.p h.page r (counted_at_take before target h.page.group) reply.Dropped after → (is_anon page.content ≡ false) × (page.dirty ≡ false)
       by_residence (Held frame) k = by_content frame h.page.content refl k
       by_residence (Coming frame block ticket) k = absurd k
       by_residence (Going frame block ticket) k = absurd k
@@ -201,11 +203,11 @@ reclaims_kill_nobody before after g answer step =
     tasks : Takes before g.0 answer after → after.tasks ≡ before.tasks
     tasks h = by_residence h.page.residence h.leaves
       where
-        by_content : (frame : ℕ) (content : Content) → LeavesBy before h.p h.page content frame before.counted answer after → after.tasks ≡ before.tasks
+        by_content : (frame : ℕ) (content : Content) → LeavesBy before h.p h.page content frame (counted_at_take before target h.page.group) answer after → after.tasks ≡ before.tasks
         by_content frame Memory k = ap (λ (s : State). s.tasks) k.leave.state
         by_content frame (OfFile file q) k = by_test h.page.dirty (λ l. ap (λ (s : State). s.tasks) l.state) (λ l. ap (λ (s : State). s.tasks) l.state) k
 
-        by_residence : (r : Residence) → LeavesFrom before h.p h.page r before.counted answer after → after.tasks ≡ before.tasks
+        by_residence : (r : Residence) → LeavesFrom before h.p h.page r (counted_at_take before target h.page.group) answer after → after.tasks ≡ before.tasks
         by_residence (Held frame) k = by_content frame h.page.content k
         by_residence (Coming frame block ticket) k = absurd k
         by_residence (Going frame block ticket) k = absurd k

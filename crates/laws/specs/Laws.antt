@@ -17,6 +17,8 @@ use Rattle.machine.specs.declared.record.EventCounts.{EventCounts}
 use Rattle.machine.specs.declared.record.MemoryStat.{MemoryStat}
 use Rattle.machine.specs.declared.record.Kind.{Kind}
 use Rattle.machine.specs.declared.record.Key.{Key}
+use Rattle.machine.specs.declared.record.Key.TheVariants as key
+use Rattle.machine.specs.declared.record.Limits.{Limits}
 use Rattle.machine.specs.declared.reply.Reply.{Reply}
 use Rattle.machine.specs.declared.reply.Reply.TheVariants as reply
 use Rattle.machine.specs.declared.reply.Shown.TheVariants as shown
@@ -25,12 +27,12 @@ use Rattle.machine.specs.declared.command.Step.{Step as Line}
 use Rattle.machine.specs.declared.command.Reply.{Reply as Told_by}
 use Rattle.machine.specs.Slots.{there_and, count_there}
 use Rattle.machine.specs.Amounts.{exceeds}
-use Rattle.machine.specs.Counts.{limits_at, count_of_key, local, total, Counted, how_often}
+use Rattle.machine.specs.Counts.{limits_at, count_of_key, with_event, local, total, Counted, how_often}
 use Rattle.machine.specs.Tree.{Node, node_at, is_child, is_live, children, under}
 use Rattle.machine.specs.Pages.{OfFile, Residence, Away, Page, page_at, is_anon, is_held, frame_at, block_at, ticket_at, is_in_transfer, is_charged, in_transfer, used_frames, used_swap, IsFiled}
 use Rattle.machine.specs.Tasks.{lives, group_of_task, mapped_at, size_of}
-use Rattle.machine.specs.State.{Opening, State, page_numbers, usage, effective_min, is_swap_free, opening_of, blocks_of}
-use Rattle.machine.specs.Reclaim.{is_idle, target_of}
+use Rattle.machine.specs.State.{Opening, State, page_numbers, usage, effective_min, effective_low, is_swap_free, opening_of, blocks_of}
+use Rattle.machine.specs.Reclaim.{is_takeable, is_idle, target_of}
 use Rattle.machine.specs.Generations.{row_of, listed, gens_at, AreDistinct}
 use Rattle.machine.specs.Aging.{is_marked, has_mark}
 use Rattle.machine.specs.Eviction.{old_pages}
@@ -42,7 +44,7 @@ use Rattle.machine.specs.Legal.{Legal}
 use Rattle.machine.specs.FirstBytes.{first_of}
 use Rattle.machine.specs.Audit.{Passes}
 use Rattle.machine.specs.Transfers.{transfers_begun, transfers_ended}
-use Rattle.machine.specs.Events.{AreCounted}
+use Rattle.machine.specs.Events.{took_for, AreCounted}
 use Rattle.machine.specs.History.{Spot, InTask, at_first, last, Right, IsRight, Honest}
 use Rattle.machine.specs.declared.command.Answer.TheVariants as answer
 use Rattle.machine.specs.declared.command.Word.TheVariants as word
@@ -130,7 +132,7 @@ EventsAreThoseCounted =
 abbrev pub CountsAreOfTheHistory : Type 0
 CountsAreOfTheHistory =
     (opening : Opening) (history : List Entry) (s : State) → Legal opening history s
-    → (events : List Counted) × AreCounted opening history s events × ((g : ℕ) (key : Key) → local s.counted g key ≡ how_often events g key)
+    → (events : List Counted) × AreCounted opening history s events × ((g : ℕ) (what : Key) → local s.counted g what ≡ how_often events g what)
 
 -- an access that leaves more pages charged under a group leaves no more than the group's max
 abbrev pub ChargesStayWithinMax : Type 0
@@ -168,14 +170,6 @@ VictimsHaveTheMostPages =
     × ((t : ℕ) → is_candidate before.tree before.tasks (target_of why) t ≡ true → size_of before.page_tables t ≤ size_of before.page_tables victim)
     × ((t : ℕ) → is_candidate before.tree before.tasks (target_of why) t ≡ true → size_of before.page_tables t ≡ size_of before.page_tables victim → victim ≤ t)
 
--- the target of a reclaim, where a page was taken for it
-abbrev pub took_for : Event → Reply → Option ℕ
-took_for (event.Relieve why) (reply.Out ticket) = Some (target_of why)
-took_for (event.Relieve why) reply.Dropped = Some (target_of why)
-took_for (event.ReclaimOne g) (reply.Out ticket) = Some g.0
-took_for (event.ReclaimOne g) reply.Dropped = Some g.0
-took_for what answer = None
-
 -- one page stood in its frame and is taken from there, and no other changes. Its group is at or under the target, and is the target itself, or used more than its effective min
 -- for a reclaim of the target
 pub record TakesUnprotected (before : State) (target : ℕ) (after : State) : Type 0 where
@@ -192,6 +186,37 @@ pub record TakesUnprotected (before : State) (target : ℕ) (after : State) : Ty
 abbrev pub ReclaimsSpareTheProtected : Type 0
 ReclaimsSpareTheProtected =
     (before after : State) (what : Event) (answer : Reply) (target : ℕ) → took_for what answer ≡ Some target → Step before what answer after → TakesUnprotected before target after
+
+-- the group is below the target, and uses no more than its effective low for a reclaim of the target
+abbrev pub IsWithinLow : State → ℕ → ℕ → Type 0
+IsWithinLow s target g = (g ≢ target) × (exceeds (usage s g) (effective_low s target g) ≡ false)
+
+-- the page stood in its frame and is taken from there
+abbrev pub IsTaken : State → ℕ → Page → State → Type 0
+IsTaken before p page after = (page_at before.pages p ≡ Some page) × (is_held page ≡ true) × (there_and is_held (page_at after.pages p) ≡ false)
+
+-- a page of a group within its effective memory.low is taken only where each page that may be taken is of such a group. (Excludes a page that its group's low protects, taken while another is
+-- left that no low protects: of a group beside it, or of the target itself.)
+abbrev pub LowsComeLast : Type 0
+LowsComeLast =
+    (before after : State) (what : Event) (answer : Reply) (target p : ℕ) (page : Page) → took_for what answer ≡ Some target → Step before what answer after → IsTaken before p page after → IsWithinLow before target page.group
+    → (q : ℕ) (other : Page) → page_at before.pages q ≡ Some other → is_takeable before target other ≡ true → IsWithinLow before target other.group
+
+-- where a page of a group within its low is taken, `low` is counted at that group, once, and nothing else is; where any other page is taken nothing is counted; and no other event counts
+-- `low`. (Excludes a count at the target, a count for each group that is passed over, and low that is counted for a kill.)
+abbrev pub LowsAreCounted : Type 0
+LowsAreCounted =
+    (before after : State) (what : Event) (answer : Reply) → Step before what answer after
+    → ((target p : ℕ) (page : Page) → took_for what answer ≡ Some target → IsTaken before p page after
+    → (IsWithinLow before target page.group → after.counted ≡ with_event before.counted page.group key.Low)
+    × ((page.group ≡ target) ⊎ (exceeds (usage before page.group) (effective_low before target page.group) ≡ true) → after.counted ≡ before.counted))
+    × (took_for what answer ≡ None → (g : ℕ) → local after.counted g key.Low ≡ local before.counted g key.Low)
+
+-- where a task is killed nothing could be reclaimed whatever the groups' lows were: with other lows neither. (Excludes a kill for a page that a low protects.)
+abbrev pub LowsKillNobody : Type 0
+LowsKillNobody =
+    (before after : State) (why : Cause) (t : ℕ) (others : List Limits) → Step before (event.Relieve why) (reply.KilledTask (record { 0 = t })) after → ((g : ℕ) → (limits_at others g).min ≡ (limits_at before.limits g).min)
+    → is_idle (record before { limits = others }) (target_of why) ≡ true
 
 -- what a group below the target has of protection is shared out below it, and no more than that: where its effective min is a number of pages, so is that of each of its live children, and
 -- together these are at most that number, with recursive protection and without. (Excludes a part that is rounded up, a rest that is shared out by what a child uses at all, and children

@@ -2,7 +2,7 @@
 //! a function that does nothing.
 #![tactic(auto)]
 
-ghost use Rattle.laws.specs.Laws.{RunsAreLegal, RunsAreHonest, NoStrangers, ErrorsAreFailures, EachFailureIsAnswered, TransfersAreInHand, NothingIsLeft, CurrentCountsPages, EventsAreThoseCounted, CountsAreOfTheHistory, ChargesStayWithinMax, OnlyAccessesCharge, KillsComeLast, VictimsHaveTheMostPages, ReadsGiveLastWrites, HonestDevicesPassTheAudit, AuditedReadsGaveLastWrites, PagesShareNoFrame, PagesShareNoBlock, BlocksAreThere, PagesShareNoTicket, FilePagesStayAtHome, FilePagesAreOne, OnlyCleanPagesAreDropped, StatAddsUpToCurrent, MappingsShowPages, MemoryWithoutAMappingIsGone, SharedBytesAgree, ForksShare, MovesTakeNoCharge, RemovalsKeepAncestorsCounts, RemovedGroupsHaveNoPages, TraceHasRoom, TransfersAreBegunLessEnded, TransfersStayCharged, RepliesAreSettled, OrdersAreSettled, WriteOutsStayCharged, ReclaimsSpareTheProtected, SharesStayWithin, ReclaimsGiveUpLast, ReclaimsKillNobody, HeldPagesAreListed, GenerationsHold, GroupsHaveCursors, HeldPagesGoOn, OnlyTakesAge, HitsMark, OnlyHitsMark, OnlyMergesMark, MergesChangeMarksAlone, MergesAreServed, PagesLeaveInOrder, MarkedPagesStay, GroupsAreThere};
+ghost use Rattle.laws.specs.Laws.{RunsAreLegal, RunsAreHonest, NoStrangers, ErrorsAreFailures, EachFailureIsAnswered, TransfersAreInHand, NothingIsLeft, CurrentCountsPages, EventsAreThoseCounted, CountsAreOfTheHistory, ChargesStayWithinMax, OnlyAccessesCharge, KillsComeLast, VictimsHaveTheMostPages, ReadsGiveLastWrites, HonestDevicesPassTheAudit, AuditedReadsGaveLastWrites, PagesShareNoFrame, PagesShareNoBlock, BlocksAreThere, PagesShareNoTicket, FilePagesStayAtHome, FilePagesAreOne, OnlyCleanPagesAreDropped, StatAddsUpToCurrent, MappingsShowPages, MemoryWithoutAMappingIsGone, SharedBytesAgree, ForksShare, MovesTakeNoCharge, RemovalsKeepAncestorsCounts, RemovedGroupsHaveNoPages, TraceHasRoom, TransfersAreBegunLessEnded, TransfersStayCharged, RepliesAreSettled, OrdersAreSettled, WriteOutsStayCharged, ReclaimsSpareTheProtected, SharesStayWithin, LowsComeLast, LowsAreCounted, LowsKillNobody, ReclaimsGiveUpLast, ReclaimsKillNobody, HeldPagesAreListed, GenerationsHold, GroupsHaveCursors, HeldPagesGoOn, OnlyTakesAge, HitsMark, OnlyHitsMark, OnlyMergesMark, MergesChangeMarksAlone, MergesAreServed, PagesLeaveInOrder, MarkedPagesStay, GroupsAreThere};
 
 /// The history of every run leads from the opening to the run's state, one step of the plain machine
 /// an entry.
@@ -100,6 +100,23 @@ pub fn victims_have_the_most_pages()
 /// than its effective `memory.min`. No other page changes.
 pub fn reclaims_spare_the_protected()
     ensures { ReclaimsSpareTheProtected }
+{}
+
+/// A page of a group within its effective `memory.low` is taken only where each page that may be taken
+/// is of such a group.
+pub fn lows_come_last()
+    ensures { LowsComeLast }
+{}
+
+/// Where a page of a group within its effective `memory.low` is taken, `low` is counted once at that
+/// group, and nothing else is. No other event counts `low`.
+pub fn lows_are_counted()
+    ensures { LowsAreCounted }
+{}
+
+/// Where a task is killed nothing could have been reclaimed with other lows either.
+pub fn lows_kill_nobody()
+    ensures { LowsKillNobody }
 {}
 
 /// Where a group below a reclaim's target has an effective `memory.min` of so many pages, its live

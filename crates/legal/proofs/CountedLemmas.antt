@@ -282,3 +282,19 @@ few-total opening history s legal tree a k =
     part-le : (b : Bool) (n : ℕ) → cond b n 0 ≤ n
     part-le true n = omega arith
     part-le false n = omega arith
+
+-- an event leaves the counts of every other key
+pub local-other : (counted : List EventCounts) (group : ℕ) (key : Key) (g : ℕ) (k : Key) → is_key key k ≡ false → local (with_event counted group key) g k ≡ local counted g k
+local-other counted group key g k other =
+    elim (lt_cases group (length counted)) [
+      | inl lt ↦ (let e = local-event counted group key lt g k in let none = by_bits (g == group) (is_key key k) other in omega (arith, e, none))
+      | inr beyond ↦ ap (λ (cs : List EventCounts). local cs g k) (set-beyond counted group (once_more (counts_at counted group) key) (from beyond))
+    ]
+  where
+    by_bits : (a b : Bool) → b ≡ false → ◌≡◌ {A = ℕ} (cond (a && b) 1 0) 0
+    by_bits true b e = ap (λ (c : Bool). let n : ℕ = cond c 1 0 in n) e
+    by_bits false b e = refl
+
+    from : (group ≡ length counted) ⊎ (length counted < group) → length counted ≤ group
+    from (inl e) = omega (arith, e)
+    from (inr lt) = omega (arith, lt)

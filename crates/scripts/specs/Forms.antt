@@ -78,6 +78,7 @@ form_of word.Attach = shell (codes "attach") (number ∷ kind.Path ∷ [])
 form_of word.Set = shell (codes "set") (kind.Path ∷ kind.Any ∷ kind.Any ∷ [])
 form_of word.Cat = shell (codes "cat") (kind.Path ∷ kind.Any ∷ [])
 form_of word.Protection = shell (codes "prot") (kind.Path ∷ kind.Path ∷ [])
+form_of word.LowProtection = shell (codes "lowprot") (kind.Path ∷ kind.Path ∷ [])
 form_of word.Write = task (codes "write") (number ∷ number ∷ byte ∷ [])
 form_of word.Read = task (codes "read") (number ∷ number ∷ [])
 form_of word.FileWrite = task (codes "fwrite") (kind.Name ∷ number ∷ number ∷ byte ∷ [])
@@ -93,7 +94,7 @@ form_of word.Go = border (codes "go") []
 
 abbrev pub words : List Word
 words =
-    word.Frames ∷ word.Swap ∷ word.File ∷ word.Watermarks ∷ word.Trace ∷ word.Fault ∷ word.RecursiveProtection ∷ word.Group ∷ word.Rmdir ∷ word.Task ∷ word.Attach ∷ word.Set ∷ word.Cat ∷ word.Protection ∷ word.Write
+    word.Frames ∷ word.Swap ∷ word.File ∷ word.Watermarks ∷ word.Trace ∷ word.Fault ∷ word.RecursiveProtection ∷ word.Group ∷ word.Rmdir ∷ word.Task ∷ word.Attach ∷ word.Set ∷ word.Cat ∷ word.Protection ∷ word.LowProtection ∷ word.Write
     ∷ word.Read ∷ word.FileWrite ∷ word.FileRead ∷ word.Fork ∷ word.Free ∷ word.Exit ∷ word.Daemon ∷ word.Begin ∷ word.Step ∷ word.Finish ∷ word.Go ∷ []
 
 abbrev pub same_speaker : Speaker → Speaker → Bool
@@ -163,18 +164,19 @@ place word.Attach = 10
 place word.Set = 11
 place word.Cat = 12
 place word.Protection = 13
-place word.Write = 14
-place word.Read = 15
-place word.FileWrite = 16
-place word.FileRead = 17
-place word.Fork = 18
-place word.Free = 19
-place word.Exit = 20
-place word.Daemon = 21
-place word.Begin = 22
-place word.Step = 23
-place word.Finish = 24
-place word.Go = 25
+place word.LowProtection = 14
+place word.Write = 15
+place word.Read = 16
+place word.FileWrite = 17
+place word.FileRead = 18
+place word.Fork = 19
+place word.Free = 20
+place word.Exit = 21
+place word.Daemon = 22
+place word.Begin = 23
+place word.Step = 24
+place word.Finish = 25
+place word.Go = 26
 
 abbrev pub same_word : Word → Word → Bool
 same_word v w = place v == place w

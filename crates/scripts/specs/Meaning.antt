@@ -5,6 +5,7 @@ use Rattle.machine.specs.declared.command.Actor.{Actor}
 use Rattle.machine.specs.declared.command.Actor.TheVariants as actor
 use Rattle.machine.specs.declared.command.Command.{Command}
 use Rattle.machine.specs.declared.command.Command.TheVariants as command
+use Rattle.machine.specs.declared.record.Guard.TheVariants as guard
 use Rattle.machine.specs.declared.event.Place.TheVariants as place
 use Rattle.machine.specs.declared.event.Op.{Op}
 use Rattle.machine.specs.declared.event.Op.TheVariants as op
@@ -82,7 +83,8 @@ word_means files task word.Task a = item.Does (actor_of task) (command.Task (num
 word_means files task word.Attach a = item.Does (actor_of task) (command.Attach (number_value (at a 0)) (at a 1))
 word_means files task word.Set a = item.Does (actor_of task) (command.Set (at a 0) (at a 1) (at a 2))
 word_means files task word.Cat a = item.Does (actor_of task) (command.Cat (at a 0) (at a 1))
-word_means files task word.Protection a = item.Does (actor_of task) (command.Protection (at a 0) (at a 1))
+word_means files task word.Protection a = item.Does (actor_of task) (command.Protection guard.Min (at a 0) (at a 1))
+word_means files task word.LowProtection a = item.Does (actor_of task) (command.Protection guard.Low (at a 0) (at a 1))
 word_means files task word.Write a = item.Does (actor_of task) (access_to (at a 0) (at a 1) (op.Write (byte_value (at a 2))))
 word_means files task word.Read a = item.Does (actor_of task) (access_to (at a 0) (at a 1) op.Read)
 word_means files task word.FileWrite a = item.Does (actor_of task) (file_access_to files (at a 0) (at a 1) (at a 2) (op.Write (byte_value (at a 3))))

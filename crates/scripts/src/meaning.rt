@@ -16,6 +16,7 @@ use machine::command::{Actor, Command};
 use machine::config::{File, Watermarks};
 use machine::event::{Op, Place};
 use machine::limit::MOST_FILES;
+use machine::record::Guard;
 use machine::text::Text;
 use std::alloc::{AllocError, Global};
 
@@ -101,10 +102,16 @@ pub fn marks_of(low: &Token<'_>, high: &Token<'_>) -> Watermarks
     }
 }
 
-fn protection(alloc: Global, target: &Token<'_>, path: &Token<'_>) -> Result<Command, AllocError>
-    ensures { IfOk result (λ command. command ≡ Protection target.now path.now) }
+fn protection(
+    alloc: Global,
+    guard: Guard,
+    target: &Token<'_>,
+    path: &Token<'_>,
+) -> Result<Command, AllocError>
+    ensures { IfOk result (λ command. command ≡ Protection guard target.now path.now) }
 {
     Ok(Command::Protection {
+        guard,
         target: text_of(alloc, target)?,
         path: text_of(alloc, path)?,
     })
@@ -223,7 +230,8 @@ pub fn item_of_word(
             path: text_of(alloc, &arguments[0])?,
             file: text_of(alloc, &arguments[1])?,
         },
-        Word::Protection => protection(alloc, &arguments[0], &arguments[1])?,
+        Word::Protection => protection(alloc, Guard::Min, &arguments[0], &arguments[1])?,
+        Word::LowProtection => protection(alloc, Guard::Low, &arguments[0], &arguments[1])?,
         Word::Write => {
             let byte = byte_value(&arguments[2]);
             access_to(&arguments[0], &arguments[1], Op::Write(byte))

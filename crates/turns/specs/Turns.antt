@@ -72,7 +72,7 @@ wants marks free (stage.Try access) = want.Call (pending.Try access) (access_eve
 wants marks free (stage.MakeRoom access why) = want.Call (pending.MakeRoom access why) (event.Relieve why)
 wants marks free (stage.SetMax g max) = want.Call (pending.SetMax g) (event.Set g (setting.Max max))
 wants marks free (stage.Lower g) = want.Call (pending.Lower g) (event.Relieve (cause.Lower g))
-wants marks free (stage.SetMin g min) = want.Call pending.Make (event.Set g (setting.Min min))
+wants marks free (stage.SetGuard g guard amount) = want.Call pending.Make (event.Set g (setting.Guard guard amount))
 wants marks free (stage.Reclaim g left) = wants_pages g.0 left
 wants marks free stage.Watch = wants_watch marks free
 wants marks free stage.Balance = wants_balance marks free
@@ -292,7 +292,7 @@ with_amount (Some amount) next = next amount
 abbrev pub reads_file : ℕ → ControlFile → Judged
 reads_file g file.Current = Ok (stage.Show (query.Current (record { 0 = g })))
 reads_file g file.Max = Ok (stage.Show (query.Max (record { 0 = g })))
-reads_file g file.Min = Ok (stage.Show (query.Min (record { 0 = g })))
+reads_file g (file.Guard guard) = Ok (stage.Show (query.Guard guard (record { 0 = g })))
 reads_file g file.Events = Ok (stage.Show (query.Events (record { 0 = g })))
 reads_file g file.EventsLocal = Ok (stage.Show (query.EventsLocal (record { 0 = g })))
 reads_file g file.Stat = Ok (stage.Show (query.Stat (record { 0 = g })))
@@ -310,7 +310,7 @@ writes_file g text file.Events = Err Invalid
 writes_file g text file.EventsLocal = Err Invalid
 writes_file g text file.Stat = Err Invalid
 writes_file g text file.Max = with_amount (amount_of text) (λ max. Ok (stage.SetMax (record { 0 = g }) max))
-writes_file g text file.Min = with_amount (amount_of text) (λ min. Ok (stage.SetMin (record { 0 = g }) min))
+writes_file g text (file.Guard guard) = with_amount (amount_of text) (λ amount. Ok (stage.SetGuard (record { 0 = g }) guard amount))
 writes_file g text file.Reclaim = with_amount (amount_of text) (reclaims g)
 
 -- a command of a task; one that is none of a task's is Invalid
@@ -328,7 +328,7 @@ shell_paths (command.Task t path) = path ∷ []
 shell_paths (command.Attach t path) = path ∷ []
 shell_paths (command.Set path name text) = path ∷ []
 shell_paths (command.Cat path name) = path ∷ []
-shell_paths (command.Protection target path) = target ∷ path ∷ []
+shell_paths (command.Protection guard target path) = target ∷ path ∷ []
 shell_paths others = []
 
 -- and what becomes of it, given what was found for them
@@ -344,8 +344,8 @@ shell_judged (command.Task t path) found = with_group (at found 0) (λ g. Ok (st
 shell_judged (command.Attach t path) found = with_group (at found 0) (λ g. Ok (stage.Attach (record { 0 = t }) (record { 0 = g })))
 shell_judged (command.Set path name text) found = with_group (at found 0) (λ g. with_file g (file_named name) (writes_file g text))
 shell_judged (command.Cat path name) found = with_group (at found 0) (λ g. with_file g (file_named name) (reads_file g))
-shell_judged (command.Protection target path) found =
-    with_group (at found 0) (λ t. with_group (at found 1) (λ g. Ok (stage.Show (query.Protection (record { 0 = t }) (record { 0 = g })))))
+shell_judged (command.Protection guard target path) found =
+    with_group (at found 0) (λ t. with_group (at found 1) (λ g. Ok (stage.Show (query.Protection guard (record { 0 = t }) (record { 0 = g })))))
 
 abbrev pub daemon_judged : Command → Judged
 daemon_judged command.Daemon = Ok stage.Watch

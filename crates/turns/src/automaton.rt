@@ -42,11 +42,15 @@ pub fn ask(stage: Stage, marks: Watermarks, free: u32) -> Want
             Pending::Lower(group),
             Event::Relieve(Cause::Lower(group)),
         ),
-        Stage::SetMin { group, min } => Want::Call(
+        Stage::SetGuard {
+            group,
+            guard,
+            amount,
+        } => Want::Call(
             Pending::Make,
             Event::Set {
                 group,
-                setting: Setting::Min(min),
+                setting: Setting::Guard(guard, amount),
             },
         ),
         Stage::Reclaim { group, left } => ask_page(group, left),
@@ -211,7 +215,12 @@ pub fn let_go(stage: Stage)
             ticket.discard();
         }
         Stage::Try(_) | Stage::MakeRoom(_, _) | Stage::SetMax { group: _, max: _ } => {}
-        Stage::Lower(_) | Stage::SetMin { group: _, min: _ } => {}
+        Stage::Lower(_)
+        | Stage::SetGuard {
+            group: _,
+            guard: _,
+            amount: _,
+        } => {}
         Stage::Reclaim { group: _, left: _ } | Stage::Watch | Stage::Balance => {}
         Stage::Spawn { task: _, group: _ } | Stage::Fork { task: _, child: _ } => {}
         Stage::Exit(_) | Stage::Free { task: _, page: _ } => {}

@@ -17,6 +17,7 @@ use machine::command::{Actor, Command};
 use machine::control::ControlFile;
 use machine::event::Query;
 use machine::id::{GroupId, TaskId};
+use machine::record::Guard;
 use machine::refusal::Refusal;
 use machine::text::Text;
 use std::alloc::{AllocError, Global};
@@ -119,12 +120,16 @@ fn judge_shell(
             let group = find(alloc, book, pass, path)?;
             Ok(judge_cat(group, file.as_str()))
         }
-        Command::Protection { target, path } => {
+        Command::Protection {
+            guard,
+            target,
+            path,
+        } => {
             // Neither is looked up where there is no memory for both.
             let above = target.copy(alloc)?;
             let below = path.copy(alloc)?;
             let target = book.find(pass, above);
-            Ok(judge_protection(target, book.find(pass, below)))
+            Ok(judge_protection(*guard, target, book.find(pass, below)))
         }
     }
 }
@@ -181,8 +186,12 @@ fn judge_rmdir(group: Option<GroupId>) -> Result<Stage, Refusal>
     }
 }
 
-fn judge_protection(target: Option<GroupId>, group: Option<GroupId>) -> Result<Stage, Refusal>
-    ensures judged { result ≡ with_group (option_map (λ g. g.0) target) (λ t. with_group (option_map (λ g. g.0) group) (λ g. Ok (Stage.Show (Query.Protection (record { 0 = t }) (record { 0 = g }))))) }
+fn judge_protection(
+    guard: Guard,
+    target: Option<GroupId>,
+    group: Option<GroupId>,
+) -> Result<Stage, Refusal>
+    ensures judged { result ≡ with_group (option_map (λ g. g.0) target) (λ t. with_group (option_map (λ g. g.0) group) (λ g. Ok (Stage.Show (Query.Protection guard (record { 0 = t }) (record { 0 = g }))))) }
     ensures holds { IfOk result (λ stage. holds stage ≡ false) }
 {
     let Some(target) = target else {
@@ -190,7 +199,11 @@ fn judge_protection(target: Option<GroupId>, group: Option<GroupId>) -> Result<S
     };
     match group {
         None => Err(Refusal::NoEntry),
-        Some(group) => Ok(Stage::Show(Query::Protection { target, group })),
+        Some(group) => Ok(Stage::Show(Query::Protection {
+            guard,
+            target,
+            group,
+        })),
     }
 }
 
@@ -231,8 +244,12 @@ fn write_named(group: GroupId, file: ControlFile, text: &str) -> Result<Stage, R
             Some(max) => Ok(Stage::SetMax { group, max }),
             None => Err(Refusal::Invalid),
         },
-        ControlFile::Min => match parse_amount(text) {
-            Some(min) => Ok(Stage::SetMin { group, min }),
+        ControlFile::Guard(guard) => match parse_amount(text) {
+            Some(amount) => Ok(Stage::SetGuard {
+                group,
+                guard,
+                amount,
+            }),
             None => Err(Refusal::Invalid),
         },
         ControlFile::Reclaim => match parse_amount(text) {
@@ -276,7 +293,7 @@ fn read_named(group: GroupId, file: ControlFile) -> Result<Stage, Refusal>
     match file {
         ControlFile::Current => Ok(Stage::Show(Query::Current(group))),
         ControlFile::Max => Ok(Stage::Show(Query::Max(group))),
-        ControlFile::Min => Ok(Stage::Show(Query::Min(group))),
+        ControlFile::Guard(guard) => Ok(Stage::Show(Query::Guard(guard, group))),
         ControlFile::Events => Ok(Stage::Show(Query::Events(group))),
         ControlFile::EventsLocal => Ok(Stage::Show(Query::EventsLocal(group))),
         ControlFile::Stat => Ok(Stage::Show(Query::Stat(group))),

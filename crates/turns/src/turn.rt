@@ -5,6 +5,7 @@ use machine::amount::Amount;
 use machine::command::Answer;
 use machine::event::{Cause, Op, Place, Query};
 use machine::id::{GroupId, TaskId};
+use machine::record::Guard;
 use machine::text::Text;
 
 /// A task's access to a byte.
@@ -43,8 +44,12 @@ pub enum Stage {
     SetMax { group: GroupId, max: Amount },
     /// Room is made under the group, whose max was set.
     Lower(GroupId),
-    /// The group's min is set.
-    SetMin { group: GroupId, min: Amount },
+    /// The group's min, or low, is set.
+    SetGuard {
+        group: GroupId,
+        guard: Guard,
+        amount: Amount,
+    },
     /// So many pages more are taken from the group or from below it.
     Reclaim { group: GroupId, left: u64 },
     /// The daemon looks whether it is wanted (kernel: a kswapd that sleeps).

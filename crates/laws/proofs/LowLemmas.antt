@@ -1,0 +1,186 @@
+-- What memory.low does: whose pages are taken last, what is counted then, and that nobody is killed for it.
+use Rattle.std.proofs.Common.{◌≡◌, ◌≢◌, inl, inr, ℕ, ◌==◌, ◌&&◌, ◌||◌, not, Bool, true, false, cond, List, [], ◌∷◌, Option, Some, None, eqb-true, refl, sym, ap, ◌∙◌, subst, arith}
+use Rattle.std.specs.Prelude.{◌⊎◌, sum_by}
+use Rattle.std.proofs.lemmas.List.Sums.{sum_by-cons}
+use Rattle.std.proofs.lemmas.Bool.{cases_Bool, and_parts, and_from, ne_eqb}
+use Rattle.machine.specs.declared.amount.Amount.{Amount}
+use Rattle.machine.specs.declared.record.EventCounts.{EventCounts}
+use Rattle.machine.specs.declared.record.Guard.TheVariants as guard
+use Rattle.machine.specs.declared.record.Key.TheVariants as key
+use Rattle.machine.specs.declared.event.Event.{Event}
+use Rattle.machine.specs.declared.event.Event.TheVariants as event
+use Rattle.machine.specs.declared.reply.Reply.{Reply}
+use Rattle.machine.specs.declared.reply.Reply.TheVariants as reply
+use Rattle.machine.specs.declared.record.Limits.{Limits}
+use Rattle.machine.specs.Slots.{Changes, there_and, any_there}
+use Rattle.machine.specs.Amounts.{exceeds, at_most}
+use Rattle.machine.specs.Tree.{Node, children, chain_below, under}
+use Rattle.machine.specs.Counts.{limits_at, with_event, local}
+use Rattle.machine.specs.Pages.{Content, Memory, OfFile, Residence, Held, Coming, Going, Away, Page, Pages, page_at, is_anon, is_held}
+use Rattle.machine.specs.Protection.{min_usage, setting_of, effective_along}
+use Rattle.machine.specs.State.{State, usage, effective_low, is_swap_free}
+use Rattle.machine.specs.Reclaim.{is_takeable, is_above_low, is_open, has_open, is_next, counted_at_take, has_transfer, target_of}
+use Rattle.machine.specs.Step.{Takes, LeavesBy, LeavesFrom, Step}
+use Rattle.machine.specs.Events.{took_for, counts_named, NamesFor, with_events, for_groups}
+use Rattle.machine.proofs.Values.{some_inj}
+use Rattle.machine.proofs.TreeLemmas.{eq_cases}
+use Rattle.machine.proofs.TestLemmas.{none_has}
+use Rattle.machine.proofs.TakeableLemmas.{next-takeable, next-open}
+use Rattle.counts.proofs.CountLemmas.{local-push}
+use Rattle.protection.proofs.EffectiveLemmas.{same_below}
+use Rattle.legal.proofs.CountedLemmas.{Counts, step-counted, local-other}
+use Rattle.laws.specs.Laws.{IsWithinLow, IsTaken, LowsComeLast, LowsAreCounted, LowsKillNobody}
+use Rattle.laws.proofs.LawLemmas.{by_test, kills_come_last}
+use Rattle.laws.proofs.ReclaimLemmas.{step_takes}
+
+-- ---- the page that is taken
+
+module _ (before after : State) (target : ℕ) (answer : Reply) (h : Takes before target answer after) where
+  -- what becomes of it, and what stands counted then
+  record Leaves : Type 0 where
+    to : Option Page
+    changes : Changes before.pages after.pages h.p to
+    counts : after.counted ≡ counted_at_take before target h.page.group
+
+  leaves_by : (frame : ℕ) (content : Content) → LeavesBy before h.p h.page content frame (counted_at_take before target h.page.group) answer after → Leaves
+  leaves_by frame Memory k = record { to = _; changes = k.leave.placed; counts = ap (λ (s : State). s.counted) k.leave.state }
+  leaves_by frame (OfFile file q) k =
+      by_test h.page.dirty (λ l. record { to = _; changes = l.placed; counts = ap (λ (s : State). s.counted) l.state }) (λ l. record { to = None; changes = l.gone; counts = ap (λ (s : State). s.counted) l.state }) k
+
+  leaves_from : (r : Residence) → LeavesFrom before h.p h.page r (counted_at_take before target h.page.group) answer after → Leaves
+  leaves_from (Held frame) k = leaves_by frame h.page.content k
+  leaves_from (Coming frame block ticket) k = absurd k
+  leaves_from (Going frame block ticket) k = absurd k
+  leaves_from (Away block) k = absurd k
+
+  left : Leaves
+  left = leaves_from h.page.residence h.leaves
+
+  -- no other page that was held is held no more
+  its : (p : ℕ) (page : Page) → IsTaken before p page after → page ≡ h.page
+  its p page taken =
+      elim (eq_cases p h.p) [
+        | inl same ↦ some_inj (sym taken.0 ∙ ap (page_at before.pages) same ∙ h.there)
+        | inr differs ↦ absurd (let stays = ap (there_and is_held) (left.changes.others p differs ∙ taken.0) ∙ taken.1 in let wrong : true ≡ false = sym stays ∙ taken.2 in cc)
+      ]
+
+-- ---- a group within its low
+
+within-not_above : (s : State) (target g : ℕ) → IsWithinLow s target g → is_above_low s target g ≡ false
+within-not_above s target g within = ap (λ b. b || exceeds (usage s g) (effective_low s target g)) (ne_eqb g target within.0) ∙ within.1
+
+not_above-within : (s : State) (target g : ℕ) → is_above_low s target g ≡ false → IsWithinLow s target g
+not_above-within s target g below = by_bits (g == target) (exceeds (usage s g) (effective_low s target g)) refl refl below
+  where
+    by_bits : (a b : Bool) → (g == target) ≡ a → exceeds (usage s g) (effective_low s target g) ≡ b → (a || b) ≡ false → IsWithinLow s target g
+    by_bits true b same is e = absurd cc
+    by_bits false b other is e = (λ same. let e : (g == target) ≡ true = grind (arith, same) in let wrong : true ≡ false = sym e ∙ other in cc, is ∙ e)
+
+above-by : (s : State) (target g : ℕ) → (g ≡ target) ⊎ (exceeds (usage s g) (effective_low s target g) ≡ true) → is_above_low s target g ≡ true
+above-by s target g (inl same) = let e : (g == target) ≡ true = grind (arith, same) in ap (λ b. b || exceeds (usage s g) (effective_low s target g)) e
+above-by s target g (inr more) = by_bits (g == target)
+  where
+    by_bits : (a : Bool) → (a || exceeds (usage s g) (effective_low s target g)) ≡ true
+    by_bits true = refl
+    by_bits false = more
+
+-- where a page of a group within its low may be taken, no page is open
+none-open : (s : State) (target : ℕ) (page : Page) → is_next s target page ≡ true → is_above_low s target page.group ≡ false → has_open s target ≡ false
+none-open s target page next below = by_bits (is_above_low s target page.group) (has_open s target) refl below (next-open s target page next)
+  where
+    by_bits : (a b : Bool) → has_open s target ≡ b → a ≡ false → (a || not b) ≡ true → has_open s target ≡ false
+    by_bits true b is e n = absurd cc
+    by_bits false true is e n = absurd cc
+    by_bits false false is e n = is
+
+-- where one of a group that is not so may be taken, one is
+one-open : (s : State) (target p : ℕ) (page : Page) → page_at s.pages p ≡ Some page → is_next s target page ≡ true → is_above_low s target page.group ≡ true → has_open s target ≡ true
+one-open s target p page there next above =
+    elim (cases_Bool (has_open s target)) [
+      | inl some ↦ some
+      | inr none ↦
+          absurd
+          (let fails = sym (ap (there_and (is_open s target)) there) ∙ none_has (is_open s target) s.pages none p in
+          let passes = and_from (is_takeable s target page) (is_above_low s target page.group) (next-takeable s target page next) above in
+          let wrong : true ≡ false = sym passes ∙ fails in
+          cc)
+    ]
+
+pub lows_come_last : LowsComeLast
+lows_come_last before after what answer target p page took step taken within q other there takes =
+    let h = step_takes before after what answer target took step in
+    let same = its before after target answer h p page taken in
+    let below = ap (λ (x : Page). is_above_low before target x.group) (sym same) ∙ within-not_above before target page.group within in
+    let none = none-open before target h.page h.next below in
+    let fails = sym (ap (there_and (is_open before target)) there) ∙ none_has (is_open before target) before.pages none q in
+    not_above-within before target other.group (sym (ap (λ b. b && is_above_low before target other.group) takes) ∙ fails)
+
+-- ---- what is counted
+
+-- of the keys that no page is counted under
+no_low : (s : State) (what : Event) (answer : Reply) (g : ℕ) → local (with_events (for_groups s.counted what) (counts_named s what answer)) g key.Low ≡ local s.counted g key.Low
+no_low s (event.Access t place op) (reply.Over limit) g = local-other s.counted limit.0 key.Max g key.Low refl
+no_low s (event.Relieve why) (reply.KilledTask t) g = local-other (with_event s.counted (target_of why) key.Oom) _ key.OomKill g key.Low refl ∙ local-other s.counted (target_of why) key.Oom g key.Low refl
+no_low s (event.Relieve why) reply.NoVictim g = local-other s.counted (target_of why) key.Oom g key.Low refl
+no_low s (event.Mkdir path) answer g = local-push s.counted g key.Low
+no_low s what answer g = refl
+
+pub lows_are_counted : LowsAreCounted
+lows_are_counted before after what answer step = (taking, quiet)
+  where
+    taking : (target p : ℕ) (page : Page) → took_for what answer ≡ Some target → IsTaken before p page after
+        → (IsWithinLow before target page.group → after.counted ≡ with_event before.counted page.group key.Low)
+        × ((page.group ≡ target) ⊎ (exceeds (usage before page.group) (effective_low before target page.group) ≡ true) → after.counted ≡ before.counted)
+    taking target p page took taken =
+        let h = step_takes before after what answer target took step in
+        let same = its before after target answer h p page taken in
+        let counts = (left before after target answer h).counts ∙ ap (λ (x : Page). counted_at_take before target x.group) (sym same) in (
+          (λ within.
+          let below = ap (λ (x : Page). is_above_low before target x.group) (sym same) ∙ within-not_above before target page.group within in
+          counts ∙ ap (λ (b : Bool). (let cs : List EventCounts = cond b before.counted (with_event before.counted page.group key.Low) in cs)) (none-open before target h.page h.next below)),
+          (λ more.
+          let above = ap (λ (x : Page). is_above_low before target x.group) (sym same) ∙ above-by before target page.group more in
+          counts ∙ ap (λ (b : Bool). (let cs : List EventCounts = cond b before.counted (with_event before.counted page.group key.Low) in cs)) (one-open before target h.p h.page h.there h.next above)),
+        )
+
+    quiet : took_for what answer ≡ None → (g : ℕ) → local after.counted g key.Low ≡ local before.counted g key.Low
+    quiet none g =
+        let counts = step-counted before after what answer step in
+        let named = subst (λ taken. NamesFor taken before what answer after counts.named) none counts.names in
+        ap (λ (cs : List EventCounts). local cs g key.Low) (counts.after ∙ ap (with_events (for_groups before.counted what)) named) ∙ no_low before what answer g
+
+-- ---- kills
+
+-- settings that agree give the same effective values
+module _ (recursive : Bool) (tree : List Node) (f h : ℕ → Amount) (usage : ℕ → ℕ) (same : (g : ℕ) → f g ≡ h g) where
+  asked-same : (gs : List ℕ) → sum_by (min_usage f usage) gs ≡ sum_by (min_usage h usage) gs
+  asked-same [] = refl
+  asked-same (g ∷ gs) =
+      let left = sum_by-cons (min_usage f usage) g gs in
+      let right = sum_by-cons (min_usage h usage) g gs in
+      let here : min_usage f usage g ≡ min_usage h usage g = ap (at_most (usage g)) (same g) in
+      let rest = asked-same gs in
+      omega (arith, left, right, here, rest)
+
+  along-same : (gs : List ℕ) → effective_along recursive tree f usage gs ≡ effective_along recursive tree h usage gs
+  unfolding effective_along
+  along-same [] = refl
+  along-same (g ∷ []) = same g
+  along-same (g ∷ p ∷ above) = same_below recursive (along-same (p ∷ above)) (asked-same (children tree p)) refl refl (ap (at_most (usage g)) (same g))
+
+-- other lows leave the same pages to take
+module _ (s : State) (others : List Limits) (same : (g : ℕ) → (limits_at others g).min ≡ (limits_at s.limits g).min) (target : ℕ) where
+  takeable-same : (page : Page) → is_takeable (record s { limits = others }) target page ≡ is_takeable s target page
+  takeable-same page =
+      ap (λ (e : Amount). is_held page && under s.tree target page.group && ((page.group == target) || exceeds (usage s page.group) e) && (not (is_anon page.content) || is_swap_free s))
+      (along-same s.opening.recursive s.tree (setting_of guard.Min others) (setting_of guard.Min s.limits) (usage s) same (chain_below s.tree target page.group))
+
+  any-same : (pages : Pages) → any_there (is_takeable (record s { limits = others }) target) pages ≡ any_there (is_takeable s target) pages
+  any-same [] = refl
+  any-same (None ∷ pages) = any-same pages
+  any-same (Some page ∷ pages) =
+      ap (λ b. b || any_there (is_takeable (record s { limits = others }) target) pages) (takeable-same page) ∙ ap (λ b. is_takeable s target page || b) (any-same pages)
+
+pub lows_kill_nobody : LowsKillNobody
+lows_kill_nobody before after why t others step same =
+    ap (λ b. not b && not (has_transfer before (target_of why))) (any-same before others same (target_of why) before.pages) ∙ (kills_come_last before after why t step).0
