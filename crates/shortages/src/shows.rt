@@ -3,6 +3,7 @@
 use book::{Book, Event, Pass, Reply};
 use machine::event::Query;
 use machine::id::GroupId;
+use machine::record::Guard;
 use machine::reply::Shown;
 use machine::text::Text;
 use std::alloc::Global;
@@ -17,7 +18,7 @@ const GROUPS: usize = 10;
 /// What is shown of one group: its files, where it is there.
 #[derive(Clone, Copy, Debug, PartialEq, Eq)]
 struct GroupShown {
-    files: [Option<Shown>; 7],
+    files: [Option<Shown>; 9],
 }
 
 /// What is shown of all groups, and which group has each path.
@@ -40,23 +41,36 @@ fn show(book: &mut Book, pass: &mut Pass, query: Query) -> Option<Shown> {
     }
 }
 
+/// The effective value of a group for a reclaim of the root.
+fn show_protection(
+    book: &mut Book,
+    pass: &mut Pass,
+    guard: Guard,
+    group: GroupId,
+) -> Option<Shown> {
+    show(
+        book,
+        pass,
+        Query::Protection {
+            guard,
+            target: GroupId::ROOT,
+            group,
+        },
+    )
+}
+
 fn group_shown(book: &mut Book, pass: &mut Pass, group: GroupId) -> GroupShown {
     GroupShown {
         files: [
             show(book, pass, Query::Current(group)),
             show(book, pass, Query::Max(group)),
-            show(book, pass, Query::Min(group)),
+            show(book, pass, Query::Guard(Guard::Min, group)),
+            show(book, pass, Query::Guard(Guard::Low, group)),
             show(book, pass, Query::Events(group)),
             show(book, pass, Query::EventsLocal(group)),
             show(book, pass, Query::Stat(group)),
-            show(
-                book,
-                pass,
-                Query::Protection {
-                    target: GroupId::ROOT,
-                    group,
-                },
-            ),
+            show_protection(book, pass, Guard::Min, group),
+            show_protection(book, pass, Guard::Low, group),
         ],
     }
 }
@@ -67,7 +81,7 @@ fn number(book: &Book, path: &str) -> Option<u32> {
 
 /// Looks at a book. The pass has room for it, so no memory is taken.
 pub fn look(book: &mut Book, pass: &mut Pass) -> Shows {
-    let mut groups = [GroupShown { files: [None; 7] }; GROUPS];
+    let mut groups = [GroupShown { files: [None; 9] }; GROUPS];
     for (at, shown) in groups.iter_mut().enumerate() {
         *shown = group_shown(book, pass, GroupId(at as u32));
     }

@@ -8,6 +8,7 @@ use crate::step::{
 use machine::amount::Amount;
 use machine::event::{Cause, Op, Query, Setting};
 use machine::id::{GroupId, TaskId};
+use machine::record::Guard;
 use std::alloc::{AllocError, Global};
 
 /// A machine, and what it is asked.
@@ -121,9 +122,10 @@ fn touching() -> [Step; 11] {
 }
 
 /// What is written to groups, and shown of them.
-fn grouped() -> [Step; 7] {
+fn grouped() -> [Step; 8] {
     let max = Setting::Max(Amount::Pages(5));
-    let min = Setting::Min(Amount::Pages(1));
+    let min = Setting::Guard(Guard::Min, Amount::Pages(1));
+    let low = Setting::Guard(Guard::Low, Amount::Pages(2));
     [
         of_task(
             "attach",
@@ -135,6 +137,7 @@ fn grouped() -> [Step; 7] {
         of_group("rmdir", GroupChange::Rmdir(GroupId(4))),
         set("set max", 3, max),
         set("set min", 2, min),
+        set("set low", 2, low),
         of_group(
             "show current",
             GroupChange::Show(Query::Current(GroupId(1))),
