@@ -12,11 +12,18 @@ named name pages = record { name = name; pages = pages }
 
 -- 6 frames, 4 swap blocks, and these files
 abbrev sized : ℕ → List File → Config
-sized swap files = record { frames = 6; swap = swap; files = files; watermarks = record { low = 1; high = 2 }; trace = 8; turns = 3 }
+sized swap files = record { frames = 6; swap = swap; files = files; watermarks = record { low = 1; high = 2 }; trace = 8; turns = 3; recursive = false }
 
 -- the opening has the files' sizes, in their order
 opening-sizes : (opening_of (sized 4 (named (codes "a") 3 ∷ named (codes "b") 2 ∷ []))).files ≡ 3 ∷ 2 ∷ []
 opening-sizes = refl
+
+-- and is recursive where the configuration is
+opening-recursive : (opening_of (record (sized 4 []) { recursive = true })).recursive ≡ true
+opening-recursive = refl
+
+opening-not_recursive : (opening_of (sized 4 [])).recursive ≡ false
+opening-not_recursive = refl
 
 -- the device has a block for each swap block and for each page of a file
 blocks : blocks_of (sized 4 (named (codes "a") 3 ∷ named (codes "b") 2 ∷ [])) ≡ 9
