@@ -41,6 +41,8 @@ mod script_faults;
 #[cfg(test)]
 mod script_forms;
 #[cfg(test)]
+mod shares;
+#[cfg(test)]
 mod sharing;
 #[cfg(test)]
 mod sizes;

@@ -157,6 +157,20 @@ fn every_other_cause_comes_first(rt: HostRuntime) {
 }
 
 #[test]
+fn recursive_protection_is_a_word_of_the_header_of_both(rt: HostRuntime) {
+    for (text, cause) in [
+        ("recursiveprot", None),
+        ("recursiveprot\nswap 1\nrecursiveprot\ngo", None),
+        ("go\nrecursiveprot", Some(Cause::HeaderAfterCommands)),
+        ("recursiveprot 1", Some(Cause::ExtraArgument)),
+        ("begin recursiveprot", Some(Cause::UnknownWord)),
+    ] {
+        assert_eq!(rt; cause_of(rt.alloc(), text, Mode::Run), cause, "{text}");
+        assert_eq!(rt; cause_of(rt.alloc(), text, Mode::Schedule), cause, "{text}");
+    }
+}
+
+#[test]
 fn it_is_said_why_a_line_is_refused(rt: HostRuntime) -> Result<(), Fail> {
     let text = b"group /a\n\tbegin 1 exit\ngo\n";
     let fault = read(rt.alloc(), text, Mode::Run)
