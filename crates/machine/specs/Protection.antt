@@ -1,10 +1,11 @@
--- Effective protection (admin-guide/cgroup-v2, memory.min; mm/page_counter.c: effective_protection).
+-- Effective protection (admin-guide/cgroup-v2, memory.min and memory.low; mm/page_counter.c: effective_protection).
 --   1. The reclaim's target has no protection of its own from itself: only groups below it have.
 --   2. A child of the target has its setting as it stands.
 --   3. Below that, a group asks for what it uses, at most its setting.
 --   4. Where the children of one parent ask for more than the parent's effective value, each has its part of that value in proportion to what it asks.
 --   5. With recursive protection, a child has on top of that its part of what the children leave of the parent's value: what it uses beyond what it asks, out of
 --      what the parent uses beyond what its children ask. What the parent uses in no live child has its part too, which then goes to nobody.
+--      A parent's value of max, where it uses more than its children ask, is that of each child that uses more than it asks.
 -- `setting` is the memory.min of a group, or its memory.low: both come down to the groups below by the same rules, each by its own settings.
 use Rattle.std.specs.Prelude.{ℕ, ◌+◌, ◌-◌, ◌*◌, ◌/◌, ◌==◌, ◌&&◌, ◌||◌, nat_lt, Bool, true, false, if◌then◌else◌, List, [], ◌∷◌, sum_by}
 use Rattle.machine.specs.declared.amount.Amount.{Amount}

@@ -1,4 +1,4 @@
--- What can be reclaimed, why, and for whom (admin-guide/cgroup-v2, memory.min and memory.max; mm/vmscan.c: shrink_node_memcgs).
+-- What can be reclaimed, why, and for whom (admin-guide/cgroup-v2, memory.min, memory.low and memory.max; mm/vmscan.c: shrink_node_memcgs).
 use Rattle.std.specs.Prelude.{ℕ, ◌+◌, ◌&&◌, ◌||◌, not, Bool, List, if◌then◌else◌}
 use Rattle.machine.specs.declared.event.Cause.{Cause}
 use Rattle.machine.specs.declared.event.Cause.TheVariants.{Charge, Lower, Frame}
@@ -40,7 +40,7 @@ is_open s target page = is_takeable s target page && is_above_low s target page.
 abbrev pub has_open : State → ℕ → Bool
 has_open s target = any_there (is_open s target) s.pages
 
--- the page may be taken now: an open one, and any that is takeable where none is open. (Excludes a page within its group's low that is taken while there is another.)
+-- the page may be taken now: an open one, and any that is takeable where none is open. (Excludes a page within its group's low that is taken while another is open.)
 abbrev pub is_next : State → ℕ → Page → Bool
 is_next s target page = is_takeable s target page && (is_above_low s target page.group || not (has_open s target))
 

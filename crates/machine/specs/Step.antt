@@ -1,5 +1,5 @@
 -- What an event that is not refused may answer, and the state after it. By cases on the event, then on the state, then on the reply.
--- Free are only: which takeable page is taken, and which free frame, swap block, page number and ticket number is used; and the byte that a read gives,
+-- Free are only: which of the pages that may be taken now is taken, and which free frame, swap block, page number and ticket number is used; and the byte that a read gives,
 -- which the history says (IsRight). With those given, nothing else that a look-up in a table can see is free.
 use Rattle.std.specs.Prelude.{◌≡◌, ℕ, ◌<◌, ◌==◌, ◌&&◌, ◌||◌, not, Bool, true, false, MatchBool, if◌then◌else◌, List, [], ◌∷◌, ◌++◌, slice_set, Option, Some, None, option_map}
 use Rattle.machine.specs.declared.record.Key.TheVariants as key
@@ -166,7 +166,7 @@ LeavesFrom old p page (Held frame) counted answer new = LeavesBy old p page page
 LeavesFrom old p page residence counted answer new = ⊥
 
 -- a page is taken, an open one where there is one, else one that is takeable: a clean file page is dropped, any other written out. Where it is none that is open, `low` is counted at its group.
--- (Excludes a page that its group's low protects while there is another, and a count of `low` for a pass, and not for a page.)
+-- (Excludes a page that its group's low protects while another is open, and a count of `low` for a pass, and not for a page.)
 pub record Takes (old : State) (target : ℕ) (answer : Reply) (new : State) : Type 0 where
   pub p : ℕ
   pub page : Page

@@ -51,7 +51,7 @@ pub enum Key {
 /// How often each key was counted (kernel: `memory_events` of a `struct mem_cgroup`).
 #[derive(Clone, Copy, Debug, Default, PartialEq, Eq)]
 pub struct EventCounts {
-    /// A group under its protection was reclaimed from.
+    /// A page of the group was taken though its low protects it.
     pub low: u64,
     /// The throttling limit was passed. It is always 0, since there is none.
     pub high: u64,

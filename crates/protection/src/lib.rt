@@ -13,7 +13,10 @@
 //!    each has a part of it in proportion to what it uses beyond what it asks for, out of what the
 //!    parent uses beyond what its children ask for, rounded down. So a group without a
 //!    `memory.min` has protection as well. What the parent uses in no live child has its part too,
-//!    which then goes to nobody.
+//!    which then goes to nobody. Where the parent's value is `max`, and it uses more than its
+//!    children ask for, each child that uses more than it asks for has `max` too.
+//!
+//! For `memory.low` the same rules hold over the groups' `memory.low`.
 //!
 //! So for a reclaim of the root, in pages:
 //!
