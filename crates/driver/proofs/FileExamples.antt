@@ -352,7 +352,7 @@ drops = record {
       said = says.Dropped;
       mid = once_dropped;
       called = record {
-        steps = record { p = 0; page = cached (Held 0); there = refl; takeable = refl; leaves = record { answers = refl; gone = record { changed = refl; others = goes_alone }; state = refl } };
+        steps = record { p = 0; page = cached (Held 0); there = refl; next = refl; leaves = record { answers = refl; gone = record { changed = refl; others = goes_alone }; state = refl } };
         order = record { g = 1; next = refl; p = 0; looked = old_lists (first_listed ∷ []); picked = picks; was = refl; taken = refl; leaves = leaves_list; moves = refl };
         history = refl;
         passes = refl;
@@ -393,7 +393,7 @@ makes_room = record {
       said = says.Dropped;
       mid = once_roomy;
       called = record {
-        steps = record { p = 0; page = cached (Held 0); there = refl; takeable = refl; leaves = record { answers = refl; gone = record { changed = refl; others = goes_alone }; state = refl } };
+        steps = record { p = 0; page = cached (Held 0); there = refl; next = refl; leaves = record { answers = refl; gone = record { changed = refl; others = goes_alone }; state = refl } };
         order = record { g = 1; next = refl; p = 0; looked = old_lists (first_listed ∷ []); picked = picks; was = refl; taken = refl; leaves = leaves_list; moves = refl };
         history = refl;
         passes = refl;

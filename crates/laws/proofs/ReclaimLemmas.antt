@@ -203,11 +203,11 @@ reclaims_kill_nobody before after g answer step =
     tasks : Takes before g.0 answer after → after.tasks ≡ before.tasks
     tasks h = by_residence h.page.residence h.leaves
       where
-        by_content : (frame : ℕ) (content : Content) → LeavesBy before h.p h.page content frame (counted_at_take before target h.page.group) answer after → after.tasks ≡ before.tasks
+        by_content : (frame : ℕ) (content : Content) → LeavesBy before h.p h.page content frame (counted_at_take before g.0 h.page.group) answer after → after.tasks ≡ before.tasks
         by_content frame Memory k = ap (λ (s : State). s.tasks) k.leave.state
         by_content frame (OfFile file q) k = by_test h.page.dirty (λ l. ap (λ (s : State). s.tasks) l.state) (λ l. ap (λ (s : State). s.tasks) l.state) k
 
-        by_residence : (r : Residence) → LeavesFrom before h.p h.page r (counted_at_take before target h.page.group) answer after → after.tasks ≡ before.tasks
+        by_residence : (r : Residence) → LeavesFrom before h.p h.page r (counted_at_take before g.0 h.page.group) answer after → after.tasks ≡ before.tasks
         by_residence (Held frame) k = by_content frame h.page.content k
         by_residence (Coming frame block ticket) k = absurd k
         by_residence (Going frame block ticket) k = absurd k
