@@ -6,8 +6,8 @@ ghost use Rattle.book.specs.Decisions.{offset_at, entries_for};
 use machine::event::{Op, Place, Query, Setting};
 use machine::id::{FrameId, GroupId, PageId, TaskId};
 use page_state::NoRoom;
-use reclaim::Served;
 use pages::Source;
+use reclaim::Served;
 
 /// A live task's access to a byte (kernel: `struct vm_fault`).
 #[derive(Clone, Copy)]

@@ -154,9 +154,7 @@ fn no_entry<'a>(told: Told<'a>) -> Option<Reason<'a>>
             guard: _,
             target,
             path,
-        } => {
-            Some(no_target(told, target.as_str(), path.as_str()))
-        }
+        } => { Some(no_target(told, target.as_str(), path.as_str())) }
         command => Some(Reason::NoGroup(path_of(command)?)),
     }
 }

@@ -136,11 +136,11 @@ lows_are_counted before after what answer step = (taking, quiet)
         let same = its before after target answer h p page taken in
         let counts = (left before after target answer h).counts ∙ ap (λ (x : Page). counted_at_take before target x.group) (sym same) in (
           (λ within.
-          let below = ap (λ (x : Page). is_above_low before target x.group) (sym same) ∙ within-not_above before target page.group within in
-          counts ∙ ap (λ (b : Bool). (let cs : List EventCounts = cond b before.counted (with_event before.counted page.group key.Low) in cs)) (none-open before target h.page h.next below)),
+              let below = ap (λ (x : Page). is_above_low before target x.group) (sym same) ∙ within-not_above before target page.group within in
+              counts ∙ ap (λ (b : Bool). (let cs : List EventCounts = cond b before.counted (with_event before.counted page.group key.Low) in cs)) (none-open before target h.page h.next below)),
           (λ more.
-          let above = ap (λ (x : Page). is_above_low before target x.group) (sym same) ∙ above-by before target page.group more in
-          counts ∙ ap (λ (b : Bool). (let cs : List EventCounts = cond b before.counted (with_event before.counted page.group key.Low) in cs)) (one-open before target h.p h.page h.there h.next above)),
+              let above = ap (λ (x : Page). is_above_low before target x.group) (sym same) ∙ above-by before target page.group more in
+              counts ∙ ap (λ (b : Bool). (let cs : List EventCounts = cond b before.counted (with_event before.counted page.group key.Low) in cs)) (one-open before target h.p h.page h.there h.next above)),
         )
 
     quiet : took_for what answer ≡ None → (g : ℕ) → local after.counted g key.Low ≡ local before.counted g key.Low

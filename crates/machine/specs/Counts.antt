@@ -15,7 +15,7 @@ use Rattle.machine.specs.Amounts.{exceeds}
 abbrev pub no_limits : Limits
 no_limits = record { max = amount.Max; min = amount.Pages 0; low = amount.Pages 0 }
 
--- how much one of the two protects
+-- how much the min protects, or the low
 abbrev pub guard_of : Guard → Limits → Amount
 guard_of guard.Min limits = limits.min
 guard_of guard.Low limits = limits.low

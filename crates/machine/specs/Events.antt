@@ -38,7 +38,7 @@ counts_named old what answer = []
 abbrev pub low_named : State → ℕ → ℕ → List Counted
 low_named old target g = if has_open old target then [] else count_of g key.Low ∷ []
 
--- of which group it is, no reply says, but the page that is held no more. (Excludes a count at another group.)
+-- no reply names the group: the page that is held no more does. (Excludes a count at another group.)
 pub record NamesTaken (old : State) (target : ℕ) (new : State) (events : List Counted) : Type 0 where
   pub p : ℕ
   pub page : Page

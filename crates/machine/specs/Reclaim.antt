@@ -18,11 +18,11 @@ use Rattle.machine.specs.State.{State, usage, is_frame_free, is_swap_free}
 abbrev pub is_beyond_its : Guard → State → ℕ → ℕ → Bool
 is_beyond_its guard s target g = is_beyond s.opening.recursive s.tree (setting_of guard s.limits) (usage s) target g
 
--- a page of the group may be taken
+-- the group's min does not protect it
 abbrev pub is_unprotected : State → ℕ → ℕ → Bool
 is_unprotected s target g = is_beyond_its guard.Min s target g
 
--- and is taken before those of groups that their low protects
+-- nor does the group's low: its pages are taken before those of groups that their low protects
 abbrev pub is_above_low : State → ℕ → ℕ → Bool
 is_above_low s target g = is_beyond_its guard.Low s target g
 

@@ -26,11 +26,18 @@ pub enum Actor {
 /// daemon, all others for the shell and for control.
 #[derive(Debug, Drop)]
 pub enum Command {
-    Access { place: Place, op: Op },
+    Access {
+        place: Place,
+        op: Op,
+    },
     /// The task makes a child of this number.
-    Fork { child: u32 },
+    Fork {
+        child: u32,
+    },
     /// The task gives a virtual page up.
-    Free { page: u32 },
+    Free {
+        page: u32,
+    },
     /// The task ends.
     Exit,
     /// Makes the group of a path.
@@ -38,13 +45,26 @@ pub enum Command {
     /// Removes the group of a path.
     Rmdir(Text),
     /// Starts a task in the group of a path.
-    Task { task: u32, path: Text },
+    Task {
+        task: u32,
+        path: Text,
+    },
     /// Moves a task to the group of a path.
-    Attach { task: u32, path: Text },
+    Attach {
+        task: u32,
+        path: Text,
+    },
     /// Writes a text to a control file of the group of a path.
-    Set { path: Text, file: Text, text: Text },
+    Set {
+        path: Text,
+        file: Text,
+        text: Text,
+    },
     /// Prints a control file of the group of a path.
-    Cat { path: Text, file: Text },
+    Cat {
+        path: Text,
+        file: Text,
+    },
     /// Prints the effective `memory.min`, or `memory.low`, of the group of a path, for a reclaim of the
     /// target's.
     Protection {

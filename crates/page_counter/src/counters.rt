@@ -189,7 +189,8 @@ impl Counters {
         let before = limits.guard(guard).at_most(usage);
         let after = amount.at_most(usage);
         self.limits[group.0 as usize] = limits.with_guard(guard, amount);
-        self.sums.propagate(&self.lineage, guard, group, before, after);
+        self.sums
+            .propagate(&self.lineage, guard, group, before, after);
     }
 
     /// How many of the pages that are charged to the group or below it it asks to be protected (kernel:

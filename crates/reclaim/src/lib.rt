@@ -5,12 +5,13 @@
 //!    children in order of making. A limit's owner is the target, and the root where the machine
 //!    itself has no frame left.
 //! 2. A pass begins behind the group that was served last for this target, goes round, and ends at
-//!    that group. So no group gives a second page before each of the others was asked for one.
-//!    Where none was served yet, or where that group is no more, the pass begins at the target.
-//! 3. A group is passed over while its `memory.min` protects it from a reclaim of the target, and where
-//!    it has no page that may be taken.
-//!    Those that their `memory.low` protects are left out of a first pass, and asked in a second one
-//!    where the first finds nothing. Both begin behind the group that was served last.
+//!    that group. So of the groups that it may take from, none gives a second page before each of the
+//!    others was asked for one. Where none was served yet, or where that group is no more, the pass
+//!    begins at the target.
+//! 3. A group is left out while its `memory.min` protects it from a reclaim of the target, and where
+//!    it has no page that may be taken. Those that their `memory.low` protects are left out of a first
+//!    pass, and asked in a second one where the first finds nothing. Both begin behind the group that
+//!    was served last.
 //! 4. A page can only be taken where it has somewhere to go. So a group gives anonymous pages only
 //!    where a block in swap is free, and pages of files always.
 //! 5. Of the group that is served, the page is the one that its generation lists say: the crate

@@ -41,7 +41,10 @@ pub enum Stage {
     /// Room is made for the access.
     MakeRoom(Access, Cause),
     /// The group's max is set.
-    SetMax { group: GroupId, max: Amount },
+    SetMax {
+        group: GroupId,
+        max: Amount,
+    },
     /// Room is made under the group, whose max was set.
     Lower(GroupId),
     /// The group's min, or low, is set.
@@ -51,16 +54,31 @@ pub enum Stage {
         amount: Amount,
     },
     /// So many pages more are taken from the group or from below it.
-    Reclaim { group: GroupId, left: u64 },
+    Reclaim {
+        group: GroupId,
+        left: u64,
+    },
     /// The daemon looks whether it is wanted (kernel: a kswapd that sleeps).
     Watch,
     /// The daemon takes pages (kernel: balance_pgdat).
     Balance,
-    Spawn { task: TaskId, group: GroupId },
-    Fork { task: TaskId, child: TaskId },
+    Spawn {
+        task: TaskId,
+        group: GroupId,
+    },
+    Fork {
+        task: TaskId,
+        child: TaskId,
+    },
     Exit(TaskId),
-    Free { task: TaskId, page: u32 },
-    Attach { task: TaskId, group: GroupId },
+    Free {
+        task: TaskId,
+        page: u32,
+    },
+    Attach {
+        task: TaskId,
+        group: GroupId,
+    },
     Mkdir(Text),
     Rmdir(GroupId),
     Show(Query),

@@ -15,7 +15,6 @@ recount-requires-2-clause-kept c = subst (AreKept c.args.lineage.now.tree (setti
 pub returns-clause-kept : goal.returns-clause-kept
 returns-clause-kept c = record { kept = kept; room = c.recount-2.ensures.room ∙ c.recount.ensures.room }
   where
-
     kept : (guard : Guard) → AreKept c.args.lineage.now.tree (setting_of guard c.args.limits.now) (slice_set c.args.usage.now c.args.group.0 c.args.pages) (sums_in guard c.recount-2.new.sums)
     kept Min = subst (AreKept c.args.lineage.now.tree (setting_of Min c.args.limits.now) (slice_set c.args.usage.now c.args.group.0 c.args.pages)) (sym (c.recount-2.ensures.others Min tt)) c.recount.ensures.kept
     kept Low = c.recount-2.ensures.kept
