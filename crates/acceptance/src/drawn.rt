@@ -28,13 +28,13 @@ fn drawn<R: Abort + AllocGlobal>(rt: &R, kind: Drawing, title: &str, script: &st
 fn a_table_has_each_line(rt: HostRuntime) {
     let out = drawn(&rt, Drawing::Table, "", KILLED);
     let table = "\
-line,group,current,anon,file,max,min,refused,oom,oom_kill
-1,/a,0,0,0,max,0,0,0,0
-2,/a,0,0,0,8192,0,0,0,0
-3,/a,0,0,0,8192,0,0,0,0
-4,/a,4096,4096,0,8192,0,0,0,0
-5,/a,8192,8192,0,8192,0,0,0,0
-6,/a,0,0,0,8192,0,1,1,1
+line,group,current,anon,file,max,min,low,refused,oom,oom_kill
+1,/a,0,0,0,max,0,0,0,0,0
+2,/a,0,0,0,8192,0,0,0,0,0
+3,/a,0,0,0,8192,0,0,0,0,0
+4,/a,4096,4096,0,8192,0,0,0,0,0
+5,/a,8192,8192,0,8192,0,0,0,0,0
+6,/a,0,0,0,8192,0,0,1,1,1
 ";
     assert_eq!(rt; str::from_utf8(&out), Ok(table));
 }
@@ -64,18 +64,43 @@ fn a_max_that_is_far_away_is_not_drawn(rt: HostRuntime) {
     assert!(rt; !text.contains("stroke-dasharray=\"8 4\""), "{text}");
 }
 
+// The low is drawn as the max and the min are, each in dashes of its own, and listed behind them.
+#[test]
+fn a_low_is_drawn_and_listed(rt: HostRuntime) {
+    let script =
+        "swap 4\ngroup /a\nset /a memory.low 8K\ntask 1 /a\n1 write 0 0 1\n1 write 1 0 1\nset / memory.reclaim 4K\n";
+    let out = drawn(&rt, Drawing::Table, "", script);
+    let table = "\
+line,group,current,anon,file,max,min,low,refused,oom,oom_kill
+2,/a,0,0,0,max,0,0,0,0,0
+3,/a,0,0,0,max,0,8192,0,0,0
+4,/a,0,0,0,max,0,8192,0,0,0
+5,/a,4096,4096,0,max,0,8192,0,0,0
+6,/a,8192,8192,0,max,0,8192,0,0,0
+7,/a,4096,4096,0,max,0,8192,0,0,0
+";
+    assert_eq!(rt; str::from_utf8(&out), Ok(table));
+    let out = drawn(&rt, Drawing::Picture, "", script);
+    let text = str::from_utf8(&out).unwrap_or("");
+    // From line 3 on the low stands at two pages, 300 pixels high; no min is there to be drawn.
+    let low = "d=\"M244.0 60.0V60.0H940.0\"";
+    assert!(rt; text.contains("stroke-dasharray=\"8 3 2 3\""), "{text}");
+    assert!(rt; text.contains(low), "{text}");
+    assert!(rt; !text.contains("stroke-dasharray=\"2 3\""), "{text}");
+}
+
 #[test]
 fn a_group_that_is_made_anew_goes_on_where_it_stands(rt: HostRuntime) {
     let script = "group /a\ntask 1 /a\n1 write 0 0 1\n1 exit\nrmdir /a\ngroup /a\n";
     let out = drawn(&rt, Drawing::Table, "", script);
     // Behind line 5 no group has the path.
     let table = "\
-line,group,current,anon,file,max,min,refused,oom,oom_kill
-1,/a,0,0,0,max,0,0,0,0
-2,/a,0,0,0,max,0,0,0,0
-3,/a,4096,4096,0,max,0,0,0,0
-4,/a,0,0,0,max,0,0,0,0
-6,/a,0,0,0,max,0,0,0,0
+line,group,current,anon,file,max,min,low,refused,oom,oom_kill
+1,/a,0,0,0,max,0,0,0,0,0
+2,/a,0,0,0,max,0,0,0,0,0
+3,/a,4096,4096,0,max,0,0,0,0,0
+4,/a,0,0,0,max,0,0,0,0,0
+6,/a,0,0,0,max,0,0,0,0,0
 ";
     assert_eq!(rt; str::from_utf8(&out), Ok(table));
 }

@@ -13,7 +13,7 @@ use Rattle.book.specs.declared.looks.GroupLook.{GroupLook}
 
 -- a group: what is charged to it and below it, its settings, and what was counted at itself
 abbrev pub group_look : State → ℕ → GroupLook
-group_look s g = record { number = g; usage = usage s g; max = (limits_at s.limits g).max; min = (limits_at s.limits g).min; local = counts_by (local s.counted g) }
+group_look s g = record { number = g; usage = usage s g; max = (limits_at s.limits g).max; min = (limits_at s.limits g).min; low = (limits_at s.limits g).low; local = counts_by (local s.counted g) }
 
 -- the group that has this path now, if one has
 abbrev pub look_at : State → List ℕ → Option GroupLook

@@ -27,6 +27,8 @@ pub struct GroupLook {
     pub max: Amount,
     /// `memory.min`
     pub min: Amount,
+    /// `memory.low`
+    pub low: Amount,
     /// What was counted at the group itself (`memory.events.local`).
     pub local: EventCounts,
 }
@@ -80,6 +82,7 @@ impl Book {
             usage: self.state.usage(group),
             max: self.state.limits(group).max,
             min: self.state.limits(group).min,
+            low: self.state.limits(group).low,
             local: self.state.local_events(group),
         })
     }

@@ -10,7 +10,7 @@ use Rattle.charts.specs.declared.watching.Shown.{Shown}
 
 -- its first line
 abbrev pub head : List ℕ
-head = codes "line,group,current,anon,file,max,min,refused,oom,oom_kill\n"
+head = codes "line,group,current,anon,file,max,min,low,refused,oom,oom_kill\n"
 
 -- a cell, with its comma
 abbrev pub cell : List ℕ → List ℕ
@@ -25,6 +25,10 @@ amount_text (Pages pages) = bytes_text pages
 abbrev pub charges_text : ℕ → MemoryStat → List ℕ
 charges_text usage stat = cell (bytes_text usage) ++ (cell (bytes_text stat.anon) ++ cell (bytes_text stat.file))
 
+-- its max, its min and its low
+abbrev pub settings_text : GroupLook → List ℕ
+settings_text look = cell (amount_text look.max) ++ (cell (amount_text look.min) ++ cell (amount_text look.low))
+
 -- what was counted, and the end of the line
 abbrev pub counts_text : EventCounts → List ℕ
 counts_text counts = cell (decimal counts.max) ++ (cell (decimal counts.oom) ++ (decimal counts.oom_kill ++ 10 ∷ []))
@@ -32,7 +36,7 @@ counts_text counts = cell (decimal counts.max) ++ (cell (decimal counts.oom) ++ 
 -- the line of a group
 abbrev pub line_text : ℕ → List ℕ → GroupLook → MemoryStat → List ℕ
 line_text number path look stat =
-    cell (decimal number) ++ (cell path ++ (charges_text look.usage stat ++ (cell (amount_text look.max) ++ (cell (amount_text look.min) ++ counts_text look.local))))
+    cell (decimal number) ++ (cell path ++ (charges_text look.usage stat ++ (settings_text look ++ counts_text look.local)))
 
 abbrev pub stat_or_none : Option MemoryStat → MemoryStat
 stat_or_none None = record { anon = 0; file = 0 }

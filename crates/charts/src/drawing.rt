@@ -34,6 +34,7 @@ enum Curve {
     Usage,
     Max,
     Min,
+    Low,
 }
 
 impl Curve {
@@ -42,10 +43,8 @@ impl Curve {
         match self {
             Curve::Usage => Some(look.usage),
             Curve::Max => finite(look.max),
-            Curve::Min => match look.min {
-                Amount::Pages(0) => None,
-                other => finite(other),
-            },
+            Curve::Min => guarded(look.min),
+            Curve::Low => guarded(look.low),
         }
     }
 
@@ -54,6 +53,7 @@ impl Curve {
             Curve::Usage => "stroke-width=\"2\"",
             Curve::Max => "stroke-width=\"1.5\" stroke-dasharray=\"8 4\"",
             Curve::Min => "stroke-width=\"1.5\" stroke-dasharray=\"2 3\"",
+            Curve::Low => "stroke-width=\"1.5\" stroke-dasharray=\"8 3 2 3\"",
         }
     }
 }
@@ -62,6 +62,14 @@ fn finite(amount: Amount) -> Option<u64> {
     match amount {
         Amount::Max => None,
         Amount::Pages(pages) => Some(pages),
+    }
+}
+
+/// How much a min or low keeps, where it keeps anything.
+fn guarded(amount: Amount) -> Option<u64> {
+    match amount {
+        Amount::Pages(0) => None,
+        other => finite(other),
     }
 }
 
@@ -88,7 +96,7 @@ fn setting_of(rows: &[Row], place: usize, most: u64) -> u64 {
         let Some(look) = look_of(row, place) else {
             continue;
         };
-        for curve in [Curve::Max, Curve::Min] {
+        for curve in [Curve::Max, Curve::Min, Curve::Low] {
             match curve.height(&look) {
                 Some(pages) if pages <= most => greatest = pages.max(greatest),
                 _ => {}
@@ -420,8 +428,9 @@ fn colour_of(place: usize) -> &'static str {
 }
 
 /// The picture of what was watched, as a page-wide SVG: `memory.current` of each group over the lines of the script,
-/// `memory.max` as dashes and `memory.min` as dots of the same colour; a cross for each task that was killed, and a
-/// triangle where charges were refused at a max, with a title each. `lines` has for each step the number of its line.
+/// `memory.max` as dashes, `memory.min` as dots and `memory.low` as dashes and dots of the same colour; a cross for
+/// each task that was killed, and a triangle where charges were refused at a max, with a title each. `lines` has for
+/// each step the number of its line.
 /// A setting of more than twice the most that any group was charged with is not drawn.
 pub fn picture(
     alloc: Global,
@@ -441,7 +450,7 @@ pub fn picture(
     board.grid(&mut out)?;
     for (place, path) in paths.iter().enumerate() {
         let colour = colour_of(place);
-        for curve in [Curve::Max, Curve::Min, Curve::Usage] {
+        for curve in [Curve::Max, Curve::Min, Curve::Low, Curve::Usage] {
             board.curve(&mut out, rows, place, curve, colour)?;
         }
         board.refusals(&mut out, rows, place, path, colour)?;
@@ -450,7 +459,7 @@ pub fn picture(
     board.kills(&mut out, watched)?;
     let foot = height.saturating_sub(12);
     out.push_str(&format!(in alloc;
-        "<text x=\"70\" y=\"{foot}\" fill=\"#555\">dashes: memory.max, dots: memory.min, cross: a task was killed, triangle: charges were refused at a max</text>\n</svg>\n"
+        "<text x=\"70\" y=\"{foot}\" fill=\"#555\">dashes: memory.max, dots: memory.min, dashes and dots: memory.low, cross: a task was killed, triangle: charges were refused at a max</text>\n</svg>\n"
     )?)?;
     Ok(out)
 }

@@ -3,7 +3,7 @@
 ghost use Rattle.std.specs.Prelude.{◌≡◌, ℕ, ◌+◌, ◌<◌, ◌++◌, [], List, map, drop, get_or, length, replicate, true, IfOk, OnOk, decimal, string_bytes};
 ghost use Rattle.charts.specs.declared.watching.Shown.{Shown as Shown_at};
 ghost use Rattle.charts.specs.Watched.{expanded};
-ghost use Rattle.charts.specs.Listed.{cell, amount_text, charges_text, counts_text, line_text, look_text, stat_or_none, groups_text, is_last, steps_text, table_text};
+ghost use Rattle.charts.specs.Listed.{cell, amount_text, charges_text, settings_text, counts_text, line_text, look_text, stat_or_none, groups_text, is_last, steps_text, table_text};
 
 use crate::scale::bytes_of;
 use crate::watching::{Row, Shown, Watched};
@@ -12,7 +12,7 @@ use machine::amount::Amount;
 use machine::record::{EventCounts, MemoryStat};
 use std::alloc::{AllocError, Global};
 
-const HEAD: &str = "line,group,current,anon,file,max,min,refused,oom,oom_kill\n";
+const HEAD: &str = "line,group,current,anon,file,max,min,low,refused,oom,oom_kill\n";
 
 /// A setting in bytes, or `max`.
 fn amount_text(alloc: Global, amount: Amount) -> Result<String, AllocError>
@@ -75,6 +75,15 @@ fn add_charges(
     add_number(alloc, text, bytes_of(stat.file))
 }
 
+/// Adds the cells of its settings.
+fn add_settings(alloc: Global, text: &mut String, look: GroupLook) -> Result<(), AllocError>
+    ensures { OnOk result (string_bytes text.new ≡ string_bytes text.old ++ settings_text look) }
+{
+    add_amount(alloc, text, look.max)?;
+    add_amount(alloc, text, look.min)?;
+    add_amount(alloc, text, look.low)
+}
+
 /// Adds the line of a group.
 fn add_look(
     alloc: Global,
@@ -89,8 +98,7 @@ fn add_look(
     add_number(alloc, text, line as u128)?;
     add_cell(text, path)?;
     add_charges(alloc, text, look.usage, stat)?;
-    add_amount(alloc, text, look.max)?;
-    add_amount(alloc, text, look.min)?;
+    add_settings(alloc, text, look)?;
     add_counts(alloc, text, look.local)
 }
 
