@@ -31,8 +31,7 @@ use Rattle.machine.specs.Step.{Only, Takes, LeavesFrom, LeavesBy, ChargeStep, Ma
 use Rattle.machine.proofs.Values.{unlike}
 use Rattle.machine.proofs.SlotLemmas.{one_if, count_there-changes}
 use Rattle.legal.proofs.MoveLemmas.{hits_held}
-use Rattle.legal.proofs.NamedLemmas.{legal-tells}
-use Rattle.laws.specs.Laws.{TransfersStayCharged, CurrentCountsPages, StatAddsUpToCurrent, EventsAreThoseCounted, CountsAreOfTheHistory, ChargesStayWithinMax, KillsComeLast, ReadsGiveLastWrites}
+use Rattle.laws.specs.Laws.{TransfersStayCharged, CurrentCountsPages, StatAddsUpToCurrent, EventsAreThoseCounted, ChargesStayWithinMax, KillsComeLast, ReadsGiveLastWrites}
 
 -- ---- memory.current
 
@@ -85,9 +84,6 @@ shows_counts counts count key shows =
 pub events_are_those_counted : EventsAreThoseCounted
 events_are_those_counted before after g counts key =
     (λ step. shows_counts counts (total before.tree before.counted g) key step.0, λ step. shows_counts counts (local before.counted g) key step.0)
-
-pub counts_are_of_the_history : CountsAreOfTheHistory
-counts_are_of_the_history opening history s legal = let told = legal-tells opening history s legal in (told.events, told.counted, told.locals)
 
 -- ---- reads
 

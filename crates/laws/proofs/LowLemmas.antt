@@ -1,9 +1,10 @@
--- What memory.low does: whose pages are taken last, what is counted then, and that nobody is killed for it.
-use Rattle.std.proofs.Common.{◌≡◌, ◌≢◌, inl, inr, ℕ, ◌==◌, ◌&&◌, ◌||◌, not, Bool, true, false, cond, List, [], ◌∷◌, Option, Some, None, eqb-true, refl, sym, ap, ◌∙◌, subst, arith}
+-- What memory.low does: whose pages are taken last, what is counted then, and that nobody is killed for it. And with it what a history counts at all.
+use Rattle.std.proofs.Common.{◌≡◌, ◌≢◌, inl, inr, ℕ, ◌==◌, ◌&&◌, ◌||◌, not, Bool, true, false, cond, List, [], ◌∷◌, ◌++◌, Option, Some, None, eqb-true, refl, sym, ap, ◌∙◌, subst, arith}
 use Rattle.std.specs.Prelude.{◌⊎◌, sum_by}
 use Rattle.std.proofs.lemmas.List.Sums.{sum_by-cons}
 use Rattle.std.proofs.lemmas.Bool.{cases_Bool, and_parts, and_from, ne_eqb}
 use Rattle.machine.specs.declared.amount.Amount.{Amount}
+use Rattle.machine.specs.declared.entry.Entry.{Entry}
 use Rattle.machine.specs.declared.record.EventCounts.{EventCounts}
 use Rattle.machine.specs.declared.record.Guard.TheVariants as guard
 use Rattle.machine.specs.declared.record.Key.TheVariants as key
@@ -15,13 +16,13 @@ use Rattle.machine.specs.declared.record.Limits.{Limits}
 use Rattle.machine.specs.Slots.{Changes, there_and, any_there}
 use Rattle.machine.specs.Amounts.{exceeds, at_most}
 use Rattle.machine.specs.Tree.{Node, children, chain_below, under}
-use Rattle.machine.specs.Counts.{limits_at, with_event, local}
+use Rattle.machine.specs.Counts.{Counted, limits_at, with_event, local}
 use Rattle.machine.specs.Pages.{Content, Memory, OfFile, Residence, Held, Coming, Going, Away, Page, Pages, page_at, is_anon, is_held}
 use Rattle.machine.specs.Protection.{min_usage, setting_of, effective_along}
-use Rattle.machine.specs.State.{State, usage, effective_low, is_swap_free}
+use Rattle.machine.specs.State.{Opening, State, usage, effective_low, is_swap_free}
 use Rattle.machine.specs.Reclaim.{is_takeable, is_above_low, is_open, has_open, is_next, counted_at_take, has_transfer, target_of}
 use Rattle.machine.specs.Step.{Takes, LeavesBy, LeavesFrom, Step}
-use Rattle.machine.specs.Events.{took_for, counts_named, NamesFor, with_events, for_groups}
+use Rattle.machine.specs.Events.{took_for, counts_named, low_named, NamesFor, Names, AreCounted, with_events, for_groups}
 use Rattle.machine.proofs.Values.{some_inj}
 use Rattle.machine.proofs.TreeLemmas.{eq_cases}
 use Rattle.machine.proofs.TestLemmas.{none_has}
@@ -29,7 +30,8 @@ use Rattle.machine.proofs.TakeableLemmas.{next-takeable, next-open}
 use Rattle.counts.proofs.CountLemmas.{local-push}
 use Rattle.protection.proofs.EffectiveLemmas.{same_below}
 use Rattle.legal.proofs.CountedLemmas.{Counts, step-counted, local-other}
-use Rattle.laws.specs.Laws.{IsWithinLow, IsTaken, LowsComeLast, LowsAreCounted, LowsKillNobody}
+use Rattle.legal.proofs.NamedLemmas.{Tells, nothing-told, step-told, legal-counted, counted-legal}
+use Rattle.laws.specs.Laws.{CountsAreOfTheHistory, IsWithinLow, IsTaken, LowsComeLast, LowsAreCounted, LowsKillNobody}
 use Rattle.laws.proofs.LawLemmas.{by_test, kills_come_last}
 use Rattle.laws.proofs.ReclaimLemmas.{step_takes}
 
@@ -184,3 +186,27 @@ module _ (s : State) (others : List Limits) (same : (g : ℕ) → (limits_at oth
 pub lows_kill_nobody : LowsKillNobody
 lows_kill_nobody before after why t others step same =
     ap (λ b. not b && not (has_transfer before (target_of why))) (any-same before others same (target_of why) before.pages) ∙ (kills_come_last before after why t step).0
+
+-- ---- the events of a history
+
+-- what is counted is settled by the states: a page that is taken is the one that is held no more
+named-one : (before after : State) (what : Event) (answer : Reply) → Step before what answer after → (one other : List Counted) → Names before what answer after one → Names before what answer after other → one ≡ other
+named-one before after what answer step one other = by_taken (took_for what answer) refl
+  where
+    by_taken : (taken : Option ℕ) → took_for what answer ≡ taken → NamesFor taken before what answer after one → NamesFor taken before what answer after other → one ≡ other
+    by_taken None none is are = is ∙ sym are
+    by_taken (Some target) took is are =
+        let h = step_takes before after what answer target took step in
+        let same = its before after target answer h is.p is.page (is.there, is.held, is.leaves) ∙ sym (its before after target answer h are.p are.page (are.there, are.held, are.leaves)) in
+        is.are ∙ ap (λ (x : Page). low_named before target x.group) same ∙ sym are.are
+
+counted-told : (opening : Opening) (history : List Entry) (s : State) (events : List Counted) → AreCounted opening history s events → Tells s events
+counted-told opening [] s events (first, none) = subst (Tells s) (sym none) (nothing-told opening s first)
+counted-told opening (entry ∷ earlier) s events (before, so_far, more, counted, extends, names, are) =
+    let counts = step-counted before s entry.event entry.reply extends.steps in
+    let same = named-one before s entry.event entry.reply extends.steps counts.named more counts.names names in
+    let told = step-told opening earlier entry before s so_far (counted-legal opening earlier before so_far counted) extends (counted-told opening earlier before so_far counted) in
+    subst (Tells s) (ap (λ (named : List Counted). so_far ++ named) same ∙ sym are) told
+
+pub counts_are_of_the_history : CountsAreOfTheHistory
+counts_are_of_the_history opening history s legal = (legal-counted opening history s legal, λ events counted. counted-told opening history s events counted)

@@ -127,12 +127,13 @@ EventsAreThoseCounted =
     → (Step before (event.Show (query.Events (record { 0 = g }))) (reply.Shown (shown.Events counts)) after → count_of_key counts key ≡ total before.tree before.counted g key)
     × (Step before (event.Show (query.EventsLocal (record { 0 = g }))) (reply.Shown (shown.Events counts)) after → count_of_key counts key ≡ local before.counted g key)
 
--- by group and key the table has as many as events were counted, entry by entry: what the cases of its steps name, in the states that the history leads through, and nothing else.
--- (Excludes a count that an event adds at another group, or twice, or that goes with its group.)
+-- by group and key the table has as many as events were counted, entry by entry: what the cases of its steps name, in the states that the history leads through, and nothing else. There is
+-- such a list of events, and the table tells each that there is. (Excludes a count that an event adds at another group, or twice, or that goes with its group.)
 abbrev pub CountsAreOfTheHistory : Type 0
 CountsAreOfTheHistory =
     (opening : Opening) (history : List Entry) (s : State) → Legal opening history s
-    → (events : List Counted) × AreCounted opening history s events × ((g : ℕ) (what : Key) → local s.counted g what ≡ how_often events g what)
+    → ((events : List Counted) × AreCounted opening history s events)
+    × ((events : List Counted) → AreCounted opening history s events → (g : ℕ) (what : Key) → local s.counted g what ≡ how_often events g what)
 
 -- an access that leaves more pages charged under a group leaves no more than the group's max
 abbrev pub ChargesStayWithinMax : Type 0

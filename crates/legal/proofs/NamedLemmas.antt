@@ -27,12 +27,12 @@ use Rattle.machine.specs.Tree.{Node, IsTree, node_at, no_node, is_live}
 use Rattle.machine.specs.Pages.{Content, Memory, OfFile, Residence, Held, Coming, Going, Away, Page, page_at, home_block}
 use Rattle.machine.specs.Counts.{Counted, is_full, over_at, no_counts, once_more, counts_at, with_event, local, is_key, how_often}
 use Rattle.machine.specs.Tasks.{Tasks, task_at, is_live_life, is_live_task, lives, group_of, group_of_task}
-use Rattle.machine.specs.State.{Opening, State, usage, over_in, is_frame_free}
+use Rattle.machine.specs.State.{Opening, State, first_state, usage, over_in, is_frame_free}
 use Rattle.machine.specs.Access.{Meeting, Unmapped, Hits, Transferring, NeedsPage, NeedsCopy, NeedsSwapIn, NeedsRead, Dangling, meets}
 use Rattle.machine.specs.Reclaim.{has_takeable, has_open, has_transfer, stands, target_of}
 use Rattle.machine.specs.Victim.{is_live_under, is_candidate}
 use Rattle.machine.specs.Step.{Only, ChargeStep, HitStep, MeetStep, LifeStep, TaskStep, StartsLeave, Drops, LeavesBy, LeavesFrom, Takes, ReclaimStep, KillStep, RelieveStep, new_node, Step}
-use Rattle.machine.specs.Legal.{Legal}
+use Rattle.machine.specs.Legal.{Extends, Legal}
 use Rattle.machine.specs.Events.{count_of, counts_named, took_for, low_named, NamesFor, Names, AreCounted, with_events, for_groups}
 use Rattle.machine.proofs.Values.{some_inj, unlike}
 use Rattle.machine.proofs.TreeLemmas.{lt_cases, over_at-None, over_at-step}
@@ -298,32 +298,41 @@ local-groups : (counted : List EventCounts) (what : Event) (g : ℕ) (k : Key) �
 local-groups counted (event.Mkdir path) g k = local-push counted g k
 local-groups counted what g k = refl
 
--- the events of a history, and that the table tells them
-pub record Tells (opening : Opening) (history : List Entry) (s : State) : Type 0 where
-  pub events : List Counted
-  pub counted : AreCounted opening history s events
-  pub locals : (g : ℕ) (k : Key) → local s.counted g k ≡ how_often events g k
+-- the table tells the events of a history
+abbrev pub Tells : State → List Counted → Type 0
+Tells s events = (g : ℕ) (k : Key) → local s.counted g k ≡ how_often events g k
 
-pub legal-tells : (opening : Opening) (history : List Entry) (s : State) → Legal opening history s → Tells opening history s
-legal-tells opening [] s legal = record { events = []; counted = (legal, refl); locals = λ g k. ap (λ (t : State). local t.counted g k) legal ∙ nothing g k }
+pub nothing-told : (opening : Opening) (s : State) → s ≡ first_state opening → Tells s []
+nothing-told opening s first g k = ap (λ (t : State). local t.counted g k) first ∙ nothing g k
   where
     nothing : (g : ℕ) (k : Key) → local (no_counts ∷ []) g k ≡ 0
     nothing zero k = count_of_key-none k
     nothing (suc g) k = count_of_key-none k
-legal-tells opening (entry ∷ earlier) s (before, legal, extends) =
-    let so_far = legal-tells opening earlier before legal in
+
+-- and with those of one step more
+pub step-told : (opening : Opening) (earlier : List Entry) (entry : Entry) (before s : State) (so_far : List Counted) → Legal opening earlier before → (extends : Extends before earlier entry s) → Tells before so_far
+    → Tells s (so_far ++ (step-counted before s entry.event entry.reply extends.steps).named)
+step-told opening earlier entry before s so_far legal extends told g k =
     let has = has-counts opening earlier before legal in
     let counts = step-counted before s entry.event entry.reply extends.steps in
     let named = counts.named in
     let there = named-there opening earlier before s legal has.some entry.event entry.reply extends.steps named counts.names in
     let all = length-groups before entry.event has.all in
     let more = more-groups before entry.event in
-    record {
-      events = so_far.events ++ named;
-      counted = (before, so_far.events, named, so_far.counted, extends, counts.names, refl);
-      locals = λ g k.
-          ap (λ (cs : List EventCounts). local cs g k) counts.after
-          ∙ local-events (for_groups before.counted entry.event) named (more-of (length before.tree) _ (omega (arith, all, more)) named there) g k
-          ∙ ap (λ n. n + how_often named g k) (local-groups before.counted entry.event g k ∙ so_far.locals g k)
-          ∙ sym (sum_by-append (λ (x : Counted). cond ((x.group == g) && is_key x.key k) 1 0) so_far.events named);
-    }
+    ap (λ (cs : List EventCounts). local cs g k) counts.after
+    ∙ local-events (for_groups before.counted entry.event) named (more-of (length before.tree) _ (omega (arith, all, more)) named there) g k
+    ∙ ap (λ n. n + how_often named g k) (local-groups before.counted entry.event g k ∙ told g k)
+    ∙ sym (sum_by-append (λ (x : Counted). cond ((x.group == g) && is_key x.key k) 1 0) so_far named)
+
+-- a legal history can be read as a list of events
+pub legal-counted : (opening : Opening) (history : List Entry) (s : State) → Legal opening history s → (events : List Counted) × AreCounted opening history s events
+legal-counted opening [] s legal = ([], (legal, refl))
+legal-counted opening (entry ∷ earlier) s (before, legal, extends) =
+    let so_far = legal-counted opening earlier before legal in
+    let counts = step-counted before s entry.event entry.reply extends.steps in
+    (so_far.0 ++ counts.named, (before, so_far.0, counts.named, so_far.1, extends, counts.names, refl))
+
+-- and what can be read so is legal
+pub counted-legal : (opening : Opening) (history : List Entry) (s : State) (events : List Counted) → AreCounted opening history s events → Legal opening history s
+counted-legal opening [] s events (first, none) = first
+counted-legal opening (entry ∷ earlier) s events (before, so_far, more, counted, extends, names, are) = (before, counted-legal opening earlier before so_far counted, extends)
