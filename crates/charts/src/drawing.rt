@@ -430,8 +430,7 @@ fn colour_of(place: usize) -> &'static str {
 /// The picture of what was watched, as a page-wide SVG: `memory.current` of each group over the lines of the script,
 /// `memory.max` as dashes, `memory.min` as dots and `memory.low` as dashes and dots of the same colour; a cross for
 /// each task that was killed, and a triangle where charges were refused at a max, with a title each. `lines` has for
-/// each step the number of its line.
-/// A setting of more than twice the most that any group was charged with is not drawn.
+/// each step the number of its line. A setting of more than twice the most that any group was charged with is not drawn.
 pub fn picture(
     alloc: Global,
     title: &str,

@@ -3,9 +3,8 @@ use Rattle.std.proofs.Common.{◌≡◌, ◌≢◌, ℕ, ◌<◌, ◌≤◌, tru
 use Rattle.std.specs.Prelude.{count_by, sum_by}
 use Rattle.machine.specs.Tree.{Node, IsTree, children, under}
 use Rattle.machine.specs.Pages.{Pages, charged}
-use Rattle.machine.specs.declared.record.Guard.TheVariants.{Min}
 use Rattle.machine.specs.Protection.{setting_of}
-use Rattle.machine.specs.State.{effective_min, usage}
+use Rattle.machine.specs.State.{effective_in, usage}
 use Rattle.group_tree.proofs.UnderLemmas.{under-not_above}
 use Rattle.page_counter.proofs.ChildLemmas.{children-le, children_count-le}
 use Rattle.protection.proofs.ShareLemmas.{pages_in, shares-within}
@@ -22,12 +21,12 @@ charged-children tree is pages p =
     omega (arith, each, all, here)
 
 pub shares_stay_within : SharesStayWithin
-shares_stay_within opening history s target p most legal below differs above =
+shares_stay_within opening history s guard target p most legal below differs above =
     let falls = (legal-sound opening history s legal).1.falls in
     let over = under-not_above s.tree falls target p below in
     let shares =
-    shares-within s.tree falls target s.opening.recursive (setting_of Min s.limits) (usage s) p most (λ same. differs (sym same)) (omega (arith, over, differs)) above (charged-children s.tree falls s.pages p) in (
-      (λ g. pages_in (effective_min s target g)),
+    shares-within s.tree falls target s.opening.recursive (setting_of guard s.limits) (usage s) p most (λ same. differs (sym same)) (omega (arith, over, differs)) above (charged-children s.tree falls s.pages p) in (
+      (λ g. pages_in (effective_in s guard target g)),
       shares.0,
       shares.1,
     )

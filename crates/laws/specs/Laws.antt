@@ -18,6 +18,7 @@ use Rattle.machine.specs.declared.record.MemoryStat.{MemoryStat}
 use Rattle.machine.specs.declared.record.Kind.{Kind}
 use Rattle.machine.specs.declared.record.Key.{Key}
 use Rattle.machine.specs.declared.record.Key.TheVariants as key
+use Rattle.machine.specs.declared.record.Guard.{Guard}
 use Rattle.machine.specs.declared.record.Limits.{Limits}
 use Rattle.machine.specs.declared.reply.Reply.{Reply}
 use Rattle.machine.specs.declared.reply.Reply.TheVariants as reply
@@ -31,7 +32,7 @@ use Rattle.machine.specs.Counts.{limits_at, count_of_key, with_event, local, tot
 use Rattle.machine.specs.Tree.{Node, node_at, is_child, is_live, children, under}
 use Rattle.machine.specs.Pages.{OfFile, Residence, Away, Page, page_at, is_anon, is_held, frame_at, block_at, ticket_at, is_in_transfer, is_charged, in_transfer, used_frames, used_swap, IsFiled}
 use Rattle.machine.specs.Tasks.{lives, group_of_task, mapped_at, size_of}
-use Rattle.machine.specs.State.{Opening, State, page_numbers, usage, effective_min, effective_low, is_swap_free, opening_of, blocks_of}
+use Rattle.machine.specs.State.{Opening, State, page_numbers, usage, effective_in, effective_min, effective_low, is_swap_free, opening_of, blocks_of}
 use Rattle.machine.specs.Reclaim.{is_takeable, is_idle, target_of}
 use Rattle.machine.specs.Generations.{row_of, listed, gens_at, AreDistinct}
 use Rattle.machine.specs.Aging.{is_marked, has_mark}
@@ -219,13 +220,14 @@ LowsKillNobody =
     (before after : State) (why : Cause) (t : ℕ) (others : List Limits) → Step before (event.Relieve why) (reply.KilledTask (record { 0 = t })) after → ((g : ℕ) → (limits_at others g).min ≡ (limits_at before.limits g).min)
     → is_idle (record before { limits = others }) (target_of why) ≡ true
 
--- what a group below the target has of protection is shared out below it, and no more than that: where its effective min is a number of pages, so is that of each of its live children, and
--- together these are at most that number, with recursive protection and without. (Excludes a part that is rounded up, a rest that is shared out by what a child uses at all, and children
+-- what a group below the target has of protection is shared out below it, and no more than that: where its effective min, or low, is a number of pages, so is that of each of its live
+-- children, and together these are at most that number, with recursive protection and without. (Excludes a part that is rounded up, a rest that is shared out by what a child uses at all, and children
 -- that have what they ask for where together they ask for more than there is.)
 abbrev pub SharesStayWithin : Type 0
 SharesStayWithin =
-    (opening : Opening) (history : List Entry) (s : State) (target p most : ℕ) → Legal opening history s → under s.tree target p ≡ true → p ≢ target → effective_min s target p ≡ Pages most
-    → (share : ℕ → ℕ) × ((g : ℕ) → is_child p (node_at s.tree g) ≡ true → effective_min s target g ≡ Pages (share g)) × (sum_by share (children s.tree p) ≤ most)
+    (opening : Opening) (history : List Entry) (s : State) (guard : Guard) (target p most : ℕ) → Legal opening history s → under s.tree target p ≡ true → p ≢ target
+    → effective_in s guard target p ≡ Pages most
+    → (share : ℕ → ℕ) × ((g : ℕ) → is_child p (node_at s.tree g) ≡ true → effective_in s guard target g ≡ Pages (share g)) × (sum_by share (children s.tree p) ≤ most)
 
 -- a reclaim finds nothing only where nothing can be taken for its target and no page under it is in transfer, and it leaves all as it was
 abbrev pub ReclaimsGiveUpLast : Type 0

@@ -119,8 +119,8 @@ pub fn lows_kill_nobody()
     ensures { LowsKillNobody }
 {}
 
-/// Where a group below a reclaim's target has an effective `memory.min` of so many pages, its live
-/// children have together no more, with recursive protection and without.
+/// Where a group below a reclaim's target has an effective `memory.min` of so many pages, or `memory.low`,
+/// its live children have together no more of it, with recursive protection and without.
 pub fn shares_stay_within()
     ensures { SharesStayWithin }
 {}

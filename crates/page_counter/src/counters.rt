@@ -417,8 +417,8 @@ fn set_usage(
     usage[group.0 as usize] = pages;
 }
 
-/// By this setting the group asks for what it lets through of so many pages, where it counts as many as
-/// before (kernel: propagate_protected_usage).
+/// The sum of what the children of the group's parent ask for by this setting, as it is where the group
+/// comes to count so many pages (kernel: propagate_protected_usage).
 fn recount(
     lineage: &Lineage,
     limits: &[Limits],
